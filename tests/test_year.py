@@ -1,7 +1,7 @@
 #!/usr/bin/env python3
 """Lives of small countries under faults, in simulated time, judged by the second office (tests/year tells how).
 
-- Three months of five collectors, under all kinds of faults at once.
+- Three months of five collectors, under all kinds of faults at once; and each life in which something was found.
 - Two worlds with one seed in which the prices of all others are drawn anew: one collector and the public are answered
   the same bytes, until a table is out.
 - Each wrong system of tests/lib/year/slips.py is found, and the same life without its slip breaks no promise.
@@ -31,6 +31,10 @@ SMALL = 5, 6
 CERTAIN = [kind for kind in KINDS if kind not in ("burst", "promoted", "front")]
 LANES = 3
 
+FOUND = {2026: 1, 100: 2}
+"""Lives in which the judge was wrong, and their months: it hadn't heard of a refusal whose reply was lost with the front,
+and took the pack of before for wrong that a publisher left when it was killed."""
+
 
 def lived(program: Program, seed: int, size: Size, kinds: list[str], ways: Ways = Ways()) -> Life:
     return life(program, seed, size, faults_of(seed, size, kinds), ways)
@@ -41,6 +45,11 @@ def is_kept(program: Program, seed: int) -> Fault:
     found = lived(program, seed, Size(3, *SMALL), KINDS)
     missing = [kind for kind in KINDS if not found.survived[kind]]
     return found.broken or (f"no {missing}" if missing else None)
+
+
+def is_well(program: Program, seed: int, months: int) -> Fault:
+    """What a country has broken under all faults."""
+    return lived(program, seed, Size(months, *SMALL), KINDS).broken
 
 
 def is_isolated(program: Program, seed: int) -> Fault:
@@ -73,6 +82,8 @@ def checks_of(program: Program) -> Iterator[Check]:
     """All checks."""
     yield Check("the shortest list", is_shortened)
     yield Check("all faults", partial(is_kept, program, 1))
+    for seed, months in FOUND.items():
+        yield Check(f"seed {seed}", partial(is_well, program, seed, months))
     yield Check("two worlds", partial(is_isolated, program, 1))
     for name in SLIPS:
         yield Check(f"found: {name}", partial(is_found, program, name))

@@ -42,7 +42,7 @@ from lib.year.faults import KINDS as FAULTS  # noqa: E402
 from lib.year.lives import Size, faults_of, life  # noqa: E402
 from second_office.records import text_of  # noqa: E402
 
-RUNS, MESSAGES, PEERS, MINUTE, SLOTS = 4, 1500, 15, 60, 10
+RUNS, MESSAGES, PEERS, MINUTE, SLOTS, LEAST = 4, 1500, 15, 60, 10, 5
 WAYS = ["closes", "resets", "sends and resets", "byte by byte", "too much"]
 RECORDS = [
     ["1500", KA, "quotes", "2000-01", "2199-12"],
@@ -174,13 +174,15 @@ def main() -> int:
         "--year", nargs=2, type=int, metavar=("MONTHS", "COLLECTORS"), help="live years of countries of this size"
     )
     chosen, met, counts = program_of(words), set[str](), collections.Counter[str]()
+    if chosen.year and (chosen.year[0] < 1 or chosen.year[1] < LEAST):
+        words.error(f"--year {chosen.year[0]} {chosen.year[1]}: a month at least, and {LEAST} collectors")
     began = minute = time.monotonic()
     with Checks() as checks:
         checks.note(f"from seed {chosen.first}")
         seed = chosen.first
         while time.monotonic() - began < chosen.seconds:
             if chosen.year:
-                size = Size(chosen.year[0], max(5, chosen.year[1]), SLOTS)
+                size = Size(chosen.year[0], chosen.year[1], SLOTS)
                 checks.run([Check(f"life {seed}", partial(lived, chosen.program, seed, size, counts))], lanes=1)
                 seed += 1
             else:

@@ -82,7 +82,7 @@ class Judge:
     def unanswered(self, asked: Asked) -> None:
         """The office may have carried something out."""
         self.possible.unanswered(asked, self.clock())
-        self.writes.unanswered(asked.is_command)
+        self.writes.unanswered(self.clock(), asked.is_command, self.may_refuse())
         self._keep()
 
     def doubts(self) -> list[Asked]:
@@ -167,7 +167,9 @@ class Judge:
         if not is_reached:
             return CRITICAL, CRITICAL
         writes, late = self.writes, [is_late([office], self.clock()) for office in self.possible.offices]
-        least, most = writes.told(self.clock(), writes.refused is not None and jumped >= writes.refused - JUMP)
+        least, most = writes.told(
+            self.clock(), jumped >= max(writes.refused or 0, writes.unheard or 0) - JUMP and writes.is_troubled
+        )
         return max(least, WARNING if all(late) else least), max(most, CRITICAL if any(late) else most)
 
     # ---- what is published

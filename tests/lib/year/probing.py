@@ -26,6 +26,15 @@ class Writes:
         """Whether something was stored since."""
         self.is_clear = True
         """Whether all that came since was answered, so that this is known."""
+        self.unheard: Optional[int] = None
+        """When a command had no answer that the disk may have refused."""
+        self.is_over = True
+        """Whether something was stored since that one."""
+
+    @property
+    def is_troubled(self) -> bool:
+        """Whether the disk has refused something, or may have."""
+        return self.refused is not None or self.unheard is not None
 
     def answered(self, now: int, is_refused: bool, has_stored: bool) -> None:
         """Something was answered."""
@@ -33,18 +42,26 @@ class Writes:
             # (rows of an import may be stored before and after the one that is refused)
             self.refused, self.is_stored, self.is_clear = now, False, not has_stored
         elif has_stored:
-            self.is_stored = True
+            self.is_stored = self.is_over = True
 
-    def unanswered(self, is_command: bool) -> None:
-        """A command may have stored something."""
+    def unanswered(self, now: int, is_command: bool, may_refuse: bool) -> None:
+        """A command may have stored something, or the disk may have refused it."""
         self.is_clear = self.is_clear and not is_command
+        if is_command and may_refuse:
+            self.unheard, self.is_over = now, False
 
     def told(self, now: int, has_jumped: bool) -> tuple[int, int]:
         """The least and the greatest status that a probe may end with."""
+        if has_jumped or not self.is_over:
+            return WELL, CRITICAL
+        least, most = self._heard(now)
+        is_warned = self.unheard is not None and now - self.unheard <= WARNED
+        return least, max(most, WARNING if is_warned else most)
+
+    def _heard(self, now: int) -> tuple[int, int]:
+        """The same by the refusals that were heard of."""
         if self.refused is None:
             return WELL, WELL
-        if has_jumped:
-            return WELL, CRITICAL
         if not self.is_stored:
             return (CRITICAL if self.is_clear else WELL), CRITICAL
         age = now - self.refused
