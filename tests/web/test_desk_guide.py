@@ -1,0 +1,140 @@
+"""A December of the made-up country is closed in a browser by the steps of the guide, as it has them."""
+
+from __future__ import annotations
+
+import os
+import re
+import subprocess
+import tempfile
+import time
+from collections.abc import Iterator
+from pathlib import Path
+
+import pytest
+
+from browser import Browser
+from conftest import ROOT
+from cpi_tools.program import Cpi
+from desk_pages import PREFIX, Person, desk_pages
+from lib.nation import ZONE
+from readable import faults_for_keys, faults_of_page
+from stage import Stage
+
+MONTH = "2025-12"
+IN_MEMORY = "/dev/shm"
+
+SECONDS = 300.0
+
+PICTURES = os.environ.get("CPI_PICTURES", "")
+"""Where pictures of the pages go, if they are wanted: those of the guide are made so."""
+
+NAMED = "return [...document.querySelectorAll(arguments[0])].findIndex((it) => it.textContent.trim() === arguments[1])"
+
+
+@pytest.fixture(scope="module")
+def lived(cpi: Cpi) -> Iterator[tuple[Path, Path]]:
+    """The file of the country before the freeze of its December, and the table that its own run published; in memory, if
+    it can be: a disk would keep each of its 165,000 commands, one after another."""
+    with tempfile.TemporaryDirectory(dir=IN_MEMORY if os.access(IN_MEMORY, os.W_OK) else None) as room:
+        yield office_of(cpi, Path(room))
+
+
+def office_of(cpi: Cpi, folder: Path) -> tuple[Path, Path]:
+    """The same, in a folder."""
+    run = [str(ROOT / "examples/national/run"), "--program", str(cpi.path), "--out", str(folder)]
+    subprocess.run(run, check=True, capture_output=True)
+    records = list[str]()
+    with (folder / "records.csv").open(encoding="utf-8", newline="") as file:
+        for line in file:
+            if f",desk,freeze,{MONTH}" in line:
+                break
+            records.append(line)
+    (folder / "records.csv").unlink()
+    path = folder / "office.db"
+    words = [str(cpi.path), "replay", "--db", str(path), "--zone", ZONE]
+    subprocess.run(words, input="".join(records).encode(), stdout=subprocess.DEVNULL, check=True)
+    return path, folder / f"tables/{MONTH}.csv"
+
+
+def steps() -> list[tuple[str, str]]:
+    """The steps of the guide: the page of each, and what it says."""
+    guide = (ROOT / "docs/DESK.md").read_text(encoding="utf-8")
+    part = guide.partition("### A month, step by step\n")[2].partition("\n### ")[0]
+    found = re.findall(r"^\d+\. \*\*(.+?)\*\*: (.*)$", part, re.M)
+    assert len(found) == part.count("\n1. ") + 6 == 7
+    return found
+
+
+class Follower:
+    """Somebody who follows a step: opens the page in bold, and presses the buttons in italics, one after the other."""
+
+    def __init__(self, person: Person, browser: Browser):
+        self.person, self.browser = person, browser
+
+    def follow(self, page: str, says: str) -> None:
+        if "another person signs in" in says:
+            self.person.sign_in("Ben")
+            self.person.open(f"/month/{MONTH}/")
+        self.go("header nav a", page)
+        self.seen(page)
+        for button in re.findall(r"\*([^*]+)\*", says):
+            if button == "Prepare the freeze":
+                self.give_reasons()
+            self.go("main button, header button", button)
+            if button == "Try it now":
+                tried = "return !!document.querySelector('form[action$=\"/try\"]')"
+                self.wait(tried, "the trial")
+
+    def go(self, selector: str, name: str) -> None:
+        """Presses the one link, or the first button, of a name; the next page is there afterwards."""
+        at = self.browser.run(NAMED, selector, name)
+        assert at >= 0, f"{name} isn't on {self.browser.run('return location.pathname')}"
+        self.browser.run("document.documentElement.dataset.before = 'yes'")
+        self.browser.run("document.querySelectorAll(arguments[0])[arguments[1]].focus()", selector, at)
+        self.person.type("\ue007")
+        gone = "return !document.documentElement.dataset.before && document.readyState === 'complete'"
+        self.wait(gone, f"a page after {name}")
+
+    def wait(self, script: str, told: str) -> None:
+        """Waits until a script says yes: a freeze of the whole country takes its time on a busy machine."""
+        until = time.monotonic() + SECONDS
+        while not self.browser.run(script):
+            assert time.monotonic() < until, told
+            time.sleep(0.2)
+
+    def give_reasons(self) -> None:
+        """Says of each aggregate why it is carried; there are some."""
+        fields = self.browser.all("input[name^='why-']")
+        assert fields
+        for field in fields:
+            field.send_keys("no shop had it")
+        self.seen("reasons")
+
+    def seen(self, name: str) -> None:
+        """The page has no fault at either width, and is kept as a picture, if pictures are wanted."""
+        for width in (360, 1280):
+            self.browser.size(width, 900)
+            assert faults_of_page(self.browser) == [], (name, width)
+            if PICTURES:
+                self.browser.picture(Path(PICTURES) / f"desk-{name.replace(' ', '-').lower()}-{width}.png", False)
+        assert faults_for_keys(self.browser) == [], name
+
+
+def test_a_december_is_closed_by_the_steps_of_the_guide(
+    stage: Stage, browser: Browser, lived: tuple[Path, Path], tmp_path: Path
+) -> None:
+    office, published = lived
+    stage.restore({stage.db: office.read_bytes()})
+    more = ("--zone", ZONE, "--left-out", "0")
+    with desk_pages(stage, tmp_path, f"{stage.url}{PREFIX}/", *more) as pages:
+        person = Person(browser, pages)
+        person.sign_in("Ada")
+        person.open(f"/month/{MONTH}/")
+        follower = Follower(person, browser)
+        for page, says in steps():
+            follower.follow(page, says)
+        person.open("/log")
+        browser.wait_text("main", f"freeze,{MONTH},")
+        assert "confirmed: " in browser.text("main") and browser.faults() == []
+        table = stage.ask("GET", f"/api/table/{MONTH}/csv")
+        assert table.status == 200 and table.body == published.read_bytes()
