@@ -63,23 +63,27 @@ from cpi_tools.front import (
     system_program,
 )
 from cpi_tools.languages import SOURCE, a_language
-from cpi_tools.pack.config import Config, read_config
-from cpi_tools.pack.public import Published, from_file
+from cpi_tools.pack.config import read_config
+from cpi_tools.pack.public import from_file
 from cpi_tools.program import Cpi, CpiFailed, add_program, told as told_end
 from cpi_tools.publish import publish
 from cpi_tools.sign_in import address_of_page, link_of
 from cpi_tools.terminal import Fault, ToolWords, because_of, ends_by_signals, needs
 from cpi_tools.trials import folder_of_trial
 from cpi_tools.tried_desk import Tried, TriedDesk, desk_needs
-from cpi_tools.tried_language import site_config, write_config
+from cpi_tools.tried_language import write_config
+from cpi_tools.tried_site import write_site_config
 
 ROOT = Path(__file__).resolve().parents[1]
 
 ZONE = "CET-1CEST,M3.5.0,M10.5.0/3"
 """The clock of the made-up country."""
 
-ANOTHER = Config("TRIAL", "XX", "An office that is tried")
-"""Who publishes the website of an office that --db names."""
+COUNTRY = ROOT / "examples/national/office.ini"
+"""Who publishes the website of the made-up country."""
+
+SITE = "published"
+"""The folder of the website."""
 
 CALENDAR = "calendar.json"
 """The windows of the office's calendar, as they were when it started."""
@@ -120,24 +124,18 @@ def copy_of(office: Path, folder: Path) -> Path:
     return right_copy(office, copies)
 
 
-def write_website(cpi: Cpi, file: Path, folder: Path, is_country: bool, language: str) -> None:
-    """The website of what an office has published until now, in `published`; none if that is no table yet."""
-    site = folder / "published"
+def write_website(cpi: Cpi, file: Path, folder: Path, is_country: bool, language: str) -> Path:
+    """The website of what an office has published until now, in `published`; none if that is no table yet. The file of
+    its configuration."""
+    site = folder / SITE
     # (each made-up country is another one, whose tables take the place of those before)
     shutil.rmtree(site, ignore_errors=True)
     published = from_file(cpi, file, int(time.time()))
-    if any(each.table for each in published):
-        config = of_country(published) if is_country else ANOTHER
-        spoken = config if language == SOURCE else site_config(config, language)
-        publish(published, spoken, site, None, lambda _: None)
-
-
-def of_country(published: list[Published]) -> Config:
-    """Who publishes in the made-up country, whose reference period is its first year, wherever that was moved to. Its
-    address is that of another site, and its reasons are those of months that weren't moved."""
-    first = min(each.listed.month for each in published if each.table)
-    country = read_config(ROOT / "examples/national/office.ini")
-    return country._replace(reference=first[:4], address="", reasons=())
+    first = min((each.listed.month for each in published if each.table), default="")
+    config = write_site_config(folder, COUNTRY if is_country else None, first, language)
+    if first:
+        publish(published, read_config(config), site, None, lambda _: None)
+    return config
 
 
 class Office:
@@ -214,7 +212,7 @@ def place_of(address: str, port: int, folder: Path) -> Place:
         raise Fault(f"{address} is no address of this machine: {because_of(fault)}") from fault
     if is_listening(at, port):
         raise Fault(f"port {port} of {address} is taken: name another by --port")
-    own = {"published": folder / "published", "calendar": folder / CALENDAR}
+    own = {"published": folder / SITE, "calendar": folder / CALENDAR}
     return Place(host, at, port, f"unix:{folder}/plain.sock", free_port(), ROOT / "web", **own, desk_port=free_port())
 
 
@@ -290,17 +288,19 @@ def serve(chosen: argparse.Namespace, cpi: Cpi, folder: Path) -> int:
         # (the program has opened the file, so it is an office, and of the tables that are read here)
         write_calendar(file, folder / CALENDAR)
         print("Its website is written, which takes some seconds, too.", flush=True)
-        write_website(cpi, file, folder, not chosen.db, chosen.language)
-        with started(desk_of(chosen, cpi, file, place)) as desk, standing(front, partial(of_a_trial, folder)):
+        config = write_website(cpi, file, folder, not chosen.db, chosen.language)
+        with started(desk_of(chosen, cpi, file, place, config)) as desk, standing(front, partial(of_a_trial, folder)):
             print(told(place, office, not chosen.db, folder), flush=True)
             watch(office, desk, front)
 
 
-def desk_of(chosen: argparse.Namespace, cpi: Cpi, file: Path, place: Place) -> TriedDesk:
-    """The desk's application of a trial."""
+def desk_of(chosen: argparse.Namespace, cpi: Cpi, file: Path, place: Place, config: Path) -> TriedDesk:
+    """The desk's application of a trial; the configuration is that of its website."""
     room, spoken = file.with_name(f"{file.stem}-desk"), chosen.language if chosen.language != SOURCE else None
     front = f"{place.url}/desk/"
-    return TriedDesk(cpi, Tried(place.office_port, file, chosen.zone, room, place.desk_port, front, spoken))
+    site = config.with_name(SITE)
+    tried = Tried(place.office_port, file, chosen.zone, room, place.desk_port, front, spoken, site, config)
+    return TriedDesk(cpi, tried)
 
 
 def watch(office: Office, desk: Process, front: Front) -> NoReturn:

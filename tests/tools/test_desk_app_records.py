@@ -52,11 +52,11 @@ def offer_of(page: str) -> str:
     return str(found)
 
 
-def test_a_file_goes_before_what_is_typed_and_each_refusal_has_its_line(ada: Person) -> None:
+def test_of_a_file_each_refusal_has_its_line(ada: Person) -> None:
     rows = '\ufeffoutlet,50,"New, with a comma"\r\n\r\noutlet,51,"Shop\r\nof two lines"\r\noutlet,10,Other shop\r\nitem,X\r\n'
-    answer = chosen(ada, rows.encode(), text="outlet,60,Typed")
+    answer = chosen(ada, rows.encode(), text=" \n")
     words = words_of(answer.text)
-    assert answer.status_code == 200 and "outlet,60" not in answer.text
+    assert answer.status_code == 200
     assert "1 would be carried out, 3 refused." in words
     refused = re.findall('<tr class="refused"><td>([0-9]+)</td>', answer.text)
     assert refused == ["3", "5", "6"]  # (the second of these records begins in the third line)
@@ -64,6 +64,17 @@ def test_a_file_goes_before_what_is_typed_and_each_refusal_has_its_line(ada: Per
     assert "Send one record" in words
     sent = ada.post("/records/send", offer=offer_of(answer.text), left="")
     assert "1 of 1 done." in words_of(sent.text)
+
+
+@pytest.mark.parametrize("more", [{}, {"word": "plan", "year": "2027"}])
+def test_a_file_and_a_typed_text_are_refused_together_since_one_would_be_lost(
+    ada: Person, more: dict[str, str]
+) -> None:
+    answer = chosen(ada, b"outlet,50,Chosen\n", text="outlet,60,Typed", **more)
+    assert answer.status_code == 400 and 'name="offer"' not in answer.text
+    assert "A file was chosen, and the field has text too" in words_of(answer.text)
+    kept = re.findall("<textarea[^>]*>([^<]*)</textarea>", answer.text)
+    assert [it.strip() for it in kept] == (["", "outlet,60,Typed"] if more else ["outlet,60,Typed", ""])
 
 
 @pytest.mark.parametrize(

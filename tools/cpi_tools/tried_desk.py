@@ -18,7 +18,8 @@ PACKAGES = ("flask", "waitress", "jinja2")
 
 class Tried(NamedTuple):
     """What the application of a trial is about: the office's port, file and clock, its own folder and port, its address
-    behind the front, and the language of its pages, or none if it is English."""
+    behind the front, the language of its pages, or none if it is English, and the website's folder and configuration.
+    """
 
     office_port: int
     file: Path
@@ -27,6 +28,8 @@ class Tried(NamedTuple):
     port: int
     front: str
     language: Optional[str]
+    site: Path
+    config: Path
 
 
 def desk_needs() -> None:
@@ -47,6 +50,7 @@ class TriedDesk:
         it = self.tried
         words = ["--office", f"http://127.0.0.1:{it.office_port}", "--file", str(it.file), "--zone", it.zone]
         words += ["--room", str(it.room), "--listen", f"127.0.0.1:{it.port}", "--front", it.front]
+        words += ["--site", str(it.site), "--site-config", str(it.config)]
         return [sys.executable, "-m", "cpi_tools", "desk", "serve", *words, "--program", str(self.cpi.path)]
 
     def start(self) -> None:

@@ -1,13 +1,10 @@
-"""The language of a trial (`ops/try --language`): what the pages and the website of its office are set to."""
+"""The language of a trial (`ops/try --language`): what the collectors' page of its office is set to."""
 
 from __future__ import annotations
 
 import re
 from pathlib import Path
 
-from .languages import SOURCE
-from .pack.config import Config
-from .pack.office_languages import OfficeLanguages
 from .terminal import Fault
 
 
@@ -23,12 +20,6 @@ def pages_config(text: str, code: str) -> str:
         if count != 1:
             raise Fault(f"config.js sets {name} {count} times")
     return text
-
-
-def site_config(config: Config, code: str) -> Config:
-    """The configuration of the website, whose pages are in a language first, and in English too."""
-    tags = [*dict.fromkeys((code, SOURCE))]
-    return config._replace(speaks=OfficeLanguages(tuple(tag.replace("_", "-") for tag in tags)))
 
 
 def write_config(source: Path, to: Path, code: str) -> Path:

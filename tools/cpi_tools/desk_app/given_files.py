@@ -15,6 +15,10 @@ from .judging import NotRead
 PLAN = "plan"
 
 
+TWO = _("A file was chosen, and the field has text too: empty the field, or choose no file. Nothing was sent.")
+"""What is said to a form with two texts, of which one would be lost."""
+
+
 class Given(NamedTuple):
     """Records as a text, the name of the file that they are from or none, and the year and rows of a form that has a plan
     only."""
@@ -25,10 +29,12 @@ class Given(NamedTuple):
 
 
 def given() -> Given:
-    """What the form of the request has: a file goes before what is typed. Raises NotRead."""
+    """What the form of the request has: a file, or what is typed. Raises NotRead, also if it has both."""
     form, file = flask.request.form, flask.request.files.get("file")
     name = (file.filename or "") if file else ""
     content = text_of_file(name, file.read()) if file and name else None
+    if content is not None and form.get("text", "").strip():
+        raise NotRead(TWO)
     if form.get("word") == PLAN:
         year, rows = plain_digits(form.get("year", "")), content if content is not None else form.get("text", "")
         plan = (year, rows.replace("\r\n", "\n"))

@@ -14,7 +14,7 @@ from ..terminal import Fault
 from ..told import told as _
 from .asked import desk, page, session
 from .faults import says
-from .given_files import given
+from .given_files import PLAN, given
 from .judging import judge as judge_on_copy
 from .judging import lines_of, records_of
 from .told import NOT_SENT, Told, told
@@ -65,7 +65,9 @@ def judge() -> Response:
     try:
         found = given()
     except Fault as fault:
-        return records_page(400, text=flask.request.form.get("text", ""), fault=says(fault))
+        form = flask.request.form
+        plan = (form.get("year", ""), form.get("text", "")) if form.get("word") == PLAN else None
+        return records_page(400, text="" if plan else form.get("text", ""), plan=plan, fault=says(fault))
     try:
         records = records_of(found.text, desk().given.clock)
         with desk().copies_now() as copy:
