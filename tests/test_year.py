@@ -31,9 +31,9 @@ SMALL = 5, 6
 CERTAIN = [kind for kind in KINDS if kind not in ("burst", "promoted", "front")]
 LANES = 3
 
-FOUND = {2026: 1, 100: 2}
-"""Lives in which the judge was wrong, and their months: it hadn't heard of a refusal whose reply was lost with the front,
-and took the pack of before for wrong that a publisher left when it was killed."""
+FOUND = {2026: 1, 100: 2, 5009: 2}
+"""Lives in which judge or world were wrong, and their months: a refusal whose reply was lost with the front, the pack of
+before that a killed publisher left, and a stop that put into the file what the disk had refused."""
 
 
 def lived(program: Program, seed: int, size: Size, kinds: list[str], ways: Ways = Ways()) -> Life:

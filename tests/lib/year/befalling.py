@@ -126,6 +126,8 @@ class Befalling:
         if self.country.machine.is_up:
             self.country.met(fault.kind)
             self.country.machine.stop()
+            # (what the disk had refused to put into the file may be there now, which the probe takes for a write)
+            self.country.judge.writes.is_clear = False
             self.country.restart()
 
     def upgraded(self, fault: Fault, _: int) -> None:

@@ -89,8 +89,9 @@ class Machine:
             self.process.terminate()
             self.process.wait()
             self.kill()
-            self.program.replay(b"", self.file)
-            self.stamp()
+            if self.has_disk:
+                self.program.replay(b"", self.file)
+                self.stamp()
 
     def close(self) -> None:
         """Ends all that runs on the machine."""
