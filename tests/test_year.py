@@ -70,6 +70,19 @@ def is_found(program: Program, name: str) -> Fault:
     return lived(program, 1, size, [*slip.kinds], ways).broken
 
 
+def is_waited() -> Fault:
+    """Whether a tool can wait while a clock of faketime stands still: a backup does so if the office writes meanwhile."""
+    script = (
+        f"import sys; sys.path.append({os.path.join(TOP, 'tests/lib/year')!r}); import forking, time; time.sleep(0.01)"
+    )
+    paths = os.pathsep.join([os.path.join(TOP, "tools"), os.environ.get("PYTHONPATH", "")])
+    environment = {**clock.faked("FAKETIME", "2026-11-18 02:05:18"), "PYTHONPATH": paths}
+    ran = subprocess.run(
+        ["/usr/bin/python3", "-c", script], env=environment, capture_output=True, text=True, check=False
+    )
+    return ran.stderr or None
+
+
 def is_shortened() -> Fault:
     """The shortest list of faults that still shows what is broken, here two of many."""
     many = faults_of(1, Size(3, *SMALL), KINDS)
@@ -81,6 +94,7 @@ def is_shortened() -> Fault:
 def checks_of(program: Program) -> Iterator[Check]:
     """All checks."""
     yield Check("the shortest list", is_shortened)
+    yield Check("a tool that waits", is_waited)
     yield Check("all faults", partial(is_kept, program, 1))
     for seed, months in FOUND.items():
         yield Check(f"seed {seed}", partial(is_well, program, seed, months))

@@ -8,12 +8,23 @@ from __future__ import annotations
 
 import json
 import os
+import select
 import sys
+import time
 from typing import NoReturn
 
 from cpi_tools.command_line import main
 
 WRITTEN = os.O_WRONLY | os.O_CREAT | os.O_TRUNC
+
+
+def wait(seconds: float) -> None:
+    """Waits as `time.sleep` does, which fails under Debian's faketime (0.9.10) with `Invalid argument` if that leaves the
+    monotonic clock alone."""
+    select.select([], [], [], seconds)
+
+
+time.sleep = wait
 
 
 def child(out: str, err: str, words: list[str]) -> NoReturn:
