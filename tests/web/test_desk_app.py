@@ -8,13 +8,18 @@ import threading
 from collections.abc import Iterator
 from pathlib import Path
 
+from cpi_tools.csv_files import line_of
 from cpi_tools.desk_app.desk_log import DeskLog
+from lib import hostile
 
 from browser import Browser
 from desk_pages import Person
 from offices import ANNA, ARABIC, BENO, IMAGE, LEAVING, OVERRIDE, SCRIPT
 from readable import faults_for_keys, faults_of_page, faults_of_texts
 from stage import Stage
+
+HOSTILE = tuple(text.replace("\u2029", "") for text in hostile.HOSTILE)
+"""Names of outlets, each of which is a line of its own where it is pasted."""
 
 MONTH = "2011-03"
 FAR = 9_999_999_000
@@ -110,7 +115,7 @@ def posted(browser: Browser, port: int, selector: str) -> None:
 def every_page(stage: Stage, ada: Person) -> Iterator[str]:
     """Each kind of page, with texts of others on it."""
     opened(ada, stage)
-    ada.send(f'outlet,70,"{IMAGE.replace(chr(34), chr(34) * 2)}"', f"outlet,71,{OVERRIDE}")
+    ada.send(*(line_of(["outlet", number, text]) for number, text in enumerate(HOSTILE, 70)))
     ada.open(f"/month/{MONTH}/table")
     ada.tried(MONTH)
     for path in ("", "table", "looks", "freeze", "what-if", "explain/01.1.1.2-01", "explain/01"):
@@ -122,7 +127,7 @@ def every_page(stage: Stage, ada: Person) -> Iterator[str]:
 
 
 def test_pages_can_be_read_on_a_desk_and_on_a_phone(stage: Stage, ada: Person, browser: Browser) -> None:
-    found, others = list[str](), (SCRIPT, IMAGE, ARABIC, OVERRIDE, LEAVING)
+    found, others = list[str](), (*HOSTILE, SCRIPT, IMAGE, ARABIC, OVERRIDE, LEAVING)
     for path in every_page(stage, ada):
         for width in (360, 1280):
             browser.size(width, 900)

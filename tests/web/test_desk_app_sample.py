@@ -6,17 +6,19 @@ from collections.abc import Sequence
 from pathlib import Path
 
 from cpi_tools.csv_files import line_of
+from lib import hostile
 
 from browser import Browser
 from desk_pages import DeskPages, Person
-from offices import ANNA, ARABIC, IMAGE, LEAVING, NOW, OVERRIDE, SCRIPT
+from offices import ANNA, ARABIC, LEAVING, NOW
 from readable import faults_for_keys, faults_of_page, faults_of_texts
 from stage import Stage
 from websites import CONFIG
 
 KINDS = ("items", "outlets", "collectors", "assignments", "handovers", "calendar")
 
-HOSTILE = (SCRIPT, IMAGE, ARABIC, OVERRIDE, LEAVING.replace("\u2029", ""))
+HOSTILE = (*(text.replace("\u2029", "") for text in (*hostile.HOSTILE, LEAVING)), ARABIC)
+"""Names of outlets, each of which is a line of its own where it is pasted."""
 
 
 def pasted(ada: Person, kind: str, *rows: str) -> None:
