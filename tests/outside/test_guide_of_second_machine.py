@@ -1,4 +1,4 @@
-"""RUNNING's guide to a second machine, followed word for word between two booted systems in two networks: the commands are
+"""SECOND-MACHINE, followed word for word between two booted systems in two networks: the commands are
 those of the document, in its order. The first machine is killed, the second one promoted, and then comes the way back."""
 
 from __future__ import annotations
@@ -16,10 +16,10 @@ from cpi_tools.gaps import MISSING
 from conftest import ROOT
 from systems import FIRST, SECOND, System, indented, section, two_systems
 
-GUIDE = (ROOT / "docs/RUNNING.md").read_text()
-USER, KEY, ALLOWED, FOLLOW, PROBE = indented(section(GUIDE, "### To set it up"))
-(PROMOTE,) = indented(section(GUIDE, "### When the first machine is lost"))
-STOP, REPLACE, ASIDE, AGAIN = indented(section(GUIDE, "### Back again"))
+GUIDE = (ROOT / "docs/SECOND-MACHINE.md").read_text()
+USER, KEY, ALLOWED, FOLLOW, PROBE = indented(section(GUIDE, "## To set it up"))
+(PROMOTE,) = indented(section(GUIDE, "## When the first machine is lost"))
+STOP, REPLACE, ASIDE, AGAIN = indented(section(GUIDE, "## Back again"))
 
 OFFICE, COPY = "/var/lib/cpi/office.db", "/var/lib/cpi-copy/office"
 CLIENTS = f"{sys.executable} {Path(clients.__file__)} 8080"

@@ -52,8 +52,15 @@ def test_the_units_are_verified_by_systemd(tmp_path: Path) -> None:
     assert (ran.returncode, ran.stdout, ran.stderr) == (0, "", "")
 
 
+def guides() -> str:
+    """The documents about the machine."""
+    return "".join(
+        (ROOT / f"docs/{it}.md").read_text(encoding="utf-8") for it in ("RUNNING", "FRONT", "SECOND-MACHINE")
+    )
+
+
 def test_what_the_units_start_is_there_and_named_in_the_guide() -> None:
-    guide = (ROOT / "docs/RUNNING.md").read_text()
+    guide = guides()
     for name in UNITS:
         for started in re.findall(r"^Exec\w+=\+?/usr/lib/cpi/([\w-]+)", (OPS / name).read_text(), re.M):
             assert os.access(OPS / started, os.X_OK)
@@ -67,7 +74,7 @@ file changed, an upgrade of an office that has set something in it would ask whi
 
 def test_each_variable_of_the_scripts_is_in_the_configuration() -> None:
     told = set(re.findall(r"^(CPI_\w+)=", (OPS / "office.conf").read_text(), re.M))
-    guide = (ROOT / "docs/RUNNING.md").read_text(encoding="utf-8")
+    guide = guides()
     assert [name for name in sorted(ADDED) if f"a line `{name}=" not in guide] == []
     scripts = ("cpi-serve", "cpi-stopped", "cpi-backup", "cpi-follow", "cpi-desk")
     used = {name for path in scripts for name in re.findall(r"CPI_\w+", (OPS / path).read_text())}

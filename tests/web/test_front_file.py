@@ -1,4 +1,4 @@
-"""What RUNNING says of the file of nginx: its words filled in for a name, and who may read the logs."""
+"""What FRONT says of the file of nginx: its words filled in for a name, and who may read the logs."""
 
 from __future__ import annotations
 
@@ -14,15 +14,15 @@ from cpi_tools.front import draw_certificate, free_port, system_program, whole_c
 HOST = "prices.example"
 
 
-def running() -> str:
-    return (ROOT / "docs/RUNNING.md").read_text(encoding="utf-8")
+def guide() -> str:
+    return (ROOT / "docs/FRONT.md").read_text(encoding="utf-8")
 
 
 @pytest.fixture(scope="module")
 def written(tmp_path_factory: pytest.TempPathFactory) -> str:
-    """The file that the command of RUNNING writes."""
+    """The file that the command of FRONT writes."""
     folder = tmp_path_factory.mktemp("filled")
-    commands = re.findall(r"^```sh\n(.*?)^```\n", running(), re.S | re.M)
+    commands = re.findall(r"^```sh\n(.*?)^```\n", guide(), re.S | re.M)
     (command,) = [each.replace("out/cpi.conf", f"{folder}/cpi.conf") for each in commands if "ops/nginx.conf" in each]
     ran = subprocess.run(["bash", "-c", command], cwd=ROOT, capture_output=True, text=True, check=False)
     assert (ran.stdout, ran.stderr) == ("0\n", "")
@@ -62,4 +62,4 @@ def test_the_logs_are_made_as_logrotate_keeps_them(written: str) -> None:
     assert (mode, set(re.findall(r"_log ([^ ;]+)", written)) - {"off"}) == ("0640", set(names.split()))
     assert not any(name.endswith(".log") for name in names.split())
     for name in names.split():
-        assert f"    install -m {mode[1:]} -o {owner} -g {group} /dev/null {name}\n" in running()
+        assert f"    install -m {mode[1:]} -o {owner} -g {group} /dev/null {name}\n" in guide()
