@@ -91,7 +91,7 @@ def readme_faults(text: str) -> Iterator[str]:
 MOST_WORDS, MOST_OF_ALL = 5000, 66000
 """Words as `wc -w` counts them: of a document, and of docs/*.md together."""
 
-LONG = {f"docs/{it}.md" for it in ("DESK", "PUBLISHING")}
+LONG = {"docs/DESK.md"}
 """Documents that may be longer."""
 
 SHORT = {"docs/THEOREM.md": 1500}

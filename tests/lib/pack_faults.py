@@ -1,6 +1,6 @@
 """The forms of a pack of `cpi-tools publish`, each figure of them, beside the figures that were computed here.
 
-A fault is a line; there is none if a form has each figure, in the digits that PUBLISHING names, and nothing else.
+A fault is a line; there is none if a form has each figure, in the digits that DATA names, and nothing else.
 """
 
 from __future__ import annotations

@@ -161,7 +161,7 @@ PLACES = {("CPIC", "N"): 3, ("CPI", "G1"): 4, ("CPI", "GY"): 5, ("CPIW", "N"): 1
 
 
 def id_of(code: str) -> str:
-    """The id of a node, as PUBLISHING says it."""
+    """The id of a node, as DATA says it."""
     return "_T" if code == "00" else "CP" + code.replace(".", "")
 
 
