@@ -21,6 +21,7 @@ from conftest import ROOT
 sys.path.insert(0, str(ROOT / "tools"))
 
 import catalogues  # noqa: E402
+from cpi_tools.months_of_texts import NAMES as NAMES_OF_MONTHS  # noqa: E402
 
 LANGUAGES = catalogues.codes(ROOT / "po")
 SOURCE = catalogues.template(ROOT)
@@ -184,15 +185,15 @@ MODULES = sorted(
 )
 
 
-def outside_of_python(module: str) -> list[str]:
-    """The texts of a module that are in no catalogue: strings of two words, but for docstrings, what such calls take, and
-    what is written to the log."""
+def outside_of_python(module: str, others: Iterable[str] = ()) -> list[str]:
+    """The texts of a module that are in no catalogue: strings of two words, but for docstrings, what such calls and
+    `others` take, and what is written to the log."""
     tree, known = ast.parse(module), set[ast.AST]()
     for node in ast.walk(tree):
         called = node.func if isinstance(node, ast.Call) else None
         name = called.id if isinstance(called, ast.Name) else called.attr if isinstance(called, ast.Attribute) else ""
         is_docstring = isinstance(node, ast.Expr) and isinstance(node.value, ast.Constant)
-        if name in CALLS or name == "append" or is_docstring:
+        if name in (*CALLS, *others) or name == "append" or is_docstring:
             known.update(ast.walk(node))
     texts = (it.value for it in ast.walk(tree) if isinstance(it, ast.Constant) and it not in known)
     return [
@@ -213,6 +214,28 @@ refusal's line in English, and names of states."""
 @pytest.mark.parametrize("path", MODULES, ids=lambda path: str(path.stem))
 def test_each_text_of_the_desk_s_application_is_in_the_catalogues(path: Path) -> None:
     assert outside_of_python(path.read_text(encoding="utf-8")) == []
+
+
+OF_REPORTS = re.findall(r"^\[report: (tools/cpi_tools/[a-z_]+\.py)\]$", (ROOT / "po/babel.cfg").read_text(), re.M)
+"""The modules that make texts of reports and are no package of their own: those of take-in, and what all reports have."""
+
+NO_TEXT_OF_REPORTS = re.compile(r"^body \{|^<[a-z!/]|^\"?><|^save it as \.xlsx without a password$")
+"""A style, markup, and what a line on a terminal says."""
+
+TERMINAL = ("Fault", "said_as")
+"""The calls whose texts are for a terminal, in English."""
+
+
+@pytest.mark.parametrize("path", OF_REPORTS, ids=lambda path: Path(path).stem)
+def test_each_text_of_a_report_is_in_the_catalogues(path: str) -> None:
+    months = {name for names in NAMES_OF_MONTHS.values() for name in names}
+    found = outside_of_python((ROOT / path).read_text(encoding="utf-8"), TERMINAL)
+    assert [it for it in found if it not in months and not NO_TEXT_OF_REPORTS.search(it)] == []
+
+
+def test_the_modules_of_take_in_are_among_those_of_reports() -> None:
+    names = {Path(path).stem for path in OF_REPORTS}
+    assert names > {"cells", "desk_words", "judge", "office_files", "plan_rows", "price_cells", "sheets", "taken_page"}
 
 
 def test_a_text_of_python_outside_of_the_catalogues_is_found() -> None:

@@ -7,7 +7,9 @@ from dataclasses import dataclass, field
 from pathlib import Path
 from typing import NamedTuple
 
+from .others import Worded, of_others
 from .terminal import is_line
+from .told import Told, told, whole
 
 ROWS_LOOKED_AT = 20
 """Rows among which the heading of a sheet is searched for."""
@@ -118,8 +120,12 @@ class Alike:
     def end(self) -> None:
         """Counts those that weren't told."""
         if self._count > MOST_ALIKE:
-            more = f"{self._count - MOST_ALIKE:,} more cells of this kind, the last one here: {self._last.because}"
-            self._told.append(self._last._replace(because=more))
+            more = whole(self._count - MOST_ALIKE)
+            # t: {fault} is a problem, such as: the cell's formula has no value
+            because = told(
+                "{count} more cells of this kind, the last one here: {fault}", count=more, fault=self._last.because
+            )
+            self._told.append(self._last._replace(because=because))
 
 
 MOST_TOLD = 10_000
@@ -142,13 +148,17 @@ class Capped:
 
     def all(self) -> list[SheetFault]:
         """Those that are listed, and how many more there are."""
-        last = [SheetFault(self._told[-1].origin, more_of(self._more), "mend those above first")] if self._more else []
+        last = (
+            [SheetFault(self._told[-1].origin, more_of(self._more), told("mend those above first"))]
+            if self._more
+            else []
+        )
         return [*self._told, *last]
 
 
-def more_of(count: int) -> str:
+def more_of(count: int) -> Told:
     """The line for problems that aren't listed one by one."""
-    return f"{count:,} more problems of this kind from here on"
+    return told("{count} more problems of this kind from here on", count=whole(count))
 
 
 LONG = 80
@@ -160,6 +170,11 @@ def shown(text: str) -> str:
     is shown by its number."""
     first = text if len(text) <= LONG else f"{text[:LONG]}.."
     return f'"{first}"' if first.isprintable() else f'"{ascii(first)[1:-1]}"'
+
+
+def cut(text: str) -> Worded:
+    """The same for a place of a text of ours, which has the quotation marks."""
+    return of_others(shown(text)[1:-1])
 
 
 def label_of(path: Path) -> str:

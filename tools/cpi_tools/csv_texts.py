@@ -17,7 +17,9 @@ from typing import TextIO
 
 from .cells import ROWS_LOOKED_AT, BadSheet, Origin, Texts, label_of
 from .office_sheets import SHEETS
+from .others import of_others
 from .terminal import because_of
+from .told import told
 
 SEPARATORS = ",;\t"
 
@@ -26,7 +28,7 @@ NAMED_SEPARATOR = re.compile("sep=(.)\r?\n?", re.I)
 MARKS_OF_UTF_16 = (b"\xff\xfe", b"\xfe\xff")
 """The byte order marks of UTF-16."""
 
-UTF_8 = "save it as CSV in UTF-8"
+UTF_8 = told("save it as CSV in UTF-8")
 
 NAMES = frozenset(name for columns in SHEETS.values() for name in (*columns.needed, *columns.others))
 """The names of all columns."""
@@ -50,20 +52,21 @@ def _rows(path: Path) -> Iterator[list[str]]:
             for number, row in enumerate(csv.reader(file, delimiter=separator, strict=True), 1):
                 yield row
     except OSError as fault:
-        raise BadSheet(Origin(label, 0), because_of(fault), "see why the file can't be read") from fault
+        raise BadSheet(Origin(label, 0), because_of(fault), told("see why the file can't be read")) from fault
     except UnicodeError as fault:
-        because = "the file begins as UTF-16 does, and isn't that"
+        because = told("the file begins as UTF-16 does, and isn't that")
         raise BadSheet(Origin(label, number + 1), because, UTF_8) if is_utf_16 else _no_utf_8(path) from fault
     except csv.Error as fault:
-        told = str(fault).splitlines()[0]
-        raise BadSheet(Origin(label, number + 1), f"the row is no CSV: {told}", "look at its quotes") from fault
+        because = told("the row is no CSV: {fault}", fault=of_others(str(fault).splitlines()[0]))
+        raise BadSheet(Origin(label, number + 1), because, told("look at its quotes")) from fault
 
 
 def _separator(file: TextIO, label: str) -> str:
     """The separator of a file, which is at its first row then."""
     first = file.readline()
     if "\0" in first:
-        raise BadSheet(Origin(label, 1), "the file isn't UTF-8: it has bytes of zero, as UTF-16 has", UTF_8)
+        because = told("the file isn't UTF-8: it has bytes of zero, as UTF-16 has")
+        raise BadSheet(Origin(label, 1), because, UTF_8)
     if named := NAMED_SEPARATOR.fullmatch(first):
         return named[1]
     lines = re.split("\r\n|[\r\n]", first + file.read(LOOKED_AT))[:ROWS_LOOKED_AT]
@@ -82,7 +85,6 @@ def _names_in(line: str, separator: str) -> int:
 
 def _no_utf_8(path: Path) -> BadSheet:
     """The problem of a file that isn't UTF-8: the row, and the cell as far as it can be shown."""
-    told = BadSheet(Origin(label_of(path), 0), "the file isn't UTF-8", UTF_8)
     with path.open("rb") as file:
         for number, line in enumerate(file, 1):
             try:
@@ -91,6 +93,6 @@ def _no_utf_8(path: Path) -> BadSheet:
                 before = re.split(f"[{SEPARATORS}]", line[: fault.start].decode("utf-8"))[-1]
                 behind = line[fault.start :].decode("ascii", "backslashreplace")
                 cell = before + re.split(f"[{SEPARATORS}\r\n]", behind)[0]
-                because = f"the file isn't UTF-8: a cell has the bytes {cell[:60]}"
+                because = told("the file isn't UTF-8: a cell has the bytes {bytes}", bytes=of_others(cell[:60]))
                 return BadSheet(Origin(label_of(path), number), because, UTF_8)
-    return told
+    return BadSheet(Origin(label_of(path), 0), told("the file isn't UTF-8"), UTF_8)

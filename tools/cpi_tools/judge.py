@@ -5,21 +5,23 @@ from __future__ import annotations
 import itertools
 import tempfile
 from collections import Counter, defaultdict
-from collections.abc import Collection, Iterable, Iterator
+from collections.abc import Collection, Iterable, Iterator, Sequence
 from dataclasses import dataclass, field
 from pathlib import Path
 from typing import NamedTuple, Optional
 
 from .cells import MOST_TOLD, Origin, more_of
-from .desk_words import words_of
+from .desk_words import said_words, words_of
 from .odd_cells import odd_columns
 from .office_files import Taken
 from .plan_faults import faulty_cells, has_too_many_rows, unreadable
 from .program import LAST_MOMENT, Cpi, Reply, Session, record
 from .sent import DESK, MOST_RECORDS, MOST_ROWS, Bundle, Problem, Sent, bundled
 from .stored import stored_office
+from .others import of_others
 from .terminal import month_text
-from .words import Words, refusal_words
+from .told import Code, Told, placed, said_as, told, whole
+from .words import Words, refusal_words, sentence
 
 MOST_BUNDLES = MOST_RECORDS // 3
 """Bundles of one run: beside its record one may be sent again with `confirm`, and a table be asked for."""
@@ -68,7 +70,7 @@ class Month:
     quotes: Counter[str] = field(default_factory=Counter)
     handed: int = 0
     refused: int = 0
-    freezes: list[str] = field(default_factory=list)
+    freezes: list[Told] = field(default_factory=list)
     level: Optional[str] = None
 
 
@@ -151,7 +153,7 @@ class Judge:
             return
         month.refused += is_refused
         if row.word == "freeze":
-            month.freezes.append(number_of(reply) if is_refused else " ".join(["frozen", *row.fields[2:]]))
+            month.freezes.append(number_of(reply) if is_refused else frozen_with(row.fields[2:]))
         elif row.word == "quote" and not is_refused:
             month.quotes[row.fields[3]] += 1
         elif row.word == "handover" and not is_refused:
@@ -176,14 +178,14 @@ class Judge:
                 words = words_of(row, reply, column)
                 yield Problem(row.origin.at(column), number_of(reply), words.because, words.do)
         if self._more:
-            yield Problem(self._refused[-1][1].origin, "", more_of(self._more), "mend those above first")
+            yield Problem(self._refused[-1][1].origin, "", more_of(self._more), told("mend those above first"))
 
     def _plan_problems(self, plan: Bundle, reply: Reply) -> Iterator[Problem]:
         unread = unreadable(self._cpi, plan) if reply["refused"] == 10 else []
         found = {}
         for row, column in unread:
             words = words_of(row, reply, column)
-            because = f"the plan of {plan.year}: {words.because}"
+            because = of_plan(plan, words.because)
             # (a row of the sheet is a title and a weight, and both may have the same problem)
             found[row.origin.at(column)] = Problem(row.origin.at(column), number_of(reply), because, words.do)
         yield from found.values()
@@ -198,22 +200,46 @@ def is_unread(plan: Optional[Bundle], reply: Reply) -> bool:
     return not plan and reply["refused"] == 10
 
 
-def number_of(reply: Reply) -> str:
+def frozen_with(carry: Sequence[str]) -> Told:
+    """What a freeze was told that is carried out: its carry list, if it has one."""
+    return told("frozen {codes}", codes=Code(" ".join(carry))) if carry else told("frozen")
+
+
+def of_plan(plan: Bundle, fault: str) -> Told:
+    """What is wrong with a plan."""
+    return told("the plan of {year}: {fault}", year=of_others(plan.year), fault=fault)
+
+
+def number_of(reply: Reply) -> Told:
     """The number of a refusal with its fault, as the guides write it: `26`, `49 fault 2`."""
-    fault = f" fault {reply['fault']}" if "fault" in reply else ""
-    return f"{reply['refused']}{fault}"
+    number = Code(reply["refused"])
+    if "fault" in reply:
+        # t: the number of a refusal, and that of its fault
+        return told("{number} fault {fault}", number=number, fault=Code(reply["fault"]))
+    return placed(number)
 
 
 def words_of_plan(plan: Bundle, reply: Reply) -> Words:
     """Why a whole plan was refused, with what the reply tells beside, and what to do."""
-    because, do = refusal_words(reply, DESK, "plan")
-    if "found" in reply:
-        because += f", but to {reply['found']:,}"
-    if "code" in reply:
-        because += f": {reply['code']}"
     if reply["refused"] == 10:
-        if has_too_many_rows(plan):
-            told = f"the plan of {plan.year} has {len(plan.rows):,} rows, and {MOST_ROWS:,} are the most"
-            return Words(told, "leave out what the year doesn't need")
-        return Words(f'a plan has the year "{plan.year}"', "write a year from 2000 to 2199")
-    return Words(f"the plan of {plan.year}: {because}", do)
+        return words_of_size(plan)
+    because, do = said_words(reply, "plan")
+    if "found" in reply:
+        told_so, _ = refusal_words(reply, DESK, "plan")
+        sum_of_all = told("They add up to {sum}.", sum=whole(reply["found"]))
+        because = said_as(f"{told_so}, but to {reply['found']:,}", told(sentence(told_so)), sum_of_all)
+    return Words(of_plan(plan, because), do)
+
+
+def words_of_size(plan: Bundle) -> Words:
+    """Why a whole plan can't be read, whose rows can."""
+    if has_too_many_rows(plan):
+        because = told(
+            "the plan of {year} has {count} rows, and {most} are the most",
+            year=of_others(plan.year),
+            count=whole(len(plan.rows)),
+            most=whole(MOST_ROWS),
+        )
+        return Words(because, told("leave out what the year doesn't need"))
+    because = told('a plan has the year "{year}"', year=of_others(plan.year))
+    return Words(because, told("write a year from {first} to {last}", first=Code(2000), last=Code(2199)))

@@ -12,7 +12,9 @@ from collections import defaultdict
 from collections.abc import Iterator
 from datetime import date
 
-from .cells import shown
+from .cells import cut
+from .others import of_others
+from .told import Told, either, told
 
 NAMES: dict[str, tuple[str, ...]] = {
     "English": (
@@ -90,15 +92,15 @@ def month_of(text: str) -> str:
     return found[0] if len(found) == 1 else ""
 
 
-def told_no_month(text: str) -> str:
+def told_no_month(text: str) -> Told:
     """Why a text isn't read as a month."""
     if not text:
-        return "the cell is empty, and should have a month"
+        return told("the cell is empty, and should have a month")
     if found := months_of(text):
-        return f"{shown(text)} may be {' or '.join(found)}"
+        return told('"{text}" may be {months}', text=cut(text), months=either([*map(of_others, found)]))
     if NO_LONG_YEAR.fullmatch(text.strip()):
-        return f"{shown(text)} may be a day or several months: no year of it has four digits"
-    return f"{shown(text)} is no month"
+        return told('"{text}" may be a day or several months: no year of it has four digits', text=cut(text))
+    return told('"{text}" is no month', text=cut(text))
 
 
 def _meant(plain: str) -> Iterator[tuple[int, int]]:

@@ -4,9 +4,11 @@ from __future__ import annotations
 
 import re
 from fractions import Fraction
-from typing import Optional
+from typing import Optional, Union
 
-from .cells import Dated, Numeral, shown
+from .cells import Dated, Numeral, cut
+from .others import of_others
+from .told import Told, told
 
 OF_CELL = re.compile(r"[+-]?[0-9]+(\.[0-9]+)?(e[+-]?[0-9]{1,3})?", re.I)
 """A number of a workbook."""
@@ -43,19 +45,21 @@ class Numbers:
             plain = found[1].replace(found[2], "") + (found[3] or "")
         return Fraction(plain) if PLAIN.fullmatch(plain) else None
 
-    def told_none(self, text: str) -> str:
+    def told_none(self, text: str) -> Told:
         """Why a text is no number."""
         if isinstance(text, Dated):
-            return f"the cell is the date {text}, and no number"
+            return told("the cell is the date {date}, and no number", date=of_others(text))
         if text.endswith("%"):
-            return f"{shown(text)} is a percent"
-        return f'{shown(text)} is no number with the decimal sign "{self.decimal}"'
+            return told('"{text}" is a percent', text=cut(text))
+        sign = of_others(self.decimal)
+        return told('"{text}" is no number with the decimal sign "{sign}"', text=cut(text), sign=sign)
 
-    def told_thousands(self, text: str) -> str:
+    def told_thousands(self, text: str) -> Union[Told, str]:
         """The doubt about a text whose decimal sign may be a mark of thousands, as in `1.250`; else nothing."""
         if isinstance(text, Numeral) or not re.fullmatch(f"[1-9][0-9]{{0,2}}[{self.decimal}][0-9]{{3}}", text):
             return ""
-        return f"{shown(text)} may be {text.replace(self.decimal, '')}, with a mark of thousands"
+        number = of_others(text.replace(self.decimal, ""))
+        return told('"{text}" may be {number}, with a mark of thousands', text=cut(text), number=number)
 
 
 def decimal(number: Fraction, sign: str = "") -> str:

@@ -12,7 +12,7 @@ from collections.abc import Callable, Collection, Iterable, Iterator, Sequence
 from dataclasses import dataclass, field
 from typing import NamedTuple, Optional, Union
 
-from .cells import BadSheet, Columns, Dated, Origin, Row, Sheet, SheetFault, shown
+from .cells import BadSheet, Columns, Dated, Origin, Row, Sheet, SheetFault, cut
 from .known import Known, Window
 from .months_of_texts import month_of
 from .numbers_of_texts import Numbers
@@ -20,9 +20,10 @@ from .office_sheets import DATES, MONTHS, MOVED, NEEDED, SHEETS, WINDOW
 from .plan_rows import PlanRows, Weighed
 from .price_cells import MonthRead, Place, PriceCells
 from .price_store import PriceStore
-from .sent import DESK, FIELDS, Bundle, Problem, Sent, bundled, problem_of
+from .sent import DESK, FIELDS, Bundle, Problem, Sent, bundled, problem_of, slot_of
+from .others import of_others
 from .sheets import Source
-from .terminal import counted
+from .told import Told, row as row_of, told, told_of, whole
 
 LAST_TURN = 10
 """The revision after the last one: quotes that no freeze took."""
@@ -139,8 +140,9 @@ class OfficeFiles:
         items = self._sheets.get("items")
         if name not in NEEDED and (name != "places" or not items or "code" in items.columns):
             return []
-        do = "add it, with the columns " + ", ".join(SHEETS[name].needed)
-        return [SheetFault(Origin(f"{name}.csv", 0), f"the file {name}.csv is missing", do)]
+        do = told("add it, with the columns {columns}", columns=row_of([*map(of_others, SHEETS[name].needed)]))
+        file = f"{name}.csv"
+        return [SheetFault(Origin(file, 0), told("the file {file} is missing", file=of_others(file)), do)]
 
     def _read_months(self, sheet: Sheet, columns: Collection[str]) -> None:
         """Reads the months of a sheet; what is none is left to the program, which refuses it."""
@@ -160,8 +162,13 @@ class OfficeFiles:
             for column in columns:
                 cell = row[column]
                 if isinstance(cell, Dated):
-                    because = f"the cell is the date {cell}, as a spreadsheet takes SEP1 and 1-2 for one"
-                    do = "give the column the format of text, and write the cell again"
+                    because = told(
+                        "the cell is the date {date}, as a spreadsheet takes {one} and {other} for one",
+                        date=of_others(cell),
+                        one=of_others("SEP1"),
+                        other=of_others("1-2"),
+                    )
+                    do = told("give the column the format of text, and write the cell again")
                     self.taken.problems.append(problem_of(SheetFault(row.origin.at(column), because, do)))
 
     def _rows(self, name: str) -> Sequence[Row]:
@@ -173,7 +180,8 @@ class OfficeFiles:
         for row in self._rows("releases"):
             text = row["revision"]
             if text and not is_revision(text):
-                because, do = f"{shown(text)} is no revision", "give 1 to 9, or leave it empty"
+                because = told('"{text}" is no revision', text=cut(text))
+                do = told("give 1 to 9, or leave it empty")
                 self.taken.problems.append(problem_of(SheetFault(row.origin.at("revision"), because, do)))
 
     def _by_month(self, name: str) -> dict[str, list[Row]]:
@@ -189,11 +197,13 @@ class OfficeFiles:
             above = found.setdefault(row["month"], row)
             if above is not row:
                 origin = row.origin.at("month")
-                again = f"row {above.origin.row} has the month {row['month']} too"
+                named = {"row": above.origin.row, "month": of_others(row["month"])}
                 if above.cells == row.cells:
-                    self.taken.warnings.append(SheetFault(origin, f"{again}, and the same window", "take one out"))
+                    because = told("row {row} has the month {month} too, and the same window", **named)
+                    self.taken.warnings.append(SheetFault(origin, because, told("take one out")))
                 else:
-                    fault = SheetFault(origin, f"{again}, and another window", "leave the one that holds")
+                    because = told("row {row} has the month {month} too, and another window", **named)
+                    fault = SheetFault(origin, because, told("leave the one that holds"))
                     self.taken.problems.append(problem_of(fault))
         return found
 
@@ -318,28 +328,32 @@ class OfficeFiles:
         for month in store.months():
             self.taken.passed_over["prices"] += store.take_stored(self._known.prices_of(month))
         if not cells.count and not cells.faults.all():
-            do = "write its prices below the columns, or take the sheet out"
-            cells.faults.add(SheetFault(cells.heading, "the sheet has no price", do))
+            do = told("write its prices below the columns, or take the sheet out")
+            cells.faults.add(SheetFault(cells.heading, told("the sheet has no price"), do))
         self.taken.readings += cells.readings()
         self.taken.warnings += same
         return cells.faults.all()
 
     def _tell_repeated(self, cells: PriceCells) -> list[SheetFault]:
         """Tells rows of one series and month: each that differs from the first; of those that don't, how many."""
-        same: list[SheetFault] = []
+        same: list[tuple[Origin, dict[str, object]]] = []
         count = 0
         for it in self._store.take_repeated():
             origin = Origin(self._store.file, it.row, it.column)
-            of = f"of slot {it.collector}/{it.slot} in {it.month}"
+            named = {"slot": slot_of(it.collector, it.slot), "month": of_others(it.month), "row": it.first_row}
             if it.is_same:
                 count += 1
-                told = f"the price {of} is in row {it.first_row} too"
-                same = same or [SheetFault(origin, told, "leave one of the two rows")]
+                same = same or [(origin, named)]
             else:
-                because = f"the price {of} is {shown(it.text)} here, and {shown(it.first)} in row {it.first_row}"
-                do = "leave the one that is right; the correction of a frozen month has its revision"
+                because = told(
+                    'the price of slot {slot} in {month} is "{text}" here, and "{first}" in row {row}',
+                    text=cut(it.text),
+                    first=cut(it.first),
+                    **named,
+                )
+                do = told("leave the one that is right; the correction of a frozen month has its revision")
                 cells.faults.add(SheetFault(origin, because, do))
-        return [it._replace(because=f"{it.because}; prices that are there again: {count:,}") for it in same]
+        return [SheetFault(origin, told_again(count, named), LEAVE_ONE) for origin, named in same]
 
     # ---- months
 
@@ -375,8 +389,13 @@ class OfficeFiles:
         late = self._store.of_month(month, first, last)
         if not late:
             return
-        because = f"{month} is frozen: {counted(len(late), 'price')} of it, from here on, changes no table by itself"
-        do = "reopen the month and freeze it again, with a row of releases, or take the price out"
+        because = told_of(
+            "{month} is frozen: {count} price of it, from here on, changes no table by itself",
+            "{month} is frozen: {count} prices of it, from here on, changes no table by itself",
+            len(late),
+            month=of_others(month),
+        )
+        do = told("reopen the month and freeze it again, with a row of releases, or take the price out")
         self.taken.warnings.append(SheetFault(late[0][1].origin, because, do))
 
     def _window(self, month: str, row: Row) -> Window:
@@ -427,6 +446,18 @@ def by_revision(releases: Sequence[Row]) -> list[tuple[int, Row]]:
     return found
 
 
+LEAVE_ONE = told("leave one of the two rows")
+
+
+def told_again(count: int, named: dict[str, object]) -> Told:
+    """The first price that a row above has too, and how many such prices there are."""
+    return told(
+        "the price of slot {slot} in {month} is in row {row} too; prices that are there again: {count}",
+        count=whole(count),
+        **named,
+    )
+
+
 def is_revision(text: str) -> bool:
     """Whether a text is the number of a revision."""
     return len(text) == 1 and text in "123456789"
@@ -434,16 +465,18 @@ def is_revision(text: str) -> bool:
 
 def missing_columns(sheet: Sheet, needed: Iterable[str]) -> Iterator[SheetFault]:
     """The columns that a sheet lacks."""
-    has = ", ".join(f'"{head}"' for head in sheet.written if head)
+    has = row_of([told('"{text}"', text=of_others(head)) for head in sheet.written if head])
     for column in needed:
         if column not in sheet.columns:
-            because = f"the column {column} is missing: row 1 has {has}"
-            yield SheetFault(Origin(sheet.file, 1, column), because, f"name a column {column}")
+            because = told("the column {column} is missing: row 1 has {names}", column=of_others(column), names=has)
+            do = told("name a column {column}", column=of_others(column))
+            yield SheetFault(Origin(sheet.file, 1, column), because, do)
 
 
 def unread_columns(sheet: Sheet, columns: Columns) -> Iterator[SheetFault]:
     """The columns of a sheet that nothing is read from."""
     for column in sheet.columns:
         if column and column not in columns.needed and column not in columns.others:
-            do = f"nothing, if it isn't one of {', '.join((*columns.needed, *columns.others))}"
-            yield SheetFault(Origin(sheet.file, 1, column), "the column isn't read", do)
+            names = row_of([*map(of_others, (*columns.needed, *columns.others))])
+            do = told("nothing, if it isn't one of {columns}", columns=names)
+            yield SheetFault(Origin(sheet.file, 1, column), told("the column isn't read"), do)

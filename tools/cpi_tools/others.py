@@ -13,6 +13,7 @@ import re
 from collections.abc import Sequence
 from html import escape
 from string import Formatter
+from typing import Optional
 
 OPENS, CLOSES = "\u2068", "\u2069"
 """FIRST STRONG ISOLATE and POP DIRECTIONAL ISOLATE."""
@@ -66,12 +67,18 @@ def worded(form: str, **places: object) -> Worded:
     """A sentence of ours with what belongs in its named places, `{title}` or `{month}`. A text of others is handed in
     as Worded; anything else is ours, such as a figure."""
     parts, texts = list[str](), list[str]()
-    for literal, name, _, _ in Formatter().parse(form):
+    for literal, name in parsed(form):
         parts.append(_literal(literal))
         value = "" if name is None else places[name]
         parts.append("{}" if isinstance(value, Worded) else _literal(str(value)))
         texts += [value] if isinstance(value, Worded) else []
     return Worded("".join(parts), *texts)
+
+
+@functools.lru_cache(maxsize=1_000)
+def parsed(form: str) -> list[tuple[str, Optional[str]]]:
+    """Each part of a form: a text, and the name of the place behind it, None if there is none."""
+    return [(literal, name) for literal, name, _, _ in Formatter().parse(form)]
 
 
 def _literal(text: str) -> str:

@@ -10,8 +10,9 @@ from typing import NamedTuple, Optional
 
 from .cells import Origin, Row, SheetFault
 from .numbers_of_texts import Numbers, decimal
+from .others import of_others
 from .sent import FIELDS, Sent
-from .terminal import counted
+from .told import Figure, told, told_of
 from .weights import scaled
 
 WHOLE = {"percent": Fraction(100), "permille": Fraction(1000)}
@@ -20,6 +21,8 @@ WHOLE = {"percent": Fraction(100), "permille": Fraction(1000)}
 MOST_AWAY = Fraction(1, 100)
 """Weights in percent or per mille may add up to this much more or less than all, as a part of all: rounding makes a few
 tenths of a percent of it. More than that is a slip in a weight."""
+
+OPTION = of_others("--weights")
 
 DATE = re.compile(r"[0-9]{4}-[0-9]{2}(-[0-9]{2}(T.*)?)?")
 
@@ -98,10 +101,17 @@ class PlanRows:
     def _tell_mended(self) -> None:
         if self._mended:
             origin, code = next(iter(self._mended.items()))
-            because = (
-                f"{counted(len(self._mended), 'code')} of the classification lacked the first zero, as {code} here"
+            because = told_of(
+                "{count} code of the classification lacked the first zero, as {code} here",
+                "{count} codes of the classification lacked the first zero, as {code} here",
+                len(self._mended),
+                code=of_others(code),
             )
-            do = f"nothing, if {code} is 0{code}: it is read so; the format of text keeps the zero"
+            do = told(
+                "nothing, if {code} is {mended}: it is read so; the format of text keeps the zero",
+                code=of_others(code),
+                mended=of_others(f"0{code}"),
+            )
             self.warnings.append(SheetFault(origin.at("code"), because, do))
 
     # ---- weights
@@ -118,7 +128,9 @@ class PlanRows:
         if number is None:
             return self._numbers.told_none(text)
         is_whole = self._unit != "ppm" or number.denominator == 1
-        return "" if is_whole else f"{text} isn't whole in parts per million (--weights)"
+        if is_whole:
+            return ""
+        return told("{text} isn't whole in parts per million ({option})", text=of_others(text), option=OPTION)
 
     def _weights(self, classification: Sequence[Row]) -> dict[Origin, str]:
         """Weights in parts per million, by their rows; what is no number, or isn't whole then, isn't among them."""
@@ -151,34 +163,55 @@ class PlanRows:
         if signed and plain:
             odd, others = (signed, plain) if len(signed) <= len(plain) else (plain, signed)
             for row in odd:
-                because = f'the weight is "{row["weight"]}", and that of row {others[0].origin.row} is'
-                do = "give all weights of the year one format"
-                self.faults.append(SheetFault(row.origin.at("weight"), f'{because} "{others[0]["weight"]}"', do))
+                because = told(
+                    'the weight is "{weight}", and that of row {row} is "{other}"',
+                    weight=of_others(row["weight"]),
+                    row=others[0].origin.row,
+                    other=of_others(others[0]["weight"]),
+                )
+                do = told("give all weights of the year one format")
+                self.faults.append(SheetFault(row.origin.at("weight"), because, do))
 
     def _look_at_thousands(self, rows: Sequence[Row]) -> None:
         """Tells `1.250` among whole amounts of money, which have no sum that could tell: it may be 1250."""
         whole = [row for row in rows if row["weight"].isdigit()]
         for row in rows if whole and self._unit == "money" else ():
-            if told := self._numbers.told_thousands(row["weight"]):
-                because = f"{told}, since row {whole[0].origin.row} has {whole[0]['weight']}"
-                do = "write it without a mark of thousands, or all weights with their decimals"
+            if doubt := self._numbers.told_thousands(row["weight"]):
+                because = told(
+                    "{doubt}, since row {row} has {weight}",
+                    doubt=doubt,
+                    row=whole[0].origin.row,
+                    weight=of_others(whole[0]["weight"]),
+                )
+                do = told("write it without a mark of thousands, or all weights with their decimals")
                 self.faults.append(SheetFault(row.origin.at("weight"), because, do))
 
     def _look_at_sum(self, year: str, rows: Sequence[tuple[Row, Fraction]], total: Fraction) -> None:
         """Tells weights that don't add up to all: a fault if they are far from it."""
         wanted = WHOLE.get(self._unit, total)
         origin = rows[-1][0].origin.at("weight")
-        told = f"the weights of {year} add up to {decimal(total)}, not to {wanted}"
+        because = told(
+            "the weights of {year} add up to {sum}, not to {all}",
+            year=of_others(year),
+            sum=Figure(decimal(total)),
+            all=Figure(wanted),
+        )
         if abs(total - wanted) > MOST_AWAY * wanted:
-            do = "find the lost digit, the total, or the unit (--weights)"
-            self.faults.append(SheetFault(origin, told, do))
+            do = told("find the lost digit, the total, or the unit ({option})", option=OPTION)
+            self.faults.append(SheetFault(origin, because, do))
         elif total != wanted:
-            do = "nothing, if that is rounding: they are scaled, and weights.csv has each"
-            self.warnings.append(SheetFault(origin, told, do))
+            do = told(
+                "nothing, if that is rounding: they are scaled, and {file} has each", file=of_others("weights.csv")
+            )
+            self.warnings.append(SheetFault(origin, because, do))
 
 
 def hint_of_code(code: str) -> str:
     """What is known of a code of the classification that the program can't read."""
     if not DATE.fullmatch(code):
         return ""
-    return f"the cell is the date {code}, as a spreadsheet takes 01.1.1 for one: give the column the format of text"
+    return told(
+        "the cell is the date {date}, as a spreadsheet takes {code} for one: give the column the format of text",
+        date=of_others(code),
+        code=of_others("01.1.1"),
+    )

@@ -5,12 +5,15 @@ from __future__ import annotations
 import re
 from collections import defaultdict
 from collections.abc import Collection, Iterator, Sequence
-from typing import NamedTuple, Optional
+from typing import NamedTuple, Optional, Union
 
-from .cells import Capped, Columns, Numeral, Origin, Row, Sheet, SheetFault, shown
+from .cells import Capped, Columns, Numeral, Origin, Row, Sheet, SheetFault, cut
 from .months_of_texts import month_of, told_no_month
 from .numbers_of_texts import Numbers
+from .others import of_others
 from .price_store import Price
+from .sent import slot_of
+from .told import Told, told
 
 REASONS = ("stock", "closed", "gone", "refused")
 """Why there is no price."""
@@ -20,10 +23,13 @@ MARKS = (MISSING, PRICE, COMPARABLE, OTHER)
 EMPTY = ("", ".")
 """Cells of a wide sheet that are no quote."""
 
+VALUE = of_others("value")
+
 OF_A_ROW = ("month", "value")
 """The columns that only a sheet with a row for each price has."""
 
-LIKE = "write a month like 2026-01"
+MONTH = of_others("2026-01")
+LIKE = told("write a month like {month}", month=MONTH)
 
 
 class Place(NamedTuple):
@@ -86,8 +92,9 @@ class PriceCells:
         slot = ("outlet", "item") if {"outlet", "item"} & {*sheet.columns} else ("collector", "slot")
         self.needed: tuple[str, ...] = slot if self.is_wide else (*slot, *OF_A_ROW)
         if self.is_wide and not self._months:
-            because = "no column is a month, and there is no column value"
-            self.faults.add(SheetFault(self.heading, because, f"{LIKE} above prices, or give a row to each price"))
+            because = told("no column is a month, and there is no column {column}", column=VALUE)
+            do = told("write a month like {month} above prices, or give a row to each price", month=MONTH)
+            self.faults.add(SheetFault(self.heading, because, do))
 
     # ---- the form of the sheet
 
@@ -101,22 +108,34 @@ class PriceCells:
             if column in ignored or not column:
                 continue
             if month and self.is_wide and month in found:
-                both = f'"{found[month][1]}" and "{written}" are both the month {month}'
-                self._tell_column(written, both, "leave one of the two columns")
+                two = {"one": of_others(found[month][1]), "other": of_others(written)}
+                both = told('"{one}" and "{other}" are both the month {month}', **two, month=of_others(month))
+                self._tell_column(written, both, told("leave one of the two columns"))
             elif month and self.is_wide:
                 found[month] = (column, written, month)
             elif month:
-                because = f"{written} is a month, and a sheet with a column value has a row for each price"
-                self._tell_column(written, because, "take out the column value, or those that are months")
+                because = told(
+                    "{text} is a month, and a sheet with a column {column} has a row for each price",
+                    text=of_others(written),
+                    column=VALUE,
+                )
+                do = told("take out the column {column}, or those that are months", column=VALUE)
+                self._tell_column(written, because, do)
             elif column not in known:
-                do = f'{LIKE}; if the column has no prices, name it: --ignore "{written}"'
+                do = told(
+                    "write a month like {month}; if the column has no prices, name it: {words}",
+                    month=MONTH,
+                    words=of_others(f'--ignore "{written}"'),
+                )
                 self._tell_column(written, told_no_month(written), do)
         if found and "month" in self._sheet.columns and "month" not in ignored:
-            because = "a sheet with a column for each month has no column month"
-            self._tell_column("month", because, "take out the column month, or give a row to each price")
+            column = of_others("month")
+            because = told("a sheet with a column for each month has no column {column}", column=column)
+            do = told("take out the column {column}, or give a row to each price", column=column)
+            self._tell_column("month", because, do)
         return [*found.values()]
 
-    def _tell_column(self, column: str, because: str, do: str) -> None:
+    def _tell_column(self, column: str, because: Told, do: Told) -> None:
         self.faults.add(SheetFault(self.heading.at(column), because, do))
 
     @property
@@ -181,25 +200,24 @@ class PriceCells:
         of = self._of_slots.get((row["collector"], row["slot"]))
         for name in ("outlet", "item") if of else ():
             if row[name] and row[name] != getattr(of, name):
-                slot = f"slot {row['collector']}/{row['slot']}"
-                because = f"the row has the {name} {shown(row[name])}, and {slot} prices {shown(getattr(of, name))}"
-                do = f"mend the slot or the {name}, or leave one of the two out"
-                self.faults.add(SheetFault(row.origin.at(name), because, do))
+                self.faults.add(told_of_another(row, name, getattr(of, name)))
                 return True
         return False
 
     def _told_no_slot(self, cell: Cell, has_series: bool, has_several: bool) -> SheetFault:
         """Why a price isn't that of one slot: once for a row if that is so in each of its months."""
-        row, of = cell.row, f"the item {shown(cell.row['item'])} in the outlet {shown(cell.row['outlet'])}"
-        do = "check the outlet, the item and the months of its series, or give collector and slot"
+        row = cell.row
         if not row["outlet"] or not row["item"]:
-            missing = " and ".join(name for name in ("outlet", "item") if not row[name])
-            do = "write it in each row with a price; a unit, a total or a note isn't read: take it out"
-            return SheetFault(row.origin.at(missing.split()[0]), f"the row has prices and names no {missing}", do)
+            return told_unnamed(row)
+        named = {"item": cut(row["item"]), "outlet": cut(row["outlet"]), "month": of_others(cell.month)}
         if has_several:
-            return SheetFault(row.origin.at("item"), f"more than one slot prices {of} in {cell.month}", do)
-        when = f" in {cell.month}" if has_series else ""
-        return SheetFault(row.origin.at("item"), f"no series has {of}{when}", do)
+            because = told('more than one slot prices the item "{item}" in the outlet "{outlet}" in {month}', **named)
+        elif has_series:
+            because = told('no series has the item "{item}" in the outlet "{outlet}" in {month}', **named)
+        else:
+            because = told('no series has the item "{item}" in the outlet "{outlet}"', **named)
+        do = told("check the outlet, the item and the months of its series, or give collector and slot")
+        return SheetFault(row.origin.at("item"), because, do)
 
     # ---- quotes
 
@@ -214,8 +232,10 @@ class PriceCells:
     def _turn(self, row: Row) -> Optional[int]:
         revision = row["revision"]
         if revision and not re.fullmatch("[1-9]|10", revision):
-            because = f'"{revision}" is no revision'
-            self.faults.add(SheetFault(row.origin.at("revision"), because, "give 1 to 9, or leave it empty"))
+            because, do = told('"{text}" is no revision', text=of_others(revision)), told(
+                "give 1 to 9, or leave it empty"
+            )
+            self.faults.add(SheetFault(row.origin.at("revision"), because, do))
             return None
         return int(revision or 1)
 
@@ -246,22 +266,50 @@ class PriceCells:
         """Tells a price that its cell shows in another currency than the first price that has one."""
         first = self._currency = self._currency or (currency, cell)
         if first[0] != currency:
-            place = f"row {first[1].row.origin.row}, {first[1].text_column}"
-            because = f"the price is shown in {shown(currency)}, and that of {place} in {shown(first[0])}"
-            do = "give all prices in one currency, and all cells its format"
+            because = told(
+                'the price is shown in "{currency}", and that of row {row}, {column} in "{other}"',
+                currency=cut(currency),
+                row=first[1].row.origin.row,
+                column=of_others(first[1].text_column),
+                other=cut(first[0]),
+            )
+            do = told("give all prices in one currency, and all cells its format")
             self.faults.add(SheetFault(cell.row.origin.at(cell.text_column), because, do))
 
-    def _minor_units(self, cell: Cell, text: str) -> tuple[str, str]:
+    def _minor_units(self, cell: Cell, text: str) -> tuple[str, Union[Told, str]]:
         """A price in minor units; what is no whole number of them goes to the program as it is, which refuses it, with
         what is known of it."""
         number = self._numbers.of(text)
         if isinstance(text, Numeral) and text.currency:
             self._look_at_currency(cell, text.currency)
         if number is None:
-            return text, self._numbers.told_none(text) if text else "the cell is empty"
+            return text, self._numbers.told_none(text) if text else told("the cell is empty")
         minor = number * self._minor
-        if self._minor % 1000 and (told := self._numbers.told_thousands(text)):
-            return f"{text} * {self._minor}", told
+        if self._minor % 1000 and (doubt := self._numbers.told_thousands(text)):
+            return f"{text} * {self._minor}", doubt
         if minor.denominator == 1:
             return str(minor.numerator), ""
-        return text if self._minor == 1 else f"{text} * {self._minor}", f"{text} isn't whole in minor units (--minor)"
+        hint = told("{text} isn't whole in minor units ({option})", text=of_others(text), option=of_others("--minor"))
+        return text if self._minor == 1 else f"{text} * {self._minor}", hint
+
+
+def told_of_another(row: Row, name: str, other: str) -> SheetFault:
+    """A row whose slot prices another outlet or item, `name`, than the row has."""
+    named = {"text": cut(row[name]), "slot": slot_of(row["collector"], row["slot"]), "other": cut(other)}
+    if name == "outlet":
+        because = told('the row has the outlet "{text}", and slot {slot} prices "{other}"', **named)
+        do = told("mend the slot or the outlet, or leave one of the two out")
+    else:
+        because = told('the row has the item "{text}", and slot {slot} prices "{other}"', **named)
+        do = told("mend the slot or the item, or leave one of the two out")
+    return SheetFault(row.origin.at(name), because, do)
+
+
+def told_unnamed(row: Row) -> SheetFault:
+    """A row that has prices and no outlet, no item or neither."""
+    do = told("write it in each row with a price; a unit, a total or a note isn't read: take it out")
+    if row["outlet"]:
+        return SheetFault(row.origin.at("item"), told("the row has prices and names no item"), do)
+    if row["item"]:
+        return SheetFault(row.origin.at("outlet"), told("the row has prices and names no outlet"), do)
+    return SheetFault(row.origin.at("outlet"), told("the row has prices and names no outlet and item"), do)

@@ -10,6 +10,7 @@ from collections.abc import Iterable, Iterator
 from typing import NamedTuple
 
 from .cells import BadSheet, Origin
+from .hints import packed
 from .sent import Sent
 
 TABLES = """
@@ -91,7 +92,7 @@ class PriceStore:
 
     def fill(self, prices: Iterable[Price]) -> None:
         """Stores prices, in the order of the sheet, and makes them quick to find by month."""
-        rows = ((None, *it[:8], self._form(it.columns), *it[9:]) for it in prices)
+        rows = ((None, *it[:8], self._form(it.columns), it.given, packed(it.hint)) for it in prices)
         try:
             self._link.executemany(f"INSERT INTO price VALUES (?{', ?' * 11})", rows)
         except BadSheet:

@@ -29,15 +29,20 @@ LEFT_TO_RIGHT, ENDS = "\u2066", "\u2069"
 """LEFT-TO-RIGHT ISOLATE and POP DIRECTIONAL ISOLATE: round a figure or a code, whose signs stay where they are."""
 
 
-def add_language(words: argparse.ArgumentParser, what: str) -> None:
-    """The words `--language` and `--digits` of a tool, and `--zone`: how its page is written."""
+def add_speech(words: argparse.ArgumentParser, what: str) -> None:
+    """The words `--language` and `--digits` of a tool: how its page is written."""
     add = words.add_argument
     says = f"the language of {what}, such as fr (else that of {VARIABLE}, or en): one with a catalogue"
     add("--language", type=a_language, metavar="LANG", help=says)
     says = f"digits of another language than English: {', '.join(DIGITS)} (else those of {DIGITS_VARIABLE}, or {LATIN})"
     add("--digits", choices=DIGITS, metavar="DIGITS", help=says)
+
+
+def add_language(words: argparse.ArgumentParser, what: str) -> None:
+    """The same, and `--zone`, for a page with moments."""
+    add_speech(words, what)
     says = f"the clock of {what}: a place, or a rule as POSIX has it (else that of {ZONE_VARIABLE}, or UTC)"
-    add("--zone", metavar="ZONE", help=says)
+    words.add_argument("--zone", metavar="ZONE", help=says)
 
 
 class Teller:
@@ -136,13 +141,19 @@ def teller_of(code: str, digits: str = LATIN, clock: Clock = UTC) -> Teller:
     return Teller(speech_of(code, digits), clock)
 
 
-def chosen_teller(chosen: argparse.Namespace) -> Teller:
-    """The language, digits and clock of a tool's words, else those of the office, else English, ASCII and UTC. Raises Fault
-    if the office's settings have something else."""
+def chosen_speech(chosen: argparse.Namespace) -> Speech:
+    """The language and digits of a tool's words, else those of the office, else English and ASCII. Raises Fault if the
+    office's settings have something else."""
     code = chosen.language or os.environ.get(VARIABLE) or SOURCE
     if code not in known():
         raise Fault(f"{VARIABLE} is {code!r}, which has no catalogue: one of {', '.join(known())}")
     digits = chosen.digits or os.environ.get(DIGITS_VARIABLE) or LATIN
     if digits not in DIGITS:
         raise Fault(f"{DIGITS_VARIABLE} is {digits!r}: wanted is one of {', '.join(DIGITS)}")
-    return teller_of(code, digits, clock_of(chosen.zone or os.environ.get(ZONE_VARIABLE) or ""))
+    return speech_of(code, digits)
+
+
+def chosen_teller(chosen: argparse.Namespace) -> Teller:
+    """The same with the clock of a tool's words, else that of the office, else UTC. Raises Fault as well."""
+    speech = chosen_speech(chosen)
+    return Teller(speech, clock_of(chosen.zone or os.environ.get(ZONE_VARIABLE) or ""))

@@ -7,6 +7,7 @@ from dataclasses import dataclass, field
 from typing import NamedTuple, Union
 
 from .cells import Origin, SheetFault
+from .others import Worded, of_others
 from .program import Reply, record
 
 MOST_ROWS = 20_000
@@ -75,6 +76,11 @@ class Problem(NamedTuple):
     do: str
 
 
+def slot_of(collector: str, slot: str) -> Worded:
+    """`7/2` of a collector's slot, as a sheet has both."""
+    return of_others(f"{collector}/{slot}")
+
+
 def problem_of(fault: SheetFault) -> Problem:
     """A fault of a sheet as a problem: no refusal, so without a number."""
     return Problem(fault.origin, "", fault.because, fault.do)
@@ -85,9 +91,9 @@ class Sent:
     """A row of an import or a plan, or a record by itself: its word and fields, where it came from, and the name of the
     column that each field came from.
 
-    `own` is the column that tells who sends it, or when; `hint` is what is known of a text that the program can't read.
-    A price, a weight and a freeze have the text of their cell; a quote has the number of its collector, and its own
-    number in the store of prices.
+    `own` is the column that tells who sends it, or when; `hint` is what is known of a text that the program can't read
+    (`hints`). A price, a weight and a freeze have the text of their cell; a quote has the number of its collector, and
+    its own number in the store of prices.
     """
 
     fields: list[str]

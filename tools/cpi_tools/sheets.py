@@ -13,10 +13,12 @@ from collections.abc import Callable, Collection, Iterator, Mapping, Sequence
 from pathlib import Path
 from typing import Optional
 
-from .cells import ROWS_LOOKED_AT, Alike, BadSheet, Columns, Origin, Row, Sheet, SheetFault, Texts, label_of, shown
-from .converted import ADVICE, KINDS as CONVERTED
+from .cells import ROWS_LOOKED_AT, Alike, BadSheet, Columns, Origin, Row, Sheet, SheetFault, Texts, cut, label_of
+from .converted import KINDS as CONVERTED
 from .csv_texts import texts_of_csv
+from .others import of_others
 from .terminal import Fault, because_of
+from .told import Told, both, row, told
 from .workbooks import Title, Workbook
 
 TEXTS = (".csv", ".tsv", ".txt")
@@ -26,7 +28,9 @@ WORKBOOKS = (".xlsx", ".xlsm")
 OF_SYSTEMS = ("desktop.ini", "thumbs.db")
 """Files that a system puts next to others; so are those that begin with `.` or `~$`."""
 
-UNNAMED = "name the column in the first row, or put quotation marks round a text that has the separator in it"
+IGNORE = of_others("--ignore")
+
+UNNAMED = told("name the column in the first row, or put quotation marks round a text that has the separator in it")
 
 
 class Source:
@@ -72,15 +76,17 @@ class Source:
         """The same with rows that are read as they are asked for, once. Raises BadSheet, and so do the rows."""
         found = self._found.get(name, [])
         if len(found) > 1:
-            files = " and ".join(file for file, _, _ in found)
-            raise BadSheet(Origin(found[1][0], 0), f"{name} is there twice: {files}", "leave one of them")
+            files = both([of_others(file) for file, _, _ in found])
+            # t: {sheet} is the name of a sheet, such as items
+            because = told("{sheet} is there twice: {files}", sheet=of_others(name), files=files)
+            raise BadSheet(Origin(found[1][0], 0), because, told("leave one of them"))
         if not found:
             return None
         label, is_hidden, read = found[0]
         sheet = sheet_of(label, read(), self._names[name])
         if is_hidden:
-            do = "show it, and see whether it belongs there"
-            sheet.warnings.append(SheetFault(Origin(label, 0), "1 hidden sheet read like the others", do))
+            do = told("show it, and see whether it belongs there")
+            sheet.warnings.append(SheetFault(Origin(label, 0), told("1 hidden sheet read like the others"), do))
         return sheet
 
     # ---- what there is
@@ -91,7 +97,7 @@ class Source:
         if name in self._ignored or file.resolve() in self._own:
             return
         if file.is_dir():
-            self._tell(label_of(file), "the folder isn't read", "put its files next to the others, or")
+            self._tell(label_of(file), told("the folder isn't read"), TAKE_OUT_OF_FOLDER)
         elif kind in TEXTS:
             self._note(file.stem, label_of(file), functools.partial(texts_of_csv, file))
         elif kind in WORKBOOKS:
@@ -99,8 +105,9 @@ class Source:
         elif file in self._workbooks:
             self._look_into(file, self._workbooks[file])
         else:
-            do = f"{ADVICE}; or" if kind in CONVERTED else "save it as .xlsx or CSV, or"
-            self._tell(label_of(file), f"the file isn't read: it is none of {', '.join((*TEXTS, *WORKBOOKS))}", do)
+            kinds = row([*map(of_others, (*TEXTS, *WORKBOOKS))])
+            because = told("the file isn't read: it is none of {kinds}", kinds=kinds)
+            self._tell(label_of(file), because, CONVERT if kind in CONVERTED else SAVE)
 
     def _look_into(self, file: Path, book: Path) -> None:
         """Notes the sheets of a workbook; if it has one of the names itself, its first sheet has that name."""
@@ -127,12 +134,32 @@ class Source:
         if name in self._names:
             self._found.setdefault(name, []).append((label, is_hidden, read))
         else:
-            do = f"give it the name of a sheet ({', '.join(self._names)}), or"
-            self._tell(label, "it isn't read: no sheet has that name", do)
+            do = told(
+                "give it the name of a sheet ({names}), or take it out of the folder, or name it by {option}",
+                names=row([*map(of_others, self._names)]),
+                option=IGNORE,
+            )
+            self._tell(label, told("it isn't read: no sheet has that name"), do)
 
-    def _tell(self, label: str, because: str, do: str) -> None:
-        do = f"{do} take it out of the folder, or name it by --ignore"
+    def _tell(self, label: str, because: Told, do: Told) -> None:
         self.unread.append(SheetFault(Origin(label, 0), because, do))
+
+
+TAKE_OUT_OF_FOLDER = told(
+    "put its files next to the others, or take it out of the folder, or name it by {option}", option=IGNORE
+)
+SAVE = told(
+    "save it as {kind} or CSV, or take it out of the folder, or name it by {option}",
+    kind=of_others(".xlsx"),
+    option=IGNORE,
+)
+CONVERT = told(
+    "save it as {kind} or CSV, or install {package}; or take it out of the folder, or name it by {option}",
+    kind=of_others(".xlsx"),
+    package=of_others("libreoffice-calc-nogui"),
+    option=IGNORE,
+)
+"""What to do with a folder or a file that isn't read."""
 
 
 def files_of(path: Path) -> Sequence[Path]:
@@ -161,8 +188,9 @@ def sheet_of(file: str, texts: Texts, columns: Columns) -> Sheet:
     look_at_heading(file, first, columns)
     twice = [head for at, head in enumerate(heads) if head and head in heads[:at]]
     if twice:
-        do = "rename one of the two; a second table needs a sheet of its own"
-        raise BadSheet(Origin(file, 1, twice[0]), f"the column {twice[0]} is there twice", do)
+        do = told("rename one of the two; a second table needs a sheet of its own")
+        because = told("the column {column} is there twice", column=of_others(twice[0]))
+        raise BadSheet(Origin(file, 1, twice[0]), because, do)
     sheet = Sheet(file, heads, written, (), texts.faults, texts.warnings)
     sheet.rows = rows_of(sheet, itertools.chain(first[1:], texts.rows), columns)
     return sheet
@@ -176,12 +204,23 @@ def look_at_heading(file: str, first: Sequence[Sequence[str]], columns: Columns)
     below = next((at for at, count in enumerate(known, 1) if count >= least), 0)
     if known and known[0] < least and below:
         has = next((cell.strip() for cell in first[0] if cell.strip()), "")
-        told = f"it has {shown(has)}" if has else "it is empty"
-        above = "row 1" if below == 2 else f"rows 1 to {below - 1}"
-        because = f"{told}, and row {below} names the columns"
-        raise BadSheet(Origin(file, 1), because, f"take {above} out, so that the first row names the columns")
+        raise BadSheet(Origin(file, 1), told_above(has, below), take_above(below - 1))
     if not first or not any(cell.strip() for cell in first[0]):
-        raise BadSheet(Origin(file, 1), "the first row is empty", "name the columns in the first row")
+        raise BadSheet(Origin(file, 1), told("the first row is empty"), told("name the columns in the first row"))
+
+
+def told_above(has: str, below: int) -> Told:
+    """What the first row has, if another one is the heading."""
+    if has:
+        return told('it has "{text}", and row {row} names the columns', text=cut(has), row=below)
+    return told("it is empty, and row {row} names the columns", row=below)
+
+
+def take_above(last: int) -> Told:
+    """What to do with the rows above the heading."""
+    if last == 1:
+        return told("take row 1 out, so that the first row names the columns")
+    return told("take rows 1 to {last} out, so that the first row names the columns", last=last)
 
 
 def rows_of(sheet: Sheet, lines: Iterator[Sequence[str]], columns: Columns) -> Iterator[Row]:
@@ -199,7 +238,7 @@ def rows_of(sheet: Sheet, lines: Iterator[Sequence[str]], columns: Columns) -> I
         others = itertools.chain((line[at] for at in gaps if at < len(line)), line[len(heads) :])
         odd = next((cell for cell in others if cell.strip()), "")
         if odd:
-            unnamed.add(SheetFault(origin, f"a cell is in no named column: {shown(odd)}", UNNAMED))
+            unnamed.add(SheetFault(origin, told('a cell is in no named column: "{text}"', text=cut(odd)), UNNAMED))
         cells = {head: cell if head in kept else trimmed(cell) for head, cell in zip(heads, line) if head}
         yield Row(origin, cells)
     unnamed.end()
@@ -215,10 +254,11 @@ def is_heading(sheet: Sheet, origin: Origin, line: Sequence[str]) -> bool:
     pairs = [(cell.strip().lower(), head) for cell, head in zip(line, sheet.columns) if cell.strip()]
     same = sum(cell == head for cell, head in pairs)
     if same == len(pairs) and same >= min(2, len(sheet.columns)):
-        sheet.warnings.append(SheetFault(origin, "the row is the heading again, and is passed over", "take it out"))
+        because = told("the row is the heading again, and is passed over")
+        sheet.warnings.append(SheetFault(origin, because, told("take it out")))
         return True
     if same >= 2:
         other = next(cell for cell, head in pairs if cell != head)
-        because = f"the row is a heading, and not that of row 1: it has {shown(other)}"
-        sheet.faults.append(SheetFault(origin, because, "give the second table a sheet of its own"))
+        because = told('the row is a heading, and not that of row 1: it has "{text}"', text=cut(other))
+        sheet.faults.append(SheetFault(origin, because, told("give the second table a sheet of its own")))
     return same >= 2

@@ -27,9 +27,9 @@ from .numbers_of_texts import decimal
 from .known import NOTHING, Known
 from .office_files import OfficeFiles, Options, Taken
 from .office_sheets import SHEETS
-from .others import Worded
 from .private_files import private_file, write_rows as write_rows
 from .program import Cpi, add_program
+from .report_language import ENGLISH, Teller, add_speech, chosen_speech
 from .sent import MOST_RECORDS, Bundle
 from .sheets import Source, files_of
 from .known_rows import known_of
@@ -91,8 +91,9 @@ def known_from(cpi: Cpi, copy: Optional[Path], onto: Optional[Path]) -> Iterator
 # ---- what is written
 
 
-def write_check(out: Path, name: str, over: str, told: TakenIn) -> None:
-    """Writes `problems.csv` and `report.html`, and `weights.csv` if weights were scaled."""
+def write_check(out: Path, name: str, onto: Optional[Path], told: TakenIn, teller: Teller = ENGLISH) -> None:
+    """Writes `problems.csv` and `report.html`, and `weights.csv` if weights were scaled. The page is in the language of a
+    teller, the files are in English."""
     out.mkdir(mode=0o700, parents=True, exist_ok=True)
     problems = (("problem", *it.origin, it.number, it.because, it.do) for it in told.judged.problems)
     warnings = (("warning", *it.origin, "", it.because, it.do) for it in told.taken.warnings)
@@ -106,7 +107,7 @@ def write_check(out: Path, name: str, over: str, told: TakenIn) -> None:
         )
         write_rows(out / "weights.csv", ("year", "code", "given", "share", "weight", "change"), weights)
     with private_file(out / "report.html") as file:
-        file.write(page(name, over, told.taken, told.judged))
+        file.write(page(name, onto, told.taken, told.judged, teller))
 
 
 def write_records(out: Path, taken: Taken, most: int = MOST_RECORDS) -> list[Path]:
@@ -204,6 +205,7 @@ def add_words(tools: argparse._SubParsersAction[ToolWords]) -> None:
     words.add_argument(
         "--confirm-history", action="store_true", help="prices outside the tolerance are confirmed, and listed"
     )
+    add_speech(words, "report.html")
     csv_files.add_safe_csv(words)
     add_program(words)
     words.set_defaults(run=run, tool="take-in", words=words)
@@ -218,7 +220,7 @@ def run(chosen: argparse.Namespace) -> int:
         raise Fault(f"{chosen.write} is there already: name a folder that isn't")
     check = (chosen.folder if chosen.folder.is_dir() else chosen.folder.parent) / "check"
     out = chosen.out or check
-    over = Worded("a copy of {}", str(chosen.onto)) if chosen.onto else Worded("an office in memory that was empty")
+    teller = Teller(chosen_speech(chosen))
     try:
         with contextlib.ExitStack() as stack:
             with Progress("cpi-tools take-in") as progress:
@@ -227,7 +229,7 @@ def run(chosen: argparse.Namespace) -> int:
                 )
             show_warnings(told.taken.warnings)
             if chosen.check or told.judged.problems:
-                write_check(out, chosen.folder.name, over, told)
+                write_check(out, chosen.folder.name, chosen.onto, told, teller)
             if told.judged.problems:
                 raise Fault(f"{counted(len(told.judged.problems), 'problem')}: {out / 'problems.csv'}")
             print(summary(told.taken, told.judged))

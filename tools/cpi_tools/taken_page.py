@@ -1,20 +1,20 @@
 """The page of a check: what would be done, month by month, and what is refused. Plain HTML; each text is escaped, and
-those of others, and messages that cite them, turn nothing next to them."""
+those of others, and messages that cite them, turn nothing next to them. A teller says it in the office's language."""
 
 from __future__ import annotations
 
 from collections.abc import Iterable, Sequence
 from html import escape
+from pathlib import Path
+from typing import Optional
 
-from .cells import Origin, SheetFault
+from .cells import Origin
 from .judge import Judged
 from .numbers_of_texts import decimal
 from .office_files import Taken
-from .others import Worded, cited, isolated, others
-from .plan_rows import Weighed
-from .price_cells import MonthRead
-from .sent import Problem
-from .terminal import counted
+from .others import cited, isolated, of_others, others
+from .report_language import ENGLISH, Teller
+from .told import Code, Figure, Told, parted, row, told, told_of, whole
 
 MOST_SHOWN = 200
 """Rows of a list that the page shows; the files beside it have all."""
@@ -28,11 +28,12 @@ h1, h2 { line-height: 1.25; }
 .scroll { overflow-x: auto; }
 .scroll:focus-visible { outline: 3px solid #1a5fb4; }
 table { border-collapse: collapse; }
-caption { text-align: left; padding: .3rem 0; color: #4a4a4a; }
-th, td { text-align: left; vertical-align: top; padding: .25rem .9rem .25rem 0; border-bottom: 1px solid #d0d0d0; }
+caption { text-align: start; padding: .3rem 0; color: #4a4a4a; }
+th, td { text-align: start; vertical-align: top; border-bottom: 1px solid #d0d0d0; }
+th, td { padding-block: .25rem; padding-inline: 0 .9rem; }
 td, th { white-space: nowrap; }
 td.words { min-width: 16rem; white-space: normal; }
-td.number, th.number { text-align: right; font-variant-numeric: tabular-nums; }
+td.number, th.number { text-align: end; font-variant-numeric: tabular-nums; }
 .refused { color: #a40000; }
 @media (max-width: 40rem) {
   .stacked thead { display: none; }
@@ -41,150 +42,206 @@ td.number, th.number { text-align: right; font-variant-numeric: tabular-nums; }
 }
 """
 
-NAMES = {
-    "item": "item",
-    "outlet": "outlet",
-    "collector": "collector",
-    "assign": "series",
-    "plan": "plan",
-    "calendar": "window",
-    "handover": "hand-over",
-    "quote": "quote",
-    "freeze": "freeze",
-}
-"""The words of records as a reader of the page knows them."""
-
 MARKS = ("price", "comparable", "other", "missing")
 
 
-def named(word: str, count: int) -> str:
-    """`3 quotes` of the word `quote`."""
-    return f"{count:,} series" if word == "assign" else counted(count, NAMES[word])
+def counts(judged: Judged) -> Iterable[Told]:
+    """How many rows of each kind are taken, by the words of records."""
+    number = judged.taken
+    found = {
+        "item": told_of("{count} item", "{count} items", number["item"]),
+        "outlet": told_of("{count} outlet", "{count} outlets", number["outlet"]),
+        "collector": told_of("{count} collector", "{count} collectors", number["collector"]),
+        "assign": told("{count} series", count=whole(number["assign"])),
+        "plan": told_of("{count} plan", "{count} plans", number["plan"]),
+        "calendar": told_of("{count} window", "{count} windows", number["calendar"]),
+        "handover": told_of("{count} hand-over", "{count} hand-overs", number["handover"]),
+        "quote": told_of("{count} quote", "{count} quotes", number["quote"]),
+        "freeze": told_of("{count} freeze", "{count} freezes", number["freeze"]),
+    }
+    return [text for word, text in found.items() if number[word]]
 
 
-def summary(taken: Taken, judged: Judged) -> str:
+def summary(taken: Taken, judged: Judged) -> Told:
     """How many rows of each kind are taken, and how many the office has already, in one line."""
-    told = [named(word, judged.taken[word]) for word in NAMES if judged.taken[word]]
+    new = [*counts(judged)]
     count = sum(taken.passed_over.values())
-    known = [f"{counted(count, 'row')} that the office has already"] if count else []
-    return ", ".join([*(told or ["nothing new"] if known else told), *known]) or "nothing"
+    if not count:
+        return row(new) if new else told("nothing")
+    known = told_of("{count} row that the office has already", "{count} rows that the office has already", count)
+    return row([*(new or [told("nothing new")]), known])
 
 
-def page(name: str, over: str, taken: Taken, judged: Judged) -> str:
-    """The page of a check of `name`; `over` says what it was judged over."""
-    refused = len(judged.problems)
-    verdict = f"{counted(refused, 'problem')}; nothing is taken in." if refused else "Nothing is refused."
-    css = ' class="refused"' if refused else ""
+def page(name: str, onto: Optional[Path], taken: Taken, judged: Judged, teller: Teller = ENGLISH) -> str:
+    """The page of a check of `name`, in the language of a teller; `onto` is the office over a copy of which it was
+    judged, if there is one."""
+    sheet = Page(teller)
+    css = ' class="refused"' if judged.problems else ""
+    taken_of_it = told("What cpi takes of it: {rows}.", rows=summary(taken, judged))
     parts = [
         f"<h1>{others(name)}</h1>",
-        f"<p>Judged by cpi over {others(over)}. Nothing was written to an office.</p>",
-        f"<p{css}><strong>{verdict}</strong></p>",
-        f"<p>What cpi takes of it: {escape(summary(taken, judged))}.</p>",
-        *problems(judged.problems),
-        *warnings(taken.warnings),
-        *readings(taken.readings),
-        *months(judged),
-        *weights(taken.weighed),
-        *confirmed(judged),
+        f"<p>{sheet.text(judged_over(onto))}</p>",
+        f"<p{css}><strong>{sheet.text(verdict(len(judged.problems)))}</strong></p>",
+        f"<p>{sheet.text(taken_of_it)}</p>",
+        *sheet.problems(judged),
+        *sheet.warnings(taken),
+        *sheet.readings(taken),
+        *sheet.months(judged),
+        *sheet.weights(taken),
+        *sheet.confirmed(judged),
     ]
     head = '<meta charset="utf-8"><meta name="viewport" content="width=device-width">'
     head += f"<title>{escape(isolated(name))}</title>"
+    language = teller.speech.language
+    way = ' dir="rtl"' if language.dir == "rtl" else ""
     style, body = f"<style>\n{STYLE}</style>", "\n".join(parts)
-    return f'<!DOCTYPE html>\n<html lang="en">\n<head>{head}\n{style}</head>\n<body>\n{body}\n</body></html>\n'
+    begin = f'<!DOCTYPE html>\n<html lang="{language.tag}"{way}>\n'
+    return f"{begin}<head>{head}\n{style}</head>\n<body>\n{body}\n</body></html>\n"
 
 
-# ---- parts
+def judged_over(onto: Optional[Path]) -> Told:
+    """What the files were judged over."""
+    if onto is None:
+        return told("Judged by cpi over an office in memory that was empty. Nothing was written to an office.")
+    file = of_others(str(onto))
+    return told("Judged by cpi over a copy of {file}. Nothing was written to an office.", file=file)
 
 
-def table(
-    title: str,
-    heads: Sequence[str],
-    rows: Sequence[Sequence[object]],
-    numbers: Iterable[int] = (),
-    of_others: Iterable[int] = (),
-    css: str = "plain",
-) -> str:
-    """A table that scrolls by itself if it is wide. `numbers` are the columns of numbers, `of_others` those with texts
-    of others, or messages that cite them. With the class `stacked` its cells are below each other on a phone."""
-    right, isolating = {*numbers}, {*of_others}
-
-    def cell(at: int, value: object) -> str:
-        kind = " class=number" if at in right else " class=words" if len(str(value)) > LONG else ""
-        return f"<td{kind}>{cited(value) if at in isolating else escape(str(value))}</td>"
-
-    shown = rows[:MOST_SHOWN]
-    lines = ["".join(cell(at, value) for at, value in enumerate(row)) for row in shown]
-    more = f"<caption>The first {MOST_SHOWN} of {len(rows):,}.</caption>" if len(rows) > MOST_SHOWN else ""
-    marks = [" class=number" if at in right else "" for at in range(len(heads))]
-    head = "".join(f"<th scope=col{mark}>{escape(name)}</th>" for mark, name in zip(marks, heads))
-    body = "\n".join(f"<tr>{line}</tr>" for line in lines)
-    return (
-        f'<h2>{escape(title)}</h2>\n<div class="scroll" tabindex="0" role="region" aria-label="{escape(title)}">'
-        f'<table class="{css}">{more}<thead><tr>{head}</tr></thead>\n<tbody>{body}</tbody></table></div>'
-    )
+def verdict(refused: int) -> Told:
+    """Whether all of it is taken."""
+    if not refused:
+        return told("Nothing is refused.")
+    return told_of("{count} problem; nothing is taken in.", "{count} problems; nothing is taken in.", refused)
 
 
-def problems(found: Sequence[Problem]) -> Iterable[str]:
-    """What is refused; all of it is in problems.csv."""
-    rows = [(place(it.origin), it.number, it.because, it.do) for it in found]
-    if rows:
-        yield table("Problems", ("where", "number", "because", "do"), rows, of_others=(0, 2, 3), css="stacked")
-
-
-def warnings(found: Sequence[SheetFault]) -> Iterable[str]:
-    """What is taken, and should be looked at; all of it is in problems.csv."""
-    rows = [(place(it.origin), it.because, it.do) for it in found]
-    if rows:
-        yield table("Warnings", ("where", "because", "do"), rows, of_others=(0, 1, 2), css="stacked")
-
-
-def readings(found: Sequence[MonthRead]) -> Iterable[str]:
-    """Texts in other spellings, and the months that they were read as."""
-    rows = [(it.file, it.column, it.text, it.month) for it in found]
-    if rows:
-        yield table("Months, as they were read", ("file", "column", "text", "month"), rows, of_others=(0, 1, 2))
-
-
-def place(origin: Origin) -> str:
+def place(origin: Origin) -> Told:
     """`prices.csv, row 5, value` of a cell."""
-    parts = [origin.file, origin.column]
+    at = {"file": of_others(origin.file), "row": origin.row, "column": of_others(origin.column)}
+    if origin.row and origin.column:
+        # t: a cell of a sheet; {row} is the number of a row, {column} the name of a column
+        return told("{file}, row {row}, {column}", **at)
     if origin.row:
-        parts.insert(1, Worded(f"row {origin.row}"))
-    return Worded(", ".join("{}" for part in parts if part), *filter(None, parts))
+        # t: a row of a sheet, by its number
+        return told("{file}, row {row}", file=at["file"], row=at["row"])
+    return row([of_others(it) for it in (origin.file, origin.column) if it])
 
 
-def months(judged: Judged) -> Iterable[str]:
-    """What would be done in each month."""
-    heads = ("month", *MARKS, "refused", "handed over", "freezes", "level of all items")
-    rows = [
-        (
-            month,
-            *(f"{told.quotes[mark]:,}" for mark in MARKS),
-            f"{told.refused:,}",
-            f"{told.handed:,}",
-            "; ".join(told.freezes),
-            told.level or "",
+class Page:
+    """The parts of a page, in the language of a teller."""
+
+    def __init__(self, teller: Teller):
+        self._teller = teller
+
+    def text(self, text: str) -> str:
+        """A text of ours as markup; a message of others is an element of its own."""
+        return cited(self._teller.cell(text))
+
+    def cell(self, value: object) -> str:
+        """What a cell has: a text of ours, a figure or a code, else a text of others."""
+        if isinstance(value, Told):
+            return self.text(value)
+        if isinstance(value, (Figure, Code)):
+            return escape(str(self._teller.say(value)))
+        return cited(value) if value else ""
+
+    def table(
+        self,
+        title: Told,
+        heads: Sequence[Told],
+        rows: Sequence[Sequence[object]],
+        numbers: Iterable[int] = (),
+        css: str = "plain",
+    ) -> str:
+        """A table that scrolls by itself if it is wide. `numbers` are the columns of numbers. With the class `stacked`
+        its cells are below each other on a phone."""
+        right = {*numbers}
+
+        def cell(at: int, value: object) -> str:
+            value = place(value) if isinstance(value, Origin) else value
+            kind = " class=number" if at in right else " class=words" if len(str(value)) > LONG else ""
+            return f"<td{kind}>{self.cell(value)}</td>"
+
+        lines = ["".join(cell(at, value) for at, value in enumerate(line)) for line in rows[:MOST_SHOWN]]
+        marks = [" class=number" if at in right else "" for at in range(len(heads))]
+        head = "".join(f"<th scope=col{mark}>{self.text(name)}</th>" for mark, name in zip(marks, heads))
+        body = "\n".join(f"<tr>{line}</tr>" for line in lines)
+        name = self.text(title)
+        return (
+            f'<h2>{name}</h2>\n<div class="scroll" tabindex="0" role="region" aria-label="{name}">'
+            f'<table class="{css}">{self.caption(len(rows))}<thead><tr>{head}</tr></thead>\n<tbody>{body}</tbody>'
+            "</table></div>"
         )
-        for month, told in sorted(judged.months.items())
-    ]
-    if rows:
-        yield table("Month by month", heads, rows, (1, 2, 3, 4, 5, 6, 8))
 
+    def caption(self, count: int) -> str:
+        """How many rows the table leaves to the files, if it does."""
+        if count <= MOST_SHOWN:
+            return ""
+        first = told("The first {shown} of {count}.", shown=whole(MOST_SHOWN), count=whole(count))
+        return f"<caption>{self.text(first)}</caption>"
 
-def weights(weighed: Sequence[Weighed]) -> Iterable[str]:
-    """Weights that were scaled, each with its change."""
-    rows = [
-        (it.year, it.code, it.given, decimal(it.share), f"{it.weight:,}", decimal(it.weight - it.share, sign="+"))
-        for it in weighed
-    ]
-    if rows:
-        heads = ("year", "code", "given", "exact share, millionths", "weight", "change")
-        yield table("Weights, scaled to 1,000,000", heads, rows, (2, 3, 4, 5), (0, 1, 2))
+    # ---- tables
 
+    def problems(self, judged: Judged) -> Iterable[str]:
+        """What is refused; all of it is in problems.csv."""
+        rows = [(it.origin, it.number, it.because, it.do) for it in judged.problems]
+        # t: the heading of a column: what to do
+        heads = (told("where"), told("number"), told("because"), told("do"))
+        if rows:
+            yield self.table(told("Problems"), heads, rows, css="stacked")
 
-def confirmed(judged: Judged) -> Iterable[str]:
-    """Prices outside the tolerance that were confirmed."""
-    rows = [(place(it.origin), *it[1:]) for it in judged.confirmed]
-    if rows:
-        heads = ("where", "price", "last price", "lowest inside", "highest inside")
-        yield table("Confirmed outside the tolerance", heads, rows, (1, 2, 3, 4), (0,))
+    def warnings(self, taken: Taken) -> Iterable[str]:
+        """What is taken, and should be looked at; all of it is in problems.csv."""
+        rows = [(it.origin, it.because, it.do) for it in taken.warnings]
+        if rows:
+            heads = (told("where"), told("because"), told("do"))
+            yield self.table(told("Warnings"), heads, rows, css="stacked")
+
+    def readings(self, taken: Taken) -> Iterable[str]:
+        """Texts in other spellings, and the months that they were read as."""
+        rows = [(it.file, it.column, it.text, Code(it.month)) for it in taken.readings]
+        if rows:
+            heads = (told("file"), told("column"), told("text"), told("month"))
+            yield self.table(told("Months, as they were read"), heads, rows)
+
+    def months(self, judged: Judged) -> Iterable[str]:
+        """What would be done in each month."""
+        rows = [
+            (
+                Code(month),
+                *(whole(it.quotes[mark]) for mark in MARKS),
+                whole(it.refused),
+                whole(it.handed),
+                parted(it.freezes),
+                Figure(it.level or ""),
+            )
+            for month, it in sorted(judged.months.items())
+        ]
+        heads = [told("month"), told("price"), told("comparable"), told("other"), told("missing"), told("refused")]
+        heads += [told("handed over"), told("freezes"), told("level of all items")]
+        if rows:
+            yield self.table(told("Month by month"), heads, rows, (1, 2, 3, 4, 5, 6, 8))
+
+    def weights(self, taken: Taken) -> Iterable[str]:
+        """Weights that were scaled, each with its change."""
+        rows = [
+            (
+                it.year,
+                it.code,
+                it.given,
+                Figure(decimal(it.share)),
+                whole(it.weight),
+                Figure(decimal(it.weight - it.share, sign="+")),
+            )
+            for it in taken.weighed
+        ]
+        if rows:
+            heads = [told("year"), told("code"), told("given"), told("exact share, millionths"), told("weight")]
+            title = told("Weights, scaled to 1,000,000")
+            yield self.table(title, [*heads, told("change")], rows, (2, 3, 4, 5))
+
+    def confirmed(self, judged: Judged) -> Iterable[str]:
+        """Prices outside the tolerance that were confirmed."""
+        rows = [(it.origin, *map(Figure, it[1:])) for it in judged.confirmed]
+        if rows:
+            heads = [told("where"), told("price"), told("last price"), told("lowest inside"), told("highest inside")]
+            yield self.table(told("Confirmed outside the tolerance"), heads, rows, (1, 2, 3, 4))

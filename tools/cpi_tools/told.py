@@ -121,6 +121,24 @@ def parted(parts: Sequence[str]) -> Told:
     return found
 
 
+def both(parts: Sequence[str]) -> Told:
+    """All of some texts; no text, if there are none."""
+    found = placed(parts[0]) if parts else sentences()
+    for part in parts[1:]:
+        # t: one text, and another one
+        found = told("{before} and {after}", before=found, after=part)
+    return found
+
+
+def either(parts: Sequence[str]) -> Told:
+    """One of some texts; no text, if there are none."""
+    found = placed(parts[0]) if parts else sentences()
+    for part in parts[1:]:
+        # t: one text, or another one
+        found = told("{before} or {after}", before=found, after=part)
+    return found
+
+
 def said_as(english: str, *parts: Told) -> Told:
     """Sentences that a terminal has in other words, in English."""
     named = sentences(*parts)

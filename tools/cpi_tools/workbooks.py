@@ -14,7 +14,9 @@ from pathlib import Path
 from typing import Any, NamedTuple
 
 from .cells import Alike, Dated, Numeral, Origin, SheetFault, Texts
-from .terminal import Fault, counted, needs
+from .others import of_others
+from .terminal import Fault, needs
+from .told import Code, Told, row as row_of, told, told_of
 from .workbook_parts import Part, looked_through
 
 MOST_DIGITS = 10**15
@@ -88,8 +90,8 @@ class Workbook:
             part = self._parts[sheet._worksheet_path]
             odd, unlike = Alike(found.faults), _Unlike(part, self._has_strike)
             for place in part.without_value:
-                do = "open the workbook in a spreadsheet program and save it"
-                odd.add(SheetFault(Origin(label, *place_of(place)), "the cell's formula has no value", do))
+                do = told("open the workbook in a spreadsheet program and save it")
+                odd.add(SheetFault(Origin(label, *place_of(place)), told("the cell's formula has no value"), do))
             sheet.reset_dimensions()
             for number, row in enumerate(sheet.iter_rows(), 1):
                 texts = [text_of_cell(cell, label, odd) for cell in row]
@@ -134,26 +136,63 @@ class _Unlike:
         """A line for the rows, one for the columns, one for cells that are struck out, and one for merged ranges."""
         columns = [*map(letters_of, sorted(self._columns))]
         if self._rows:
-            yield unlike("hidden row", Origin(label, self._rows[0]), [*map(str, self._rows)])
+            yield SheetFault(Origin(label, self._rows[0]), hidden_rows(self._rows), LOOK)
         if columns:
-            yield unlike("hidden column", Origin(label, 1, columns[0]), columns)
+            yield SheetFault(Origin(label, 1, columns[0]), hidden_columns(columns), LOOK)
         if self._struck:
-            yield unlike("struck-out cell", Origin(label, *place_of(self._struck[0])), self._struck)
+            yield SheetFault(Origin(label, *place_of(self._struck[0])), struck_out(self._struck), LOOK)
         if self._filled:
-            because = f"{counted(len(self._filled), 'merged range')}, first cell only: {listed(self._filled)}"
-            do = "write the text into each cell that it is meant for; the other cells are empty here"
-            yield SheetFault(Origin(label, *place_of(self._filled[0].partition(":")[0])), because, do)
+            do = told("write the text into each cell that it is meant for; the other cells are empty here")
+            yield SheetFault(Origin(label, *place_of(self._filled[0].partition(":")[0])), merged(self._filled), do)
 
 
-def unlike(kind: str, origin: Origin, names: Sequence[str]) -> SheetFault:
-    """A warning of rows, columns or cells that are read although they look otherwise."""
-    do = "see whether they belong there, and take them out if they don't"
-    return SheetFault(origin, f"{counted(len(names), kind)} read like the others: {listed(names)}", do)
+LOOK = told("see whether they belong there, and take them out if they don't")
+"""What to do with rows, columns or cells that are read although they look otherwise."""
 
 
-def listed(names: Sequence[str]) -> str:
+def hidden_rows(rows: Sequence[int]) -> Told:
+    """Rows that a reader of the sheet doesn't see."""
+    return told_of(
+        "{count} hidden row read like the others: {names}",
+        "{count} hidden rows read like the others: {names}",
+        len(rows),
+        names=listed([*map(str, rows)]),
+    )
+
+
+def hidden_columns(columns: Sequence[str]) -> Told:
+    """Columns that a reader of the sheet doesn't see."""
+    return told_of(
+        "{count} hidden column read like the others: {names}",
+        "{count} hidden columns read like the others: {names}",
+        len(columns),
+        names=listed(columns),
+    )
+
+
+def struck_out(cells: Sequence[str]) -> Told:
+    """Cells that a reader of the sheet takes for gone."""
+    return told_of(
+        "{count} struck-out cell read like the others: {names}",
+        "{count} struck-out cells read like the others: {names}",
+        len(cells),
+        names=listed(cells),
+    )
+
+
+def merged(ranges: Sequence[str]) -> Told:
+    """Ranges of cells that are one to a reader of the sheet."""
+    return told_of(
+        "{count} merged range, first cell only: {names}",
+        "{count} merged ranges, first cell only: {names}",
+        len(ranges),
+        names=listed(ranges),
+    )
+
+
+def listed(names: Sequence[str]) -> Told:
     """Some names, and a sign if there are more."""
-    return ", ".join(names[:MOST_NAMED]) + (", .." if len(names) > MOST_NAMED else "")
+    return row_of([*map(of_others, names[:MOST_NAMED]), *([Code("..")] if len(names) > MOST_NAMED else [])])
 
 
 def place_of(cell: str) -> tuple[int, str]:
@@ -183,7 +222,13 @@ def text_of_cell(cell: Any, label: str, odd: Alike) -> str:
     if isinstance(value, str):
         if cell.data_type == "e":
             origin = Origin(label, cell.row, cell.column_letter)
-            odd.add(SheetFault(origin, f"the cell has the error {value} for a value", "mend its formula, or empty it"))
+            odd.add(
+                SheetFault(
+                    origin,
+                    told("the cell has the error {error} for a value", error=of_others(value)),
+                    told("mend its formula, or empty it"),
+                )
+            )
             return ""
         return value
     if isinstance(value, bool):
@@ -201,8 +246,10 @@ def number_of_cell(cell: Any, label: str, odd: Alike) -> str:
     """The text of a number, with a percent sign if its cell shows one."""
     value = cell.value
     if abs(value) >= MOST_DIGITS:
-        because = f"the cell is the number {value!r}, and a spreadsheet keeps 15 digits of it"
-        do = "give the column the format of text, and write the cell again"
+        because = told(
+            "the cell is the number {number}, and a spreadsheet keeps 15 digits of it", number=Code(repr(value))
+        )
+        do = told("give the column the format of text, and write the cell again")
         odd.add(SheetFault(Origin(label, cell.row, cell.column_letter), because, do))
         return ""
     text, number_format = f"{value:.15g}", cell.number_format
