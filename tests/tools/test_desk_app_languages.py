@@ -169,3 +169,19 @@ def test_no_word_of_the_sample_and_the_year_is_left_in_english(
             assert answer.status_code == 200 and 'lang="el"' in answer.text
             left[path] = left_on(answer.text)
     assert {name: texts for name, texts in left.items() if texts} == {}
+
+
+def test_what_cpi_refuses_of_a_draft_is_said_in_the_language(
+    cpi: Cpi, tmp_path: Path, monkeypatch: pytest.MonkeyPatch
+) -> None:
+    speech, moment = speech_of(nobodys_in(tmp_path, monkeypatch)), int(time.time()) + 86_400
+    with applied(cpi, published_at(cpi, tmp_path, moment), tmp_path / "room", speech=speech) as application:
+        ada = application.person(ADA)
+        ada.post("/year/make", year="2027")
+        waited(lambda: not application.desk.drafts.running)
+        ada.post("/year/2027/put", sheet="weights", code="01.1.1.1-01", weight="599000")
+        ada.post("/year/2027/check")
+        waited(lambda: not application.desk.drafts.running)
+        text = ada.get("/year/2027/").text
+    assert greek("Mend the weights.") in text
+    assert left_on(text) == []
