@@ -88,7 +88,7 @@ def readme_faults(text: str) -> Iterator[str]:
 
 # ---- the length
 
-MOST_WORDS, MOST_OF_ALL = 5000, 66000
+MOST_WORDS, MOST_OF_ALL = 5000, 63800
 """Words as `wc -w` counts them: of a document, and of docs/*.md together."""
 
 LONG = {"docs/DESK.md"}
