@@ -82,7 +82,7 @@ def test_forms_of_elsewhere_and_other_names_are_refused(fronted: DeskPages, stag
     evil = stage.ask("POST", f"{PREFIX}/sign-in", body=form, **FORM, Origin="https://evil.example")
     assert evil.status == 403 and "Set-Cookie" not in evil.fields
     named = stage.ask("GET", f"{PREFIX}/sign-in", Host="evil.example")
-    assert named.status == 400 and b"evil.example" in named.body and b"it is reached as https" in named.body
+    assert named.status == 400 and b"evil.example" in named.body and b"it is reached as <bdi>https" in named.body
 
 
 def test_it_may_be_for_the_offices_network_only(fronted: DeskPages, stage: Stage) -> None:
