@@ -85,7 +85,7 @@ def test_a_figure_is_explained_down_to_its_receipts(tried: Application, ada: Per
     assert "every line holds" in words and "= 2520000 / 2460000" in words
     assert "price, by collector 8, slot 1, receipt 3" in words
     answer = ada.get(f"/month/{MONTH}/explain/05")
-    assert answer.status_code == 503 and "05 is no node of 2026-02" in words_of(answer.text)
+    assert answer.status_code == 503 and "05 is no node of February 2026" in words_of(answer.text)
 
 
 def test_what_a_handful_of_prices_would_change(ada: Person) -> None:

@@ -146,7 +146,7 @@ def test_a_revision_that_would_come_out_too_late_is_told_before_it_is_frozen(cpi
         for text in (ran.out, closed.err):
             assert (warning in text and remedy in text) == is_late
         page = (out / "month.html").read_text(encoding="utf-8")
-        assert (ran.status, closed.status, "<b>Warning:</b> The table of 2027-01" in page) == (0, 0, is_late)
+        assert (ran.status, closed.status, "<b>Warning:</b> The table of January 2027" in page) == (0, 0, is_late)
 
 
 def test_a_frozen_month_says_what_has_come_out_too_early(cpi: Cpi, tmp_path: Path) -> None:

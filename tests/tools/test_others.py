@@ -26,8 +26,8 @@ MARK = "\u00a7"
 PLACES = {"item": (4, 5), "outlet": (4,)}
 """Where the texts of a record are."""
 
-NO_ELEMENTS = ("title", "option", "desc")
-"""What has no elements in it."""
+NO_ELEMENTS = ("title", "option", "desc", "text")
+"""What has no elements in it, or, as a text of a picture, none of HTML."""
 
 
 # ---- a text by itself

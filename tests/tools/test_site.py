@@ -418,8 +418,9 @@ class Links(HTMLParser):
 def test_pages_lead_to_what_is_there_and_to_nothing_else(site: Path) -> None:
     pages = sorted(site.rglob("*.html"))
     # (each item and each release that has rows has a page, and one that other sites embed; besides these there are the
-    # list of releases, the calendar, and the page that is shown if there is none)
-    assert len(pages) == 8 + 2 * CODES + 2 * (len(shown()) - 1) + 3
+    # list of releases, the calendar, the page that is shown if there is none, and the one that shows a reader's choice in
+    # other sites)
+    assert len(pages) == 8 + 2 * CODES + 2 * (len(shown()) - 1) + 4
     for page in pages:
         links = Links()
         links.feed(page.read_text(encoding="utf-8"))
@@ -438,8 +439,8 @@ def test_pages_lead_to_what_is_there_and_to_nothing_else(site: Path) -> None:
 def test_a_page_asks_nothing_of_another_machine(site: Path) -> None:
     for path in [*site.rglob("*.html"), *site.glob("assets/*")]:
         text = path.read_text(encoding="utf-8")
-        if path.name == "choose.js":
-            # (it asks for files of the site, by their names from its page on)
+        if path.name in ("choose.js", "frame.js"):
+            # (they ask for files of the site, by their names from their page on)
             assert [*re.findall(r"fetch\((.*?)[,)]", text)] == ["name"]
             assert not re.search(r"(?:textOf|itemOf)\([`\"](?:/|\.|[a-z]+:)", text)
             text = text.replace("fetch(name", "")

@@ -18,10 +18,10 @@ from cpi_tools.command_line import main
 WRITTEN = os.O_WRONLY | os.O_CREAT | os.O_TRUNC
 
 
-def wait(seconds: float) -> None:
+def wait(secs: float) -> None:
     """Waits as `time.sleep` does, which fails under Debian's faketime (0.9.10) with `Invalid argument` if that leaves the
     monotonic clock alone."""
-    select.select([], [], [], seconds)
+    select.select([], [], [], secs)
 
 
 time.sleep = wait

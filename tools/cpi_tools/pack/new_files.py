@@ -3,7 +3,6 @@
 from __future__ import annotations
 
 import hashlib
-import os
 from pathlib import Path
 
 
@@ -18,11 +17,8 @@ class NewFiles:
 
     def write(self, name: str, content: bytes) -> None:
         """Writes a file by its name in the pack, in a folder that is there. Raises OSError."""
-        number = os.open(self._top + name, os.O_WRONLY | os.O_CREAT | os.O_EXCL | os.O_CLOEXEC, 0o666)
-        try:
+        with open(self._top + name, "xb", buffering=0) as file:
             left = memoryview(content)
             while left:
-                left = left[os.write(number, left) :]
-        finally:
-            os.close(number)
+                left = left[file.write(left) :]
         self.sums[name] = hashlib.sha256(content).hexdigest()
