@@ -119,6 +119,26 @@ def test_from_its_second_round_on_a_copy_gets_only_the_pages_that_changed(
     assert modes == {0o600}
 
 
+def test_what_a_killed_round_left_is_compared_whatever_its_time(
+    source: Path, dest: Path, shell: Callable[..., str], tmp_path: Path
+) -> None:
+    """A part of a log can have the size and the second of the whole one."""
+
+    def begun() -> Follower:
+        return Follower(source, Elsewhere(Rsync("second", ".", shell()), tmp_path / "room"))
+
+    first = begun()
+    assert [first.round(), first.round()] == ["", ""]
+    moment = log_beside(tmp_path / "room/mirror" / OFFICE).stat().st_mtime_ns
+    for name in NAMES:
+        left = log_beside(dest / name / OFFICE)
+        turned(left, 1)
+        os.utime(left, ns=(moment, moment))
+    second = begun()
+    for _ in NAMES:
+        assert second.round() == "" and is_same(newest(dest), source)
+
+
 def test_files_that_grow_and_shrink(source: Path, dest: Path, place: Elsewhere, carried: list[str]) -> None:
     drawn, follower = random.Random(7), Follower(source, place)
     for _ in range(16):

@@ -59,15 +59,15 @@ class Rsync:
         self._words = ["rsync", "--times", f"--timeout={SILENCE}", f"--rsh={ssh or SSH}"]
 
     def fetch(self, to: Path) -> None:
-        """Files that are gone there go here too."""
+        """Files that are gone there go here too. Two notes of one second may have the same size, so all are read."""
         notes = [f"--include=/{name}/{NOTE}" for name in NAMES]
         chosen = [*(f"--include=/{name}/" for name in NAMES), *notes, f"--include=/{MARK}", f"--include=/{RECEIVED}"]
         chosen.append("--exclude=*")
-        _run([*self._words, "--recursive", "--delete", *chosen, self._at, f"{to}/"], self.name)
+        _run([*self._words, "--recursive", "--delete", "--ignore-times", *chosen, self._at, f"{to}/"], self.name)
 
     def carry(self, copy: Path, to: str, is_whole: bool) -> None:
-        """In place, each file on the disk there before the next one begins. A file of the same size and of the time of
-        before is passed over: `taken_and_stamped` gives each change a second of its own."""
+        """In place, each file on the disk there before the next one begins. Unless all is compared, a file of the same size
+        and of the time of before is passed over: `taken_and_stamped` gives each change a second of its own."""
         how = ["--inplace", "--no-whole-file", f"--block-size={PAGE}", "--fsync", *MODES]
         how += ["--ignore-times"] if is_whole else []
         _run([*self._words, *how, *_files_of(copy), f"{self._at}{to}/"], self.name)

@@ -103,7 +103,8 @@ class Elsewhere:
         if lag and lag.note != state.notes.get(name):
             lag = None
         if not (lag and lag.is_recent() and self._is_received() and self._carry_changes(name, lag, note, mirror)):
-            self._carry(name, note, is_whole=lag is not None)
+            # (a copy that isn't known may be what a killed round left, with any time)
+            self._carry(name, note, is_whole=not lag or not lag.is_recent())
         self._lags[name] = Lag(note, set(), set(), lag.compared if lag and lag.is_recent() else time.monotonic())
         last = self._room / NAMES[0]
         last.mkdir(mode=0o700, exist_ok=True)
