@@ -63,6 +63,7 @@ from cpi_tools.front import (
     system_program,
 )
 from cpi_tools.languages import SOURCE, a_language
+from cpi_tools.pack.clocks import clock_of
 from cpi_tools.pack.config import read_config
 from cpi_tools.pack.public import from_file
 from cpi_tools.program import Cpi, CpiFailed, add_program, told as told_end
@@ -286,7 +287,7 @@ def serve(chosen: argparse.Namespace, cpi: Cpi, folder: Path) -> int:
     front = Front(ROOT / "ops/nginx.conf", folder, place)
     with started(office):
         # (the program has opened the file, so it is an office, and of the tables that are read here)
-        write_calendar(file, folder / CALENDAR)
+        write_calendar(file, folder / CALENDAR, clock=clock_of(chosen.zone))
         print("Its website is written, which takes some seconds, too.", flush=True)
         config = write_website(cpi, file, folder, not chosen.db, chosen.language)
         with started(desk_of(chosen, cpi, file, place, config)) as desk, standing(front, partial(of_a_trial, folder)):

@@ -156,7 +156,8 @@ def test_the_file_for_the_phones_is_that_of_the_calendar(application: Applicatio
     judged = ada.post("/records/judge", text=f"calendar,2096-09,{far - 9},{far},{far}\n")
     ada.post("/records/send", offer=offer_of(judged.text), left="")
     answer = ada.get("/calendar/calendar.json")
-    assert json.loads(answer.text)["months"][-1] == {"month": "2096-09", "opens": far - 9, "closes": far}
+    summer = {"opens_zone": ["CEST", 7200], "closes_zone": ["CEST", 7200]}
+    assert json.loads(answer.text)["months"][-1] == {"month": "2096-09", "opens": far - 9, "closes": far, **summer}
     assert str(application.person().get("/calendar/calendar.json").headers["Location"]).startswith("/sign-in?")
 
 

@@ -125,6 +125,7 @@ def test_it_tells_where_to_point_a_phone_and_stops_at_ctrl_c(trial: Trial) -> No
     assert trial.get(f"/api/work/{NOW}", desk[1])[0] == 403  # (the desk has no work list)
     (window,) = json.loads(trial.get("/calendar.json")[1])["months"]
     assert window["month"] == NOW and window["closes"] > time.time()
+    assert window["opens_zone"] in (["CET", 3600], ["CEST", 7200])
     assert not (trial.folder / "ca.key").exists()
     assert len(trial.children) == 3
     trial.signs_in_at_the_desk(desk[1])

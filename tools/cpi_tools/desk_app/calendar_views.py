@@ -102,4 +102,4 @@ def phones() -> Response:
     """The file by which phones show a deadline, as `cpi-tools calendar` writes it."""
     with desk().copies_now() as copy, read_copy(copy.path) as office:
         windows = windows_since(office.calendar(), None, int(time.time()))
-    return flask.Response(text_of(windows), mimetype="application/json")
+    return flask.Response(text_of(windows, desk().given.clock), mimetype="application/json")
