@@ -3,6 +3,7 @@
 from __future__ import annotations
 
 import sys
+from collections.abc import Iterator
 from pathlib import Path
 
 import pytest
@@ -13,8 +14,10 @@ ROOT = HERE.parents[1]
 sys.dont_write_bytecode = True
 sys.path[:0] = [str(HERE), str(ROOT / "tools"), str(ROOT / "tests")]
 
+import surveys  # noqa: E402
 from cpi_tools.program import Cpi  # noqa: E402
 from cpi_tools.pack.public import Published, from_file  # noqa: E402
+from desk_apps import ADA, Application, Person, applied  # noqa: E402
 from lib import fixtures  # noqa: E402
 from lib.fixtures import cpi  # noqa: E402, F401
 from offices import lived  # noqa: E402
@@ -65,3 +68,17 @@ def public_office(cpi: Cpi, tmp_path_factory: pytest.TempPathFactory) -> Office:
 def published(cpi: Cpi, public_office: Office) -> list[Published]:
     """What the public reads of it."""
     return from_file(cpi, public_office.file, public_office.at)
+
+
+@pytest.fixture
+def application(cpi: Cpi, tmp_path: Path) -> Iterator[Application]:
+    """The desk's application over the small office, which is served meanwhile; its last frozen month is January 2026, and
+    its three series end in December."""
+    with applied(cpi, surveys.small(cpi, tmp_path), tmp_path / "room") as it:
+        yield it
+
+
+@pytest.fixture
+def ada(application: Application) -> Person:
+    """A person who is signed in there."""
+    return application.person(ADA)

@@ -8,7 +8,6 @@ import io
 import re
 import threading
 import time
-from collections.abc import Iterator
 from pathlib import Path
 from typing import Any
 
@@ -32,17 +31,6 @@ from ran import run
 from surveys import key_of
 
 WRONG_KEY = "e" * 32
-
-
-@pytest.fixture
-def application(cpi: Cpi, tmp_path: Path) -> Iterator[Application]:
-    with applied(cpi, surveys.small(cpi, tmp_path), tmp_path / "room") as it:
-        yield it
-
-
-@pytest.fixture
-def ada(application: Application) -> Person:
-    return application.person(ADA)
 
 
 # ---- who is let in

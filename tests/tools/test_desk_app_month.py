@@ -4,7 +4,6 @@ from __future__ import annotations
 
 import re
 import time
-from collections.abc import Iterator
 from pathlib import Path
 
 import pytest
@@ -25,17 +24,6 @@ from surveys import key_of
 MONTH = "2026-02"
 CODE = "01.1.1.2-01"
 WHY = {f"why-{CODE}": "the shop is closed for a week"}
-
-
-@pytest.fixture
-def application(cpi: Cpi, tmp_path: Path) -> Iterator[Application]:
-    with applied(cpi, surveys.small(cpi, tmp_path), tmp_path / "room") as it:
-        yield it
-
-
-@pytest.fixture
-def ada(application: Application) -> Person:
-    return application.person(ADA)
 
 
 @pytest.fixture

@@ -59,11 +59,6 @@ def application(cpi: Cpi, tmp_path: Path, moment: int) -> Iterator[Application]:
         yield it
 
 
-@pytest.fixture
-def ada(application: Application) -> Person:
-    return application.person(ADA)
-
-
 def waited(condition: Callable[[], object]) -> None:
     """Waits for something that another process does."""
     begun = time.monotonic()

@@ -5,18 +5,14 @@ from __future__ import annotations
 import io
 import json
 import re
-from collections.abc import Iterator
-from pathlib import Path
 from typing import Any
 
 import pytest
 
-import surveys
 from cpi_tools.desk_app import records_views
 from cpi_tools.desk_app.app import MOST_BYTES
 from cpi_tools.desk_app.judging import lines_of
-from cpi_tools.program import Cpi
-from desk_apps import ADA, LISTEN, Application, Person, applied, words_of
+from desk_apps import LISTEN, Application, Person, words_of
 
 PLAN = """T,00,All
 T,01,Food
@@ -26,17 +22,6 @@ T,01.1.1.1,Rice
 T,01.1.1.1-01,Rice
 W,01.1.1.1-01,{weight}
 """
-
-
-@pytest.fixture
-def application(cpi: Cpi, tmp_path: Path) -> Iterator[Application]:
-    with applied(cpi, surveys.small(cpi, tmp_path), tmp_path / "room") as it:
-        yield it
-
-
-@pytest.fixture
-def ada(application: Application) -> Person:
-    return application.person(ADA)
 
 
 def chosen(person: Person, content: bytes, name: str = "rows.csv", **form: str) -> Any:

@@ -4,35 +4,20 @@ carried out or dropped."""
 from __future__ import annotations
 
 import re
-from collections.abc import Iterator
-from pathlib import Path
 from typing import Any
 
 import pytest
 
-import surveys
 from cpi_tools.copying import private_copy
 from cpi_tools.desk_app.judging import NotRead
 from cpi_tools.desk_app.office import NoReply, Office
 from cpi_tools.desk_app.pasted import pasted
 from cpi_tools.desk_app.sample_kinds import KINDS
 from cpi_tools.desk_app.year_calendar import moved
-from cpi_tools.program import Cpi
 from cpi_tools.stored import Assignment, read_copy
-from desk_apps import ADA, BEN, Application, Person, applied, words_of
+from desk_apps import ADA, BEN, Application, Person, words_of
 from lib.served import free_port
 from surveys import key_of
-
-
-@pytest.fixture
-def application(cpi: Cpi, tmp_path: Path) -> Iterator[Application]:
-    with applied(cpi, surveys.small(cpi, tmp_path), tmp_path / "room") as it:
-        yield it
-
-
-@pytest.fixture
-def ada(application: Application) -> Person:
-    return application.person(ADA)
 
 
 def judged(person: Person, kind: str, **form: str) -> str:

@@ -4,34 +4,19 @@ from __future__ import annotations
 
 import re
 import time
-from collections.abc import Iterator
 from pathlib import Path
 
 import pytest
 
-import surveys
 from cpi_tools.copying import private_copy
 from cpi_tools.desk_app.draft_sheets import Draft, Settings
 from cpi_tools.desk_app.drafts import Checked
 from cpi_tools.desk_app.year_views import too_long
-from cpi_tools.program import Cpi
 from cpi_tools.stored import StoredOffice, read_copy
-from desk_apps import ADA, PATIENCE, Application, Person, applied, words_of
+from desk_apps import ADA, PATIENCE, Application, Person, words_of
 
 RICE, FLOUR = "01.1.1.1-01", "01.1.1.2-01"
 PAGE = "/year/2027/"
-
-
-@pytest.fixture
-def application(cpi: Cpi, tmp_path: Path) -> Iterator[Application]:
-    """All three series of the office end in December 2026; its last frozen month is January."""
-    with applied(cpi, surveys.small(cpi, tmp_path), tmp_path / "room") as it:
-        yield it
-
-
-@pytest.fixture
-def ada(application: Application) -> Person:
-    return application.person(ADA)
 
 
 def waited(application: Application) -> None:

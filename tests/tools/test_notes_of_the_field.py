@@ -90,11 +90,6 @@ def anna(application: Application) -> Phone:
     return Phone(application, ANNA)
 
 
-@pytest.fixture
-def ada(application: Application) -> Person:
-    return application.person(ADA)
-
-
 # ---- photographs
 
 

@@ -15,7 +15,7 @@ from lib import hostile
 from browser import Browser
 from desk_pages import Person
 from offices import ANNA, ARABIC, BENO, IMAGE, LEAVING, OVERRIDE, SCRIPT
-from readable import faults_for_keys, faults_of_page, faults_of_texts
+from readable import faults_at_sizes
 from stage import Stage
 
 HOSTILE = tuple(text.replace("\u2029", "") for text in hostile.HOSTILE)
@@ -129,13 +129,6 @@ def every_page(stage: Stage, ada: Person) -> Iterator[str]:
 def test_pages_can_be_read_on_a_desk_and_on_a_phone(stage: Stage, ada: Person, browser: Browser) -> None:
     found, others = list[str](), (*HOSTILE, SCRIPT, IMAGE, ARABIC, OVERRIDE, LEAVING)
     for path in every_page(stage, ada):
-        for width in (360, 1280):
-            browser.size(width, 900)
-            for scheme in ("light", "dark"):
-                browser.shown_as(scheme)
-                found += [f"{path} at {width}, {scheme}: {fault}" for fault in faults_of_page(browser)]
-        browser.shown_as("light")
-        found += [f"{path}: {fault}" for fault in faults_for_keys(browser)]
-        found += [f"{path}: {fault}" for fault in faults_of_texts(browser, others)]
+        found += [f"{path}: {fault}" for fault in faults_at_sizes(browser, others)]
         assert browser.driver.title != "owned"
     assert found == []

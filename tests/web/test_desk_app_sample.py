@@ -11,7 +11,7 @@ from lib import hostile
 from browser import Browser
 from desk_pages import DeskPages, Person
 from offices import ANNA, ARABIC, LEAVING, NOW
-from readable import faults_for_keys, faults_of_page, faults_of_texts
+from readable import faults_at_sizes, faults_of_page
 from stage import Stage
 from websites import CONFIG
 
@@ -71,14 +71,7 @@ def faults_of(paths: Sequence[str], ada: Person, browser: Browser) -> list[str]:
     found = list[str]()
     for path in paths:
         ada.open(path)
-        for width in (360, 1280):
-            browser.size(width, 900)
-            for scheme in ("light", "dark"):
-                browser.shown_as(scheme)
-                found += [f"{path} at {width}, {scheme}: {fault}" for fault in faults_of_page(browser)]
-        browser.shown_as("light")
-        found += [f"{path}: {fault}" for fault in faults_for_keys(browser)]
-        found += [f"{path}: {fault}" for fault in faults_of_texts(browser, HOSTILE)]
+        found += [f"{path}: {fault}" for fault in faults_at_sizes(browser, HOSTILE)]
         assert browser.driver.title != "owned"
     return found
 
