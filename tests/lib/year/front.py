@@ -151,10 +151,17 @@ class Front:
         self.renewed += 1
         if not self.is_up:
             return True
-        if self.hears and self.process:
+        assert self.process
+        master = self.process.pid
+        before = {*fronts.children_of(master)}
+        if self.hears:
             self.process.send_signal(signal.SIGHUP)
+        # (a worker of before may take a connection until it ends)
         with contextlib.suppress(TimeoutError):
-            self._wait(self._is_trusted, "it shows the certificate before")
+            self._wait(
+                lambda: self._is_trusted() and not before & {*fronts.children_of(master)},
+                "it shows the certificate before",
+            )
             return True
         return False
 
