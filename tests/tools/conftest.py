@@ -19,9 +19,10 @@ from cpi_tools.program import Cpi  # noqa: E402
 from cpi_tools.pack.public import Published, from_file  # noqa: E402
 from desk_apps import ADA, Application, Person, applied  # noqa: E402
 from lib import fixtures  # noqa: E402
-from lib.fixtures import cpi  # noqa: E402, F401
 from offices import lived  # noqa: E402
 from published import Office, made as made_public  # noqa: E402
+
+cpi = fixtures.cpi
 
 
 def pytest_addoption(parser: pytest.Parser) -> None:
