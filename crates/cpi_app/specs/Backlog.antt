@@ -6,7 +6,7 @@ use Rattle.cpi_app.specs.declared.backlog.Backlog.{Backlog}
 use Rattle.cpi_app.specs.declared.backlog.Queued.{Queued}
 
 -- the next connection is this one, and is that one afterwards; the others are as they were
-pub record TakesNext (was : Backlog) (next now : Queued) (is : Backlog) : Type 0 where
+pub record TakesConnection (was : Backlog) (next now : Queued) (is : Backlog) : Type 0 where
   pub found : slice_get was.queued.items was.taken ≡ Some next
   pub stored : is.queued.items ≡ slice_set was.queued.items was.taken now
   pub taken : is.taken ≡ was.taken + 1
@@ -23,7 +23,8 @@ pub record ComesAs (next now : Queued) (c : Connection) : Type 0 where
 -- The next connection came; or it couldn't be accepted, or there is none; or it couldn't be served, since there was no
 -- moment.
 abbrev pub MeetsNext : Backlog → Arrival → Backlog → Type 0
-MeetsNext was (Came c) is = (next : Queued) × (now : Queued) × TakesNext was next now is × ComesAs next now c
+MeetsNext was (Came c) is = (next : Queued) × (now : Queued) × TakesConnection was next now is × ComesAs next now c
 MeetsNext was Missed is = ((length was.queued.items ≤ was.taken) × (is ≡ was))
-    ⊎ ((next : Queued) × TakesNext was next next is × IsFalse next.is_open)
-MeetsNext was Timeless is = (next : Queued) × TakesNext was next next is × IsTrue next.is_open × (next.moment ≡ None)
+    ⊎ ((next : Queued) × TakesConnection was next next is × IsFalse next.is_open)
+MeetsNext was Timeless is = (next : Queued) × TakesConnection was next next is × IsTrue next.is_open ×
+    (next.moment ≡ None)

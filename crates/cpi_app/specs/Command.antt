@@ -15,20 +15,20 @@ abbrev pub option : Text → Rule
 option name = record (new_rule name) { long = Some name }
 
 -- an option that has to be given
-abbrev pub required : Text → Rule
-required name = record (option name) { required = true }
+abbrev pub required_option : Text → Rule
+required_option name = record (option name) { required = true }
 
 -- an option that has to be given if another one isn't, and can't be given with it
-abbrev pub either : Text → Rule
-either name = record (option name) { is_free = false }
+abbrev pub either_option : Text → Rule
+either_option name = record (option name) { is_free = false }
 
 -- a number in a range
 abbrev pub optional_number : Text → ℕ → ℕ → Rule
 optional_number name low high = record (option name) { parser = Some (parser.Unsigned low high) }
 
 -- a number in a range, which has to be given
-abbrev pub number : Text → ℕ → ℕ → Rule
-number name low high = record (required name) { parser = Some (parser.Unsigned low high) }
+abbrev pub number_option : Text → ℕ → ℕ → Rule
+number_option name low high = record (required_option name) { parser = Some (parser.Unsigned low high) }
 
 -- the subcommands
 abbrev pub replay : App
@@ -36,13 +36,13 @@ replay = with_rule (with_rule (new_app (codes "replay")) (option (codes "zone"))
 
 abbrev pub serve : App
 serve = with_rule (with_rule (with_rule (with_rule (with_rule (with_rule (new_app (codes "serve"))
-    (required (codes "db"))) (number (codes "port") 1 65535)) (either (codes "desk-key")))
-    (either (codes "desk-key-file"))) (number (codes "limit") 1 1000000)) (option (codes "zone"))
+    (required_option (codes "db"))) (number_option (codes "port") 1 65535)) (either_option (codes "desk-key")))
+    (either_option (codes "desk-key-file"))) (number_option (codes "limit") 1 1000000)) (option (codes "zone"))
 
 abbrev pub table : App
 table = with_rule (with_rule (with_rule (with_rule (with_rule (new_app (codes "table"))
-    (required (codes "db"))) (required (codes "month"))) (required (codes "form")))
-    (number (codes "at") 0 9999999999)) (optional_number (codes "revision") 1 9)
+    (required_option (codes "db"))) (required_option (codes "month"))) (required_option (codes "form")))
+    (number_option (codes "at") 0 9999999999)) (optional_number (codes "revision") 1 9)
 
 -- the program: the words begin with a subcommand, or ask for help or the version
 abbrev pub bare : App

@@ -8,16 +8,18 @@ use Rattle.cpi_wire.specs.declared.fault.WireFault.TheVariants as fault
 use Rattle.cpi_http.specs.declared.serve.Served.{Served}
 use Rattle.cpi_http.specs.declared.serve.Served.TheVariants as served
 use Rattle.cpi_http.specs.Message.{setting}
-use Rattle.cpi_http.specs.Served.{Framing, Change, IsServed, GaveUp, change, messages}
+use Rattle.cpi_http.specs.Served.{Framing, ServedChange, IsServed, GaveUp, served_change, messages}
 use Rattle.cpi_app.specs.declared.shake.Shake.{Shake}
 use Rattle.cpi_app.specs.declared.shake.Shake.TheVariants.{Unavailable, Unwritten, NoMemory}
 
 -- the message at the front of the stream was served, whatever was read of the stream behind it
-abbrev pub ServesFront : {B : Type 0} → (B → State Office) → Framing → Option (List ℕ) → Change B → Served → Type 0
+abbrev pub ServesFront : {B : Type 0} → (B → State Office) → Framing → Option (List ℕ) → ServedChange B →
+    Served → Type 0
 ServesFront state f stream c served = (behind : Option (List ℕ)) × IsServed state f stream behind c served
 
 -- the connection was given up within its message, or within the response
-abbrev pub GivesUpFront : {B : Type 0} → (B → State Office) → Framing → Option (List ℕ) → Change B → WireFault → Type 0
+abbrev pub GivesUpFront : {B : Type 0} → (B → State Office) → Framing → Option (List ℕ) → ServedChange B →
+    WireFault → Type 0
 GivesUpFront state f stream c fault = (behind : Option (List ℕ)) × GaveUp state f stream behind c fault
 
 -- what came of a connection
@@ -64,6 +66,6 @@ Serving S = S → Connection → Outcome → S → Type 0
 -- the office over a book serves a connection, by a clock's rule and with a desk's key
 abbrev pub ServesAtDesk : {B : Type 0} → (B → State Office) → ZoneRule → ℕ → Serving B
 ServesAtDesk state zone key before came (Ok served) now = ServesFront state
-    (messages (setting came.moment zone key)) came.sent (change before now came.written came.writing) served
+    (messages (setting came.moment zone key)) came.sent (served_change before now came.written came.writing) served
 ServesAtDesk state zone key before came (Err fault) now = GivesUpFront state
-    (messages (setting came.moment zone key)) came.sent (change before now came.written came.writing) fault
+    (messages (setting came.moment zone key)) came.sent (served_change before now came.written came.writing) fault

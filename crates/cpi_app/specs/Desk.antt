@@ -13,7 +13,7 @@ use Rattle.cpi_app.specs.declared.fault.RunFault.TheVariants.{BadZone, BadKey, W
 -- the desk's clock goes by the rule that the zone's text is, and its key is the one that the other text spells
 pub record IsDeskOf (zone key : List ℕ) (desk : Desk) : Type 0 where
   pub clock : IsPosixZone zone desk.zone
-  pub bearer : key_of key ≡ Some desk.key
+  pub registration : key_of key ≡ Some desk.key
 
 -- the zone's text is a rule, and the other text is no key
 abbrev pub HasNoKey : List ℕ → List ℕ → Type 0

@@ -13,18 +13,18 @@ open_line UnknownSchema = codes "cpi: unknown schema"
 open_line Store = codes "cpi: database failed"
 
 -- the line of a fault, without its end
-abbrev pub line_of : RunFault → List ℕ
-line_of BadWord = codes "cpi: a word isn't UTF-8"
-line_of BadZone = codes "cpi: bad zone"
-line_of BadKey = codes "cpi: bad key"
-line_of BadMonth = codes "cpi: bad month"
-line_of (Database fault) = open_line fault
-line_of NoTable = codes "cpi: no table"
-line_of NoClock = codes "cpi: no clock"
-line_of NoPort = codes "cpi: no port"
-line_of (Wire fault) = codes "cpi: " ++ fault_text fault
+abbrev pub line_of_fault : RunFault → List ℕ
+line_of_fault BadWord = codes "cpi: a word isn't UTF-8"
+line_of_fault BadZone = codes "cpi: bad zone"
+line_of_fault BadKey = codes "cpi: bad key"
+line_of_fault BadMonth = codes "cpi: bad month"
+line_of_fault (Database fault) = open_line fault
+line_of_fault NoTable = codes "cpi: no table"
+line_of_fault NoClock = codes "cpi: no clock"
+line_of_fault NoPort = codes "cpi: no port"
+line_of_fault (Wire fault) = codes "cpi: " ++ fault_text fault
 
 -- 2 where a word is refused, and 1 for what failed after that
-abbrev pub status_of : RunFault → ℕ
-status_of BadWord = 2
-status_of _ = 1
+abbrev pub status_of_fault : RunFault → ℕ
+status_of_fault BadWord = 2
+status_of_fault _ = 1

@@ -5,9 +5,9 @@ use Rattle.cpi_codes.specs.Month.{month_of}
 use Rattle.cpi_release.specs.PublishedTables.{PublishedTable}
 use Rattle.cpi_store.specs.Office.{Office}
 use Rattle.cpi_store.specs.Tables.{table_until}
-use Rattle.cpi_office.specs.Answers.{bytes_of}
+use Rattle.cpi_office.specs.Answers.{table_bytes}
 use Rattle.cpi_wire.specs.declared.fault.WireFault.TheVariants as wire
-use Rattle.cpi_app.specs.Fault.{status_of}
+use Rattle.cpi_app.specs.Fault.{status_of_fault}
 use Rattle.cpi_app.specs.declared.fault.RunFault.{RunFault}
 use Rattle.cpi_app.specs.declared.fault.RunFault.TheVariants.{BadMonth, Database, NoTable, Wire}
 use Rattle.cpi_app.specs.declared.table.AskedTable.{AskedTable}
@@ -31,15 +31,15 @@ module _ (asked : AskedTable) (o : Office) (was is : Option (List ℕ)) where
   pub record IsWritten : Type 0 where
     pub table : PublishedTable
     pub published : IsTable asked o table
-    pub written : Appends was is (bytes_of asked.form asked.month table)
+    pub written : Appends was is (table_bytes asked.form asked.month table)
 
   -- a part of it was
   pub record IsWrittenInPart : Type 0 where
     pub table : PublishedTable
     pub published : IsTable asked o table
     pub count : ℕ
-    pub short : count < length (bytes_of asked.form asked.month table)
-    pub written : Appends was is (take count (bytes_of asked.form asked.month table))
+    pub short : count < length (table_bytes asked.form asked.month table)
+    pub written : Appends was is (take count (table_bytes asked.form asked.month table))
 
   -- why the whole of it was not written, and what was; there is such a table where there was no memory to print it
   abbrev pub IsNotWritten : RunFault → Type 0
@@ -52,4 +52,4 @@ module _ (asked : AskedTable) (o : Office) (was is : Option (List ℕ)) where
   -- the status tells whether the whole of it was written, and else of a fault
   abbrev pub IsPrinted : ℕ → Type 0
   IsPrinted status = ((status ≡ 0) × IsWritten)
-      ⊎ ((fault : RunFault) × IsNotWritten fault × (status ≡ status_of fault))
+      ⊎ ((fault : RunFault) × IsNotWritten fault × (status ≡ status_of_fault fault))

@@ -1,7 +1,7 @@
 //! One connection: its message is read and answered by the office at a desk.
 ghost use Rattle.std.specs.Prelude.{◌≡◌, IfOk, IfErr};
 ghost use Rattle.cpi_http.specs.Message.{setting};
-ghost use Rattle.cpi_http.specs.Served.{messages, change};
+ghost use Rattle.cpi_http.specs.Served.{messages, served_change};
 ghost use Rattle.cpi_app.specs.Connection.{ServesFront, GivesUpFront};
 
 use crate::desk::Desk;
@@ -26,10 +26,10 @@ pub fn serve_front<R: Read, W: Write, B: Book>(
 ) -> Result<Served, WireFault>
     ensures ok { IfOk result (ServesFront B.state (messages (setting now desk.now.zone desk.now.key))
         (R.remaining reader.old)
-        (change office.old.book office.new.book (W.contents writer.old) (W.contents writer.new))) }
+        (served_change office.old.book office.new.book (W.contents writer.old) (W.contents writer.new))) }
     ensures err { IfErr result (GivesUpFront B.state (messages (setting now desk.now.zone desk.now.key))
         (R.remaining reader.old)
-        (change office.old.book office.new.book (W.contents writer.old) (W.contents writer.new))) }
+        (served_change office.old.book office.new.book (W.contents writer.old) (W.contents writer.new))) }
 {
     let Ok(mut buffered) = BufReader::new(alloc, reader) else {
         return Err(WireFault::NoMemory);

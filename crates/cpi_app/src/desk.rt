@@ -14,7 +14,7 @@ use std::io::{ErrorKind, Read};
 /// How many bytes of a file are read for the desk's key.
 const MOST_KEY_BYTES: u64 = 1024;
 
-/// The desk: the clock by which civil times are read, and the key whose bearer is the desk.
+/// The desk: the clock by which civil times are read, and the key whose registration is the desk.
 #[derive(Clone, Copy)]
 pub struct Desk {
     pub zone: Zone,

@@ -1,6 +1,6 @@
 //! Why a job was not done to its end.
 ghost use Rattle.std.specs.Prelude.{◌≡◌};
-ghost use Rattle.cpi_app.specs.Fault.{status_of, open_line};
+ghost use Rattle.cpi_app.specs.Fault.{status_of_fault, open_line};
 
 use cpi_store::OpenFault;
 use cpi_wire::WireFault;
@@ -43,7 +43,7 @@ pub fn fault_line(fault: &OpenFault) -> &'static str
 impl RunFault {
     /// The exit status: 2 where a word is refused, and 1 for what failed after that.
     pub fn status(self) -> u8
-        ensures { result ≡ status_of self }
+        ensures { result ≡ status_of_fault self }
     {
         match self {
             RunFault::BadWord => 2,
@@ -88,9 +88,9 @@ impl<T: Drop> From<AllocFailed<T>> for RunFault {
 
 impl fmt::Display for RunFault {
     ghost use Rattle.std.specs.Prelude.{Some};
-    ghost use Rattle.cpi_app.specs.Fault.{line_of};
+    ghost use Rattle.cpi_app.specs.Fault.{line_of_fault};
 
-    ghost output = { λ f. Some (line_of f) };
+    ghost output = { λ f. Some (line_of_fault f) };
 
     fn fmt<W: fmt::Write>(&self, f: &mut fmt::Formatter<W>) -> fmt::Result {
         match self {

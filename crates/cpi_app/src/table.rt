@@ -5,7 +5,7 @@ ghost use Rattle.cpi_codes.specs.Month.{month_of};
 ghost use Rattle.cpi_release.specs.PublishedTables.{PublishedTable};
 ghost use Rattle.cpi_release.specs.State.{Keeps, StaysClean};
 ghost use Rattle.cpi_store.specs.Tables.{table_until};
-ghost use Rattle.cpi_office.specs.Answers.{bytes_of};
+ghost use Rattle.cpi_office.specs.Answers.{table_bytes};
 ghost use Rattle.cpi_app.specs.Table.{IsTable, IsWritten, IsNotWritten, IsPrinted, IsTooLate, AsksForNone};
 
 use crate::fault::RunFault;
@@ -54,7 +54,7 @@ fn read_table<B: Book>(
 ) -> Result<PrintedTable, RunFault>
     ensures keeps { Keeps (B.state book.old) (B.state book.new) }
     ensures printed { (B.state book.new).is_clean → IfOk result (λ printed. (table : PublishedTable)
-        × IsTable asked (B.state book.old).held table × (printed ≡ bytes_of asked.form asked.month table)) }
+        × IsTable asked (B.state book.old).held table × (printed ≡ table_bytes asked.form asked.month table)) }
     ensures fault { (B.state book.new).is_clean → IfErr result (λ fault. (was : Option (List ℕ))
         → IsNotWritten asked (B.state book.old).held was was fault) }
 {

@@ -12,15 +12,16 @@ use Rattle.std.specs.Char.{is_ascii}
 use Rattle.std.proofs.lemmas.Bool.{cases_lt}
 use Rattle.std.proofs.lemmas.Bool.Decides.{nat_tests}
 use Rattle.std.proofs.lemmas.List.{get_or_past, take_all, get_or-set_same, get_or-set_other}
-use Rattle.cpi_codes.specs.ItemCode.{is_item_character, is_item_text, item_code_of, item_number, filled, is_no_zero}
+use Rattle.cpi_codes.specs.ItemCode.{is_character_of_item, is_text_of_item, item_code_of, item_number, with_zero_bytes}
+use Rattle.cpi_codes.specs.ItemCode.{is_no_zero}
 use Rattle.cpi_codes.proofs.Choices.{both, all-three, chosen}
 use Rattle.cpi_codes.proofs.Digits.{passes-at}
 
-pub code-of-text : (text : List ℕ) → is_item_text text ≡ true → item_code_of text ≡ Some (item_number text)
+pub code-of-text : (text : List ℕ) → is_text_of_item text ≡ true → item_code_of text ≡ Some (item_number text)
 unfolding item_code_of
 code-of-text text h = rw h refl
 
-pub length-filled : (text : List ℕ) → length text ≤ 12 → length (filled text) ≡ 12
+pub length-filled : (text : List ℕ) → length text ≤ 12 → length (with_zero_bytes text) ≡ 12
 length-filled text h = simp (length-append, length-replicate) (omega arith)
 
 zeros-at : (k i : ℕ) → get_or {A = ℕ} (replicate k 0) i 0 ≡ 0
@@ -34,16 +35,16 @@ with-zeros-at (x ∷ xs) k zero = refl
 with-zeros-at (x ∷ xs) k (suc i) = with-zeros-at xs k i
 
 -- past the end of the text there are zeros
-pub filled-at : (text : List ℕ) (i : ℕ) → get_or (filled text) i 0 ≡ get_or text i 0
+pub filled-at : (text : List ℕ) (i : ℕ) → get_or (with_zero_bytes text) i 0 ≡ get_or text i 0
 filled-at text i = with-zeros-at text (12 - length text) i
 
 -- what one more byte adds
 pub number-more : (text : List ℕ) (i : ℕ) → length text ≤ 12 → i < 12 →
-    number_from_digits 256 (take (i + 1) (filled text)) ≡ 256 * number_from_digits 256
-    (take i (filled text)) + get_or text i 0
+    number_from_digits 256 (take (i + 1) (with_zero_bytes text)) ≡ 256 * number_from_digits 256
+    (take i (with_zero_bytes text)) + get_or text i 0
 number-more text i short here =
     let len = length-filled text short in
-    let more = number_more 256 (filled text) i (omega arith) in
+    let more = number_more 256 (with_zero_bytes text) i (omega arith) in
     let at = filled-at text i in
     omega arith
 
@@ -59,37 +60,37 @@ power-le k h =
     omega arith
 
 -- a text that writes a code is one of an item, and its number is the code
-pub text-of-code : (text : List ℕ) (code : ℕ) → item_code_of text ≡ Some code → (is_item_text text ≡ true)
+pub text-of-code : (text : List ℕ) (code : ℕ) → item_code_of text ≡ Some code → (is_text_of_item text ≡ true)
     × (code ≡ item_number text)
 unfolding item_code_of
-text-of-code text code h = chosen (is_item_text text) (item_number text) code h
+text-of-code text code h = chosen (is_text_of_item text) (item_number text) code h
 
-pub text-parts : (text : List ℕ) → is_item_text text ≡ true → (1 ≤ length text) × (length text ≤ 12)
-    × (list_all is_item_character text ≡ true)
+pub text-parts : (text : List ℕ) → is_text_of_item text ≡ true → (1 ≤ length text) × (length text ≤ 12)
+    × (list_all is_character_of_item text ≡ true)
 text-parts text h =
-    let parts = all-three (nat_le 1 (length text)) (nat_le (length text) 12) (list_all is_item_character text) h in
+    let parts = all-three (nat_le 1 (length text)) (nat_le (length text) 12) (list_all is_character_of_item text) h in
     (grind (arith, nat_tests, parts.0), grind (arith, nat_tests, parts.1), parts.2)
 
-pub character-range : (c : ℕ) → is_item_character c ≡ true → (48 ≤ c) × (c ≤ 90)
+pub character-range : (c : ℕ) → is_character_of_item c ≡ true → (48 ≤ c) × (c ≤ 90)
 character-range c h = (grind (arith, nat_tests), grind (arith, nat_tests))
 
-pub filled-lt : (text : List ℕ) → is_item_text text ≡ true → (i : ℕ) → get_or (filled text) i 0 < 128
+pub filled-lt : (text : List ℕ) → is_text_of_item text ≡ true → (i : ℕ) → get_or (with_zero_bytes text) i 0 < 128
 filled-lt text h i = rw (filled-at text i) (elim (cases_lt i (length text)) [
   | inl here ↦ (let range = character-range (get_or text i 0)
-      (passes-at is_item_character text i here (text-parts text h).2) in omega arith)
+      (passes-at is_character_of_item text i here (text-parts text h).2) in omega arith)
   | inr past ↦ rw (get_or_past text i 0 past) (lit< tt)
 ])
 
 -- the last byte, and the bytes before it
-pub last-byte : (text : List ℕ) (place rest : ℕ) → is_item_text text ≡ true → 0 < place → place ≤ 12 →
-    rest ≡ number_from_digits 256 (take place (filled text)) →
-    (rest / 256 ≡ number_from_digits 256 (take (place - 1) (filled text)))
-    × (rest % 256 ≡ get_or (filled text) (place - 1) 0)
+pub last-byte : (text : List ℕ) (place rest : ℕ) → is_text_of_item text ≡ true → 0 < place → place ≤ 12 →
+    rest ≡ number_from_digits 256 (take place (with_zero_bytes text)) →
+    (rest / 256 ≡ number_from_digits 256 (take (place - 1) (with_zero_bytes text)))
+    × (rest % 256 ≡ get_or (with_zero_bytes text) (place - 1) 0)
 last-byte text place rest h low high e =
     let i = place - 1 in
     let whole : i + 1 ≡ place = omega arith in
     let len = length-filled text (text-parts text h).1 in
-    let more = rw whole at (number_more 256 (filled text) i (omega arith)) in
+    let more = rw whole at (number_more 256 (with_zero_bytes text) i (omega arith)) in
     let small = filled-lt text h i in
     (omega arith, omega arith)
 
@@ -106,39 +107,39 @@ ascii-zeros : (k : ℕ) → list_all is_ascii (replicate k 0) ≡ true
 ascii-zeros zero = refl
 ascii-zeros (suc k) = ascii-zeros k
 
-ascii-text : (text : List ℕ) (k : ℕ) → list_all is_item_character text ≡ true →
+ascii-text : (text : List ℕ) (k : ℕ) → list_all is_character_of_item text ≡ true →
     list_all is_ascii (text ++ replicate k 0) ≡ true
 ascii-text [] k h = ascii-zeros k
 ascii-text (c ∷ cs) k h =
-    let parts = both (is_item_character c) (list_all is_item_character cs) h in
+    let parts = both (is_character_of_item c) (list_all is_character_of_item cs) h in
     let range = character-range c parts.0 in
     let small : is_ascii c ≡ true = grind (arith, nat_tests) in
     rw small (ascii-text cs k parts.1)
 
-pub ascii-filled : (text : List ℕ) → is_item_text text ≡ true → list_all is_ascii (filled text) ≡ true
+pub ascii-filled : (text : List ℕ) → is_text_of_item text ≡ true → list_all is_ascii (with_zero_bytes text) ≡ true
 ascii-filled text h = ascii-text text (12 - length text) (text-parts text h).2
 
 no-zeros : (k : ℕ) → filter is_no_zero (replicate k 0) ≡ []
 no-zeros zero = refl
 no-zeros (suc k) = no-zeros k
 
-kept-text : (text : List ℕ) (k : ℕ) → list_all is_item_character text ≡ true →
+kept-text : (text : List ℕ) (k : ℕ) → list_all is_character_of_item text ≡ true →
     filter is_no_zero (text ++ replicate k 0) ≡ text
 kept-text [] k h = no-zeros k
 kept-text (c ∷ cs) k h =
-    let parts = both (is_item_character c) (list_all is_item_character cs) h in
+    let parts = both (is_character_of_item c) (list_all is_character_of_item cs) h in
     let range = character-range c parts.0 in
     let stays : is_no_zero c ≡ true = grind (arith, nat_tests) in
     rw stays (ap (λ (t : List ℕ). c ∷ t) (kept-text cs k parts.1))
 
 -- what fills a text up is all that is zero in it
-pub kept-filled : (text : List ℕ) → is_item_text text ≡ true → filter is_no_zero (filled text) ≡ text
+pub kept-filled : (text : List ℕ) → is_text_of_item text ≡ true → filter is_no_zero (with_zero_bytes text) ≡ text
 kept-filled text h = kept-text text (12 - length text) (text-parts text h).2
 
 pub whole-number : (text : List ℕ) (code : ℕ) → item_code_of text ≡ Some code →
-    code ≡ number_from_digits 256 (take 12 (filled text))
+    code ≡ number_from_digits 256 (take 12 (with_zero_bytes text))
 whole-number text code h =
     let is = text-of-code text code h in
     let len = length-filled text (text-parts text is.0).1 in
-    let all = take_all 12 (filled text) (omega arith) in
+    let all = take_all 12 (with_zero_bytes text) (omega arith) in
     is.1 ∙ ap (number_from_digits 256) (sym all)

@@ -12,8 +12,8 @@ use Rattle.jiff_core.specs.Calendar.{days_in_month}
 use Rattle.jiff_core.specs.declared.civil.datetime.DateTime.{DateTime}
 use Rattle.cpi_codes.specs.Civil.{IsCivilText, civil_text}
 use Rattle.cpi_codes.specs.Following.{◌>>=◌}
-use Rattle.cpi_codes.specs.Clock.{time_at, two_digits, civil_of, is_office_year, moment_in}
-use Rattle.cpi_codes.specs.Zone.{Gives, IsOfficeYear, ZoneRule, second_in}
+use Rattle.cpi_codes.specs.Clock.{time_at, number_of_two_digits, civil_of, is_office_year, moment_in}
+use Rattle.cpi_codes.specs.Zone.{ZoneGives, IsOfficeYear, ZoneRule, second_in}
 use Rattle.cpi_codes.specs.declared.zone.MomentFault.{MomentFault}
 use Rattle.cpi_codes.specs.declared.zone.MomentFault.TheVariants.{Text, Zone, Range, NoMemory}
 use Rattle.cpi_codes.proofs.OneTime.{one_time}
@@ -74,11 +74,11 @@ finds-time y m d h n =
 -- ---- the numbers that a civil text writes
 
 abbrev year_in : List ℕ → ℕ
-year_in text = two_digits text 0 * 100 + two_digits text 2
+year_in text = number_of_two_digits text 0 * 100 + number_of_two_digits text 2
 
 abbrev AreNumbers : List ℕ → ℕ → ℕ → ℕ → ℕ → ℕ → Type 0
-AreNumbers text y m d h n = (year_in text ≡ y) × (two_digits text 5 ≡ m) × (two_digits text 8 ≡ d)
-    × (two_digits text 11 ≡ h) × (two_digits text 14 ≡ n)
+AreNumbers text y m d h n = (year_in text ≡ y) × (number_of_two_digits text 5 ≡ m) × (number_of_two_digits text 8 ≡ d)
+    × (number_of_two_digits text 11 ≡ h) × (number_of_two_digits text 14 ≡ n)
 
 digits-back : (n : ℕ) → (48 + n / 10 - 48) * 10 + (48 + n % 10 - 48) ≡ n
 digits-back n = omega arith
@@ -86,8 +86,8 @@ digits-back n = omega arith
 numbers : (text : List ℕ) (y m d h n : ℕ) → text ≡ civil_text y m d h n → AreNumbers text y m d h n
 numbers text y m d h n e =
     let at : (k : ℕ) → get_or text k 0 ≡ get_or (civil_text y m d h n) k 0 = λ k. ap (λ l. get_or l k 0) e in
-    let century : two_digits text 0 ≡ y / 100 = rw (at 0, at 1) (digits-back (y / 100)) in
-    let in_century : two_digits text 2 ≡ y % 100 = rw (at 2, at 3) (digits-back (y % 100)) in (
+    let century : number_of_two_digits text 0 ≡ y / 100 = rw (at 0, at 1) (digits-back (y / 100)) in
+    let in_century : number_of_two_digits text 2 ≡ y % 100 = rw (at 2, at 3) (digits-back (y % 100)) in (
       rw (century, in_century) (omega arith),
       rw (at 5, at 6) (digits-back m),
       rw (at 8, at 9) (digits-back d),
@@ -101,12 +101,14 @@ abbrev IsOf : List ℕ → DateTime → Type 0
 IsOf text time = (year : ℕ) × IsCivilText text year time
 
 abbrev written : List ℕ → List ℕ
-written text = civil_text (year_in text) (two_digits text 5) (two_digits text 8) (two_digits text 11)
-    (two_digits text 14)
+written text = civil_text (year_in text) (number_of_two_digits text 5) (number_of_two_digits text 8)
+    (number_of_two_digits text 11)
+    (number_of_two_digits text 14)
 
 -- such a text is how its numbers are written, and they are the time's
 shows : (text : List ℕ) (t : DateTime) → IsOf text t → (text ≡ written text)
-    × Shows (year_in text) (two_digits text 5) (two_digits text 8) (two_digits text 11) (two_digits text 14) t
+    × Shows (year_in text) (number_of_two_digits text 5) (number_of_two_digits text 8) (number_of_two_digits text 11)
+    (number_of_two_digits text 14) t
 shows text t is =
     let e = numbers text is.0 t.date.month t.date.day t.time.hour t.time.minute is.1.spelled in (
       rw (e.0, e.1, e.2, e.3, e.4) is.1.spelled,
@@ -137,11 +139,13 @@ unfolding civil_of
 finds-text text = by (bytes_eq text (written text)) (bytes_eq-Decides text (written text))
   where
     by : (same : Bool) → Decides same (text ≡ written text)
-        → Finds (IsOf text) (if same then time_at (year_in text) (two_digits text 5) (two_digits text 8)
-        (two_digits text 11) (two_digits text 14) else None)
+        → Finds (IsOf text) (if same then time_at (year_in text) (number_of_two_digits text 5)
+        (number_of_two_digits text 8)
+        (number_of_two_digits text 11) (number_of_two_digits text 14) else None)
     by true is =
-        weaker (Shows (year_in text) (two_digits text 5) (two_digits text 8) (two_digits text 11)
-        (two_digits text 14)) (IsOf text) _
+        weaker (Shows (year_in text) (number_of_two_digits text 5) (number_of_two_digits text 8)
+        (number_of_two_digits text 11)
+        (number_of_two_digits text 14)) (IsOf text) _
         (λ t s. is-of text _ _ _ _ _ t (is.0 refl) s) (λ t q. (shows text t q).1) (finds-time _ _ _ _ _)
     by false is = λ t q. absurd (true≢false (sym (is.1 (shows text t q).0)))
 
@@ -166,7 +170,7 @@ outside y h = by (nat_le 2000 y) (nat_le y 2199) refl refl
     by false b e k = refl
 
 same-moment : (zone : ZoneRule) (text : List ℕ) (found : Option DateTime) (r : Result ℕ MomentFault) →
-    Times text found → Gives zone text r → result_ok r ≡ moment_of zone found
+    Times text found → ZoneGives zone text r → result_ok r ≡ moment_of zone found
 same-moment zone text (Some t) (Ok s) is g =
     let same = one_time text is.0 g.0 t g.1 is.1 g.2 in
     let year : t.date.year ≡ pos g.0 = ap (λ u. u.date.year) same.1 ∙ g.2.year_is in
@@ -186,7 +190,7 @@ same-moment zone text found (Err Zone) is g = absurd g
 same-moment zone text found (Err NoMemory) is g = absurd g
 
 -- what a text gives is what is computed
-pub gives_moment : (zone : ZoneRule) (text : List ℕ) (r : Result ℕ MomentFault) → Gives zone text r →
+pub gives_moment : (zone : ZoneRule) (text : List ℕ) (r : Result ℕ MomentFault) → ZoneGives zone text r →
     result_ok r ≡ moment_in zone text
 unfolding moment_in
 gives_moment zone text r g = same-moment zone text (civil_of text) r (finds-text text) g

@@ -3,8 +3,8 @@ use Rattle.std.proofs.Common.{◌≡◌, ℕ, ◌+◌, Bool, true, false, List, 
 use Rattle.std.proofs.Common.{◌∙◌, arith, ◌&&◌, ◌||◌, not, ◌==◌}
 use Rattle.std.proofs.lemmas.Bool.Decides.{nat_tests}
 use Rattle.cpi_codes.proofs.CodeBytes.{absent_below, class_rest, subclass_rest}
-use Rattle.cpi_codes.specs.CodeParts.{two_digits, dotted, dashed}
-use Rattle.cpi_codes.specs.CodeText.{text, begins_with, are_one_text, all_items, is_at_or_below}
+use Rattle.cpi_codes.specs.CodeParts.{two_digits, dot_and_digit, dash_and_number}
+use Rattle.cpi_codes.specs.CodeText.{code_text, begins_with, are_one_text, all_items, is_code_at_or_below}
 use Rattle.cpi_codes.specs.declared.codes.Code.{Code}
 
 -- the part that is asked for is absent, or is the part that is there
@@ -21,7 +21,7 @@ pub begins-two : (m n : ℕ) (r s : List ℕ) → begins_with (two_digits m ++ r
     ((m == n) && begins_with r s)
 begins-two m n r s = grind (arith, nat_tests)
 
-begins-dashed : (x y : Option ℕ) → begins_with (dashed x) (dashed y) ≡ fits y x
+begins-dashed : (x y : Option ℕ) → begins_with (dash_and_number x) (dash_and_number y) ≡ fits y x
 begins-dashed None None = refl
 begins-dashed (Some m) None = refl
 begins-dashed None (Some n) = refl
@@ -34,27 +34,29 @@ same-shift : (d e : ℕ) → ((48 + d) == (48 + e)) ≡ (d == e)
 same-shift d e = grind (arith, nat_tests)
 
 begins-dotted : (x y : Option ℕ) (r s : List ℕ) → (x ≡ None → r ≡ []) → (y ≡ None → s ≡ []) →
-    begins_with (dotted x ++ r) (dotted y ++ s) ≡ (fits y x && begins_with r s)
+    begins_with (dot_and_digit x ++ r) (dot_and_digit y ++ s) ≡ (fits y x && begins_with r s)
 begins-dotted None None r s p q = refl
 begins-dotted (Some m) None r s p q = rw (q refl) (sym (begins-nil r))
 begins-dotted None (Some n) r s p q = rw (p refl) refl
 begins-dotted (Some m) (Some n) r s p q = ap (λ b. b && begins_with r s) (same-shift m n)
 
 -- a code's text begins with a node's where each part of the node fits
-pub begins-parts : (c q : Code) → begins_with (text c) (text q) ≡
+pub begins-parts : (c q : Code) → begins_with (code_text c) (code_text q) ≡
     ((c.division == q.division) && (fits q.group c.group
     && (fits q.class c.class && (fits q.subclass c.subclass && fits q.aggregate c.aggregate))))
 begins-parts c q =
     let below_c = absent_below c.division _ _ _ _ c.valid in
     let below_q = absent_below q.division _ _ _ _ q.valid in
-    let fourth = begins-dotted c.subclass q.subclass _ _ (λ e. ap dashed (below_c.2 e)) (λ e. ap dashed (below_q.2 e))
+    let fourth = begins-dotted c.subclass q.subclass _ _ (λ e. ap dash_and_number (below_c.2 e))
+    (λ e. ap dash_and_number (below_q.2 e))
     ∙ ap (λ b. fits q.subclass c.subclass && b) (begins-dashed c.aggregate q.aggregate) in
     let third = begins-dotted c.class q.class _ _ (λ e. subclass_rest _ _ below_c.2 (below_c.1 e))
     (λ e. subclass_rest _ _ below_q.2 (below_q.1 e)) ∙ ap (λ b. fits q.class c.class && b) fourth in
     let second = begins-dotted c.group q.group _ _ (λ e. class_rest _ _ _ below_c.1 below_c.2 (below_c.0 e))
     (λ e. class_rest _ _ _ below_q.1 below_q.2 (below_q.0 e)) ∙ ap (λ b. fits q.group c.group && b) third in
-    begins-two c.division q.division (dotted c.group ++ (dotted c.class ++ (dotted c.subclass ++ dashed c.aggregate)))
-    (dotted q.group ++ (dotted q.class ++ (dotted q.subclass ++ dashed q.aggregate)))
+    begins-two c.division q.division (dot_and_digit c.group ++
+    (dot_and_digit c.class ++ (dot_and_digit c.subclass ++ dash_and_number c.aggregate)))
+    (dot_and_digit q.group ++ (dot_and_digit q.class ++ (dot_and_digit q.subclass ++ dash_and_number q.aggregate)))
     ∙ ap (λ b. (c.division == q.division) && b) second
 
 or_law : (a b z : Bool) → ((a && b) || (not (b && a) && (z || b))) ≡ (z || b)
@@ -68,10 +70,10 @@ or_law false false true = refl
 or_law false false false = refl
 
 -- a code is at or below a node where the node is `00` or the code's text begins with the node's
-pub at_or_below-begins : (q c : Code) → is_at_or_below q c ≡
-    (are_one_text (text q) all_items || begins_with (text c) (text q))
-at_or_below-begins q c = or_law (begins_with (text q) (text c)) (begins_with (text c) (text q))
-    (are_one_text (text q) all_items)
+pub at_or_below-begins : (q c : Code) → is_code_at_or_below q c ≡
+    (are_one_text (code_text q) all_items || begins_with (code_text c) (code_text q))
+at_or_below-begins q c = or_law (begins_with (code_text q) (code_text c)) (begins_with (code_text c) (code_text q))
+    (are_one_text (code_text q) all_items)
 
 -- the same, read as parts: at the same level both begin with each other
 same_when : (x y : Option ℕ) (b : Bool) → (fits y x && (b && fits x y)) ≡ (fits y x && (b && fits x y))

@@ -7,8 +7,8 @@ use Rattle.std.specs.Ordering.{nat_cmp, ordering_then}
 use Rattle.std.specs.Option.{option_cmp}
 use Rattle.std.specs.Cmp.Lexicographic.{slice_cmp}
 use Rattle.std.proofs.lemmas.Bool.Decides.{nat_tests}
-use Rattle.cpi_codes.specs.CodeParts.{two_digits, dotted, dashed, is_under, are_parts}
-use Rattle.cpi_codes.specs.CodeText.{text}
+use Rattle.cpi_codes.specs.CodeParts.{two_digits, dot_and_digit, dash_and_number, is_under, are_parts}
+use Rattle.cpi_codes.specs.CodeText.{code_text}
 use Rattle.cpi_codes.specs.declared.codes.Code.{Code}
 
 pub nat_cmp-shift : (a m n : ℕ) → nat_cmp (a + m) (a + n) ≡ nat_cmp m n
@@ -19,7 +19,7 @@ pub two_digits-cmp : (m n : ℕ) (rest : Ordering) → ordering_then (nat_cmp (4
     (ordering_then (nat_cmp (48 + m % 10) (48 + n % 10)) rest) ≡ ordering_then (nat_cmp m n) rest
 two_digits-cmp m n rest = grind (arith, nat_tests)
 
-pub dashed-cmp : (a b : Option ℕ) → slice_cmp nat_cmp (dashed a) (dashed b) ≡ option_cmp nat_cmp a b
+pub dashed-cmp : (a b : Option ℕ) → slice_cmp nat_cmp (dash_and_number a) (dash_and_number b) ≡ option_cmp nat_cmp a b
 dashed-cmp None None = refl
 dashed-cmp None (Some n) = refl
 dashed-cmp (Some m) None = refl
@@ -31,7 +31,8 @@ dashed-cmp (Some m) (Some n) = two_digits-cmp m n Equal ∙ then_equal (nat_cmp 
 
 -- a dotted part, and what follows it, which is empty where the part is absent
 pub dotted-cmp : (x y : Option ℕ) (r s : List ℕ) → (x ≡ None → r ≡ []) → (y ≡ None → s ≡ []) →
-    slice_cmp nat_cmp (dotted x ++ r) (dotted y ++ s) ≡ ordering_then (option_cmp nat_cmp x y) (slice_cmp nat_cmp r s)
+    slice_cmp nat_cmp (dot_and_digit x ++ r) (dot_and_digit y ++ s) ≡ ordering_then (option_cmp nat_cmp x y)
+    (slice_cmp nat_cmp r s)
 dotted-cmp None None r s p q = refl
 dotted-cmp None (Some n) r s p q = rw (p refl) refl
 dotted-cmp (Some m) None r s p q = rw (q refl) refl
@@ -52,24 +53,26 @@ absent_below division group class subclass aggregate h = (
   λ e. empty_under subclass aggregate (grind (arith, nat_tests)) e,
 )
 
-pub subclass_rest : (x y : Option ℕ) → (x ≡ None → y ≡ None) → x ≡ None → dotted x ++ dashed y ≡ []
+pub subclass_rest : (x y : Option ℕ) → (x ≡ None → y ≡ None) → x ≡ None → dot_and_digit x ++ dash_and_number y ≡ []
 subclass_rest x y h e = rw (e, h e) refl
 
-pub class_rest : (x y z : Option ℕ) → (x ≡ None → y ≡ None) → (y ≡ None → z ≡ None) → x ≡ None → dotted x
-    ++ (dotted y ++ dashed z) ≡ []
+pub class_rest : (x y z : Option ℕ) → (x ≡ None → y ≡ None) → (y ≡ None → z ≡ None) → x ≡ None → dot_and_digit x
+    ++ (dot_and_digit y ++ dash_and_number z) ≡ []
 class_rest x y z h k e = rw (e, h e, k (h e)) refl
 
 -- texts of parts compare part by part as they compare byte by byte, where nothing stands below an absent part
 pub parts-cmp : (d : ℕ) (g c s a : Option ℕ) (e : ℕ) (h k t b : Option ℕ) → (g ≡ None → c ≡ None)
     × (c ≡ None → s ≡ None) × (s ≡ None → a ≡ None) → (h ≡ None → k ≡ None) × (k ≡ None → t ≡ None)
     × (t ≡ None → b ≡ None)
-    → slice_cmp nat_cmp (two_digits d ++ (dotted g ++ (dotted c ++ (dotted s ++ dashed a))))
-    (two_digits e ++ (dotted h ++ (dotted k ++ (dotted t ++ dashed b)))) ≡ ordering_then (nat_cmp d e)
+    → slice_cmp nat_cmp (two_digits d ++ (dot_and_digit g ++
+    (dot_and_digit c ++ (dot_and_digit s ++ dash_and_number a))))
+    (two_digits e ++ (dot_and_digit h ++ (dot_and_digit k ++ (dot_and_digit t ++ dash_and_number b)))) ≡ ordering_then
+    (nat_cmp d e)
     (ordering_then (option_cmp nat_cmp g h) (ordering_then (option_cmp nat_cmp c k)
     (ordering_then (option_cmp nat_cmp s t) (option_cmp nat_cmp a b))))
 parts-cmp d g c s a e h k t b below_c below_d =
-    let dashed_c : s ≡ None → dashed a ≡ [] = λ e. ap dashed (below_c.2 e) in
-    let dashed_d : t ≡ None → dashed b ≡ [] = λ e. ap dashed (below_d.2 e) in
+    let dashed_c : s ≡ None → dash_and_number a ≡ [] = λ e. ap dash_and_number (below_c.2 e) in
+    let dashed_d : t ≡ None → dash_and_number b ≡ [] = λ e. ap dash_and_number (below_d.2 e) in
     let fourth = dotted-cmp s t _ _ dashed_c dashed_d ∙ ap (ordering_then (option_cmp nat_cmp s t)) (dashed-cmp a b) in
     let third = dotted-cmp c k _ _ (λ e. subclass_rest _ _ below_c.2 (below_c.1 e))
     (λ e. subclass_rest _ _ below_d.2 (below_d.1 e)) ∙ ap (ordering_then (option_cmp nat_cmp c k)) fourth in
@@ -78,7 +81,8 @@ parts-cmp d g c s a e h k t b below_c below_d =
     two_digits-cmp d e _ ∙ ap (ordering_then (nat_cmp d e)) second
 
 -- codes compare part by part as their texts compare byte by byte
-pub text-cmp : (c d : Code) → slice_cmp nat_cmp (text c) (text d) ≡ ordering_then (nat_cmp c.division d.division)
+pub text-cmp : (c d : Code) → slice_cmp nat_cmp (code_text c) (code_text d) ≡ ordering_then
+    (nat_cmp c.division d.division)
     (ordering_then (option_cmp nat_cmp c.group d.group)
     (ordering_then (option_cmp nat_cmp c.class d.class)
     (ordering_then (option_cmp nat_cmp c.subclass d.subclass) (option_cmp nat_cmp c.aggregate d.aggregate))))

@@ -7,9 +7,9 @@ use Rattle.std.proofs.lemmas.Bool.Decides.{nat_tests}
 use Rattle.std.proofs.lemmas.Slice.Eq.{bytes_eq-Decides}
 use Rattle.std.specs.Result.{result_ok}
 use Rattle.cpi_codes.specs.Following.{◌>>=◌}
-use Rattle.cpi_codes.specs.CodeOf.{code_in, digit_at, number_at, code_of}
+use Rattle.cpi_codes.specs.CodeOf.{code_in, digit_at, number_at, spelled_code}
 use Rattle.cpi_codes.specs.CodeParts.{are_parts}
-use Rattle.cpi_codes.specs.CodeText.{text}
+use Rattle.cpi_codes.specs.CodeText.{code_text}
 use Rattle.cpi_codes.specs.Ranges.{holds}
 use Rattle.cpi_codes.specs.declared.code_texts.CodeFault.{CodeFault}
 use Rattle.cpi_codes.specs.declared.codes.Code.{Code}
@@ -23,10 +23,11 @@ held false v = absurd (true≢false (sym v))
 
 placed : (bytes : List ℕ) (c : Code) → number_at bytes 0 ≡ Some c.division → digit_at bytes 3 ≡ c.group →
     digit_at bytes 5 ≡ c.class
-    → digit_at bytes 7 ≡ c.subclass → number_at bytes 9 ≡ c.aggregate → text c ≡ bytes → code_of bytes ≡ Some c
-unfolding code_of
+    → digit_at bytes 7 ≡ c.subclass → number_at bytes 9 ≡ c.aggregate → code_text c ≡ bytes → spelled_code
+    bytes ≡ Some c
+unfolding spelled_code
 placed bytes c division group class subclass aggregate e =
-    let same : bytes_eq (text c) bytes ≡ true = (bytes_eq-Decides (text c) bytes).1 e in
+    let same : bytes_eq (code_text c) bytes ≡ true = (bytes_eq-Decides (code_text c) bytes).1 e in
     rw (division, group, class, subclass, aggregate, held _ c.valid, same) refl
 
 one : (n : ℕ) → Some (48 + n - 48) ≡ Some n
@@ -36,7 +37,7 @@ two : (n : ℕ) → Some ((48 + n / 10 - 48) * 10 + (48 + n % 10 - 48)) ≡ Some
 two n = ap (λ k. Some k) (omega arith)
 
 read_back : (d : ℕ) (g c s a : Option ℕ) (v : IsTrue (are_parts d g c s a)) →
-    code_of (text (code d g c s a v)) ≡ Some (code d g c s a v)
+    spelled_code (code_text (code d g c s a v)) ≡ Some (code d g c s a v)
 read_back d None None None None v = placed _ (code d None None None None v) (two d) refl refl refl refl refl
 read_back d (Some g) None None None v = placed _ (code d (Some g) None None None v) (two d) (one g) refl refl refl refl
 read_back d (Some g) (Some c) None None v = placed _ (code d (Some g) (Some c) None None v) (two d) (one g)
@@ -52,7 +53,7 @@ read_back d (Some g) None (Some s) a v = absurd (grind (arith, nat_tests))
 read_back d (Some g) None None (Some a) v = absurd (grind (arith, nat_tests))
 read_back d (Some g) (Some c) None (Some a) v = absurd (grind (arith, nat_tests))
 
-pub there : (bytes : List ℕ) (c : Code) → text c ≡ bytes → code_of bytes ≡ Some c
+pub there : (bytes : List ℕ) (c : Code) → code_text c ≡ bytes → spelled_code bytes ≡ Some c
 there bytes c e = rw (← e) (read_back c.division c.group c.class c.subclass c.aggregate c.valid)
 
 -- ---- and what is read is written so
@@ -62,24 +63,24 @@ after : (P : Code → Type 0) (o : Option Code) (f : Code → Option Code) → (
 after P None f h = tt
 after P (Some c) f h = h c
 
-written : (bytes : List ℕ) → IfSome (code_of bytes) (λ c. text c ≡ bytes)
-unfolding code_of
+written : (bytes : List ℕ) → IfSome (spelled_code bytes) (λ c. code_text c ≡ bytes)
+unfolding spelled_code
 written bytes =
-    after (λ c. text c ≡ bytes) (code_in bytes) (λ c. if bytes_eq (text c) bytes then Some c else None)
-    (λ c. by c (bytes_eq (text c) bytes) (bytes_eq-Decides (text c) bytes))
+    after (λ c. code_text c ≡ bytes) (code_in bytes) (λ c. if bytes_eq (code_text c) bytes then Some c else None)
+    (λ c. by c (bytes_eq (code_text c) bytes) (bytes_eq-Decides (code_text c) bytes))
   where
-    by : (c : Code) (same : Bool) → Decides same (text c ≡ bytes) →
-        IfSome (if same then Some c else None) (λ x. text x ≡ bytes)
+    by : (c : Code) (same : Bool) → Decides same (code_text c ≡ bytes) →
+        IfSome (if same then Some c else None) (λ x. code_text x ≡ bytes)
     by c true is = is.0 refl
     by c false is = tt
 
 -- ---- so an answer that is a code exactly where the text writes one is that one
 
-pub reads_code : (bytes : List ℕ) (r : Result Code CodeFault) → IfOk r (λ c. text c ≡ bytes) →
-    ((c : Code) → text c ≡ bytes → r ≡ Ok c) → result_ok r ≡ code_of bytes
+pub reads_code : (bytes : List ℕ) (r : Result Code CodeFault) → IfOk r (λ c. code_text c ≡ bytes) →
+    ((c : Code) → code_text c ≡ bytes → r ≡ Ok c) → result_ok r ≡ spelled_code bytes
 reads_code bytes (Ok c) is every = sym (there bytes c is)
-reads_code bytes (Err f) is every = by (code_of bytes) (written bytes)
+reads_code bytes (Err f) is every = by (spelled_code bytes) (written bytes)
   where
-    by : (o : Option Code) → IfSome o (λ c. text c ≡ bytes) → None ≡ o
+    by : (o : Option Code) → IfSome o (λ c. code_text c ≡ bytes) → None ≡ o
     by None w = refl
     by (Some c) w = absurd (let no = every c w in (cc no))

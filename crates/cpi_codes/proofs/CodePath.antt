@@ -8,8 +8,8 @@ use Rattle.std.specs.declared.cmp.Ordering.{Ordering}
 use Rattle.std.specs.Ordering.{nat_cmp, ordering_then, is_eq}
 use Rattle.std.specs.Option.{option_cmp}
 use Rattle.cpi_codes.specs.CodeOrder.{code_cmp}
-use Rattle.cpi_codes.specs.CodeParts.{is_under, two_digits, dotted, dashed, are_parts}
-use Rattle.cpi_codes.specs.CodeText.{text, begins_with, are_one_text, all_items, is_at_or_below}
+use Rattle.cpi_codes.specs.CodeParts.{is_under, two_digits, dot_and_digit, dash_and_number, are_parts}
+use Rattle.cpi_codes.specs.CodeText.{code_text, begins_with, are_one_text, all_items, is_code_at_or_below}
 use Rattle.cpi_codes.specs.declared.codes.Code.{Code}
 use Rattle.cpi_codes.proofs.CodeBytes.{absent_below}
 use Rattle.cpi_codes.proofs.CodeBelow.{fits, begins-parts, begins-two, begins-nil, at_or_below-begins}
@@ -93,8 +93,8 @@ no_group q e = alone q.division q.group (valid_alone q.division q.group q.class 
   valid_alone : (d : ℕ) (g c s a : Option ℕ) → IsTrue (are_parts d g c s a) → (nat_le 1 d || is_none g) ≡ true
   valid_alone d g c s a h = grind (arith, nat_tests)
 
-no_parts : (q : Code) → q.division ≡ 0 → dotted q.group
-    ++ (dotted q.class ++ (dotted q.subclass ++ dashed q.aggregate)) ≡ []
+no_parts : (q : Code) → q.division ≡ 0 → dot_and_digit q.group
+    ++ (dot_and_digit q.class ++ (dot_and_digit q.subclass ++ dash_and_number q.aggregate)) ≡ []
 no_parts q e =
     let below = absent_below q.division q.group q.class q.subclass q.aggregate q.valid in
     let group = no_group q e in
@@ -102,14 +102,15 @@ no_parts q e =
 
 -- a code is at or below a node where the node is `00`, or its division is the node's and each further part of the
 -- node fits
-pub at_or_below-parts : (q c : Code) → is_at_or_below q c ≡
+pub at_or_below-parts : (q c : Code) → is_code_at_or_below q c ≡
     ((q.division == 0) || ((c.division == q.division)
     && (fits q.group c.group && (fits q.class c.class
     && (fits q.subclass c.subclass && fits q.aggregate c.aggregate)))))
 at_or_below-parts q c =
     at_or_below-begins q c
-    ∙ ap (λ z. z || begins_with (text c) (text q))
-    (zero_digits q.division (dotted q.group ++ (dotted q.class ++ (dotted q.subclass ++ dashed q.aggregate)))
+    ∙ ap (λ z. z || begins_with (code_text c) (code_text q))
+    (zero_digits q.division (dot_and_digit q.group ++
+    (dot_and_digit q.class ++ (dot_and_digit q.subclass ++ dash_and_number q.aggregate)))
     (no_parts q))
     ∙ ap (λ b. (q.division == 0) || b) (begins-parts c q)
 

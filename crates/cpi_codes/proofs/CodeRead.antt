@@ -7,7 +7,7 @@ use Rattle.std.specs.Option.{option_cmp}
 use Rattle.std.specs.Cmp.Lexicographic.{slice_cmp}
 use Rattle.std.proofs.lemmas.Bool.Decides.{nat_tests}
 use Rattle.cpi_codes.specs.CodeParts.{are_parts}
-use Rattle.cpi_codes.specs.CodeText.{text}
+use Rattle.cpi_codes.specs.CodeText.{code_text}
 use Rattle.cpi_codes.specs.CodeSpelling.{spelling, is_numbered, is_nested, IsSpelled}
 use Rattle.cpi_codes.specs.declared.codes.Code.{Code}
 use Rattle.cpi_codes.specs.declared.spelling.Parts.{Parts}
@@ -59,12 +59,12 @@ nested_below p h = (
 )
 
 -- parts that are spelled as a code's text are the code's
-pub same_parts : (p : Parts) (c : Code) → IsTrue (is_nested p) → spelling p ≡ text c → (p.division ≡ c.division)
+pub same_parts : (p : Parts) (c : Code) → IsTrue (is_nested p) → spelling p ≡ code_text c → (p.division ≡ c.division)
     × (p.group ≡ c.group) × (p.class ≡ c.class) × (p.subclass ≡ c.subclass) × (p.aggregate ≡ c.aggregate)
 same_parts p c h e =
     let equal = sym (parts-cmp p.division p.group p.class p.subclass p.aggregate c.division c.group c.class c.subclass
     c.aggregate (nested_below p h) (absent_below c.division _ _ _ _ c.valid))
-    ∙ ap (λ xs. slice_cmp nat_cmp xs (text c)) e ∙ same_bytes (text c) in
+    ∙ ap (λ xs. slice_cmp nat_cmp xs (code_text c)) e ∙ same_bytes (code_text c) in
     let rest = then_second (nat_cmp p.division c.division) _ equal in
     let third = then_second (option_cmp nat_cmp p.group c.group) _ rest in
     let fourth = then_second (option_cmp nat_cmp p.class c.class) _ third in (
@@ -85,7 +85,7 @@ valid_numbered : (d : ℕ) (g c s a : Option ℕ) → IsTrue (are_parts d g c s 
 valid_numbered d g c s a h = grind (arith, nat_tests)
 
 -- the text of a code is spelled by its parts
-pub spells : (c : Code) (bytes : List ℕ) → text c ≡ bytes → IsSpelled (parts_of c) bytes
+pub spells : (c : Code) (bytes : List ℕ) → code_text c ≡ bytes → IsSpelled (parts_of c) bytes
 spells c bytes e = (
   valid_numbered c.division c.group c.class c.subclass c.aggregate c.valid,
   valid_nested c.division c.group c.class c.subclass c.aggregate c.valid,
@@ -93,7 +93,7 @@ spells c bytes e = (
 )
 
 -- codes with one text are one
-pub same_text_is : (c d : Code) → text c ≡ text d → c ≡ d
+pub same_text_is : (c d : Code) → code_text c ≡ code_text d → c ≡ d
 same_text_is c d e =
     let same = same_parts (parts_of c) d (valid_nested c.division c.group c.class c.subclass c.aggregate c.valid) e in
     same_code_is c d same.0 same.1 same.2 same.3 same.4

@@ -12,7 +12,7 @@ use Rattle.std.specs.Ordering.{nat_cmp, ordering_then, is_eq}
 use Rattle.std.specs.Cmp.{nat_cmp_is}
 use Rattle.std.specs.Cmp.Lexicographic.{slice_cmp}
 use Rattle.std.proofs.lemmas.Bool.{cases_order}
-use Rattle.cpi_codes.specs.ItemCode.{is_item_character, item_code_of}
+use Rattle.cpi_codes.specs.ItemCode.{is_character_of_item, item_code_of}
 use Rattle.cpi_codes.proofs.Bytes.{text-of-code, text-parts, character-range}
 use Rattle.cpi_codes.proofs.Choices.{both}
 
@@ -68,12 +68,12 @@ positive k =
     let most = pow-le-pow_right base from in
     omega arith
 
-weighed-lt : (k : ℕ) (text : List ℕ) → list_all is_item_character text ≡ true → weighed k text < 256 ^ k
+weighed-lt : (k : ℕ) (text : List ℕ) → list_all is_character_of_item text ≡ true → weighed k text < 256 ^ k
 unfolding weighed
 weighed-lt zero text h = lit< tt
 weighed-lt (suc k) [] h = positive (suc k)
 weighed-lt (suc k) (x ∷ xs) h =
-    let parts = both (is_item_character x) (list_all is_item_character xs) h in
+    let parts = both (is_character_of_item x) (list_all is_character_of_item xs) h in
     let rest = weighed-lt k xs parts.1 in
     let range = character-range x parts.0 in
     let power = pow-succ' 256 k in
@@ -119,15 +119,15 @@ by-digits p x y u v small tiny = elim (cases_order x y) [
 ]
 
 -- the numbers stand in the order of the texts
-pub weighed-order : (k : ℕ) (a b : List ℕ) → length a ≤ k → length b ≤ k → list_all is_item_character a ≡ true →
-    list_all is_item_character b ≡ true → nat_cmp (weighed k a) (weighed k b) ≡ slice_cmp nat_cmp a b
+pub weighed-order : (k : ℕ) (a b : List ℕ) → length a ≤ k → length b ≤ k → list_all is_character_of_item a ≡ true →
+    list_all is_character_of_item b ≡ true → nat_cmp (weighed k a) (weighed k b) ≡ slice_cmp nat_cmp a b
 unfolding weighed
 weighed-order zero [] [] la lb ca cb = refl
 weighed-order zero (x ∷ xs) b la lb ca cb = absurd (omega arith)
 weighed-order zero [] (y ∷ ys) la lb ca cb = absurd (omega arith)
 weighed-order (suc k) [] [] la lb ca cb = refl
 weighed-order (suc k) [] (y ∷ ys) la lb ca cb =
-    let parts = both (is_item_character y) (list_all is_item_character ys) cb in
+    let parts = both (is_character_of_item y) (list_all is_character_of_item ys) cb in
     let range = character-range y parts.0 in
     let low : suc 0 ≤ y = omega arith in
     let most = mul-le-mul_right (256 ^ k) low in
@@ -135,7 +135,7 @@ weighed-order (suc k) [] (y ∷ ys) la lb ca cb =
     let some = positive k in
     less 0 (y * 256 ^ k + weighed k ys) (omega arith)
 weighed-order (suc k) (x ∷ xs) [] la lb ca cb =
-    let parts = both (is_item_character x) (list_all is_item_character xs) ca in
+    let parts = both (is_character_of_item x) (list_all is_character_of_item xs) ca in
     let range = character-range x parts.0 in
     let low : suc 0 ≤ x = omega arith in
     let most = mul-le-mul_right (256 ^ k) low in
@@ -143,8 +143,8 @@ weighed-order (suc k) (x ∷ xs) [] la lb ca cb =
     let some = positive k in
     greater (x * 256 ^ k + weighed k xs) 0 (omega arith)
 weighed-order (suc k) (x ∷ xs) (y ∷ ys) la lb ca cb =
-    let pa = both (is_item_character x) (list_all is_item_character xs) ca in
-    let pb = both (is_item_character y) (list_all is_item_character ys) cb in
+    let pa = both (is_character_of_item x) (list_all is_character_of_item xs) ca in
+    let pb = both (is_character_of_item y) (list_all is_character_of_item ys) cb in
     by-digits (256 ^ k) x y (weighed k xs) (weighed k ys) (weighed-lt k xs pa.1) (weighed-lt k ys pb.1)
     ∙ ap (ordering_then (nat_cmp x y)) (weighed-order k xs ys (omega arith) (omega arith) pa.1 pb.1)
 

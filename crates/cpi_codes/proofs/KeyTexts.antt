@@ -5,24 +5,24 @@ use Rattle.std.proofs.lemmas.Bool.Decides.{nat_tests}
 use Rattle.std.specs.List.{list_all}
 use Rattle.std.specs.Char.{digit_value}
 use Rattle.std.specs.Str.Parse.{digits_value, digits_value_after}
-use Rattle.cpi_codes.specs.Key.{is_key_digit, key_of}
+use Rattle.cpi_codes.specs.Key.{is_digit_of_key, key_of}
 use Rattle.cpi_codes.proofs.Choices.{both, chosen}
 
-digit-lt : (c : ℕ) → is_key_digit c ≡ true → digit_value c < 16
+digit-lt : (c : ℕ) → is_digit_of_key c ≡ true → digit_value c < 16
 digit-lt c h = grind (arith, nat_tests)
 
-digit-one : (a b : ℕ) → is_key_digit a ≡ true → is_key_digit b ≡ true → digit_value a ≡ digit_value b → a ≡ b
+digit-one : (a b : ℕ) → is_digit_of_key a ≡ true → is_digit_of_key b ≡ true → digit_value a ≡ digit_value b → a ≡ b
 digit-one a b p q e = grind (arith, nat_tests)
 
 -- as many digits write one number only where they are the same
-same-digits : (m n : ℕ) (a b : List ℕ) → list_all is_key_digit a ≡ true → list_all is_key_digit b ≡ true →
+same-digits : (m n : ℕ) (a b : List ℕ) → list_all is_digit_of_key a ≡ true → list_all is_digit_of_key b ≡ true →
     length a ≡ length b → digits_value_after 16 m a ≡ digits_value_after 16 n b → (m ≡ n) × (a ≡ b)
 same-digits m n [] [] p q l e = (e, refl)
 same-digits m n [] (y ∷ ys) p q l e = absurd (omega arith)
 same-digits m n (x ∷ xs) [] p q l e = absurd (omega arith)
 same-digits m n (x ∷ xs) (y ∷ ys) p q l e =
-    let px = both (is_key_digit x) (list_all is_key_digit xs) p in
-    let qy = both (is_key_digit y) (list_all is_key_digit ys) q in
+    let px = both (is_digit_of_key x) (list_all is_digit_of_key xs) p in
+    let qy = both (is_digit_of_key y) (list_all is_digit_of_key ys) q in
     let len : length xs ≡ length ys = omega arith in
     let rest = same-digits (m * 16 + digit_value x) (n * 16 + digit_value y) xs ys px.1 qy.1 len e in
     let dx = digit-lt x px.0 in
@@ -35,10 +35,10 @@ same-digits m n (x ∷ xs) (y ∷ ys) p q l e =
 
 pub one-spelling : (key : ℕ) (a b : List ℕ) → key_of a ≡ Some key → key_of b ≡ Some key → a ≡ b
 one-spelling key a b p q =
-    let ra = chosen (length a == 32 && list_all is_key_digit a) (digits_value 16 a) key p in
-    let rb = chosen (length b == 32 && list_all is_key_digit b) (digits_value 16 b) key q in
-    let ta = both (length a == 32) (list_all is_key_digit a) ra.0 in
-    let tb = both (length b == 32) (list_all is_key_digit b) rb.0 in
+    let ra = chosen (length a == 32 && list_all is_digit_of_key a) (digits_value 16 a) key p in
+    let rb = chosen (length b == 32 && list_all is_digit_of_key b) (digits_value 16 b) key q in
+    let ta = both (length a == 32) (list_all is_digit_of_key a) ra.0 in
+    let tb = both (length b == 32) (list_all is_digit_of_key b) rb.0 in
     let la : length a ≡ 32 = grind (arith, nat_tests, ta.0) in
     let lb : length b ≡ 32 = grind (arith, nat_tests, tb.0) in
     (same-digits 0 0 a b ta.1 tb.1 (omega arith) (sym ra.1 ∙ rb.1)).1

@@ -10,8 +10,8 @@ use Rattle.std.specs.Char.{is_ascii_digit, digit_value}
 use Rattle.std.specs.Str.Parse.{digits_value}
 use Rattle.cpi_codes.specs.declared.months.MonthFault.{MonthFault}
 use Rattle.cpi_codes.specs.declared.months.MonthFault.TheVariants.{Shape, Range}
-use Rattle.cpi_codes.specs.Month.{two_digits, year_of, month_of_year, month_text, month_in, month_of, is_in_calendar}
-use Rattle.cpi_codes.specs.Month.{is_month_shape, months_since_2000}
+use Rattle.cpi_codes.specs.Month.{below_hundred, year_of, month_of_year, month_text, month_in, month_of, is_in_calendar}
+use Rattle.cpi_codes.specs.Month.{has_month_shape, months_since_2000}
 use Rattle.cpi_codes.proofs.Choices.{both}
 use Rattle.cpi_codes.proofs.Digits.{digit-range}
 use Rattle.cpi_codes.proofs.NumberTexts.{model, all-same}
@@ -67,7 +67,7 @@ printed-year a b c d digits low high =
     decimal-digits_value model ds (sym (all-same ds) ∙ digits) (omega arith) one (omega arith)
 
 two-printed : (e f : ℕ) → is_ascii_digit e ≡ true → is_ascii_digit f ≡ true →
-    two_digits (digits_value 10 (e ∷ f ∷ [])) ≡ e ∷ f ∷ []
+    below_hundred (digits_value 10 (e ∷ f ∷ [])) ≡ e ∷ f ∷ []
 two-printed e f he hf =
     let re = digit-range e he in
     let rf = digit-range f hf in
@@ -92,7 +92,7 @@ one-spelling month (a ∷ b ∷ c ∷ d ∷ s ∷ e ∷ f ∷ []) h =
     let text = a ∷ b ∷ c ∷ d ∷ s ∷ e ∷ f ∷ [] in
     let year = digits_value 10 (a ∷ b ∷ c ∷ d ∷ []) in
     let number = digits_value 10 (e ∷ f ∷ []) in
-    let read = chosen (is_month_shape text) (month_in year number) Shape month h in
+    let read = chosen (has_month_shape text) (month_in year number) Shape month h in
     let shape = four (length text == 7) (list_all is_ascii_digit (take 4 text)) (slice_index text 4 == 45)
     (list_all is_ascii_digit (drop 5 text)) read.0 in
     let dash : s ≡ 45 = grind (arith, nat_tests, shape.2) in
@@ -104,7 +104,7 @@ one-spelling month (a ∷ b ∷ c ∷ d ∷ s ∷ e ∷ f ∷ []) h =
     sym (rw (← is.2, ← is.3, front, back, dash) refl)
 one-spelling month (a ∷ b ∷ c ∷ d ∷ s ∷ e ∷ f ∷ g ∷ rest) h =
     let text = a ∷ b ∷ c ∷ d ∷ s ∷ e ∷ f ∷ g ∷ rest in
-    let read = chosen (is_month_shape text) (month_in (digits_value 10 (take 4 text)) (digits_value 10 (drop 5 text)))
+    let read = chosen (has_month_shape text) (month_in (digits_value 10 (take 4 text)) (digits_value 10 (drop 5 text)))
     Shape month h in
     let shape = four (length text == 7) (list_all is_ascii_digit (take 4 text)) (slice_index text 4 == 45)
     (list_all is_ascii_digit (drop 5 text)) read.0 in

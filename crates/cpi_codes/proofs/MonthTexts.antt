@@ -7,11 +7,12 @@ use Rattle.std.proofs.lemmas.Fmt.{decimal_digit, decimal_step}
 use Rattle.std.proofs.lemmas.Bool.Decides.{nat_tests}
 use Rattle.std.proofs.lemmas.Str.{digit_value_digit}
 use Rattle.std.specs.Char.{is_ascii_digit, digit_value}
-use Rattle.cpi_codes.specs.Month.{two_digits, year_of, month_of_year, month_text, month_in, month_of, months_since_2000}
+use Rattle.cpi_codes.specs.Month.{below_hundred, year_of, month_of_year, month_text, month_in, month_of}
+use Rattle.cpi_codes.specs.Month.{months_since_2000}
 
 -- a number below 100 that is printed with at least two digits, filled up with a zero in front
 padded-below-10 : (n : ℕ) → n < 10 → padded_integral (format_spec 32 0 4 2 (2 ^ 64 - 1)) false []
-    (decimal n) ≡ two_digits n
+    (decimal n) ≡ below_hundred n
 unfolding padded_integral char_count
 padded-below-10 n h =
     let none : n / 10 ≡ 0 = omega arith in
@@ -19,13 +20,13 @@ padded-below-10 n h =
     rw (decimal_digit n h, none, all, decimal_digit n h, decimal_digit 0 (omega arith)) refl
 
 padded-from-10 : (n : ℕ) → 10 ≤ n → n < 100 → padded_integral (format_spec 32 0 4 2 (2 ^ 64 - 1)) false []
-    (decimal n) ≡ two_digits n
+    (decimal n) ≡ below_hundred n
 unfolding padded_integral char_count
 padded-from-10 n h k =
     rw (decimal_step n h (omega arith), decimal_digit (n / 10) (omega arith), decimal_digit (n % 10) (omega arith)) refl
 
 pub padded-two : (n : ℕ) → n < 100 → padded_integral (format_spec 32 0 4 2 (2 ^ 64 - 1)) false []
-    (decimal n) ≡ two_digits n
+    (decimal n) ≡ below_hundred n
 padded-two n h = elim (cases_lt n 10) [ inl small ↦ padded-below-10 n small | inr large ↦ padded-from-10 n large h ]
 
 -- a month is printed as its year, a dash and the month of the year in two digits

@@ -3,7 +3,7 @@ use Rattle.std.proofs.Common.{◌≡◌, sym, refl, List, ℕ, Bool, true, false
 use Rattle.std.proofs.Common.{IsUtf8}
 use Rattle.std.specs.Str.{is_utf8}
 use Rattle.std.proofs.lemmas.Str.{is_utf8-from_IsUtf8, IsUtf8-from_is_utf8}
-use Rattle.cpi_codes.specs.Name.{is_name}
+use Rattle.cpi_codes.specs.Name.{is_text_of_name}
 
 last-false : (a b : Bool) → b ≡ false → (a && b) ≡ false
 last-false true b h = h
@@ -13,8 +13,8 @@ not-utf8 : (b : Bool) (text : List ℕ) → is_utf8 text ≡ b → ¬ (IsUtf8 te
 not-utf8 true text e h = absurd (h (IsUtf8-from_is_utf8 text e))
 not-utf8 false text e h = refl
 
-pub not-name : (text : List ℕ) → ¬ (IsUtf8 text) → is_name text ≡ false
-unfolding is_name
+pub not-name : (text : List ℕ) → ¬ (IsUtf8 text) → is_text_of_name text ≡ false
+unfolding is_text_of_name
 not-name text h = last-false _ (is_utf8 text) (not-utf8 (is_utf8 text) text refl h)
 
 -- a conversion that succeeds just where the bytes are UTF-8 tells whether they are

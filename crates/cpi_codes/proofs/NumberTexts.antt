@@ -12,7 +12,7 @@ use Rattle.std.proofs.lemmas.Str.Parse.{IsNumeralModel, numerals_by_value, tells
 use Rattle.std.proofs.lemmas.Fmt.{digits_decimal, digits_value-decimal, decimal-digits_value, decimal_nonempty}
 use Rattle.std.proofs.lemmas.Fmt.{first_decimal, decimal_digit}
 use Rattle.cpi_codes.proofs.Choices.{all-three, chosen}
-use Rattle.cpi_codes.specs.Number.{is_number, number_of}
+use Rattle.cpi_codes.specs.Number.{is_number_text, number_in}
 
 pub model : IsNumeralModel (λ ds. all_ascii_digits ds ≡ true) (digits_value 10)
 model = numerals_by_value (λ ds. all_ascii_digits ds ≡ true) tells_all_ascii_digits
@@ -33,26 +33,26 @@ decimal-first n h = elim (cases_lt 0 n) [
   | inr none ↦ (let zero-is : n ≡ 0 = omega arith in rw (zero-is, decimal_digit 0 (lit< tt)) refl)
 ]
 
-pub decimal-is-number : (n : ℕ) → n < 2 ^ 64 → is_number (decimal n) ≡ true
+pub decimal-is-number : (n : ℕ) → n < 2 ^ 64 → is_number_text (decimal n) ≡ true
 decimal-is-number n h =
     let digits = all-same (decimal n) ∙ digits_decimal model n h in
     let some = decimal_nonempty n h in
     let filled : not (length (decimal n) == 0) ≡ true = grind (arith, nat_tests) in
     rw (filled, digits) (decimal-first n h)
 
-pub read-again : (low high n : ℕ) → low ≤ n → n ≤ high → n < 2 ^ 64 → number_of low high (decimal n) ≡ Some n
-unfolding number_of
+pub read-again : (low high n : ℕ) → low ≤ n → n ≤ high → n < 2 ^ 64 → number_in low high (decimal n) ≡ Some n
+unfolding number_in
 read-again low high n l h small =
     let above : nat_le low n ≡ true = grind (arith, nat_tests) in
     let below : nat_le n high ≡ true = grind (arith, nat_tests) in
     rw (decimal-is-number n small, digits_value-decimal model n small, above, below) refl
 
-pub one-spelling : (low high n : ℕ) (text : List ℕ) → n < 2 ^ 64 → number_of low high text ≡ Some n → text ≡ decimal n
-unfolding number_of
+pub one-spelling : (low high n : ℕ) (text : List ℕ) → n < 2 ^ 64 → number_in low high text ≡ Some n → text ≡ decimal n
+unfolding number_in
 one-spelling low high n text small h =
-    let read = chosen (is_number text && nat_le low (digits_value 10 text) && nat_le (digits_value 10 text) high)
+    let read = chosen (is_number_text text && nat_le low (digits_value 10 text) && nat_le (digits_value 10 text) high)
     (digits_value 10 text) n h in
-    let tests = all-three (is_number text) (nat_le low (digits_value 10 text))
+    let tests = all-three (is_number_text text) (nat_le low (digits_value 10 text))
     (nat_le (digits_value 10 text) high) read.0 in
     let number = all-three (not (length text == 0)) (list_all is_ascii_digit text)
     ((length text == 1) || not (slice_index text 0 == 48)) tests.0 in

@@ -1,11 +1,12 @@
 -- A zone and a text have one answer.
 use Rattle.std.proofs.Common.{◌≡◌, ℕ, List, Ok, Err, pos, ◌∙◌, sym, ap, refl, subst}
-use Rattle.cpi_codes.specs.Zone.{Gives, IsOfficeYear, OneAnswer, ZoneRule, second_in}
+use Rattle.cpi_codes.specs.Zone.{ZoneGives, IsOfficeYear, OneAnswer, ZoneRule, second_in}
 use Rattle.cpi_codes.specs.declared.zone.MomentFault.TheVariants.{Text, Zone, Range, NoMemory}
 use Rattle.cpi_codes.proofs.OneTime.{one_time}
 
 -- an answer and a fault of range exclude each other
-apart : (zone : ZoneRule) (text : List ℕ) (second : ℕ) → Gives zone text (Ok second) → Gives zone text (Err Range) → ⊥
+apart : (zone : ZoneRule) (text : List ℕ) (second : ℕ) → ZoneGives zone text (Ok second) → ZoneGives zone text
+    (Err Range) → ⊥
 apart zone text second p q =
     let same = one_time text p.0 q.0 p.1 q.1 p.2 q.2 in
     q.3 (subst IsOfficeYear same.0 p.3)

@@ -41,18 +41,18 @@ time_at year month day hour minute = do
   })
 
 -- the number that two digits write, from a place on
-abbrev pub two_digits : List ℕ → ℕ → ℕ
-two_digits text at = (get_or text at 0 - 48) * 10 + (get_or text (at + 1) 0 - 48)
+abbrev pub number_of_two_digits : List ℕ → ℕ → ℕ
+number_of_two_digits text at = (get_or text at 0 - 48) * 10 + (get_or text (at + 1) 0 - 48)
 
 -- the time that a text YYYY-MM-DDTHH:MM writes: that of the numbers at their places, if the text is how they are
 -- written
 unfoldable pub civil_of : List ℕ → Option DateTime
 civil_of text =
-    let year = two_digits text 0 * 100 + two_digits text 2 in
-    let month = two_digits text 5 in
-    let day = two_digits text 8 in
-    let hour = two_digits text 11 in
-    let minute = two_digits text 14 in
+    let year = number_of_two_digits text 0 * 100 + number_of_two_digits text 2 in
+    let month = number_of_two_digits text 5 in
+    let day = number_of_two_digits text 8 in
+    let hour = number_of_two_digits text 11 in
+    let minute = number_of_two_digits text 14 in
     if bytes_eq text (civil_text year month day hour minute) then time_at year month day hour minute else None
 
 -- a year that the office knows

@@ -2,7 +2,7 @@
 use Rattle.std.specs.Prelude.{ℕ, ◌+◌, ◌-◌, ◌*◌, List, length, get_or, Option, Some, None, if◌then◌else◌, nat_lt}
 use Rattle.std.specs.Prelude.{bytes_eq}
 use Rattle.cpi_codes.specs.CodeParts.{are_parts}
-use Rattle.cpi_codes.specs.CodeText.{text}
+use Rattle.cpi_codes.specs.CodeText.{code_text}
 use Rattle.cpi_codes.specs.Following.{◌>>=◌}
 use Rattle.cpi_codes.specs.Ranges.{holds}
 use Rattle.cpi_codes.specs.declared.codes.Code.{Code}
@@ -26,5 +26,5 @@ code_in bytes = number_at bytes 0 >>= λ d. code_at d (digit_at bytes 3) (digit_
     (number_at bytes 9)
 
 -- if the text is how it is written
-unfoldable pub code_of : List ℕ → Option Code
-code_of bytes = code_in bytes >>= λ code. if bytes_eq (text code) bytes then Some code else None
+unfoldable pub spelled_code : List ℕ → Option Code
+spelled_code bytes = code_in bytes >>= λ code. if bytes_eq (code_text code) bytes then Some code else None

@@ -12,9 +12,9 @@ code_cmp c d = ordering_then (nat_cmp c.division d.division)
     (ordering_then (option_cmp nat_cmp c.subclass d.subclass) (option_cmp nat_cmp c.aggregate d.aggregate))))
 
 -- whether two codes are one
-abbrev pub is_same : Code → Code → Bool
-is_same a b = is_eq (code_cmp a b)
+abbrev pub is_same_code : Code → Code → Bool
+is_same_code a b = is_eq (code_cmp a b)
 
 -- whether a code is of an elementary aggregate
-abbrev pub is_elementary : Code → Bool
-is_elementary c = is_some c.aggregate
+abbrev pub is_code_elementary : Code → Bool
+is_code_elementary c = is_some c.aggregate

@@ -1,13 +1,14 @@
 -- What a text of a code looks like, also where its numbers are refused.
 use Rattle.std.specs.Prelude.{ℕ, Bool, true, ◌&&◌, ◌||◌, nat_le, ◌≤◌, List, ◌++◌, ◌≡◌, Option, Some, None, is_none}
 use Rattle.std.specs.Prelude.{IsTrue}
-use Rattle.cpi_codes.specs.CodeParts.{two_digits, dotted, dashed, is_digit_part, is_under}
+use Rattle.cpi_codes.specs.CodeParts.{two_digits, dot_and_digit, dash_and_number, is_digit_part, is_under}
 use Rattle.cpi_codes.specs.declared.spelling.Parts.{Parts}
 use Rattle.cpi_codes.specs.declared.code_texts.CodeFault.{CodeFault}
 use Rattle.cpi_codes.specs.declared.code_texts.CodeFault.TheVariants.{Shape, NotHousehold, Zero}
 
 abbrev pub spelling : Parts → List ℕ
-spelling p = two_digits p.division ++ (dotted p.group ++ (dotted p.class ++ (dotted p.subclass ++ dashed p.aggregate)))
+spelling p = two_digits p.division ++ (dot_and_digit p.group ++
+    (dot_and_digit p.class ++ (dot_and_digit p.subclass ++ dash_and_number p.aggregate)))
 
 abbrev pub is_two_digit_part : Option ℕ → Bool
 is_two_digit_part None = true
@@ -27,7 +28,7 @@ abbrev pub IsSpelled : Parts → List ℕ → Type 0
 IsSpelled p bytes = IsTrue (is_numbered p) × IsTrue (is_nested p) × (spelling p ≡ bytes)
 
 -- why a text is no code: another shape; else a division that isn't a household's; else an aggregate 00
-abbrev pub IsFault : CodeFault → List ℕ → Type 0
-IsFault Shape bytes = (p : Parts) → IsSpelled p bytes → ⊥
-IsFault NotHousehold bytes = (p : Parts) × IsSpelled p bytes × (14 ≤ p.division)
-IsFault Zero bytes = (p : Parts) × IsSpelled p bytes × (p.division ≤ 13) × (p.aggregate ≡ Some 0)
+abbrev pub IsCodeFault : CodeFault → List ℕ → Type 0
+IsCodeFault Shape bytes = (p : Parts) → IsSpelled p bytes → ⊥
+IsCodeFault NotHousehold bytes = (p : Parts) × IsSpelled p bytes × (14 ≤ p.division)
+IsCodeFault Zero bytes = (p : Parts) × IsSpelled p bytes × (p.division ≤ 13) × (p.aggregate ≡ Some 0)

@@ -3,18 +3,18 @@ use Rattle.std.specs.Prelude.{◌≡◌, ℕ, ◌<◌, ◌≤◌, ◌^◌, List,
 use Rattle.std.specs.Fmt.{decimal}
 use Rattle.std.specs.Ordering.{nat_cmp}
 use Rattle.std.specs.Cmp.Lexicographic.{slice_cmp}
-use Rattle.cpi_codes.specs.Number.{number_of}
+use Rattle.cpi_codes.specs.Number.{number_in}
 use Rattle.cpi_codes.specs.Month.{month_of, month_text}
 use Rattle.cpi_codes.specs.Key.{key_of}
 use Rattle.cpi_codes.specs.ItemCode.{item_code_of}
 
 -- the decimal text of a number in range is read as that number
 abbrev pub NumbersAreReadAgain : Type 0
-NumbersAreReadAgain = (low high n : ℕ) → low ≤ n → n ≤ high → n < 2 ^ 64 → number_of low high (decimal n) ≡ Some n
+NumbersAreReadAgain = (low high n : ℕ) → low ≤ n → n ≤ high → n < 2 ^ 64 → number_in low high (decimal n) ≡ Some n
 
 -- a text that is read as a number is the number's decimal text
 abbrev pub NumbersHaveOneSpelling : Type 0
-NumbersHaveOneSpelling = (low high n : ℕ) (text : List ℕ) → n < 2 ^ 64 → number_of low high text ≡ Some n →
+NumbersHaveOneSpelling = (low high n : ℕ) (text : List ℕ) → n < 2 ^ 64 → number_in low high text ≡ Some n →
     text ≡ decimal n
 
 -- the text of a month is read as that month

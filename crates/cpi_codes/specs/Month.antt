@@ -28,19 +28,19 @@ abbrev pub month_in : ℕ → ℕ → Result ℕ MonthFault
 month_in year month = if is_in_calendar year month then Ok (months_since_2000 year month) else Err Range
 
 -- four digits, a dash and two digits
-abbrev pub is_month_shape : List ℕ → Bool
-is_month_shape text = length text == 7 && list_all is_ascii_digit (take 4 text) && slice_index text 4 == 45
+abbrev pub has_month_shape : List ℕ → Bool
+has_month_shape text = length text == 7 && list_all is_ascii_digit (take 4 text) && slice_index text 4 == 45
     && list_all is_ascii_digit (drop 5 text)
 
 -- the month that a text writes: first its shape is looked at, and then the year and the month
 abbrev pub month_of : List ℕ → Result ℕ MonthFault
-month_of text = if is_month_shape text then month_in (digits_value 10 (take 4 text))
+month_of text = if has_month_shape text then month_in (digits_value 10 (take 4 text))
     (digits_value 10 (drop 5 text)) else Err Shape
 
 -- a number below 100 in two digits
-abbrev pub two_digits : ℕ → List ℕ
-two_digits n = decimal (n / 10) ++ decimal (n % 10)
+abbrev pub below_hundred : ℕ → List ℕ
+below_hundred n = decimal (n / 10) ++ decimal (n % 10)
 
 -- the one spelling of a month
 abbrev pub month_text : ℕ → List ℕ
-month_text month = decimal (year_of month) ++ codes "-" ++ two_digits (month_of_year month)
+month_text month = decimal (year_of month) ++ codes "-" ++ below_hundred (month_of_year month)

@@ -4,9 +4,9 @@ use Rattle.std.specs.List.{list_all}
 use Rattle.std.specs.Str.{is_utf8}
 
 -- a byte that is no control character
-abbrev pub is_plain : ℕ → Bool
-is_plain byte = nat_le 32 byte && not (byte == 127)
+abbrev pub is_plain_byte : ℕ → Bool
+is_plain_byte byte = nat_le 32 byte && not (byte == 127)
 
 -- 1 to 400 bytes of UTF-8 without control characters
-unfoldable pub is_name : List ℕ → Bool
-is_name text = nat_le 1 (length text) && nat_le (length text) 400 && list_all is_plain text && is_utf8 text
+unfoldable pub is_text_of_name : List ℕ → Bool
+is_text_of_name text = nat_le 1 (length text) && nat_le (length text) 400 && list_all is_plain_byte text && is_utf8 text

@@ -22,14 +22,15 @@ abbrev pub IsOfficeYear : ℕ → Type 0
 IsOfficeYear year = (2000 ≤ year) × (year ≤ 2199)
 
 -- what a civil text gives in a zone
-abbrev pub Gives : ZoneRule → List ℕ → Result ℕ MomentFault → Type 0
-Gives zone text (Ok second) = (year : ℕ) × (time : DateTime) × IsCivilText text year time × IsOfficeYear year
+abbrev pub ZoneGives : ZoneRule → List ℕ → Result ℕ MomentFault → Type 0
+ZoneGives zone text (Ok second) = (year : ℕ) × (time : DateTime) × IsCivilText text year time × IsOfficeYear year
     × (pos second ≡ second_in zone time)
-Gives zone text (Err Text) = (year : ℕ) (time : DateTime) → IsCivilText text year time → ⊥
-Gives zone text (Err Range) = (year : ℕ) × (time : DateTime) × IsCivilText text year time × ¬ IsOfficeYear year
-Gives zone text (Err _) = ⊥
+ZoneGives zone text (Err Text) = (year : ℕ) (time : DateTime) → IsCivilText text year time → ⊥
+ZoneGives zone text (Err Range) = (year : ℕ) × (time : DateTime) × IsCivilText text year time × ¬ IsOfficeYear year
+ZoneGives zone text (Err _) = ⊥
 
 -- a zone and a text have one answer
 abbrev pub OneAnswer : Type 0
-OneAnswer = (zone : ZoneRule) (text : List ℕ) (r s : Result ℕ MomentFault) → Gives zone text r → Gives zone text s →
+OneAnswer = (zone : ZoneRule) (text : List ℕ) (r s : Result ℕ MomentFault) → ZoneGives zone text r → ZoneGives
+    zone text s →
     r ≡ s

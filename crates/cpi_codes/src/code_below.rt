@@ -1,7 +1,7 @@
 //! What stands below what.
 ghost use Rattle.std.specs.Prelude.{◌≡◌};
-ghost use Rattle.cpi_codes.specs.CodeText.{text, begins_with, is_below as is_code_below};
-ghost use Rattle.cpi_codes.specs.CodeText.{is_at_or_below as is_code_at_or_below};
+ghost use Rattle.cpi_codes.specs.CodeText.{code_text, begins_with, is_code_below};
+ghost use Rattle.cpi_codes.specs.CodeText.{is_code_at_or_below};
 
 use crate::codes::Code;
 
@@ -24,7 +24,7 @@ impl Code {
 
     // Whether this code's text begins with the text of `start`.
     fn begins_with(self, start: Code) -> bool
-        ensures { result ≡ begins_with (text self) (text start) }
+        ensures { result ≡ begins_with (code_text self) (code_text start) }
     {
         self.division == start.division
             && (start.group.is_none() || self.group == start.group)

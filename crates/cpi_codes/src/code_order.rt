@@ -2,9 +2,9 @@
 ghost use Rattle.std.specs.Prelude.{◌≡◌, option_map};
 ghost use Rattle.std.specs.Ordering.{nat_cmp};
 ghost use Rattle.std.specs.Cmp.Lexicographic.{slice_cmp};
-ghost use Rattle.cpi_codes.specs.CodeText.{text};
-ghost use Rattle.cpi_codes.specs.CodeLevel.{level as level_of, parent_text};
-ghost use Rattle.cpi_codes.specs.CodeOrder.{is_elementary as is_code_elementary, is_same as is_same_code};
+ghost use Rattle.cpi_codes.specs.CodeText.{code_text};
+ghost use Rattle.cpi_codes.specs.CodeLevel.{level_of_code, parent_text};
+ghost use Rattle.cpi_codes.specs.CodeOrder.{is_code_elementary, is_same_code};
 
 use crate::codes::Code;
 use std::cmp::Ordering;
@@ -12,7 +12,7 @@ use std::cmp::Ordering;
 impl Code {
     /// Compares by the bytes of the texts. It is the order of codes itself.
     pub fn compare_text(self, other: Code) -> Ordering
-        ensures { result ≡ slice_cmp nat_cmp (text self) (text other) }
+        ensures { result ≡ slice_cmp nat_cmp (code_text self) (code_text other) }
     {
         self.cmp(&other)
     }
@@ -27,7 +27,7 @@ impl Code {
 
     /// 0 for `00`, 1 for a division, up to 5 for an elementary aggregate.
     pub fn level(self) -> u8
-        ensures { result ≡ level_of self }
+        ensures { result ≡ level_of_code self }
     {
         match (
             self.division,
@@ -54,7 +54,7 @@ impl Code {
 
     /// The code above: of an elementary aggregate its subclass, of a division `00`; `00` has none.
     pub fn parent(self) -> Option<Code>
-        ensures { option_map text result ≡ parent_text self }
+        ensures { option_map code_text result ≡ parent_text self }
     {
         let mut above = self;
         if above.aggregate.is_some() {

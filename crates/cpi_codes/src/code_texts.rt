@@ -3,8 +3,8 @@ ghost use Rattle.std.specs.Prelude.{◌≡◌, ◌≤◌, true, IfOk, IfErr, tak
 ghost use Rattle.std.specs.String.{string_bytes};
 ghost use Rattle.std.specs.Char.{is_ascii};
 ghost use Rattle.std.specs.List.{list_all};
-ghost use Rattle.cpi_codes.specs.CodeText.{text};
-ghost use Rattle.cpi_codes.specs.CodeSpelling.{IsFault};
+ghost use Rattle.cpi_codes.specs.CodeText.{code_text};
+ghost use Rattle.cpi_codes.specs.CodeSpelling.{IsCodeFault};
 ghost use Rattle.cpi_codes.specs.declared.codes.Code.{Code};
 
 use crate::codes::Code;
@@ -27,9 +27,9 @@ pub enum CodeFault {
 impl Code {
     /// Reads the one spelling of a code.
     pub fn parse(bytes: &[u8]) -> Result<Code, CodeFault>
-        ensures code { IfOk result (λ c. text c ≡ bytes.now) }
-        ensures every_code { (c : Code) → text c ≡ bytes.now → result ≡ Ok c }
-        ensures fault { IfErr result (λ f. IsFault f bytes.now) }
+        ensures code { IfOk result (λ c. code_text c ≡ bytes.now) }
+        ensures every_code { (c : Code) → code_text c ≡ bytes.now → result ≡ Ok c }
+        ensures fault { IfErr result (λ f. IsCodeFault f bytes.now) }
     {
         let Some(parts) = read(bytes) else {
             return Err(CodeFault::Shape);
@@ -52,8 +52,8 @@ impl Code {
     /// Writes the one spelling of the code to the front of `out`, and gives its length. The bytes behind it are of no
     /// meaning.
     pub fn write_to(self, out: &mut [u8; 11]) -> usize
-        ensures written { take result out.new ≡ text self }
-        ensures length { result ≡ length (text self) }
+        ensures written { take result out.new ≡ code_text self }
+        ensures length { result ≡ length (code_text self) }
         ensures within { result ≤ 11 }
     {
         let aggregate = self.aggregate.unwrap_or(0);
@@ -80,7 +80,7 @@ impl Code {
     }
     /// The one spelling of the code.
     pub fn text(self, alloc: Global) -> Result<String, AllocError>
-        ensures { IfOk result (λ s. string_bytes s ≡ text self) }
+        ensures { IfOk result (λ s. string_bytes s ≡ code_text self) }
     {
         let mut bytes = [0; 11];
         let length = self.write_to(&mut bytes);

@@ -3,8 +3,8 @@ ghost use Rattle.std.specs.Prelude.{◌≡◌, ◌≤◌, ◌<◌, ◌^◌, leng
 ghost use Rattle.std.specs.Char.{is_ascii};
 ghost use Rattle.std.specs.List.{list_all};
 ghost use Rattle.std.specs.String.{string_bytes};
-ghost use Rattle.cpi_codes.specs.ItemCode.{is_item_character as is_character_of_item, is_item_text as is_text_of_item};
-ghost use Rattle.cpi_codes.specs.ItemCode.{filled, item_code_of, item_number, is_no_zero};
+ghost use Rattle.cpi_codes.specs.ItemCode.{is_character_of_item, is_text_of_item};
+ghost use Rattle.cpi_codes.specs.ItemCode.{with_zero_bytes, item_code_of, item_number, is_no_zero};
 
 use std::alloc::{AllocError, Global};
 use std::marker::Model;
@@ -88,7 +88,7 @@ fn number_of_bytes(text: &[u8]) -> u128
 
 // The bytes of the text that writes the item code, filled up with zeros to 12.
 fn bytes_of(value: u128) -> [u8; 12]
-    ensures { (text : List ℕ) → item_code_of text ≡ Some value → result ≡ filled text }
+    ensures { (text : List ℕ) → item_code_of text ≡ Some value → result ≡ with_zero_bytes text }
 {
     let mut bytes = [0; LONGEST];
     let mut rest = value;

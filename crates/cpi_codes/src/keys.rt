@@ -3,7 +3,7 @@ ghost use Rattle.std.specs.Prelude.{◌≡◌, ◌≤◌, ◌<◌, length, true}
 ghost use Rattle.std.specs.List.{list_all};
 ghost use Rattle.std.specs.Char.{digit_value};
 ghost use Rattle.std.specs.Str.Parse.{digits_value};
-ghost use Rattle.cpi_codes.specs.Key.{is_key_digit as is_digit_of_key, key_of};
+ghost use Rattle.cpi_codes.specs.Key.{is_digit_of_key, key_of};
 
 use std::marker::Model;
 

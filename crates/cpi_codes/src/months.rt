@@ -2,7 +2,7 @@
 ghost use Rattle.std.specs.Prelude.{◌≡◌, ◌≤◌, ◌<◌, ◌+◌, ◌-◌, IfOk, SomeIff};
 ghost use Rattle.std.specs.String.{string_bytes};
 ghost use Rattle.cpi_codes.specs.Month.{month_in, month_of, month_of_year, month_text, months_since_2000};
-ghost use Rattle.cpi_codes.specs.Month.{is_month_shape as is_shape_of_month, year_of};
+ghost use Rattle.cpi_codes.specs.Month.{has_month_shape, year_of};
 
 use crate::number::{are_digits, value_of};
 use std::alloc::{AllocError, Global};
@@ -160,7 +160,7 @@ impl fmt::Display for Month {
 
 // Four digits, a dash and two digits.
 fn is_month_shape(text: &[u8]) -> bool
-    ensures { result ≡ is_shape_of_month text.now }
+    ensures { result ≡ has_month_shape text.now }
 {
     if text.len() != TEXT_LEN || !are_digits(&text[..4]) || text[4] != b'-' {
         return false;

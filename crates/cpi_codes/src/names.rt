@@ -2,7 +2,7 @@
 ghost use Rattle.std.specs.Prelude.{◌≡◌, ◌↔◌, IfOk, true, false};
 ghost use Rattle.std.specs.List.{list_all};
 ghost use Rattle.std.specs.Str.{is_utf8};
-ghost use Rattle.cpi_codes.specs.Name.{is_name as is_name_text, is_plain as is_plain_byte};
+ghost use Rattle.cpi_codes.specs.Name.{is_text_of_name, is_plain_byte};
 ghost use Rattle.cpi_codes.specs.Text.{same_text};
 
 use std::alloc::{AllocError, Global};
@@ -19,13 +19,13 @@ pub struct Name {
 impl Model for Name {
     ghost use Rattle.std.specs.Prelude.{ℕ, List, ◌≡◌, true};
     ghost use Rattle.std.specs.String.{string_bytes};
-    ghost use Rattle.cpi_codes.specs.Name.{is_name};
+    ghost use Rattle.cpi_codes.specs.Name.{is_text_of_name};
 
     ghost Value = { List ℕ };
 
     ghost view = { λ n. string_bytes n.text };
 
-    ghost invariant = { λ n. is_name (string_bytes n.text) ≡ true };
+    ghost invariant = { λ n. is_text_of_name (string_bytes n.text) ≡ true };
 }
 
 /// Why there is no name.
@@ -41,7 +41,7 @@ impl Name {
     /// The name that is written so. The fault is `Text` where it is no name, and `NoMemory` only where it is one.
     pub fn new(alloc: Global, text: &[u8]) -> Result<Name, NameFault>
         ensures made { IfOk result (λ n. n ≡ text.now) }
-        ensures refused { (result ≡ Err NameFault.Text) ↔ (is_name_text text.now ≡ false) }
+        ensures refused { (result ≡ Err NameFault.Text) ↔ (is_text_of_name text.now ≡ false) }
     {
         if !is_name(text) {
             return Err(NameFault::Text);
@@ -58,7 +58,7 @@ impl Name {
     /// The text of the name.
     pub fn as_str(&self) -> &str
         ensures bytes { result.now ≡ self.now }
-        ensures name { is_name_text self.now ≡ true }
+        ensures name { is_text_of_name self.now ≡ true }
     {
         self.text.as_str()
     }
@@ -81,9 +81,9 @@ impl Name {
 }
 
 // 1 to 400 bytes of UTF-8 without control characters.
-#[tactic(auto, unfolding(crate::specs::Name::is_name))]
+#[tactic(auto, unfolding(crate::specs::Name::is_text_of_name))]
 fn is_name(text: &[u8]) -> bool
-    ensures { result ≡ is_name_text text.now }
+    ensures { result ≡ is_text_of_name text.now }
 {
     if text.is_empty() || LONGEST < text.len() || !is_plain(text) {
         return false;

@@ -3,7 +3,7 @@ ghost use Rattle.std.specs.Prelude.{◌≡◌, ◌≤◌, ◌<◌, true, IfSome,
 ghost use Rattle.std.specs.List.{list_all};
 ghost use Rattle.std.specs.Char.{is_ascii_digit};
 ghost use Rattle.std.specs.Str.Parse.{digits_value};
-ghost use Rattle.cpi_codes.specs.Number.{is_number as is_number_text, number_of as number_in};
+ghost use Rattle.cpi_codes.specs.Number.{is_number_text, number_in};
 
 /// The number from `low` to `high` that the text writes, in decimal digits and nothing else: without a sign, and
 /// without leading zeros. The text may be of any length.

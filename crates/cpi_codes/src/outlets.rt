@@ -1,6 +1,6 @@
 //! Numbers of outlets.
 ghost use Rattle.std.specs.Prelude.{◌≡◌, ◌≤◌, SomeIff};
-ghost use Rattle.cpi_codes.specs.Number.{number_of as number_in};
+ghost use Rattle.cpi_codes.specs.Number.{number_in};
 
 use crate::number::number_of;
 use std::marker::Model;

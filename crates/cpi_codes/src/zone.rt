@@ -5,7 +5,7 @@ ghost use Rattle.jiff.specs.Words.{read_whole};
 ghost use Rattle.std.specs.Result.{result_ok};
 ghost use Rattle.cpi_codes.specs.Clock.{moment_in};
 ghost use Rattle.cpi_codes.specs.Picked.{PicksAsStated};
-ghost use Rattle.cpi_codes.specs.Zone.{Gives, OneAnswer};
+ghost use Rattle.cpi_codes.specs.Zone.{ZoneGives, OneAnswer};
 
 use crate::civil::civil_of;
 use crate::moments::Moment;
@@ -63,7 +63,7 @@ pub fn zone_of(text: &str) -> Result<Zone, MomentFault>
 /// `Text` and then `Range`.
 #[tactic(auto, using(crate::proofs::Clock::gives_moment))]
 pub fn moment_at(zone: &Zone, text: &[u8]) -> Result<Moment, MomentFault>
-    ensures gives { Gives zone.now text.now result }
+    ensures gives { ZoneGives zone.now text.now result }
     ensures value { result_ok result ≡ moment_in zone.now text.now }
 {
     given_at(zone, text)
@@ -71,7 +71,7 @@ pub fn moment_at(zone: &Zone, text: &[u8]) -> Result<Moment, MomentFault>
 
 // The same, told by what it gives alone.
 fn given_at(zone: &Zone, text: &[u8]) -> Result<Moment, MomentFault>
-    ensures { Gives zone.now text.now result }
+    ensures { ZoneGives zone.now text.now result }
 {
     let Some(civil) = civil_of(text) else {
         return Err(MomentFault::Text);

@@ -58,7 +58,8 @@ module _ {C D L : Type 0} (cabinet : Ghosts C D) (g : disk.Ghosts D) (meets : Me
       IsDoneFrom cabinet g was is (Serves meets Opens desk listener limit) input before after outcome closed
 
   abbrev as-visits : (outcome : Result (Rest L) RunFault) (d : IsDone outcome) (first : L) (visits : Visits) (last : L)
-      → ServesVisits meets desk first visits last _ (book_state over_files) d.4.done.book d.4.done.last None None None tt
+      → ServesVisits meets desk first visits last _ (book_state over_files) d.4.done.book d.4.done.last None
+      None None tt
       → HasDone cabinet g was (ServesVisits meets desk first visits last) closed is
   as-visits outcome d first visits last done =
       done-as cabinet g was is (Serves meets Opens desk listener limit) input before after outcome closed
@@ -259,7 +260,8 @@ module _ {C D L : Type 0} (cabinet : Ghosts C D) (g : disk.Ghosts D) (meets : Me
       → EndsWithBook cabinet g meets Opens desk (Some listener) left before now (Err why)
       → EndsAtDesk cabinet g meets Opens desk limit start now (Err why)
   next-ends before now listener left NoClock s some e =
-      let served = subst (λ first. HasDone cabinet g before (ServesVisits meets desk first e.1 e.2) e.3 now) e.4 e.5 in (
+      let served = subst (λ first. HasDone cabinet g before (ServesVisits meets desk first e.1 e.2) e.3 now)
+      e.4 e.5 in (
         e.2,
         length e.1 + s.count,
         e.3,

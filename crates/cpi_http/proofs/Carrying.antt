@@ -2,7 +2,7 @@
 use Rattle.std.proofs.Common.{◌≡◌, ℕ, Bool, true, false, ◌||◌, Ok, Err, refl, subst}
 use Rattle.cpi_release.specs.State.{State}
 use Rattle.cpi_store.specs.Office.{Office}
-use Rattle.cpi_office.specs.Calls.{is_failure}
+use Rattle.cpi_office.specs.Calls.{is_failure_of}
 use Rattle.cpi_office.specs.declared.caller.Caller.{Caller}
 use Rattle.cpi_office.specs.declared.request.Request.{Request}
 use Rattle.cpi_office.specs.declared.refusal.Refusal.TheVariants.{BadRequest}
@@ -11,29 +11,30 @@ use Rattle.cpi_office.specs.declared.reply.Reply.TheVariants.{Refused}
 use Rattle.cpi_wire.specs.declared.asks.Ask.TheVariants as ask
 use Rattle.cpi_wire.specs.Answer as answer
 use Rattle.cpi_wire.specs.Answers.{IsServed}
-use Rattle.cpi_wire.specs.Line.{line_of}
+use Rattle.cpi_wire.specs.Line.{line_of_reply}
 use Rattle.cpi_http.specs.declared.responses.Response.{Response}
-use Rattle.cpi_http.specs.Response.{IsCarriedOut, Says, form_asked, in_json, said_of}
+use Rattle.cpi_http.specs.Response.{IsCarriedOut, SaysResponse, form_asked, in_json, said_of}
 
 or-false : (b : Bool) → b ≡ (b || false)
 or-false true = refl
 or-false false = refl
 
 module _ {B : Type 0} (state : B → State Office) where
-  pub bad-carried : (old : B) (r : Response) → Says (in_json 400 (line_of (Refused BadRequest))) false r
+  pub bad-carried : (old : B) (r : Response) → SaysResponse (in_json 400 (line_of_reply (Refused BadRequest))) false r
       → IsCarriedOut state (Ok ask.Bad) old old r
   bad-carried old r says = (answer.One (Refused BadRequest), (refl, refl), says)
 
   pub refused-carried : (status : ℕ) (old : B) (r : Response)
-      → Says (in_json status (line_of (Refused BadRequest))) false r
+      → SaysResponse (in_json status (line_of_reply (Refused BadRequest))) false r
       → IsCarriedOut state (Err status) old old r
   refused-carried status old r says = (answer.One (Refused BadRequest), (refl, refl), says)
 
   pub one-carried : (now : ℕ) (caller : Caller) (request : Request) (reply : Reply) (old new : B) (r : Response)
-      → IsServed state now caller old request reply new → Says (said_of (form_asked request) reply) (is_failure reply) r
+      → IsServed state now caller old request reply new → SaysResponse (said_of (form_asked request) reply)
+      (is_failure_of reply) r
       → IsCarriedOut state (Ok (ask.One now caller request)) old new r
   one-carried now caller request reply old new r served says = (
     answer.One reply,
     served,
-    subst (λ b. Says (said_of (form_asked request) reply) b r) (or-false (is_failure reply)) says,
+    subst (λ b. SaysResponse (said_of (form_asked request) reply) b r) (or-false (is_failure_of reply)) says,
   )

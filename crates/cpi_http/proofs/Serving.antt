@@ -24,15 +24,15 @@ use Rattle.cpi_http.specs.Called.{Called, called_of}
 use Rattle.cpi_http.specs.Fields.{Header}
 use Rattle.cpi_http.specs.Framing.{framing_of}
 use Rattle.cpi_http.specs.Head.{ReadsHead, NeverHasHead}
-use Rattle.cpi_http.specs.HeadEnd.{IsReadFault}
-use Rattle.cpi_http.specs.Message.{Asked, Setting, headers_of, asked_by, IsBody, IsBodyAfter, refused, whole}
+use Rattle.cpi_http.specs.HeadEnd.{IsFaultOfReading}
+use Rattle.cpi_http.specs.Message.{MessageAsks, Setting, headers_of, asked_by, IsBody, IsBodyAfter, refused, whole}
 use Rattle.cpi_http.specs.Message.{headed, malformed, of_body}
-use Rattle.cpi_http.specs.Response.{Said, Says, ask_in, response_to, bytes_of}
-use Rattle.cpi_http.specs.Served.{Framing, Change, Gives, IsServed, GaveUp, SendFails, bodies, messages}
+use Rattle.cpi_http.specs.Response.{Said, SaysResponse, ask_in, response_to, body_bytes}
+use Rattle.cpi_http.specs.Served.{Framing, ServedChange, StreamGives, IsServed, GaveUp, SendFails, bodies, messages}
 
 -- the bytes of a response
-pub said-bytes : (said : Said) (failed : Bool) (r : Response) → Says said failed r
-    → http_of r.status r.content r.body.items ≡ bytes_of said
+pub said-bytes : (said : Said) (failed : Bool) (r : Response) → SaysResponse said failed r
+    → http_of r.status r.content r.body.items ≡ body_bytes said
 said-bytes said failed r is =
     ap₂ (λ s t. http_of s t r.body.items) is.0 is.1 ∙ ap (http_of said.status said.content) is.2
 
@@ -53,11 +53,11 @@ module _ {B : Type 0} (state : B → State Office) where
     answers = a;
   }
 
-  module _ (f : Framing) (old new : Option (List ℕ)) (c : Change B) where
-    pub sent-ok : (m : Asked) (told : Answer) (r : Result Served WireFault) (bytes : List ℕ) (status : ℕ)
+  module _ (f : Framing) (old new : Option (List ℕ)) (c : ServedChange B) where
+    pub sent-ok : (m : MessageAsks) (told : Answer) (r : Result Served WireFault) (bytes : List ℕ) (status : ℕ)
         (failed : Bool)
-        → Gives f old new m → Answers state c.before (ask_in m) told c.now
-        → bytes ≡ bytes_of (response_to m told) → status ≡ (response_to m told).status
+        → StreamGives f old new m → Answers state c.before (ask_in m) told c.now
+        → bytes ≡ body_bytes (response_to m told) → status ≡ (response_to m told).status
         → failed ≡ some_fails (all_replies told)
         → IfOk r (λ served. served ≡ Answered status failed) → OnOk r (Appends c.written c.writing bytes)
         → IfOk r (IsServed state f old new c)
@@ -73,8 +73,9 @@ module _ {B : Type 0} (state : B → State Office) where
         })
     sent-ok m told (Err e) bytes status failed gives answers same st fa is sent = tt
 
-    send-failed : (m : Asked) (told : Answer) (bytes : List ℕ) (e : WireFault)
-        → Gives f old new m → Answers state c.before (ask_in m) told c.now → bytes ≡ bytes_of (response_to m told)
+    send-failed : (m : MessageAsks) (told : Answer) (bytes : List ℕ) (e : WireFault)
+        → StreamGives f old new m → Answers state c.before (ask_in m) told c.now → bytes ≡ body_bytes
+        (response_to m told)
         → SendFails c.written c.writing bytes e → GaveUp state f old new c e
     send-failed m told bytes fault.Read gives answers same h = absurd h
     send-failed m told bytes fault.Write gives answers same h = record {
@@ -89,20 +90,21 @@ module _ {B : Type 0} (state : B → State Office) where
     send-failed m told bytes fault.NoMemory gives answers same h =
         (inr (m, gives, answered-begun c.before c.now (ask_in m) told answers), h)
 
-    pub sent-err : (m : Asked) (told : Answer) (r : Result Served WireFault) (bytes : List ℕ)
-        → Gives f old new m → Answers state c.before (ask_in m) told c.now → bytes ≡ bytes_of (response_to m told)
+    pub sent-err : (m : MessageAsks) (told : Answer) (r : Result Served WireFault) (bytes : List ℕ)
+        → StreamGives f old new m → Answers state c.before (ask_in m) told c.now → bytes ≡ body_bytes
+        (response_to m told)
         → IfErr r (SendFails c.written c.writing bytes) → IfErr r (GaveUp state f old new c)
     sent-err m told (Ok served) bytes gives answers same h = tt
     sent-err m told (Err e) bytes gives answers same h = send-failed m told bytes e gives answers same h
 
     -- memory ran out while the message was carried out
-    pub gave-up-memory : (m : Asked) → Gives f old new m → Begins state c.before (ask_in m) c.now
+    pub gave-up-memory : (m : MessageAsks) → StreamGives f old new m → Begins state c.before (ask_in m) c.now
         → Keeps c.written c.writing
         → GaveUp state f old new c fault.NoMemory
     gave-up-memory m gives begun kept = (inr (m, gives, begun), kept)
 
     -- a fault of reading
-    pub gave-up-reading : (e : WireFault) → IsReadFault e → c.now ≡ c.before → Keeps c.written c.writing
+    pub gave-up-reading : (e : WireFault) → IsFaultOfReading e → c.now ≡ c.before → Keeps c.written c.writing
         → GaveUp state f old new c e
     gave-up-reading fault.Read is same kept = (same, kept)
     gave-up-reading fault.Write is same kept = absurd is
@@ -111,20 +113,20 @@ module _ {B : Type 0} (state : B → State Office) where
 -- a head that is refused before its body
 pub gives-refused : (now : ℕ) (zone : ZoneRule) (size : Result ℕ ℕ) (called : Called) (path : List ℕ) (status : ℕ)
     (input : Option (List ℕ))
-    → size ≡ Err status → Gives (bodies now zone size called path) input input (Err status)
+    → size ≡ Err status → StreamGives (bodies now zone size called path) input input (Err status)
 gives-refused now zone size called path status input is = ([], Consumes-nil input, refused status is refl)
 
 -- a head and its whole body
 pub gives-whole : (now : ℕ) (zone : ZoneRule) (size : Result ℕ ℕ) (called : Called) (path body : List ℕ)
     (old new : Option (List ℕ)) (n : ℕ)
     → size ≡ Ok n → length body ≡ n → Consumes old new body
-    → Gives (bodies now zone size called path) old new (asked_by now zone called path body)
+    → StreamGives (bodies now zone size called path) old new (asked_by now zone called path body)
 gives-whole now zone size called path body old new n is sized taken = (body, taken, whole (is ∙ ap Ok (sym sized)))
 
 -- a head that none could become
 pub gives-malformed : (s : Setting) (taken : List ℕ) (old new : Option (List ℕ)) → NeverHasHead taken
     → Consumes old new taken
-    → Gives (messages s) old new (Err 400)
+    → StreamGives (messages s) old new (Err 400)
 gives-malformed s taken old new never is = (taken, is, malformed never)
 
 -- ---- a head and what follows it
@@ -158,21 +160,22 @@ are-parts s h headers method path size called hs ms ps sized calls = record {
 module _ (s : Setting) (head : List ℕ) (h : RequestHead) (size : Result ℕ ℕ) (called : Called) (path : List ℕ)
     (old mid new : Option (List ℕ)) (reads : ReadsHead head h []) (parts : AreParts s h size called path)
     (taken : Consumes old mid head) where
-  body-after : (body : List ℕ) (m : Asked) → IsBody s.now s.zone size called path body m → IsBodyAfter s h body m
+  body-after : (body : List ℕ) (m : MessageAsks) → IsBody s.now s.zone size called path body m → IsBodyAfter s h body m
   body-after body m is =
       subst (λ x. IsBody s.now s.zone x (called_of s.desk_key (headers_of h) h.method h.target) h.target body m)
       parts.size_is
       (subst (λ x. IsBody s.now s.zone size x h.target body m) parts.called_is
       (subst (λ x. IsBody s.now s.zone size called x body m) parts.path_is is))
 
-  gives-headed : (m : Asked) → Gives (bodies s.now s.zone size called path) mid new m → Gives (messages s) old new m
+  gives-headed : (m : MessageAsks) → StreamGives (bodies s.now s.zone size called path) mid new m → StreamGives
+      (messages s) old new m
   gives-headed m gives = (
     head ++ gives.0,
     Consumes-trans old mid new head gives.0 taken gives.1,
     headed h gives.0 m (reads-more head gives.0 h reads) (body-after gives.0 m gives.2),
   )
 
-  module _ {B : Type 0} (state : B → State Office) (c : Change B) where
+  module _ {B : Type 0} (state : B → State Office) (c : ServedChange B) where
     served-headed : (r : Served) → IsServed state (bodies s.now s.zone size called path) mid new c r
         → IsServed state (messages s) old new c r
     served-headed Cut is = (

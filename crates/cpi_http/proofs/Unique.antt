@@ -7,7 +7,7 @@ use Rattle.cpi_codes.specs.Zone.{ZoneRule}
 use Rattle.cpi_http.specs.Called.{Called, called_of}
 use Rattle.cpi_http.specs.Framing.{framing_of}
 use Rattle.cpi_http.specs.Head.{ReadsHead}
-use Rattle.cpi_http.specs.Message.{Asked, Setting, IsMessage, malformed, headed, IsBody, IsBodyAfter, refused}
+use Rattle.cpi_http.specs.Message.{MessageAsks, Setting, IsMessage, malformed, headed, IsBody, IsBodyAfter, refused}
 use Rattle.cpi_http.specs.Message.{whole, headers_of, asked_by}
 
 -- the head of a message is the head of each longer stream
@@ -27,7 +27,8 @@ ok-same : {a b : ℕ} → ◌≡◌ {A = Result ℕ ℕ} (Ok a) (Ok b) → a ≡
 ok-same e = cc
 
 -- two bodies of one head
-bodies-same : (now : ℕ) (zone : ZoneRule) (size : Result ℕ ℕ) (called : Called) (path a b r s : List ℕ) (m n : Asked)
+bodies-same : (now : ℕ) (zone : ZoneRule) (size : Result ℕ ℕ) (called : Called) (path a b r s : List ℕ)
+    (m n : MessageAsks)
     → a ++ r ≡ b ++ s
     → IsBody now zone size called path a m → IsBody now zone size called path b n → m ≡ n
 bodies-same now zone size called path a b r s _ _ e (refused x p nil) (refused y q nil') = let same = sym p ∙ q in cc
@@ -37,7 +38,7 @@ bodies-same now zone size called path a b r s _ _ e (whole p) (whole q) =
     ap (asked_by now zone called path) (front-same a b r s e (ok-same (sym p ∙ q)))
 
 -- two messages at the front of one stream are the same
-pub message-unique : (s : Setting) (taken other left rest : List ℕ) (m n : Asked) → taken ++ left ≡ other ++ rest
+pub message-unique : (s : Setting) (taken other left rest : List ℕ) (m n : MessageAsks) → taken ++ left ≡ other ++ rest
     → IsMessage s taken m → IsMessage s other n → m ≡ n
 message-unique s taken other left rest _ _ e (malformed p) (malformed q) = refl
 message-unique s taken other left rest _ _ e (malformed p) (headed h body n reads is) =

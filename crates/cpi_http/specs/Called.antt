@@ -2,7 +2,7 @@
 use Rattle.std.specs.Prelude.{ℕ, List, Option, Some, None, Result, Ok, Err, codes}
 use Rattle.cpi_office.specs.declared.caller.Caller.{Caller}
 use Rattle.cpi_http.specs.declared.routes.Route.{Route}
-use Rattle.cpi_http.specs.Callers.{caller_of}
+use Rattle.cpi_http.specs.Callers.{caller_in_fields}
 use Rattle.cpi_http.specs.Fields.{Header, values_named}
 use Rattle.cpi_http.specs.Routes.{route_of}
 
@@ -20,4 +20,4 @@ called_by (Some route) caller = with_caller route caller
 
 abbrev pub called_of : ℕ → List Header → List ℕ → List ℕ → Called
 called_of desk_key headers method path =
-    called_by (route_of method path) (caller_of desk_key (values_named (codes "authorization") headers))
+    called_by (route_of method path) (caller_in_fields desk_key (values_named (codes "authorization") headers))

@@ -7,18 +7,18 @@ use Rattle.cpi_office.specs.declared.caller.Caller.TheVariants.{Public, Collecto
 use Rattle.cpi_http.specs.Fields.{after_scheme}
 
 -- whoever has the desk's key is the desk
-abbrev pub bearer_of : ℕ → ℕ → Caller
-bearer_of desk_key key = if key == desk_key then Desk else Collector key
+abbrev pub caller_of_key : ℕ → ℕ → Caller
+caller_of_key desk_key key = if key == desk_key then Desk else Collector key
 
 -- the scheme `CPI-Key` in any case, one or more spaces, and a key
 abbrev pub caller_named : ℕ → List ℕ → Option Caller
 caller_named desk_key value = do
   text ← after_scheme (codes "CPI-Key ") value
   key ← key_of text
-  Some (bearer_of desk_key key)
+  Some (caller_of_key desk_key key)
 
 -- no field is the public, and two are nobody
-abbrev pub caller_of : ℕ → List (List ℕ) → Option Caller
-caller_of desk_key [] = Some Public
-caller_of desk_key (value ∷ []) = caller_named desk_key value
-caller_of desk_key (value ∷ other ∷ values) = None
+abbrev pub caller_in_fields : ℕ → List (List ℕ) → Option Caller
+caller_in_fields desk_key [] = Some Public
+caller_in_fields desk_key (value ∷ []) = caller_named desk_key value
+caller_in_fields desk_key (value ∷ other ∷ values) = None

@@ -18,7 +18,7 @@ HeadEndIs taken fields left Malformed = NeverHasHead taken
 HeadEndIs taken fields left Cut = HasNoHead taken × MayGoOn taken × IsAtEnd left
 
 -- a fault of reading, or want of memory
-abbrev pub IsReadFault : WireFault → Type 0
-IsReadFault fault.Read = ⊤
-IsReadFault fault.Write = ⊥
-IsReadFault fault.NoMemory = ⊤
+abbrev pub IsFaultOfReading : WireFault → Type 0
+IsFaultOfReading fault.Read = ⊤
+IsFaultOfReading fault.Write = ⊥
+IsFaultOfReading fault.NoMemory = ⊤

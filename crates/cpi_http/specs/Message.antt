@@ -11,8 +11,8 @@ use Rattle.cpi_http.specs.Head.{ReadsHead, HasNoHead, NeverHasHead, MayGoOn}
 use Rattle.cpi_http.specs.RouteAsks.{ask_of_route}
 
 -- what a message asks, or the status that refuses it
-abbrev pub Asked : Type 0
-Asked = Result Ask ℕ
+abbrev pub MessageAsks : Type 0
+MessageAsks = Result Ask ℕ
 
 -- when a message comes, in seconds since 1970 UTC, by which clock its civil times are read, and the desk's key
 pub record Setting : Type 0 where
@@ -26,18 +26,18 @@ setting now zone desk_key = record { now = now; zone = zone; desk_key = desk_key
 -- ---- after the head
 
 -- what makes no record is refused
-abbrev pub or_refused : Option Ask → Asked
+abbrev pub or_refused : Option Ask → MessageAsks
 or_refused None = Err 400
 or_refused (Some ask) = Ok ask
 
 -- a route with its caller, its path and its body
-abbrev pub asked_by : ℕ → ZoneRule → Called → List ℕ → List ℕ → Asked
+abbrev pub asked_by : ℕ → ZoneRule → Called → List ℕ → List ℕ → MessageAsks
 asked_by now zone (Ok called) path body = or_refused (ask_of_route zone now called.1 called.0 path body)
 asked_by now zone (Err status) path body = Err status
 
 -- the bytes behind a head are its body, or the message is refused before its body is read
 pub data IsBody (now : ℕ) (zone : ZoneRule) (size : Result ℕ ℕ) (called : Called) (path taken : List ℕ)
-    : Asked → Type 0 where
+    : MessageAsks → Type 0 where
   refused : (status : ℕ) → size ≡ Err status → taken ≡ [] → IsBody now zone size called path taken (Err status)
   whole : size ≡ Ok (length taken) → IsBody now zone size called path taken (asked_by now zone called path taken)
 
@@ -47,15 +47,15 @@ abbrev pub headers_of : RequestHead → List Header
 headers_of h = map name_and_value h.fields
 
 -- the bytes behind the head h are its body
-abbrev pub IsBodyAfter : Setting → RequestHead → List ℕ → Asked → Type 0
+abbrev pub IsBodyAfter : Setting → RequestHead → List ℕ → MessageAsks → Type 0
 IsBodyAfter s h body m =
     IsBody s.now s.zone (framing_of (headers_of h)) (called_of s.desk_key (headers_of h) h.method h.target) h.target
     body m
 
 -- The bytes that were taken are a message: a head and its body, or such that no head comes of them, which is refused.
-pub data IsMessage (s : Setting) (taken : List ℕ) : Asked → Type 0 where
+pub data IsMessage (s : Setting) (taken : List ℕ) : MessageAsks → Type 0 where
   malformed : NeverHasHead taken → IsMessage s taken (Err 400)
-  headed : (h : RequestHead) (body : List ℕ) (m : Asked) → ReadsHead taken h body → IsBodyAfter s h body m
+  headed : (h : RequestHead) (body : List ℕ) (m : MessageAsks) → ReadsHead taken h body → IsBodyAfter s h body m
       → IsMessage s taken m
 
 -- the bytes that were taken are a part of a message: of its head, or its head and a part of its body

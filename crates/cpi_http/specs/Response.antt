@@ -13,15 +13,15 @@ use Rattle.cpi_wire.specs.Answer as answer
 use Rattle.cpi_wire.specs.Answers.{Answers, some_fails}
 use Rattle.cpi_wire.specs.declared.asks.Ask.{Ask}
 use Rattle.cpi_wire.specs.declared.asks.Ask.TheVariants as ask
-use Rattle.cpi_wire.specs.Line.{line_of}
+use Rattle.cpi_wire.specs.Line.{line_of_reply}
 use Rattle.cpi_wire.specs.Lines.{all_replies}
 use Rattle.cpi_wire.specs.Rows.{answer_line}
 use Rattle.cpi_http.specs.declared.bytes.Content.{Content}
 use Rattle.cpi_http.specs.declared.bytes.Content.TheVariants as content
 use Rattle.cpi_http.specs.declared.responses.Response.{Response}
 use Rattle.cpi_http.specs.Bytes.{http_of}
-use Rattle.cpi_http.specs.Message.{Asked}
-use Rattle.cpi_http.specs.Statuses.{status_of}
+use Rattle.cpi_http.specs.Message.{MessageAsks}
+use Rattle.cpi_http.specs.Statuses.{status_of_reply}
 
 -- what a response says, before it is put into bytes
 pub record Said : Type 0 where
@@ -49,7 +49,7 @@ form_asked other = None
 -- a table that was found is sent as it was printed, and every other reply as its line
 abbrev pub said_of : Option Form → Reply → Said
 said_of (Some f) (reply.Table printed) = as_printed f printed
-said_of f reply = in_json (status_of reply) (line_of reply)
+said_of f reply = in_json (status_of_reply reply) (line_of_reply reply)
 
 -- an import that was carried out has the status 200, whatever its rows were told
 abbrev pub said_to : Ask → Answer → Said
@@ -59,25 +59,25 @@ said_to (ask.One now caller request) (answer.Rows replies) = in_json 200 (answer
 said_to (ask.Import now caller rows) told = in_json 200 (answer_line told)
 
 -- a message that is refused is told so by its status
-abbrev pub response_to : Asked → Answer → Said
+abbrev pub response_to : MessageAsks → Answer → Said
 response_to (Ok ask) told = said_to ask told
 response_to (Err status) told = in_json status (answer_line told)
 
-abbrev pub bytes_of : Said → List ℕ
-bytes_of said = http_of said.status said.content said.body
+abbrev pub body_bytes : Said → List ℕ
+body_bytes said = http_of said.status said.content said.body
 
 -- the value that the program holds says this, and whether the office was unavailable
-abbrev pub Says : Said → Bool → Response → Type 0
-Says said failed r =
+abbrev pub SaysResponse : Said → Bool → Response → Type 0
+SaysResponse said failed r =
     (r.status ≡ said.status) × (r.content ≡ said.content) × (r.body.items ≡ said.body) × (r.failed ≡ failed)
 
 -- what the office is asked: nothing by a message that is refused
-abbrev pub ask_in : Asked → Ask
+abbrev pub ask_in : MessageAsks → Ask
 ask_in (Ok ask) = ask
 ask_in (Err status) = ask.Bad
 
 -- the message was carried out, and this is the response
-abbrev pub IsCarriedOut : {B : Type 0} (state : B → State Office) → Asked → B → B → Response → Type 0
+abbrev pub IsCarriedOut : {B : Type 0} (state : B → State Office) → MessageAsks → B → B → Response → Type 0
 IsCarriedOut state m old new response =
     (told : Answer) × Answers state old (ask_in m) told new
-    × Says (response_to m told) (some_fails (all_replies told)) response
+    × SaysResponse (response_to m told) (some_fails (all_replies told)) response

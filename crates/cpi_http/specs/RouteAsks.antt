@@ -5,11 +5,11 @@ use Rattle.cpi_codes.specs.Following.{◌>>=◌}
 use Rattle.cpi_codes.specs.Zone.{ZoneRule}
 use Rattle.cpi_office.specs.declared.caller.Caller.{Caller}
 use Rattle.cpi_wire.specs.declared.asks.Ask.{Ask}
-use Rattle.cpi_wire.specs.OnlyRows.{only_row}
-use Rattle.cpi_wire.specs.Record.{asks}
+use Rattle.cpi_wire.specs.OnlyRows.{only_row_of}
+use Rattle.cpi_wire.specs.Record.{spelled_asks}
 use Rattle.cpi_http.specs.declared.routes.Route.{Route}
 use Rattle.cpi_http.specs.declared.routes.Route.TheVariants as route
-use Rattle.cpi_http.specs.Routes.{word_of}
+use Rattle.cpi_http.specs.Routes.{word_of_route}
 
 -- the parts of a path between its slashes
 abbrev pub parts_of : List ℕ → List (List ℕ)
@@ -21,15 +21,16 @@ path_arguments path = drop 2 (parts_of path)
 
 -- a word whose last arguments are the fields of the body's one row
 abbrev pub ask_by_row : ZoneRule → ℕ → Caller → List ℕ → List (List ℕ) → List ℕ → Option Ask
-ask_by_row zone now caller word front body = only_row body >>= λ fields. asks zone now caller word (front ++ fields)
+ask_by_row zone now caller word front body = only_row_of body >>= λ fields. spelled_asks zone now caller word
+    (front ++ fields)
 
 -- The arguments of the path come first. Behind them stand for a quote the fields of the body's one row, for a plan and
 -- an import the body itself, and for another route nothing.
 abbrev pub ask_of_route : ZoneRule → ℕ → Caller → Route → List ℕ → List ℕ → Option Ask
 ask_of_route zone now caller route.Quote path body =
-    ask_by_row zone now caller (word_of route.Quote) (path_arguments path) body
+    ask_by_row zone now caller (word_of_route route.Quote) (path_arguments path) body
 ask_of_route zone now caller route.Plan path body =
-    asks zone now caller (word_of route.Plan) (path_arguments path ++ body ∷ [])
+    spelled_asks zone now caller (word_of_route route.Plan) (path_arguments path ++ body ∷ [])
 ask_of_route zone now caller route.Import path body =
-    asks zone now caller (word_of route.Import) (path_arguments path ++ body ∷ [])
-ask_of_route zone now caller other path body = asks zone now caller (word_of other) (path_arguments path)
+    spelled_asks zone now caller (word_of_route route.Import) (path_arguments path ++ body ∷ [])
+ask_of_route zone now caller other path body = spelled_asks zone now caller (word_of_route other) (path_arguments path)

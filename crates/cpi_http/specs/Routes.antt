@@ -17,35 +17,35 @@ with_parsed (Ok scan) p routes = placed (scan.pattern, route_from scan p) routes
 with_parsed (Err e) p routes = routes
 
 -- one row of the table of routes
-pub record Row : Type 0 where
+pub record RouteRow : Type 0 where
   pub method : List ℕ
   pub path : List ℕ  -- with its parameters in braces
   pub word : List ℕ
 
-abbrev row : List ℕ → List ℕ → List ℕ → Row
+abbrev row : List ℕ → List ℕ → List ℕ → RouteRow
 row method path word = record { method = method; path = path; word = word }
 
 -- the table
-abbrev pub row_of : Route → Row
-row_of route.Items = row (codes "GET") (codes "/items") (codes "items")
-row_of route.Tables = row (codes "GET") (codes "/tables") (codes "tables")
-row_of route.Table = row (codes "GET") (codes "/table/{month}/{form}") (codes "table")
-row_of route.TableRevision = row (codes "GET") (codes "/table/{month}/{form}/{revision}") (codes "table")
-row_of route.Work = row (codes "GET") (codes "/work/{month}") (codes "work")
-row_of route.Quotes = row (codes "GET") (codes "/quotes/{first}/{last}") (codes "quotes")
-row_of route.Quote = row (codes "PUT") (codes "/quote/{slot}/{month}") (codes "quote")
-row_of route.Plan = row (codes "PUT") (codes "/plan/{year}") (codes "plan")
-row_of route.Import = row (codes "POST") (codes "/import") (codes "import")
+abbrev pub row_of_route : Route → RouteRow
+row_of_route route.Items = row (codes "GET") (codes "/items") (codes "items")
+row_of_route route.Tables = row (codes "GET") (codes "/tables") (codes "tables")
+row_of_route route.Table = row (codes "GET") (codes "/table/{month}/{form}") (codes "table")
+row_of_route route.TableRevision = row (codes "GET") (codes "/table/{month}/{form}/{revision}") (codes "table")
+row_of_route route.Work = row (codes "GET") (codes "/work/{month}") (codes "work")
+row_of_route route.Quotes = row (codes "GET") (codes "/quotes/{first}/{last}") (codes "quotes")
+row_of_route route.Quote = row (codes "PUT") (codes "/quote/{slot}/{month}") (codes "quote")
+row_of_route route.Plan = row (codes "PUT") (codes "/plan/{year}") (codes "plan")
+row_of_route route.Import = row (codes "POST") (codes "/import") (codes "import")
 
 abbrev pub method_of : Route → List ℕ
-method_of p = (row_of p).method
+method_of p = (row_of_route p).method
 
-abbrev pub word_of : Route → List ℕ
-word_of p = (row_of p).word
+abbrev pub word_of_route : Route → List ℕ
+word_of_route p = (row_of_route p).word
 
 -- the routes, and one more
 abbrev pub with_route : Routes → Route → Routes
-with_route routes p = with_parsed (parse_route (row_of p).path) p routes
+with_route routes p = with_parsed (parse_route (row_of_route p).path) p routes
 
 -- all routes
 unfoldable pub all_routes : Routes

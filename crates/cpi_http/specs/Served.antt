@@ -12,12 +12,12 @@ use Rattle.cpi_wire.specs.declared.fault.WireFault.TheVariants as fault
 use Rattle.cpi_http.specs.declared.serve.Served.{Served}
 use Rattle.cpi_http.specs.declared.serve.Served.TheVariants as served
 use Rattle.cpi_http.specs.Called.{Called}
-use Rattle.cpi_http.specs.Message.{Asked, Setting, IsBody, IsMessage, IsPart}
-use Rattle.cpi_http.specs.Response.{ask_in, response_to, bytes_of}
+use Rattle.cpi_http.specs.Message.{MessageAsks, Setting, IsBody, IsMessage, IsPart}
+use Rattle.cpi_http.specs.Response.{ask_in, response_to, body_bytes}
 
 -- what the bytes of a stream may be: a message, which asks for something or is refused, or a part of one
 pub record Framing : Type 1 where
-  pub message : List ℕ → Asked → Type 0
+  pub message : List ℕ → MessageAsks → Type 0
   pub part : List ℕ → Type 0
 
 -- a stream of one message
@@ -32,22 +32,22 @@ bodies now zone size called path = record {
 }
 
 -- the stream gave a message, exactly the bytes that were taken
-abbrev pub Gives : Framing → Option (List ℕ) → Option (List ℕ) → Asked → Type 0
-Gives f old new m = (taken : List ℕ) × Consumes old new taken × f.message taken m
+abbrev pub StreamGives : Framing → Option (List ℕ) → Option (List ℕ) → MessageAsks → Type 0
+StreamGives f old new m = (taken : List ℕ) × Consumes old new taken × f.message taken m
 
 -- the stream ended within a message
 abbrev pub EndsWithin : Framing → Option (List ℕ) → Option (List ℕ) → Type 0
 EndsWithin f old new = (taken : List ℕ) × Consumes old new taken × IsAtEnd new × f.part taken
 
 -- the book, and the bytes of the writer, before and after
-pub record Change (B : Type 0) : Type 0 where
+pub record ServedChange (B : Type 0) : Type 0 where
   pub before : B
   pub now : B
   pub written : Option (List ℕ)
   pub writing : Option (List ℕ)
 
-abbrev pub change : {B : Type 0} → B → B → Option (List ℕ) → Option (List ℕ) → Change B
-change before now written writing = record { before = before; now = now; written = written; writing = writing }
+abbrev pub served_change : {B : Type 0} → B → B → Option (List ℕ) → Option (List ℕ) → ServedChange B
+served_change before now written writing = record { before = before; now = now; written = written; writing = writing }
 
 -- why a response wasn't written whole
 abbrev pub SendFails : Option (List ℕ) → Option (List ℕ) → List ℕ → WireFault → Type 0
@@ -55,14 +55,14 @@ SendFails old new bytes fault.Read = ⊥
 SendFails old new bytes fault.Write = (count : ℕ) × (count < length bytes) × Appends old new (take count bytes)
 SendFails old new bytes fault.NoMemory = Keeps old new
 
-module _ {B : Type 0} (state : B → State Office) (f : Framing) (old new : Option (List ℕ)) (c : Change B) where
+module _ {B : Type 0} (state : B → State Office) (f : Framing) (old new : Option (List ℕ)) (c : ServedChange B) where
   -- a message was read, carried out and answered in these bytes
   pub record IsAnswered (status : ℕ) (failed : Bool) : Type 0 where
-    pub asked : Asked
+    pub asked : MessageAsks
     pub told : Answer
-    pub gives : Gives f old new asked
+    pub gives : StreamGives f old new asked
     pub answers : Answers state c.before (ask_in asked) told c.now
-    pub written : Appends c.written c.writing (bytes_of (response_to asked told))
+    pub written : Appends c.written c.writing (body_bytes (response_to asked told))
     pub status_is : status ≡ (response_to asked told).status
     pub failed_is : failed ≡ some_fails (all_replies told)
 
@@ -73,13 +73,13 @@ module _ {B : Type 0} (state : B → State Office) (f : Framing) (old new : Opti
 
   -- a message was carried out, and of its response a part alone was written
   pub record IsCutOff : Type 0 where
-    pub asked : Asked
+    pub asked : MessageAsks
     pub told : Answer
     pub count : ℕ
-    pub gives : Gives f old new asked
+    pub gives : StreamGives f old new asked
     pub answers : Answers state c.before (ask_in asked) told c.now
-    pub short : count < length (bytes_of (response_to asked told))
-    pub written : Appends c.written c.writing (take count (bytes_of (response_to asked told)))
+    pub short : count < length (body_bytes (response_to asked told))
+    pub written : Appends c.written c.writing (take count (body_bytes (response_to asked told)))
 
   -- the connection was given up: nothing was done; the message was carried out, but not answered whole; or memory was
   -- refused, and the message was not begun, or some first commands of it were carried out
@@ -87,5 +87,5 @@ module _ {B : Type 0} (state : B → State Office) (f : Framing) (old new : Opti
   GaveUp fault.Read = (c.now ≡ c.before) × Keeps c.written c.writing
   GaveUp fault.Write = IsCutOff
   GaveUp fault.NoMemory =
-      ((c.now ≡ c.before) ⊎ ((m : Asked) × Gives f old new m × Begins state c.before (ask_in m) c.now))
+      ((c.now ≡ c.before) ⊎ ((m : MessageAsks) × StreamGives f old new m × Begins state c.before (ask_in m) c.now))
       × Keeps c.written c.writing

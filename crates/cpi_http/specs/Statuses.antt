@@ -16,6 +16,6 @@ status_of_refusal refusal.NoTable = 404
 status_of_refusal refusal.Unavailable = 503
 status_of_refusal other = 409
 
-abbrev pub status_of : Reply → ℕ
-status_of (reply.Refused why) = status_of_refusal why
-status_of other = 200
+abbrev pub status_of_reply : Reply → ℕ
+status_of_reply (reply.Refused why) = status_of_refusal why
+status_of_reply other = 200

@@ -1,7 +1,7 @@
 //! Reading the body of a request.
 ghost use Rattle.std.specs.Prelude.{◌≡◌, ◌<◌, length, take, true, false, IfOk, IfErr, ℕ, cond, if◌then◌else◌};
 ghost use Rattle.std.specs.Io.KnownBytes.{Consumes, IsAtEnd};
-ghost use Rattle.cpi_http.specs.HeadEnd.{IsReadFault};
+ghost use Rattle.cpi_http.specs.HeadEnd.{IsFaultOfReading};
 ghost use Rattle.cpi_http.specs.Body.{FillsFrom, IsBodyOf};
 
 use crate::read::read_some;
@@ -36,7 +36,7 @@ pub fn receive_body<R: Read>(
     calls_left: &mut u32,
     n: usize,
 ) -> Result<Option<Vec<u8>>, WireFault>
-    ensures fault { IfErr result IsReadFault }
+    ensures fault { IfErr result IsFaultOfReading }
     ensures body { IfOk result (IsBodyOf (R.remaining reader.old) (R.remaining reader.new) n) }
 {
     let mut body = vec![in alloc; 0; n]?;

@@ -4,7 +4,7 @@ ghost use Rattle.httparse.specs.Spans.{IsHeaderWithin, header_bytes};
 ghost use Rattle.cpi_http.specs.Called.{called_of};
 ghost use Rattle.cpi_http.specs.Routes.{all_routes};
 
-use crate::callers::caller_of;
+use crate::callers::caller_in_fields;
 use crate::routes::{Route, route_of};
 use cpi_codes::Key;
 use cpi_office::Caller;
@@ -29,7 +29,7 @@ pub(crate) fn called_of(
     let Some(route) = route_of(routes, method, path) else {
         return Err(StatusCode::NOT_FOUND);
     };
-    match caller_of(desk_key, buf, fields) {
+    match caller_in_fields(desk_key, buf, fields) {
         Some(caller) => Ok((route, caller)),
         None => Err(StatusCode::BAD_REQUEST),
     }

@@ -2,7 +2,7 @@
 ghost use Rattle.std.specs.Prelude.{◌≡◌, length, map, All, codes};
 ghost use Rattle.httparse.specs.Spans.{IsHeaderWithin, header_bytes};
 ghost use Rattle.cpi_http.specs.Fields.{values_named};
-ghost use Rattle.cpi_http.specs.Callers.{bearer_of, caller_named, caller_of};
+ghost use Rattle.cpi_http.specs.Callers.{caller_of_key, caller_named, caller_in_fields};
 
 use crate::fields::{Named, after_scheme, find};
 use cpi_codes::Key;
@@ -10,8 +10,8 @@ use cpi_office::Caller;
 use httparse::spans::HeaderSpan;
 
 // Whoever bears a key. Keys are compared as numbers.
-fn bearer_of(desk_key: Key, key: Key) -> Caller
-    ensures { result ≡ bearer_of desk_key key }
+fn caller_of_key(desk_key: Key, key: Key) -> Caller
+    ensures { result ≡ caller_of_key desk_key key }
 {
     if key == desk_key {
         Caller::Desk
@@ -26,15 +26,15 @@ fn caller_named(desk_key: Key, value: &[u8]) -> Option<Caller>
 {
     let text = after_scheme(b"CPI-Key ", value)?;
     let key = Key::parse(text)?;
-    Some(bearer_of(desk_key, key))
+    Some(caller_of_key(desk_key, key))
 }
 
 /// The caller of a message: the public without the field `Authorization`; none where it stands twice, or isn't
 /// `CPI-Key` in any case, one or more spaces and a key.
-pub(crate) fn caller_of(desk_key: Key, buf: &[u8], fields: &[HeaderSpan]) -> Option<Caller>
+pub(crate) fn caller_in_fields(desk_key: Key, buf: &[u8], fields: &[HeaderSpan]) -> Option<Caller>
     requires { All (IsHeaderWithin (length buf.now)) fields.now }
     ensures { let values = values_named (codes "authorization") (map (header_bytes buf.now) fields.now) in
-        result ≡ caller_of desk_key values }
+        result ≡ caller_in_fields desk_key values }
 {
     match find(buf, fields, b"authorization") {
         Named::Never => Some(Caller::Public),

@@ -1,7 +1,7 @@
 //! Reading the head of a request.
 ghost use Rattle.std.specs.Prelude.{◌≡◌, ◌≤◌, [], ◌∷◌, ◌++◌, length, OnOk, IfOk, IfErr};
 ghost use Rattle.std.specs.Io.KnownBytes.{Consumes};
-ghost use Rattle.cpi_http.specs.HeadEnd.{HeadEndIs, IsReadFault};
+ghost use Rattle.cpi_http.specs.HeadEnd.{HeadEndIs, IsFaultOfReading};
 
 use crate::read::{MAX_HEAD_LENGTH, read_byte};
 use cpi_wire::WireFault;
@@ -38,7 +38,7 @@ pub fn read_head<R: Read>(
     requires empty { buf.old.items ≡ [] }
     requires room { length fields.old ≡ 64 }
     ensures bytes { OnOk result (Consumes (R.remaining reader.old) (R.remaining reader.new) buf.new.items) }
-    ensures fault { IfErr result IsReadFault }
+    ensures fault { IfErr result IsFaultOfReading }
     ensures head { IfOk result (HeadEndIs buf.new.items fields.new (R.remaining reader.new)) }
 {
     'bytes: while buf.len() < MAX_HEAD_LENGTH {

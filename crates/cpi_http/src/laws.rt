@@ -1,5 +1,5 @@
 //! What holds of the definitions.
-ghost use Rattle.cpi_http.specs.Laws.{AreARun, OneMessage, ResponsesAreAlike};
+ghost use Rattle.cpi_http.specs.Laws.{AreMessagesOfARun, OneMessage, ResponsesAreAlike};
 ghost use Rattle.cpi_http.specs.Laws.{TableResponsesAreComputed, MessagesTellTables};
 
 use cpi_store::Book;
@@ -12,7 +12,7 @@ pub fn one_message()
 /// Messages that were carried out in turn are a run of the requests in them; those that were refused before a request
 /// was made are left out, and what they were told.
 pub fn messages_are_a_run<B: Book>()
-    ensures { AreARun B.state }
+    ensures { AreMessagesOfARun B.state }
 {}
 
 /// The response to a message of a collector, or of the public, is the same, byte for byte, in two runs under one zone

@@ -1,14 +1,15 @@
 //! Carrying out what a message asks, and its response.
 ghost use Rattle.std.specs.Prelude.{◌≡◌, false, Some, Ok, IfOk, OnErr};
-ghost use Rattle.cpi_office.specs.Calls.{is_failure as is_failure_of};
+ghost use Rattle.cpi_office.specs.Calls.{is_failure_of};
 ghost use Rattle.cpi_office.specs.declared.refusal.Refusal.TheVariants.{BadRequest};
 ghost use Rattle.cpi_office.specs.declared.reply.Reply.TheVariants.{Refused};
 ghost use Rattle.cpi_wire.specs.Answers.{Begins};
-ghost use Rattle.cpi_wire.specs.Line.{line_of};
-ghost use Rattle.cpi_http.specs.Response.{Says, IsCarriedOut, in_json, as_printed, content_of, form_asked, said_of};
+ghost use Rattle.cpi_wire.specs.Line.{line_of_reply};
+ghost use Rattle.cpi_http.specs.Response.{SaysResponse, IsCarriedOut, in_json, as_printed, content_of, form_asked};
+ghost use Rattle.cpi_http.specs.Response.{said_of};
 
 use crate::bytes::Content;
-use crate::statuses::status_of;
+use crate::statuses::status_of_reply;
 use cpi_office::{Office, Refusal, Reply, Request};
 use cpi_release::{Form, PrintedTable};
 use cpi_store::Book;
@@ -28,7 +29,7 @@ pub(crate) struct Response {
 
 // A reply as its line.
 fn line_response(alloc: Global, status: StatusCode, reply: &Reply) -> Result<Response, AllocError>
-    ensures { IfOk result (Says (in_json status (line_of reply.now)) (is_failure_of reply.now)) }
+    ensures { IfOk result (SaysResponse (in_json status (line_of_reply reply.now)) (is_failure_of reply.now)) }
 {
     Ok(Response {
         status,
@@ -40,7 +41,7 @@ fn line_response(alloc: Global, status: StatusCode, reply: &Reply) -> Result<Res
 
 /// The response to a message of which no request was made.
 pub(crate) fn refusal(alloc: Global, status: StatusCode) -> Result<Response, AllocError>
-    ensures { IfOk result (Says (in_json status (line_of (Refused BadRequest))) false) }
+    ensures { IfOk result (SaysResponse (in_json status (line_of_reply (Refused BadRequest))) false) }
 {
     line_response(alloc, status, &Reply::Refused(Refusal::BadRequest))
 }
@@ -56,7 +57,7 @@ fn content_of(form: Form) -> Content
 
 // A printed table, as it is.
 fn table_response(alloc: Global, form: Form, printed: &PrintedTable) -> Result<Response, AllocError>
-    ensures { IfOk result (Says (as_printed form printed.now) false) }
+    ensures { IfOk result (SaysResponse (as_printed form printed.now) false) }
 {
     Ok(Response {
         status: StatusCode::OK,
@@ -68,21 +69,21 @@ fn table_response(alloc: Global, form: Form, printed: &PrintedTable) -> Result<R
 
 // The response to who asked for a table.
 fn form_response(alloc: Global, form: Form, reply: &Reply) -> Result<Response, AllocError>
-    ensures { IfOk result (Says (said_of (Some form) reply.now) (is_failure_of reply.now)) }
+    ensures { IfOk result (SaysResponse (said_of (Some form) reply.now) (is_failure_of reply.now)) }
 {
     match reply {
         Reply::Table(printed) => table_response(alloc, form, printed),
-        other => line_response(alloc, status_of(other), other),
+        other => line_response(alloc, status_of_reply(other), other),
     }
 }
 
 // A reply, as the request asks for it.
 fn reply_response(alloc: Global, form: Option<Form>, reply: &Reply) -> Result<Response, AllocError>
-    ensures { IfOk result (Says (said_of form reply.now) (is_failure_of reply.now)) }
+    ensures { IfOk result (SaysResponse (said_of form reply.now) (is_failure_of reply.now)) }
 {
     match form {
         Some(form) => form_response(alloc, form, reply),
-        None => line_response(alloc, status_of(reply), reply),
+        None => line_response(alloc, status_of_reply(reply), reply),
     }
 }
 

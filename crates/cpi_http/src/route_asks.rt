@@ -1,7 +1,7 @@
 //! What a route asks.
 ghost use Rattle.std.specs.Prelude.{◌≡◌, ◌++◌, ◌∷◌, [], map, drop, IfOk};
 ghost use Rattle.csv.specs.Records.{fields_of};
-ghost use Rattle.cpi_wire.specs.Record.{asks};
+ghost use Rattle.cpi_wire.specs.Record.{spelled_asks};
 ghost use Rattle.cpi_http.specs.RouteAsks.{ask_by_row, ask_of_route, parts_of, path_arguments};
 
 use crate::routes::Route;
@@ -77,7 +77,8 @@ fn ask_by_body(
     path: &[u8],
     body: &[u8],
 ) -> Result<Option<Ask>, AllocError>
-    ensures { IfOk result (λ ask. ask ≡ asks zone.now now caller word.now (path_arguments path.now ++ body.now ∷ [])) }
+    ensures { IfOk result (λ ask. ask ≡ spelled_asks zone.now now caller word.now
+        (path_arguments path.now ++ body.now ∷ [])) }
 {
     let mut arguments = path_arguments(alloc, path)?;
     arguments.push(body)?;
@@ -93,7 +94,7 @@ fn ask_by_path(
     word: &[u8],
     path: &[u8],
 ) -> Result<Option<Ask>, AllocError>
-    ensures { IfOk result (λ ask. ask ≡ asks zone.now now caller word.now (path_arguments path.now)) }
+    ensures { IfOk result (λ ask. ask ≡ spelled_asks zone.now now caller word.now (path_arguments path.now)) }
 {
     let arguments = path_arguments(alloc, path)?;
     asks_of(alloc, zone, now, caller, word, &arguments)

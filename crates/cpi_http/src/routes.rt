@@ -1,6 +1,6 @@
 //! The routes.
 ghost use Rattle.std.specs.Prelude.{◌≡◌, IfOk, IsUtf8, Some, None, codes};
-ghost use Rattle.cpi_http.specs.Routes.{all_routes, method_of, word_of, route_of};
+ghost use Rattle.cpi_http.specs.Routes.{all_routes, method_of, word_of_route, route_of};
 
 use http::Method;
 use matchit::{InsertError, Router};
@@ -35,7 +35,7 @@ impl Route {
 
     /// The word of the record that asks the same.
     pub fn word(self) -> &'static [u8]
-        ensures { result.now ≡ word_of self }
+        ensures { result.now ≡ word_of_route self }
     {
         match self {
             Route::Items => b"items".as_slice(),

@@ -4,11 +4,11 @@ ghost use Rattle.std.specs.Io.KnownBytes.{Appends};
 ghost use Rattle.cpi_office.specs.declared.refusal.Refusal.TheVariants.{BadRequest};
 ghost use Rattle.cpi_office.specs.declared.reply.Reply.TheVariants.{Refused};
 ghost use Rattle.cpi_wire.specs.Answers.{Begins};
-ghost use Rattle.cpi_wire.specs.Line.{line_of};
+ghost use Rattle.cpi_wire.specs.Line.{line_of_reply};
 ghost use Rattle.cpi_http.specs.Bytes.{http_of};
 ghost use Rattle.cpi_http.specs.Message.{asked_by, setting};
-ghost use Rattle.cpi_http.specs.Response.{IsCarriedOut, ask_in, bytes_of, in_json};
-ghost use Rattle.cpi_http.specs.Served.{bodies, messages, change, IsServed, GaveUp, SendFails};
+ghost use Rattle.cpi_http.specs.Response.{IsCarriedOut, ask_in, body_bytes, in_json};
+ghost use Rattle.cpi_http.specs.Served.{bodies, messages, served_change, IsServed, GaveUp, SendFails};
 
 use crate::asked::asked_by;
 use crate::body::receive_body;
@@ -69,9 +69,9 @@ fn send<W: Write>(alloc: Global, writer: &mut W, response: &Response) -> Result<
 fn refuse<W: Write>(alloc: Global, writer: &mut W, status: StatusCode) -> Result<Served, WireFault>
     ensures ok { IfOk result (λ served. served ≡ Served.Answered status false) }
     ensures whole { OnOk result (Appends (W.contents writer.old) (W.contents writer.new)
-        (bytes_of (in_json status (line_of (Refused BadRequest))))) }
+        (body_bytes (in_json status (line_of_reply (Refused BadRequest))))) }
     ensures err { IfErr result (SendFails (W.contents writer.old) (W.contents writer.new)
-        (bytes_of (in_json status (line_of (Refused BadRequest))))) }
+        (body_bytes (in_json status (line_of_reply (Refused BadRequest))))) }
 {
     send(alloc, writer, &refusal(alloc, status)?)
 }
@@ -112,10 +112,10 @@ fn serve_body<R: Read, W: Write, B: Book>(
 ) -> Result<Served, WireFault>
     ensures ok { IfOk result (IsServed B.state (bodies now zone.now size called path.now)
         (R.remaining reader.old) (R.remaining reader.new)
-        (change office.old.book office.new.book (W.contents writer.old) (W.contents writer.new))) }
+        (served_change office.old.book office.new.book (W.contents writer.old) (W.contents writer.new))) }
     ensures err { IfErr result (GaveUp B.state (bodies now zone.now size called path.now)
         (R.remaining reader.old) (R.remaining reader.new)
-        (change office.old.book office.new.book (W.contents writer.old) (W.contents writer.new))) }
+        (served_change office.old.book office.new.book (W.contents writer.old) (W.contents writer.new))) }
 {
     let length = match size {
         Ok(length) => length,
@@ -129,7 +129,7 @@ fn serve_body<R: Read, W: Write, B: Book>(
 }
 
 /// Reads one HTTP message at a moment, in seconds since 1970 UTC, carries out on the office what it asks, and writes
-/// its response. Civil times are read by the clock of the zone. The desk's key makes its bearer the desk; any other key
+/// its response. Civil times are read by the clock of the zone. The desk's key makes its registration the desk; any other key
 /// is a collector's; without a key the caller is the public.
 ///
 /// The message is judged in this order: whole (or `Cut`: nothing is done or written); its head, of at most 8,192 bytes
@@ -150,10 +150,10 @@ pub fn serve_one<R: Read, W: Write, B: Book>(
 ) -> Result<Served, WireFault>
     ensures ok { IfOk result (IsServed B.state (messages (setting now zone.now desk_key))
         (R.remaining reader.old) (R.remaining reader.new)
-        (change office.old.book office.new.book (W.contents writer.old) (W.contents writer.new))) }
+        (served_change office.old.book office.new.book (W.contents writer.old) (W.contents writer.new))) }
     ensures err { IfErr result (GaveUp B.state (messages (setting now zone.now desk_key))
         (R.remaining reader.old) (R.remaining reader.new)
-        (change office.old.book office.new.book (W.contents writer.old) (W.contents writer.new))) }
+        (served_change office.old.book office.new.book (W.contents writer.old) (W.contents writer.new))) }
 {
     let Ok(routes) = all_routes(alloc) else {
         return Err(WireFault::NoMemory);

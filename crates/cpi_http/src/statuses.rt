@@ -1,6 +1,6 @@
 //! The status of a reply.
 ghost use Rattle.std.specs.Prelude.{◌≡◌};
-ghost use Rattle.cpi_http.specs.Statuses.{status_of, status_of_refusal};
+ghost use Rattle.cpi_http.specs.Statuses.{status_of_reply, status_of_refusal};
 
 use cpi_office::{Refusal, Reply};
 use http::StatusCode;
@@ -19,8 +19,8 @@ fn status_of_refusal(refusal: &Refusal) -> StatusCode
 }
 
 /// The status of a reply: 200 where it is no refusal.
-pub(crate) fn status_of(reply: &Reply) -> StatusCode
-    ensures { result ≡ status_of reply.now }
+pub(crate) fn status_of_reply(reply: &Reply) -> StatusCode
+    ensures { result ≡ status_of_reply reply.now }
 {
     match reply {
         Reply::Refused(refusal) => status_of_refusal(refusal),

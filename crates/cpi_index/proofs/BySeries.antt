@@ -15,21 +15,21 @@ use Rattle.cpi_plan.proofs.OnceLemmas.{once_from_order}
 use Rattle.cpi_plan.proofs.NodeLemmas.{row_moved}
 use Rattle.cpi_plan.proofs.SameLemmas.{same_rows}
 use Rattle.cpi_index.specs.Carried.{Carried}
-use Rattle.cpi_index.specs.Series.{is_by_series, carried_serial}
+use Rattle.cpi_index.specs.Series.{are_by_series, carried_serial}
 use Rattle.cpi_index.proofs.Rising.{next_above}
 
 less_is : (m n : ℕ) → m < n → nat_cmp m n ≡ Less
 less_is m n h = grind (arith, nat_tests)
 
 -- lists by series are in order
-pub in_order : (xs : List Carried) → is_by_series carried_serial xs ≡ true → IsInOrder nat_cmp carried_serial xs
+pub in_order : (xs : List Carried) → are_by_series carried_serial xs ≡ true → IsInOrder nat_cmp carried_serial xs
 in_order xs h = rises_whole nat_cmp_total carried_serial xs
     (λ k d l. less_is _ _ (next_above carried_serial xs 0 k d d h l))
 
 pub sorted_is : (old new all : List Carried) (b : Bool) → IsPermutation old new →
     MatchBool b (IsInOrder nat_cmp carried_serial new)
     (IsDistinct (λ a b. is_eq (nat_cmp (carried_serial a) (carried_serial b))) old → ⊥) →
-    is_by_series carried_serial all ≡ true → IsPermutation all old → (b ≡ true) × (new ≡ all)
+    are_by_series carried_serial all ≡ true → IsPermutation all old → (b ≡ true) × (new ≡ all)
 sorted_is old new all true moved order h p =
     let whole = IsPermutation-trans all old new p moved in (
       refl,

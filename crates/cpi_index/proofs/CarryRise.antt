@@ -12,19 +12,20 @@ use Rattle.cpi_index.specs.Carried.{Carried}
 use Rattle.cpi_index.specs.Frozen.{Frozen}
 use Rattle.cpi_index.specs.Row.{Row}
 use Rattle.cpi_index.specs.Aggregate.{with_mark, movement_now, movement_before}
-use Rattle.cpi_index.specs.Series.{at, rises_from, is_by_series, carried_serial, row_serial}
+use Rattle.cpi_index.specs.Series.{element_at, rises_from, are_by_series, carried_serial, row_serial}
 use Rattle.cpi_index.specs.Sample.{aggregate_of, is_placed}
-use Rattle.cpi_index.specs.Month.{row_of, rows_of, sample_rows, carried_in, carried_price, carry_month}
+use Rattle.cpi_index.specs.Month.{row_of_base, rows_of_month, sample_rows, carried_in_group, carried_price}
+use Rattle.cpi_index.specs.Month.{carried_in_month}
 use Rattle.cpi_index.proofs.Merge.{Rise, head_of, from_head, weaker}
 
 -- a look-up by a number finds that number
 found : (n : ℕ) (b : Carried) (xs : List Carried) → carried_serial b ≡ n →
-    carried_serial (unwrap_or (at carried_serial n xs) b) ≡ n
+    carried_serial (unwrap_or (element_at carried_serial n xs) b) ≡ n
 found n b [] e = e
 found n b (x ∷ xs) e = by (eqb (carried_serial x) n) refl (found n b xs e)
   where
-    by : (t : Bool) → eqb (carried_serial x) n ≡ t → carried_serial (unwrap_or (at carried_serial n xs) b) ≡ n →
-        carried_serial (unwrap_or (cond t (Some x) (at carried_serial n xs)) b) ≡ n
+    by : (t : Bool) → eqb (carried_serial x) n ≡ t → carried_serial (unwrap_or (element_at carried_serial n xs) b) ≡ n →
+        carried_serial (unwrap_or (cond t (Some x) (element_at carried_serial n xs)) b) ≡ n
     by true s rest = grind (arith, nat_tests)
     by false s rest = rest
 
@@ -40,12 +41,12 @@ same_series now before c (Some (Other p)) = refl
 module _ (plan : Plan) (all : List Row) (before : List Carried) (frozen : List Frozen) where
   one_more : (n : ℕ) (b : Carried) (o : Option Code) (rest : List Carried) → n ≤ carried_serial b →
       Rise (carried_serial b + 1) rest → Rise n (cons_option
-      (option_map (carried_in plan all (row_of before frozen b)) o) rest)
+      (option_map (carried_in_group plan all (row_of_base before frozen b)) o) rest)
   one_more n b None rest le h = weaker n (carried_serial b + 1) (map carried_serial rest) (omega (arith, le)) h
   one_more n b (Some a) rest le h =
-      let r = row_of before frozen b in
+      let r = row_of_base before frozen b in
       let own = sample_rows plan a all in
-      let c = carried_in plan all r a in
+      let c = carried_in_group plan all r a in
       let same : carried_serial c ≡ carried_serial b =
       same_series (movement_now own) (movement_before own) r.before r.mark
       ∙ found (carried_serial b) b before refl in
@@ -53,17 +54,18 @@ module _ (plan : Plan) (all : List Row) (before : List Carried) (frozen : List F
       (ap (λ k. rises_from (k + 1) (map carried_serial rest)) same ∙ h)
 
   carried_rise : (n : ℕ) (bases : List Carried) → Rise n bases →
-      Rise n (filter_map (carried_price plan all) (map (row_of before frozen) bases))
+      Rise n (filter_map (carried_price plan all) (map (row_of_base before frozen) bases))
   carried_rise n [] h = refl
   carried_rise n (b ∷ bases) h =
       let r = head_of n (carried_serial b) (map carried_serial bases) h in
-      one_more n b (aggregate_of plan b.item) (filter_map (carried_price plan all) (map (row_of before frozen) bases))
+      one_more n b (aggregate_of plan b.item) (filter_map (carried_price plan all)
+      (map (row_of_base before frozen) bases))
       r.0 (carried_rise (carried_serial b + 1) bases r.1)
 
 pub carry_rises : (plan : Plan) (bases before : List Carried) (frozen : List Frozen) →
-    is_by_series carried_serial bases ≡ true → is_by_series carried_serial
-    (carry_month plan (rows_of bases before frozen)) ≡ true
-carry_rises plan bases before frozen h = carried_rise plan (rows_of bases before frozen) before frozen 0 bases h
+    are_by_series carried_serial bases ≡ true → are_by_series carried_serial
+    (carried_in_month plan (rows_of_month bases before frozen)) ≡ true
+carry_rises plan bases before frozen h = carried_rise plan (rows_of_month bases before frozen) before frozen 0 bases h
 
 -- so are the rows of each sample
 rise_filter : {X : Type 0} (key : X → ℕ) (p : X → Bool) (n : ℕ) (xs : List X) → rises_from n (map key xs) ≡ true →
@@ -78,13 +80,13 @@ rise_filter key p n (x ∷ xs) h =
     ]
 
 rows_keys : (before : List Carried) (frozen : List Frozen) (bases : List Carried) →
-    map row_serial (rows_of bases before frozen) ≡ map carried_serial bases
+    map row_serial (rows_of_month bases before frozen) ≡ map carried_serial bases
 rows_keys before frozen [] = refl
 rows_keys before frozen (b ∷ bases) = ap (λ ks. carried_serial b ∷ ks) (rows_keys before frozen bases)
 
 pub sample_rises : (plan : Plan) (code : Code) (bases before : List Carried) (frozen : List Frozen) →
-    is_by_series carried_serial bases ≡ true → is_by_series row_serial
-    (sample_rows plan code (rows_of bases before frozen)) ≡ true
+    are_by_series carried_serial bases ≡ true → are_by_series row_serial
+    (sample_rows plan code (rows_of_month bases before frozen)) ≡ true
 sample_rises plan code bases before frozen h =
-    rise_filter row_serial (λ r. is_placed plan code r.link.item) 0 (rows_of bases before frozen)
+    rise_filter row_serial (λ r. is_placed plan code r.link.item) 0 (rows_of_month bases before frozen)
     (ap (rises_from 0) (rows_keys before frozen bases) ∙ h)

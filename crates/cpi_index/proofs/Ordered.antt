@@ -17,19 +17,19 @@ use Rattle.cpi_plan.specs.Plan.{Plan}
 use Rattle.cpi_plan.specs.declared.plan_rows.Weight.{Weight}
 use Rattle.cpi_plan.specs.declared.plan_rows.Node.{Node}
 use Rattle.cpi_index.specs.Carried.{Carried}
-use Rattle.cpi_index.specs.Indices.{elementary, index_row}
-use Rattle.cpi_index.specs.Means.{are_indices_of, upper_row}
-use Rattle.cpi_index.specs.Chaining.{chained}
+use Rattle.cpi_index.specs.Indices.{elementary_indices, index_row}
+use Rattle.cpi_index.specs.Means.{are_indices_in, upper_row}
+use Rattle.cpi_index.specs.Chaining.{chained_levels}
 use Rattle.cpi_index.specs.declared.index.NodeIndex.{NodeIndex}
 use Rattle.cpi_index.specs.declared.level.NodeLevel.{NodeLevel}
 
 -- one index for each weight
 module _ (plan : Plan) (bases carried : List Carried) where
-  one_each : (ws : List Weight) → are_indices_of ws (map (index_row plan bases carried) ws) ≡ true
+  one_each : (ws : List Weight) → are_indices_in ws (map (index_row plan bases carried) ws) ≡ true
   one_each [] = refl
   one_each (w ∷ ws) = rw (ap is_eq (tied_itself total-law w.code)) (one_each ws)
 
-  pub indices_are : are_indices_of plan.weights (elementary plan bases carried) ≡ true
+  pub indices_are : are_indices_in plan.weights (elementary_indices plan bases carried) ≡ true
   indices_are = one_each plan.weights
 
 -- the means stand in the order of the nodes
@@ -48,12 +48,12 @@ module _ (plan : Plan) (indices : List NodeIndex) where
 -- the levels stand in the order of the indices
 module _ (december : List NodeLevel) where
   levels_above : (c : Code) (xs : List NodeIndex) → AllByRecursion (λ x. code_cmp c x.code ≡ Less) xs →
-      AllByRecursion (λ l. code_cmp c l.code ≡ Less) (chained december xs)
+      AllByRecursion (λ l. code_cmp c l.code ≡ Less) (chained_levels december xs)
   levels_above c [] h = tt
   levels_above c (x ∷ xs) h = (h.0, levels_above c xs h.1)
 
   pub levels_rise : (xs : List NodeIndex) → IsInOrder code_cmp (λ x. x.code) xs →
-      IsInOrder code_cmp (λ l. l.code) (chained december xs)
+      IsInOrder code_cmp (λ l. l.code) (chained_levels december xs)
   unfolding IsStrictlySortedBy
   levels_rise [] h = tt
   levels_rise (x ∷ xs) h = (levels_above x.code xs h.0, levels_rise xs h.1)
@@ -72,7 +72,7 @@ means_done plan order indices rows nodes i is l e =
 
 -- a table that was chained stands in the order of its indices
 pub table_rises : (december : List NodeLevel) (within : List NodeIndex) (r : Result (Vec NodeLevel) IndexFault)
-    (P : Type 0) (Q : IndexFault → Type 0) → MatchResult r (λ v. P × (v.items ≡ chained december within)) Q →
+    (P : Type 0) (Q : IndexFault → Type 0) → MatchResult r (λ v. P × (v.items ≡ chained_levels december within)) Q →
     IsInOrder code_cmp (λ x. x.code) within → IfOk r (λ v. IsInOrder code_cmp (λ l. l.code) v.items)
 table_rises december within (Ok v) P Q is h = subst (IsInOrder code_cmp (λ l. l.code)) (sym is.1)
     (levels_rise december within h)

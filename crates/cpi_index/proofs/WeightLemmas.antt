@@ -12,12 +12,12 @@ use Rattle.std.proofs.lemmas.Bool.Decides.{nat_tests}
 use Rattle.std.proofs.lemmas.Cmp.{tied_itself}
 use Rattle.std.proofs.lemmas.List.Folds.{list_any_at}
 use Rattle.std.proofs.lemmas.List.Sums.{sum_by-cons}
-use Rattle.cpi_codes.specs.CodeOrder.{code_cmp, is_same}
-use Rattle.cpi_codes.specs.CodeText.{is_at_or_below}
+use Rattle.cpi_codes.specs.CodeOrder.{code_cmp, is_same_code}
+use Rattle.cpi_codes.specs.CodeText.{is_code_at_or_below}
 use Rattle.cpi_codes.specs.declared.codes.Code.{Code}
 use Rattle.cpi_codes.specs.contracts.codes.CodeOrd.TheImpl.Laws.{total-law}
 use Rattle.cpi_rows.specs.Keyed.{IsInOrder}
-use Rattle.cpi_plan.specs.Plan.{Plan, IsPlan, has_zero, total}
+use Rattle.cpi_plan.specs.Plan.{Plan, IsPlan, has_zero_weight, total_weight}
 use Rattle.cpi_plan.specs.Sums.{weight_under, is_node}
 use Rattle.cpi_plan.specs.declared.plan_rows.Weight.{Weight}
 use Rattle.cpi_plan.specs.declared.plan_rows.Node.{Node}
@@ -25,11 +25,11 @@ use Rattle.cpi_plan.proofs.FaultLemmas.{equal_is}
 use Rattle.cpi_plan.proofs.UnderLemmas.{and_first, and_second, weighs, under_cons, amount_fits}
 use Rattle.cpi_index.specs.Aggregate.{IsIndex}
 use Rattle.cpi_index.specs.Carried.{Carried}
-use Rattle.cpi_index.specs.Indices.{elementary, index_row}
-use Rattle.cpi_index.specs.Means.{are_indices_of, weighted_under}
+use Rattle.cpi_index.specs.Indices.{elementary_indices, index_row}
+use Rattle.cpi_index.specs.Means.{are_indices_in, weighted_under}
 use Rattle.cpi_index.specs.Sample.{first_code}
 use Rattle.cpi_index.specs.Weights.{IsNodeWeight, is_effective, moved_parts, moved_weights, moving_fault, is_moved_out}
-use Rattle.cpi_index.specs.Weights.{with_levels, effective_weights, weights_fault, with_weights, are_weights_of}
+use Rattle.cpi_index.specs.Weights.{with_levels, weights_in_use, weights_fault, with_weights, are_weights_in}
 use Rattle.cpi_index.specs.declared.fault.IndexFault.{IndexFault}
 use Rattle.cpi_index.specs.declared.index.NodeIndex.{NodeIndex}
 use Rattle.cpi_index.specs.declared.weight_levels.WeightLevels.{WeightLevels}
@@ -40,38 +40,38 @@ abbrev pub are_effective : List Weight → Bool
 are_effective ws = list_all (λ w. is_effective w.parts) ws
 
 -- ---- one weight for each of the plan's, in their order
-pub are_own : (own : List Weight) → are_weights_of own own ≡ true
+pub are_own : (own : List Weight) → are_weights_in own own ≡ true
 are_own [] = refl
 are_own (w ∷ ws) = rw (ap is_eq (tied_itself total-law w.code)) (are_own ws)
 
 pub are_moved : (link reference : Code → Option ℕ) (own : List Weight) →
-    are_weights_of own (moved_weights (map (with_levels link reference) own)) ≡ true
+    are_weights_in own (moved_weights (map (with_levels link reference) own)) ≡ true
 are_moved link reference [] = refl
 are_moved link reference (w ∷ ws) = rw (ap is_eq (tied_itself total-law w.code)) (are_moved link reference ws)
 
 pub are_in_use : (link reference : Code → Option ℕ) (plan : Plan) →
-    are_weights_of plan.weights (effective_weights link reference plan) ≡ true
+    are_weights_in plan.weights (weights_in_use link reference plan) ≡ true
 are_in_use link reference plan = by plan.reference
   where
-    by : (o : Option ℕ) → are_weights_of plan.weights
+    by : (o : Option ℕ) → are_weights_in plan.weights
         (cond (is_some o) (moved_weights (map (with_levels link reference) plan.weights)) plan.weights) ≡ true
     by None = are_own plan.weights
     by (Some m) = are_moved link reference plan.weights
 
 -- the first of two lists has the second's code in front, and the rest goes on so
-code_is : (w x : Weight) (ws xs : List Weight) → are_weights_of (w ∷ ws) (x ∷ xs) ≡ true → w.code ≡ x.code
-code_is w x ws xs h = equal_is w.code x.code (and_first (is_same w.code x.code) (are_weights_of ws xs) h)
+code_is : (w x : Weight) (ws xs : List Weight) → are_weights_in (w ∷ ws) (x ∷ xs) ≡ true → w.code ≡ x.code
+code_is w x ws xs h = equal_is w.code x.code (and_first (is_same_code w.code x.code) (are_weights_in ws xs) h)
 
-rest_is : (w x : Weight) (ws xs : List Weight) → are_weights_of (w ∷ ws) (x ∷ xs) ≡ true → are_weights_of ws xs ≡ true
-rest_is w x ws xs h = and_second (is_same w.code x.code) (are_weights_of ws xs) h
+rest_is : (w x : Weight) (ws xs : List Weight) → are_weights_in (w ∷ ws) (x ∷ xs) ≡ true → are_weights_in ws xs ≡ true
+rest_is w x ws xs h = and_second (is_same_code w.code x.code) (are_weights_in ws xs) h
 
-pub count_kept : (own ws : List Weight) → are_weights_of own ws ≡ true → length own ≡ length ws
+pub count_kept : (own ws : List Weight) → are_weights_in own ws ≡ true → length own ≡ length ws
 count_kept [] [] h = refl
 count_kept [] (x ∷ xs) h = cc
 count_kept (w ∷ ws) [] h = cc
 count_kept (w ∷ ws) (x ∷ xs) h = ap suc (count_kept ws xs (rest_is w x ws xs h))
 
-pub codes_kept : (own ws : List Weight) → are_weights_of own ws ≡ true → map (λ w. w.code) own ≡ map (λ w. w.code) ws
+pub codes_kept : (own ws : List Weight) → are_weights_in own ws ≡ true → map (λ w. w.code) own ≡ map (λ w. w.code) ws
 codes_kept [] [] h = refl
 codes_kept [] (x ∷ xs) h = cc
 codes_kept (w ∷ ws) [] h = cc
@@ -79,7 +79,7 @@ codes_kept (w ∷ ws) (x ∷ xs) h =
     ap (λ c. c ∷ map (λ w. w.code) ws) (code_is w x ws xs h)
     ∙ ap (λ cs. x.code ∷ cs) (codes_kept ws xs (rest_is w x ws xs h))
 
-above_kept : (c : Code) (own ws : List Weight) → are_weights_of own ws ≡ true →
+above_kept : (c : Code) (own ws : List Weight) → are_weights_in own ws ≡ true →
     AllByRecursion (λ (w : Weight). code_cmp c w.code ≡ Less) own →
     AllByRecursion (λ (w : Weight). code_cmp c w.code ≡ Less) ws
 above_kept c [] [] h a = tt
@@ -90,7 +90,7 @@ above_kept c (w ∷ ws) (x ∷ xs) h a = (
   above_kept c ws xs (rest_is w x ws xs h) a.1,
 )
 
-pub order_kept : (own ws : List Weight) → are_weights_of own ws ≡ true → IsInOrder code_cmp (λ w. w.code) own →
+pub order_kept : (own ws : List Weight) → are_weights_in own ws ≡ true → IsInOrder code_cmp (λ w. w.code) own →
     IsInOrder code_cmp (λ w. w.code) ws
 unfolding IsStrictlySortedBy
 order_kept [] [] h s = tt
@@ -102,7 +102,7 @@ order_kept (w ∷ ws) (x ∷ xs) h s = (
   order_kept ws xs (rest_is w x ws xs h) s.1,
 )
 
-pub all_kept : (p : Code → Bool) (own ws : List Weight) → are_weights_of own ws ≡ true →
+pub all_kept : (p : Code → Bool) (own ws : List Weight) → are_weights_in own ws ≡ true →
     list_all (λ w. p w.code) own ≡ list_all (λ w. p w.code) ws
 all_kept p [] [] h = refl
 all_kept p [] (x ∷ xs) h = cc
@@ -111,7 +111,7 @@ all_kept p (w ∷ ws) (x ∷ xs) h =
     ap (λ c. p c && list_all (λ w. p w.code) ws) (code_is w x ws xs h)
     ∙ ap (λ b. p x.code && b) (all_kept p ws xs (rest_is w x ws xs h))
 
-pub any_kept : (p : Code → Bool) (own ws : List Weight) → are_weights_of own ws ≡ true →
+pub any_kept : (p : Code → Bool) (own ws : List Weight) → are_weights_in own ws ≡ true →
     list_any (λ w. p w.code) own ≡ list_any (λ w. p w.code) ws
 any_kept p [] [] h = refl
 any_kept p [] (x ∷ xs) h = cc
@@ -120,21 +120,21 @@ any_kept p (w ∷ ws) (x ∷ xs) h =
     ap (λ c. p c || list_any (λ w. p w.code) ws) (code_is w x ws xs h)
     ∙ ap (λ b. p x.code || b) (any_kept p ws xs (rest_is w x ws xs h))
 
-pub nodes_kept : (own ws : List Weight) → are_weights_of own ws ≡ true → (code : Code) →
+pub nodes_kept : (own ws : List Weight) → are_weights_in own ws ≡ true → (code : Code) →
     is_node own code ≡ is_node ws code
-nodes_kept own ws h code = any_kept (λ c. is_at_or_below code c) own ws h
+nodes_kept own ws h code = any_kept (λ c. is_code_at_or_below code c) own ws h
 
-pub indices_kept : (own ws : List Weight) → are_weights_of own ws ≡ true → (xs : List NodeIndex) →
-    are_indices_of own xs ≡ are_indices_of ws xs
+pub indices_kept : (own ws : List Weight) → are_weights_in own ws ≡ true → (xs : List NodeIndex) →
+    are_indices_in own xs ≡ are_indices_in ws xs
 indices_kept [] [] h xs = refl
 indices_kept [] (v ∷ vs) h xs = cc
 indices_kept (w ∷ ws) [] h xs = cc
 indices_kept (w ∷ ws) (v ∷ vs) h [] = refl
 indices_kept (w ∷ ws) (v ∷ vs) h (x ∷ xs) =
-    ap (λ c. is_same c x.code && are_indices_of ws xs) (code_is w v ws vs h)
-    ∙ ap (λ b. is_same v.code x.code && b) (indices_kept ws vs (rest_is w v ws vs h) xs)
+    ap (λ c. is_same_code c x.code && are_indices_in ws xs) (code_is w v ws vs h)
+    ∙ ap (λ b. is_same_code v.code x.code && b) (indices_kept ws vs (rest_is w v ws vs h) xs)
 
-pub first_kept : (p : Code → Bool) (own ws : List Weight) → are_weights_of own ws ≡ true →
+pub first_kept : (p : Code → Bool) (own ws : List Weight) → are_weights_in own ws ≡ true →
     first_code p own ≡ first_code p ws
 first_kept p [] [] h = refl
 first_kept p [] (x ∷ xs) h = cc
@@ -151,7 +151,7 @@ first_kept p (w ∷ ws) (x ∷ xs) h =
 
 -- the indices of a plan's aggregates are those of the plan with other weights
 module _ (plan : Plan) (bases carried : List Carried) where
-  rows_kept : (own ws : List Weight) → are_weights_of own ws ≡ true →
+  rows_kept : (own ws : List Weight) → are_weights_in own ws ≡ true →
       map (index_row plan bases carried) own ≡ map (index_row plan bases carried) ws
   rows_kept [] [] h = refl
   rows_kept [] (x ∷ xs) h = cc
@@ -163,8 +163,9 @@ module _ (plan : Plan) (bases carried : List Carried) where
       weight_at : Code → Weight
       weight_at c = record { code = c; parts = 0 }
 
-pub elementary_kept : (plan : Plan) (ws : List Weight) → are_weights_of plan.weights ws ≡ true →
-    (bases carried : List Carried) → elementary (with_weights plan ws) bases carried ≡ elementary plan bases carried
+pub elementary_kept : (plan : Plan) (ws : List Weight) → are_weights_in plan.weights ws ≡ true →
+    (bases carried : List Carried) → elementary_indices (with_weights plan ws) bases carried ≡ elementary_indices plan
+    bases carried
 elementary_kept plan ws h bases carried = sym (rows_kept plan bases carried plan.weights ws h)
 
 -- ---- the test of it, weight by weight
@@ -172,26 +173,26 @@ and_no : (b : Bool) → (b && false) ≡ false
 and_no true = refl
 and_no false = refl
 
-pub other_weights : (ws xs : List Weight) → (length ws ≡ length xs → ⊥) → are_weights_of ws xs ≡ false
+pub other_weights : (ws xs : List Weight) → (length ws ≡ length xs → ⊥) → are_weights_in ws xs ≡ false
 other_weights [] [] h = absurd (h refl)
 other_weights [] (x ∷ xs) h = refl
 other_weights (w ∷ ws) [] h = refl
-other_weights (w ∷ ws) (x ∷ xs) h = ap (λ b. is_same w.code x.code && b) (other_weights ws xs (λ e. h (ap suc e)))
-    ∙ and_no (is_same w.code x.code)
+other_weights (w ∷ ws) (x ∷ xs) h = ap (λ b. is_same_code w.code x.code && b) (other_weights ws xs (λ e. h (ap suc e)))
+    ∙ and_no (is_same_code w.code x.code)
 
 pub differ_weights : (ws xs : List Weight) (i : ℕ) (w x : Weight) → i < length ws → i < length xs →
-    w ≡ get_or ws i w → x ≡ get_or xs i x → is_same w.code x.code ≡ false → are_weights_of ws xs ≡ false
+    w ≡ get_or ws i w → x ≡ get_or xs i x → is_same_code w.code x.code ≡ false → are_weights_in ws xs ≡ false
 differ_weights [] xs i w x l m is js e = absurd (omega arith)
 differ_weights (v ∷ ws) [] i w x l m is js e = refl
 differ_weights (v ∷ ws) (y ∷ xs) zero w x l m is js e =
-    rw (sym (ap (λ z. is_same z.code y.code) is) ∙ sym (ap (λ z. is_same w.code z.code) js) ∙ e) refl
+    rw (sym (ap (λ z. is_same_code z.code y.code) is) ∙ sym (ap (λ z. is_same_code w.code z.code) js) ∙ e) refl
 differ_weights (v ∷ ws) (y ∷ xs) (suc i) w x l m is js e =
-    ap (λ b. is_same v.code y.code && b) (differ_weights ws xs i w x (omega arith) (omega arith) is js e)
-    ∙ and_no (is_same v.code y.code)
+    ap (λ b. is_same_code v.code y.code && b) (differ_weights ws xs i w x (omega arith) (omega arith) is js e)
+    ∙ and_no (is_same_code v.code y.code)
 
 pub same_weights : (ws xs : List Weight) → length ws ≡ length xs →
-    ((k : ℕ) (d e : Weight) → k < length ws → is_same (get_or ws k d).code (get_or xs k e).code ≡ true) →
-    are_weights_of ws xs ≡ true
+    ((k : ℕ) (d e : Weight) → k < length ws → is_same_code (get_or ws k d).code (get_or xs k e).code ≡ true) →
+    are_weights_in ws xs ≡ true
 same_weights [] [] l h = refl
 same_weights [] (x ∷ xs) l h = absurd (omega (arith, l))
 same_weights (w ∷ ws) [] l h = absurd (omega (arith, l))
@@ -219,13 +220,13 @@ or_second true b h = cc
 some_parts : (n : ℕ) → eqb n 0 ≡ false → 1 ≤ n
 some_parts n h = grind (arith, nat_tests)
 
-few_parts : (ws : List Weight) → has_zero ws ≡ false → length ws ≤ total ws
+few_parts : (ws : List Weight) → has_zero_weight ws ≡ false → length ws ≤ total_weight ws
 few_parts [] z = omega arith
 few_parts (w ∷ ws) z =
     omega (
       arith,
-      some_parts w.parts (or_first (eqb w.parts 0) (has_zero ws) z),
-      few_parts ws (or_second (eqb w.parts 0) (has_zero ws) z),
+      some_parts w.parts (or_first (eqb w.parts 0) (has_zero_weight ws) z),
+      few_parts ws (or_second (eqb w.parts 0) (has_zero_weight ws) z),
       sum_by-cons (λ (w : Weight). w.parts) w ws,
     )
 
@@ -233,12 +234,13 @@ few_parts (w ∷ ws) z =
 pub few_weights : (plan : Plan) → IsPlan plan → length plan.weights ≤ 1000000
 few_weights plan kept = omega (arith, few_parts plan.weights kept.positive, kept.whole)
 
-own_parts : (ws : List Weight) → has_zero ws ≡ false → total ws ≤ 1000000000 → are_effective ws ≡ true
+own_parts : (ws : List Weight) → has_zero_weight ws ≡ false → total_weight ws ≤ 1000000000 → are_effective ws ≡ true
 own_parts [] z l = refl
 own_parts (w ∷ ws) z l =
-    let more : total (w ∷ ws) ≡ w.parts + total ws = sum_by-cons (λ (w : Weight). w.parts) w ws in
-    rw (effective_is w.parts (some_parts w.parts (or_first (eqb w.parts 0) (has_zero ws) z)) (omega (arith, more, l)))
-    (own_parts ws (or_second (eqb w.parts 0) (has_zero ws) z) (omega (arith, more, l)))
+    let more : total_weight (w ∷ ws) ≡ w.parts + total_weight ws = sum_by-cons (λ (w : Weight). w.parts) w ws in
+    rw (effective_is w.parts (some_parts w.parts (or_first (eqb w.parts 0) (has_zero_weight ws) z))
+    (omega (arith, more, l)))
+    (own_parts ws (or_second (eqb w.parts 0) (has_zero_weight ws) z) (omega (arith, more, l)))
 
 pub own_effective : (plan : Plan) → IsPlan plan → are_effective plan.weights ≡ true
 own_effective plan kept = own_parts plan.weights kept.positive (omega (arith, kept.whole))
@@ -265,7 +267,7 @@ none_out None g (Some r) h = cc
 none_out (Some x) g b h = cc
 
 pub effective_of : (link reference : Code → Option ℕ) (plan : Plan) → IsPlan plan →
-    weights_fault link reference plan ≡ None → are_effective (effective_weights link reference plan) ≡ true
+    weights_fault link reference plan ≡ None → are_effective (weights_in_use link reference plan) ≡ true
 effective_of link reference plan kept = by plan.reference
   where
     by : (o : Option ℕ) → cond (is_some o) (moving_fault (map (with_levels link reference) plan.weights)) None ≡ None
@@ -278,7 +280,7 @@ effective_of link reference plan kept = by plan.reference
 not_zero : (n : ℕ) → 1 ≤ n → eqb n 0 ≡ false
 not_zero n l = grind (arith, nat_tests)
 
-pub none_zero : (ws : List Weight) → are_effective ws ≡ true → has_zero ws ≡ false
+pub none_zero : (ws : List Weight) → are_effective ws ≡ true → has_zero_weight ws ≡ false
 none_zero [] h = refl
 none_zero (w ∷ ws) h =
     rw (not_zero w.parts (effective_least w.parts (and_first (is_effective w.parts) (are_effective ws) h)))
@@ -289,15 +291,16 @@ neither a b e f = cc
 
 -- one more weight that isn't 0
 positive_next : (ws : List Weight) (i : ℕ) (w : Weight) → i < length ws → w ≡ get_or ws i w → 1 ≤ w.parts →
-    has_zero (take i ws) ≡ false → has_zero (take (suc i) ws) ≡ false
+    has_zero_weight (take i ws) ≡ false → has_zero_weight (take (suc i) ws) ≡ false
 positive_next [] i w l is p z = absurd (omega arith)
 positive_next (v ∷ ws) zero w l is p z = rw (sym (ap (λ (z : Weight). eqb z.parts 0) is) ∙ not_zero w.parts p) refl
 positive_next (v ∷ ws) (suc i) w l is p z =
-    neither (eqb v.parts 0) (has_zero (take (suc i) ws)) (or_first (eqb v.parts 0) (has_zero (take i ws)) z)
-    (positive_next ws i w (omega arith) is p (or_second (eqb v.parts 0) (has_zero (take i ws)) z))
+    neither (eqb v.parts 0) (has_zero_weight (take (suc i) ws))
+    (or_first (eqb v.parts 0) (has_zero_weight (take i ws)) z)
+    (positive_next ws i w (omega arith) is p (or_second (eqb v.parts 0) (has_zero_weight (take i ws)) z))
 
 pub positive_more : (ws : List Weight) (i : ℕ) (w : Weight) → i < length ws → w ≡ get_or ws i w → 1 ≤ w.parts →
-    has_zero (take i ws) ≡ false → has_zero (take (i + 1) ws) ≡ false
+    has_zero_weight (take i ws) ≡ false → has_zero_weight (take (i + 1) ws) ≡ false
 positive_more ws i w l is p z = rw add-one (positive_next ws i w l is p z)
 
 -- ---- the sum at and below a code
@@ -306,13 +309,13 @@ under_most q [] h = omega arith
 under_most q (w ∷ ws) h =
     omega (
       arith,
-      under_cons q w ws (is_at_or_below q w.code) refl,
-      amount_fits (is_at_or_below q w.code) w.parts 1000000000
+      under_cons q w ws (is_code_at_or_below q w.code) refl,
+      amount_fits (is_code_at_or_below q w.code) w.parts 1000000000
           (effective_most w.parts (and_first (is_effective w.parts) (are_effective ws) h)),
       under_most q ws (and_second (is_effective w.parts) (are_effective ws) h),
     )
 
-pub under_within : (plan : Plan) → IsPlan plan → (ws : List Weight) → are_weights_of plan.weights ws ≡ true →
+pub under_within : (plan : Plan) → IsPlan plan → (ws : List Weight) → are_weights_in plan.weights ws ≡ true →
     are_effective ws ≡ true → (code : Code) → is_node plan.weights code ≡ true → IsNodeWeight (weight_under code ws)
 under_within plan kept ws same each code node = (
   omega (arith, (weighs code ws (none_zero ws each)).1 (sym (nodes_kept plan.weights ws same code) ∙ node)),
@@ -322,11 +325,11 @@ under_within plan kept ws same each code node = (
 pub node_is : (plan : Plan) → IsPlan plan → (i : ℕ) (n : Node) → i < length plan.nodes → n ≡ get_or plan.nodes i n →
     is_node plan.weights n.code ≡ true
 node_is plan kept i n l is =
-    let here : is_same (get_or plan.nodes i n).code n.code ≡ true = ap (λ z. is_same z.code n.code) (sym is)
+    let here : is_same_code (get_or plan.nodes i n).code n.code ≡ true = ap (λ z. is_same_code z.code n.code) (sym is)
     ∙ ap is_eq (tied_itself total-law n.code) in
-    kept.complete n.code ∙ list_any_at (λ m. is_same m.code n.code) plan.nodes i n l here
+    kept.complete n.code ∙ list_any_at (λ m. is_same_code m.code n.code) plan.nodes i n l here
 
-pub node_within : (plan : Plan) → IsPlan plan → (ws : List Weight) → are_weights_of plan.weights ws ≡ true →
+pub node_within : (plan : Plan) → IsPlan plan → (ws : List Weight) → are_weights_in plan.weights ws ≡ true →
     are_effective ws ≡ true → (i : ℕ) (n : Node) → i < length plan.nodes → n ≡ get_or plan.nodes i n →
     IsNodeWeight (weight_under n.code ws)
 node_within plan kept ws same each i n l is = under_within plan kept ws same each n.code (node_is plan kept i n l is)
@@ -336,9 +339,9 @@ module _ (index : Code → ℕ) (q : Code) where
   abbrev product : Weight → ℕ
   product w = w.parts * index w.code
 
-  weighted_cons : (w : Weight) (ws : List Weight) (b : Bool) → is_at_or_below q w.code ≡ b →
+  weighted_cons : (w : Weight) (ws : List Weight) (b : Bool) → is_code_at_or_below q w.code ≡ b →
       weighted_under index q (w ∷ ws) ≡ cond b (product w) 0 + weighted_under index q ws
-  weighted_cons w ws true e = rw e (sum_by-cons product w (filter (λ w. is_at_or_below q w.code) ws))
+  weighted_cons w ws true e = rw e (sum_by-cons product w (filter (λ w. is_code_at_or_below q w.code) ws))
   weighted_cons w ws false e = rw e (omega arith)
 
   pub weighted_least : (ws : List Weight) → ((k : ℕ) (d : Weight) → k < length ws →
@@ -347,8 +350,8 @@ module _ (index : Code → ℕ) (q : Code) where
   weighted_least (w ∷ ws) h =
       let rest = weighted_least ws (λ k d l. h (suc k) d (omega (arith, l))) in
       let one = product_least w.parts (index w.code) (h 0 w (omega arith)).0 in
-      by (is_at_or_below q w.code) (under_cons q w ws (is_at_or_below q w.code) refl)
-      (weighted_cons w ws (is_at_or_below q w.code) refl) rest one
+      by (is_code_at_or_below q w.code) (under_cons q w ws (is_code_at_or_below q w.code) refl)
+      (weighted_cons w ws (is_code_at_or_below q w.code) refl) rest one
     where
       by : (b : Bool) → weight_under q (w ∷ ws) ≡ cond b w.parts 0 + weight_under q ws →
           weighted_under index q (w ∷ ws) ≡ cond b (product w) 0 + weighted_under index q ws →
@@ -363,8 +366,8 @@ module _ (index : Code → ℕ) (q : Code) where
   weighted_most (w ∷ ws) h =
       let rest = weighted_most ws (λ k d l. h (suc k) d (omega (arith, l))) in
       let one = product_most w.parts (index w.code) (h 0 w (omega arith)).1 in
-      by (is_at_or_below q w.code) (under_cons q w ws (is_at_or_below q w.code) refl)
-      (weighted_cons w ws (is_at_or_below q w.code) refl) rest one
+      by (is_code_at_or_below q w.code) (under_cons q w ws (is_code_at_or_below q w.code) refl)
+      (weighted_cons w ws (is_code_at_or_below q w.code) refl) rest one
     where
       by : (b : Bool) → weight_under q (w ∷ ws) ≡ cond b w.parts 0 + weight_under q ws →
           weighted_under index q (w ∷ ws) ≡ cond b (product w) 0 + weighted_under index q ws →

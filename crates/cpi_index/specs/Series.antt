@@ -28,12 +28,12 @@ abbrev pub rises : List ℕ → Bool
 rises xs = rises_from 0 xs
 
 -- in the order of their series, no series twice
-abbrev pub is_by_series : {X : Type 0} → (X → ℕ) → List X → Bool
-is_by_series key xs = rises (map key xs)
+abbrev pub are_by_series : {X : Type 0} → (X → ℕ) → List X → Bool
+are_by_series key xs = rises (map key xs)
 
 -- the element of a series, by its number
-abbrev pub at : {X : Type 0} → (X → ℕ) → ℕ → List X → Option X
-at key n xs = find (λ x. key x == n) xs
+abbrev pub element_at : {X : Type 0} → (X → ℕ) → ℕ → List X → Option X
+element_at key n xs = find (λ x. key x == n) xs
 
 -- slots are 1 to 400
 abbrev pub AreSlots : SeriesId → SeriesId → Type 0

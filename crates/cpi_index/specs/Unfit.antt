@@ -9,12 +9,12 @@ use Rattle.cpi_index.specs.declared.fault.IndexFault.{IndexFault}
 use Rattle.cpi_index.specs.declared.fault.IndexFault.TheVariants.{OutOfRange}
 
 -- the first aggregate of a plan, in code order
-abbrev pub first_aggregate : Plan → Option Code
-first_aggregate plan = first_code (λ _. true) plan.weights
+abbrev pub first_aggregate_of : Plan → Option Code
+first_aggregate_of plan = first_code (λ _. true) plan.weights
 
 -- out of range, of the plan's first aggregate
 abbrev pub IsFirstOutOfRange : Plan → IndexFault → Type 0
-IsFirstOutOfRange plan fault = option_map OutOfRange (first_aggregate plan) ≡ Some fault
+IsFirstOutOfRange plan fault = option_map OutOfRange (first_aggregate_of plan) ≡ Some fault
 
 -- out of range, of the first node that has an index
 abbrev pub IsFirstNodeOutOfRange : List NodeIndex → IndexFault → Type 0

@@ -2,9 +2,9 @@
 ghost use Rattle.std.specs.Prelude.{◌≡◌, ◌≤◌, length, true, false, is_none, MatchOption, SomeIff};
 ghost use Rattle.std.specs.List.{list_any};
 ghost use Rattle.cpi_index.specs.Carried.{IsTicks};
-ghost use Rattle.cpi_index.specs.Aggregate.{compared, is_matched, is_matched_in_limits, movement_now};
+ghost use Rattle.cpi_index.specs.Aggregate.{price_to_compare, is_matched, is_matched_in_limits, movement_now};
 ghost use Rattle.cpi_index.specs.Aggregate.{movement_before, carried_row, are_in_limits};
-ghost use Rattle.cpi_index.specs.Aggregate.{lacks_match as lacks_a_match};
+ghost use Rattle.cpi_index.specs.Aggregate.{lacks_a_match};
 ghost use Rattle.std.specs.List.{list_all};
 
 use crate::carried::CarriedPrice;
@@ -16,7 +16,7 @@ use cpi_survey::Mark;
 impl GroupRow {
     // The price that can be compared with the month before.
     fn compared(&self) -> Option<Price>
-        ensures { result ≡ compared self.now }
+        ensures { result ≡ price_to_compare self.now }
     {
         match &self.mark {
             Some(Mark::Price(price)) | Some(Mark::Comparable(price)) => Some(*price),
@@ -72,7 +72,7 @@ fn any_matched(rows: &[GroupRow]) -> bool
 }
 
 fn any_uncompared(rows: &[GroupRow]) -> bool
-    ensures { result ≡ list_any (λ r. is_none (compared r)) rows.now }
+    ensures { result ≡ list_any (λ r. is_none (price_to_compare r)) rows.now }
 {
     rows.iter().any(|row| row.compared().is_none())
 }

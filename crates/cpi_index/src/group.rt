@@ -1,7 +1,7 @@
 //! One elementary aggregate at a time.
 ghost use Rattle.std.specs.Prelude.{◌≡◌, ◌≤◌, ◌<◌, ◌++◌, length, None, Some, IfOk, MatchOption, MatchResult};
 ghost use Rattle.cpi_index.specs.Aggregate.{carried_rows, are_in_limits};
-ghost use Rattle.cpi_index.specs.Series.{is_by_series as are_by_series, row_serial};
+ghost use Rattle.cpi_index.specs.Series.{are_by_series, row_serial};
 ghost use Rattle.cpi_index.specs.Group.{ticks_now, ticks_base, group_index, has_imputed, lack_of};
 ghost use Rattle.std.specs.Prelude.{true, false, Ok, Err};
 ghost use Rattle.cpi_index.specs.declared.lack.GroupLack.TheVariants.{PriceOutOfRange};

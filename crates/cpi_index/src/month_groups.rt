@@ -1,8 +1,8 @@
 //! The samples of a month, each aggregate's rows together.
 ghost use Rattle.std.specs.Prelude.{◌≡◌, true, IfOk};
-ghost use Rattle.cpi_index.specs.Series.{is_by_series as are_by_series, carried_serial, frozen_serial};
-ghost use Rattle.cpi_index.specs.Sample.{bases_of_year};
-ghost use Rattle.cpi_index.specs.Month.{rows_of as rows_of_month};
+ghost use Rattle.cpi_index.specs.Series.{are_by_series, carried_serial, frozen_serial};
+ghost use Rattle.cpi_index.specs.Sample.{bases_in_year};
+ghost use Rattle.cpi_index.specs.Month.{rows_of_month};
 ghost use Rattle.cpi_index.specs.MonthGroups.{AreGroups};
 
 use crate::bases::all_bases;
@@ -42,7 +42,7 @@ pub fn groups_of_january(
 ) -> Result<Vec<Vec<GroupRow>>, AllocError>
     ensures { are_by_series carried_serial prev.now ≡ true → are_by_series frozen_serial link.now ≡ true →
         are_by_series frozen_serial frozen.now ≡ true →
-        let bases = bases_of_year plan.now prev.now link.now in
+        let bases = bases_in_year plan.now prev.now link.now in
         IfOk result (λ v. AreGroups plan.now (rows_of_month bases bases frozen.now) v.items) }
 {
     if !is_by_series(prev) || !is_by_series(link) || !is_by_series(frozen) {
@@ -66,7 +66,7 @@ pub fn groups_of_month(
 ) -> Result<Vec<Vec<GroupRow>>, AllocError>
     ensures { are_by_series carried_serial prev.now ≡ true → are_by_series frozen_serial link.now ≡ true →
         are_by_series carried_serial before.now ≡ true → are_by_series frozen_serial frozen.now ≡ true →
-        let bases = bases_of_year plan.now prev.now link.now in
+        let bases = bases_in_year plan.now prev.now link.now in
         IfOk result (λ v. AreGroups plan.now (rows_of_month bases before.now frozen.now) v.items) }
 {
     if !is_by_series(prev) || !is_by_series(link) {

@@ -4,7 +4,7 @@ ghost use Rattle.cpi_codes.specs.CodeOrder.{code_cmp};
 ghost use Rattle.cpi_rows.specs.Keyed.{IsInOrder};
 ghost use Rattle.cpi_plan.specs.declared.plan_rows.Weight.{Weight};
 ghost use Rattle.cpi_index.specs.Month.{is_listed};
-ghost use Rattle.cpi_index.specs.Places.{place_among, place_in, is_place, placed, AreBuckets};
+ghost use Rattle.cpi_index.specs.Places.{place_among, place_in, is_place, rows_with_places, AreBuckets};
 
 use crate::placed::PlacedRow;
 use crate::row::GroupRow;
@@ -37,7 +37,7 @@ pub(crate) fn place_rows(
     plan: &YearPlan,
     rows: &[GroupRow],
 ) -> Result<Vec<PlacedRow>, AllocError>
-    ensures { IfOk result (λ v. v.items ≡ placed plan.now rows.now) }
+    ensures { IfOk result (λ v. v.items ≡ rows_with_places plan.now rows.now) }
 {
     let mut placed = Vec::new(alloc);
     for row in rows {

@@ -1,7 +1,7 @@
 //! Lists in the order of their series.
 ghost use Rattle.std.specs.Prelude.{◌≡◌, ℕ, ◌≤◌, ◌<◌, map, length, true};
 ghost use Rattle.cpi_codes.specs.declared.series.SeriesId.{SeriesId};
-ghost use Rattle.cpi_index.specs.Series.{serial, rises_from, at, is_by_series as are_by_series, carried_serial};
+ghost use Rattle.cpi_index.specs.Series.{serial, rises_from, element_at, are_by_series, carried_serial};
 ghost use Rattle.cpi_index.specs.Series.{frozen_serial, row_serial, IsOneSeries};
 
 use crate::carried::CarriedPrice;
@@ -72,7 +72,7 @@ pub(crate) fn is_by_series<T: InSeries>(list: &[T]) -> bool
 // What is left of the list behind the series below this one.
 pub(crate) fn skip_below<'a, T: InSeries>(list: &'a [T], serial: u32) -> &'a [T]
     requires { are_by_series T.serial_in list.now ≡ true }
-    ensures found { (n : ℕ) → serial ≤ n → at T.serial_in n result.now ≡ at T.serial_in n list.now }
+    ensures found { (n : ℕ) → serial ≤ n → element_at T.serial_in n result.now ≡ element_at T.serial_in n list.now }
     ensures rises { rises_from serial (map T.serial_in result.now) ≡ true }
 {
     let mut rest = list;
@@ -88,7 +88,7 @@ pub(crate) fn skip_below<'a, T: InSeries>(list: &'a [T], serial: u32) -> &'a [T]
 // The element of a series, in a list that begins with none below it.
 pub(crate) fn first_at<T: InSeries + Copy>(list: &[T], serial: u32) -> Option<T>
     requires { rises_from serial (map T.serial_in list.now) ≡ true }
-    ensures { result ≡ at T.serial_in serial list.now }
+    ensures { result ≡ element_at T.serial_in serial list.now }
 {
     match list {
         [first, ..] => {

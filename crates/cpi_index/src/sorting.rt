@@ -5,7 +5,7 @@ ghost use Rattle.std.specs.List.Sorted.{IsPermutation};
 ghost use Rattle.std.specs.Ordering.{nat_cmp, is_eq};
 ghost use Rattle.cpi_rows.specs.Keyed.{IsInOrder};
 ghost use Rattle.cpi_index.specs.Carried.{Carried};
-ghost use Rattle.cpi_index.specs.Series.{is_by_series, carried_serial, frozen_serial};
+ghost use Rattle.cpi_index.specs.Series.{are_by_series, carried_serial, frozen_serial};
 
 use crate::carried::CarriedPrice;
 use crate::frozen::FrozenQuote;
@@ -51,7 +51,7 @@ pub fn put_by_series(carried: &mut Vec<CarriedPrice>) -> Result<bool, AllocError
     ensures once { IfOk result (λ b. MatchBool b
         (IsInOrder nat_cmp carried_serial carried.new.items)
         (IsDistinct (λ a b. is_eq (nat_cmp (carried_serial a) (carried_serial b))) carried.old.items → ⊥)) }
-    ensures list { IfOk result (λ b. (all : List Carried) → is_by_series carried_serial all ≡ true →
+    ensures list { IfOk result (λ b. (all : List Carried) → are_by_series carried_serial all ≡ true →
         IsPermutation all carried.old.items →
         (b ≡ true) × (carried.new.items ≡ all)) }
 {

@@ -1,7 +1,7 @@
 //! The sums of the weights in use.
 ghost use Rattle.std.specs.Prelude.{◌≡◌, ◌≤◌, true, length, IfOk};
 ghost use Rattle.std.specs.List.{list_all};
-ghost use Rattle.cpi_codes.specs.CodeOrder.{is_elementary};
+ghost use Rattle.cpi_codes.specs.CodeOrder.{is_code_elementary};
 ghost use Rattle.cpi_codes.specs.declared.codes.Code.{Code};
 ghost use Rattle.cpi_plan.specs.Sums.{sum_at, weight_under, is_node};
 
@@ -17,7 +17,7 @@ pub fn weights_under(
     alloc: Global,
     weights: &[EffectiveWeight],
 ) -> Result<BTreeMap<Code, u128>, AllocError>
-    requires elementary { list_all (λ w. is_elementary w.code) weights.now ≡ true }
+    requires elementary { list_all (λ w. is_code_elementary w.code) weights.now ≡ true }
     requires few { length weights.now ≤ 1000000 }
     ensures sums { IfOk result (λ sums. (q : Code) → sum_at sums q ≡ weight_under q weights.now) }
     ensures least { IfOk result (λ sums. (q : Code) → is_node weights.now q ≡ true → 1 ≤ sum_at sums q) }

@@ -3,10 +3,10 @@ ghost use Rattle.std.specs.Prelude.{◌≡◌, ◌≢◌, true, false, None, Som
 ghost use Rattle.std.specs.Prelude.{IfOk, IsErrAnd, IsTrue, MatchResult, SomeIff};
 ghost use Rattle.cpi_codes.specs.CodeOrder.{code_cmp};
 ghost use Rattle.cpi_rows.specs.Keyed.{IsInOrder};
-ghost use Rattle.cpi_index.specs.Weights.{lacks_level as lacks_a_level, moved_parts, moved_weight, moved_weights};
+ghost use Rattle.cpi_index.specs.Weights.{lacks_a_level, moved_parts, moved_weight, moved_weights};
 ghost use Rattle.cpi_index.specs.Weights.{moving_fault, with_levels, weights_fault};
-ghost use Rattle.cpi_index.specs.Weights.{effective_weights as weights_in_use};
-ghost use Rattle.cpi_index.specs.Weights.{level_in, is_moved_out, are_weights_of, IsEffective};
+ghost use Rattle.cpi_index.specs.Weights.{weights_in_use};
+ghost use Rattle.cpi_index.specs.Weights.{level_in, is_moved_out, are_weights_in, IsEffective};
 ghost use Rattle.cpi_index.specs.Unfit.{IsFirstOutOfRange};
 ghost use Rattle.cpi_index.specs.declared.fault.IndexFault.TheVariants.{OutOfRange, NoMemory};
 
@@ -144,7 +144,7 @@ pub fn effective_weights(
         let fault = weights_fault (level_in link.now) (level_in reference.now) plan.now in MatchResult result
         (λ v. (fault ≡ None) × (v.items ≡ weights_in_use (level_in link.now) (level_in reference.now) plan.now))
         (λ f. f ≢ NoMemory → fault ≡ Some f) }
-    ensures codes { IfOk result (λ v. are_weights_of plan.now.weights v.items ≡ true) }
+    ensures codes { IfOk result (λ v. are_weights_in plan.now.weights v.items ≡ true) }
     ensures unfit { IsTrue (is_some plan.now.reference) →
         (IsInOrder code_cmp (λ l. l.code) link.now × IsInOrder code_cmp (λ l. l.code) reference.now → ⊥) →
         IsErrAnd result (IsFirstOutOfRange plan.now) }

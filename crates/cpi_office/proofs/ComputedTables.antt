@@ -5,28 +5,28 @@ use Rattle.std.proofs.lemmas.Bool.{false≢true}
 use Rattle.cpi_release.specs.PublishedTables.{asked_table, published_until}
 use Rattle.cpi_release.specs.declared.form.Form.{Form}
 use Rattle.cpi_release.specs.declared.release.Release.{Release}
-use Rattle.cpi_store.specs.Bearer.{bearer_of}
+use Rattle.cpi_store.specs.Registration.{registration_of}
 use Rattle.cpi_store.specs.Office.{Office}
 use Rattle.cpi_store.specs.Sound.{IsSound}
-use Rattle.cpi_store.specs.declared.bearer.Bearer.{Bearer}
+use Rattle.cpi_store.specs.declared.registration.Registration.{Registration}
 use Rattle.cpi_store.proofs.History.{releases_computed}
-use Rattle.cpi_office.specs.Answers.{known_answer, table_reply}
+use Rattle.cpi_office.specs.Answers.{known_answer, reply_with_table}
 use Rattle.cpi_office.specs.ComputedTables.{computed_reply, IsKnown, TablesAreTold, TellTables}
-use Rattle.cpi_office.specs.Rebuilt.{served_before}
+use Rattle.cpi_office.specs.RebuiltProjections.{served_before}
 use Rattle.cpi_office.specs.Runs.{after, reply_to}
 use Rattle.cpi_office.specs.Served.{IsRun}
-use Rattle.cpi_office.specs.Views.{view, own_view}
+use Rattle.cpi_office.specs.Projections.{view, own_view}
 use Rattle.cpi_office.specs.declared.caller.Caller.{Caller}
 use Rattle.cpi_office.specs.declared.caller.Caller.TheVariants.{Public, Collector, Desk}
 use Rattle.cpi_office.specs.declared.reply.Reply.{Reply}
 use Rattle.cpi_office.specs.declared.request.Ask.{Ask}
 use Rattle.cpi_office.specs.declared.request.Request.TheVariants.{Table}
-use Rattle.cpi_office.proofs.Rebuilt.{sound_runs}
+use Rattle.cpi_office.proofs.RebuiltProjections.{sound_runs}
 use Rattle.cpi_office.proofs.RunViews.{reply_in}
 
 module _ (now month : ℕ) (form : Form) (revision : Option ℕ) (o : Office) (s : IsSound o) where
   abbrev among : List Release → Reply
-  among releases = table_reply form month (asked_table month revision (published_until now releases))
+  among releases = reply_with_table form month (asked_table month revision (published_until now releases))
 
   computed : among o.releases ≡ computed_reply now month form revision o
   computed = ap among (releases_computed o s)
@@ -36,9 +36,9 @@ module _ (now month : ℕ) (form : Form) (revision : Option ℕ) (o : Office) (s
       reply_to now k (Table month form revision) o ≡ computed_reply now month form revision o
   table_told Public known = computed
   table_told Desk known = computed
-  table_told (Collector key) known = by (bearer_of key o.collectors) known ∙ computed
+  table_told (Collector key) known = by (registration_of key o.collectors) known ∙ computed
     where
-      by : (w : Option Bearer) → IsSome w →
+      by : (w : Option Registration) → IsSome w →
           known_answer now (Table month form revision) (view (Collector key) now o) (option_map (own_view o) w)
           ≡ among o.releases
       by None known = absurd (false≢true known)

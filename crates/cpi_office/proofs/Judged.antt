@@ -4,15 +4,16 @@ use Rattle.std.proofs.Common.{None, Option, Result, Ok, Err, refl, sym, ap, ◌�
 use Rattle.std.specs.Prelude.{◌⊎◌, ◌==◌, ◌&&◌, ◌||◌, slice_get, nat_lt, not, option_map, if◌then◌else◌}
 use Rattle.std.proofs.lemmas.Bool.Decides.{eqb_tells}
 use Rattle.cpi_codes.specs.declared.codes.Code.{Code}
-use Rattle.cpi_rows.specs.Keyed.{at}
+use Rattle.cpi_rows.specs.Keyed.{row_by_number}
 use Rattle.cpi_rows.proofs.Found.{at_key}
 use Rattle.cpi_plan.specs.Plan.{Plan}
 use Rattle.cpi_plan.specs.Calendar.{CalendarPart}
-use Rattle.cpi_release.specs.FrozenMonths.{frozen_months, last_frozen, is_frozen, is_reopened, stays_frozen, is_next}
-use Rattle.cpi_release.specs.FrozenMonths.{next_revision, plan_for, lacks_plan}
+use Rattle.cpi_release.specs.FrozenMonths.{frozen_months, last_frozen, is_month_frozen, is_month_reopened, keeps_frozen}
+use Rattle.cpi_release.specs.FrozenMonths.{is_next_month}
+use Rattle.cpi_release.specs.FrozenMonths.{revision_to_give, plan_for, lacks_plan}
 use Rattle.cpi_release.specs.declared.frozen_month.FrozenMonth.{FrozenMonth}
 use Rattle.cpi_release.specs.declared.release.Release.{Release}
-use Rattle.cpi_office.specs.Freezing.{freeze_judged, row_judged, plan_judged, carry_judged, has_weightless}
+use Rattle.cpi_office.specs.Freezing.{freeze_judged, row_judged, plan_judged, carry_judged, has_unweighed}
 use Rattle.std.proofs.lemmas.Bool.{false≢true, ltb-true}
 use Rattle.cpi_office.specs.declared.refusal.Refusal.{Refusal}
 use Rattle.cpi_office.specs.declared.refusal.Refusal.TheVariants.{FreezeOrder}
@@ -27,7 +28,7 @@ last_is (x ∷ y ∷ frozen) =
 
 -- the last month is among the frozen ones
 last_among : (month : ℕ) (frozen : List FrozenMonth) (last : FrozenMonth) → last_frozen frozen ≡ Some last →
-    (last.month == month) ≡ true → is_frozen month frozen ≡ true
+    (last.month == month) ≡ true → is_month_frozen month frozen ≡ true
 last_among month [] last e same = let no : None ≡ Some last = e in cc
 last_among month (x ∷ []) last e same =
     let here : Some x ≡ Some last = e in
@@ -35,13 +36,13 @@ last_among month (x ∷ []) last e same =
     rw (ap (λ (l : FrozenMonth). l.month == month) is ∙ same) refl
 last_among month (x ∷ y ∷ frozen) last e same = by (x.month == month) (last_among month (y ∷ frozen) last e same)
   where
-    by : (w : Bool) → is_frozen month (y ∷ frozen) ≡ true → (w || is_frozen month (y ∷ frozen)) ≡ true
+    by : (w : Bool) → is_month_frozen month (y ∷ frozen) ≡ true → (w || is_month_frozen month (y ∷ frozen)) ≡ true
     by true rest = refl
     by false rest = rest
 
 -- a month that doesn't stay frozen has fewer than nine revisions
 pub few_revisions : (month : ℕ) (publishes : Option ℕ) (frozen : List FrozenMonth) →
-    stays_frozen month publishes frozen ≡ false → next_revision month frozen ≤ 9
+    keeps_frozen month publishes frozen ≡ false → revision_to_give month frozen ≤ 9
 few_revisions month publishes frozen free = by (last_frozen frozen) refl
   where
     reopened : (w : Bool) → (true && not w) ≡ false → w ≡ true
@@ -53,19 +54,19 @@ few_revisions month publishes frozen free = by (last_frozen frozen) refl
     three true false c e = absurd (false≢true e)
     three false b c e = absurd (false≢true e)
 
-    few : (last : FrozenMonth) (p : Option ℕ) → is_reopened month p (Some last) ≡ true → last.revision + 1 ≤ 9
+    few : (last : FrozenMonth) (p : Option ℕ) → is_month_reopened month p (Some last) ≡ true → last.revision + 1 ≤ 9
     few last None e = absurd (false≢true e)
     few last (Some p) e = let less = ltb-true last.revision 9
         (three (last.month == month) (nat_lt last.revision 9) (nat_lt last.publishes p) e) in omega (arith, less)
 
-    by : (w : Option FrozenMonth) → last_frozen frozen ≡ w → next_revision month frozen ≤ 9
+    by : (w : Option FrozenMonth) → last_frozen frozen ≡ w → revision_to_give month frozen ≤ 9
     by None e = rw e (omega arith)
     by (Some last) e = again (eqb_tells last.month month)
       where
         again : ((eqb last.month month ≡ true) × (last.month ≡ month))
-            ⊎ ((eqb last.month month ≡ false) × (last.month ≢ month)) → next_revision month frozen ≤ 9
+            ⊎ ((eqb last.month month ≡ false) × (last.month ≢ month)) → revision_to_give month frozen ≤ 9
         again (inl same) = rw (e, same.0) (few last publishes
-            (reopened (is_reopened month publishes (Some last))
+            (reopened (is_month_reopened month publishes (Some last))
             (rw (last_among month frozen last e same.0, e) at free)))
         again (inr apart) = rw (e, apart.0) (omega arith)
 
@@ -89,38 +90,42 @@ module _ (now : ℕ) (carry : List Code) (frozen : List FrozenMonth) (plans : Li
       let closed = passed (nat_lt now r.closes) _ (plan_judged plans frozen carry r) row e in
       let planned = passed (lacks_plan plans frozen r.month) _ (carry_judged carry (plan_for plans frozen r.month) r)
       row closed.1 in
-      let weighed = passed (has_weightless (plan_for plans frozen r.month) carry) _ (Ok r) row planned.1 in
+      let weighed = passed (has_unweighed (plan_for plans frozen r.month) carry) _ (Ok r) row planned.1 in
       ap Some (ok_is (carry_passed r) r row refl weighed.1)
 
 module _ (now month : ℕ) (carry : List Code) (rs : List Release) (calendar : List CalendarPart) (plans : List Plan)
     (row : CalendarPart)
-    (judged : freeze_judged now month carry (frozen_months rs) (at (λ r. r.month) month calendar) plans ≡ Ok row) where
-  abbrev free : (stays_frozen month (option_map (λ r. r.publishes) (at (λ r. r.month) month calendar))
-      (frozen_months rs) ≡ false) × ((if not (is_next month (frozen_months rs)) then Err FreezeOrder else row_judged
-      now plans (frozen_months rs) carry (at (λ r. r.month) month calendar)) ≡ Ok row)
-  free = passed (stays_frozen month (option_map (λ r. r.publishes) (at (λ r. r.month) month calendar))
-      (frozen_months rs)) _ (if not (is_next month (frozen_months rs)) then Err FreezeOrder else row_judged now plans
-      (frozen_months rs) carry (at (λ r. r.month) month calendar)) row judged
+    (judged : freeze_judged now month carry (frozen_months rs) (row_by_number (λ r. r.month) month calendar) plans ≡ Ok
+    row) where
+  abbrev free : (keeps_frozen month (option_map (λ r. r.publishes) (row_by_number (λ r. r.month) month calendar))
+      (frozen_months rs) ≡ false) × ((if not (is_next_month month (frozen_months rs)) then Err FreezeOrder else
+      row_judged
+      now plans (frozen_months rs) carry (row_by_number (λ r. r.month) month calendar)) ≡ Ok row)
+  free = passed (keeps_frozen month (option_map (λ r. r.publishes) (row_by_number (λ r. r.month) month calendar))
+      (frozen_months rs)) _ (if not (is_next_month month (frozen_months rs)) then Err FreezeOrder else row_judged
+      now plans
+      (frozen_months rs) carry (row_by_number (λ r. r.month) month calendar)) row judged
 
-  abbrev follows : (not (is_next month (frozen_months rs)) ≡ false)
-      × (row_judged now plans (frozen_months rs) carry (at (λ r. r.month) month calendar) ≡ Ok row)
-  follows = passed (not (is_next month (frozen_months rs))) _
-      (row_judged now plans (frozen_months rs) carry (at (λ r. r.month) month calendar)) row free.1
+  abbrev follows : (not (is_next_month month (frozen_months rs)) ≡ false)
+      × (row_judged now plans (frozen_months rs) carry (row_by_number (λ r. r.month) month calendar) ≡ Ok row)
+  follows = passed (not (is_next_month month (frozen_months rs))) _
+      (row_judged now plans (frozen_months rs) carry (row_by_number (λ r. r.month) month calendar)) row free.1
 
   -- the row is the month's
   pub judged_month : row.month ≡ month
   judged_month = at_key (λ r. r.month) month row calendar
-      (judged_row now carry (frozen_months rs) plans (at (λ r. r.month) month calendar) row follows.1)
+      (judged_row now carry (frozen_months rs) plans (row_by_number (λ r. r.month) month calendar) row follows.1)
 
   -- the month is the next one
-  pub judged_follows : is_next month (frozen_months rs) ≡ true
-  judged_follows = by (is_next month (frozen_months rs)) follows.0
+  pub judged_follows : is_next_month month (frozen_months rs) ≡ true
+  judged_follows = by (is_next_month month (frozen_months rs)) follows.0
     where
       by : (w : Bool) → not w ≡ false → w ≡ true
       by true e = refl
       by false e = absurd (false≢true (sym e))
 
   -- it has fewer than nine revisions
-  pub judged_few : next_revision row.month (frozen_months rs) ≤ 9
-  judged_few = subst (λ k. next_revision k (frozen_months rs) ≤ 9) (sym judged_month)
-      (few_revisions month (option_map (λ r. r.publishes) (at (λ r. r.month) month calendar)) (frozen_months rs) free.0)
+  pub judged_few : revision_to_give row.month (frozen_months rs) ≤ 9
+  judged_few = subst (λ k. revision_to_give k (frozen_months rs) ≤ 9) (sym judged_month)
+      (few_revisions month (option_map (λ r. r.publishes) (row_by_number (λ r. r.month) month calendar))
+      (frozen_months rs) free.0)

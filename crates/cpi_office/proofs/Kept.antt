@@ -5,16 +5,16 @@ use Rattle.std.specs.declared.cmp.Ordering.{Ordering}
 use Rattle.std.specs.Ordering.{nat_cmp, is_lt, is_gt}
 use Rattle.std.specs.List.{AllByRecursion}
 use Rattle.std.proofs.lemmas.Cmp.{nat_cmp_total}
-use Rattle.cpi_rows.specs.Keyed.{put}
+use Rattle.cpi_rows.specs.Keyed.{with_row}
 use Rattle.cpi_rows.specs.Held.{held_cmp, held_key}
-use Rattle.cpi_store.specs.Office.{Office, Change, changed, PutsItem, PutsPlan, PutsCalendar, Registers, PutsOutlet}
+use Rattle.cpi_store.specs.Office.{Office, Change, office_with, PutsItem, PutsPlan, PutsCalendar, Registers, PutsOutlet}
 use Rattle.cpi_store.specs.Office.{Assigns, HandsOver, Quotes, Freezes}
 use Rattle.cpi_survey.specs.Quote.{quote_key, quote_cmp}
 use Rattle.cpi_store.specs.FrozenLists.{HasFrozenList}
 use Rattle.cpi_store.specs.Sound.{IsSound, HasItsRows, HasItsAssignment, HasNodesInOrder}
 use Rattle.cpi_rows.proofs.Places.{put_in_order}
 use Rattle.cpi_rows.proofs.Puts.{at-put_some}
-use Rattle.cpi_office.proofs.Bearers.{keys-put}
+use Rattle.cpi_office.proofs.Registrations.{keys-put}
 use Rattle.cpi_office.proofs.Stood.{held_total, quote_total}
 use Rattle.cpi_release.specs.FrozenMonths.{release_cmp, release_key}
 use Rattle.cpi_store.proofs.Released.{release_total, newly_frozen, released_more, replanned}
@@ -44,14 +44,14 @@ all_joined P [] ys a b = b
 all_joined P (x ∷ xs) ys a b = (a.0, all_joined P xs ys a.1 b)
 
 pub all-put : {X K : Type 0} (P : X → Type 0) (cmp : K → K → Ordering) (key : X → K) (row : X) (rows : List X) →
-    P row → AllByRecursion P rows → AllByRecursion P (put cmp key row rows)
+    P row → AllByRecursion P rows → AllByRecursion P (with_row cmp key row rows)
 all-put P cmp key row rows one all =
     all_joined P _ _ (all_filtered P (λ r. is_lt (cmp (key r) (key row))) rows all)
     (one, all_filtered P (λ r. is_gt (cmp (key r) (key row))) rows all)
 
 -- ---- each change
 
-pub stays_sound : (c : Change) (o : Office) → IsSound o → Fits c o → IsSound (changed c o)
+pub stays_sound : (c : Change) (o : Office) → IsSound o → Fits c o → IsSound (office_with c o)
 stays_sound (PutsItem i) o s h = record {
   items = put_in_order nat_cmp_total (λ i. i.code) o.items i s.items;
   plans = s.plans;
@@ -61,7 +61,7 @@ stays_sound (PutsItem i) o s h = record {
   assignments = s.assignments;
   quotes = s.quotes;
   keys = s.keys;
-  assigned = all_weaker (HasItsRows o) (HasItsRows (changed (PutsItem i) o))
+  assigned = all_weaker (HasItsRows o) (HasItsRows (office_with (PutsItem i) o))
       (λ row has. (has.0, has.1, at-put_some (λ i. i.code) i o.items s.items h row.1.assignment.item has.2))
       o.assignments s.assigned;
   quoted = s.quoted;
@@ -114,7 +114,7 @@ stays_sound (PutsCalendar r) o s h = record {
 stays_sound (Registers b) o s h = record {
   collectors = put_in_order nat_cmp_total (λ b. b.number) o.collectors b s.collectors;
   keys = keys-put b o.collectors s.collectors h.0 s.keys h.1;
-  assigned = all_weaker (HasItsRows o) (HasItsRows (changed (Registers b) o))
+  assigned = all_weaker (HasItsRows o) (HasItsRows (office_with (Registers b) o))
       (λ row has. (at-put_some (λ b. b.number) b o.collectors s.collectors h.0 row.0 has.0, has.1, has.2))
       o.assignments s.assigned;
   items = s.items;
@@ -134,7 +134,7 @@ stays_sound (Registers b) o s h = record {
 }
 stays_sound (PutsOutlet u) o s h = record {
   outlets = put_in_order nat_cmp_total (λ u. u.number) o.outlets u s.outlets;
-  assigned = all_weaker (HasItsRows o) (HasItsRows (changed (PutsOutlet u) o))
+  assigned = all_weaker (HasItsRows o) (HasItsRows (office_with (PutsOutlet u) o))
       (λ row has. (has.0, at-put_some (λ u. u.number) u o.outlets s.outlets h row.1.assignment.outlet has.1, has.2))
       o.assignments s.assigned;
   items = s.items;

@@ -4,22 +4,23 @@ use Rattle.std.specs.Prelude.{IsSome}
 use Rattle.std.specs.Ordering.{nat_cmp, is_eq}
 use Rattle.std.proofs.lemmas.Bool.{eqb-true}
 use Rattle.std.proofs.lemmas.Cmp.{tied_itself, nat_cmp_total}
-use Rattle.cpi_rows.specs.Keyed.{at}
-use Rattle.cpi_store.specs.declared.bearer.Bearer.{Bearer}
-use Rattle.cpi_store.specs.Bearer.{bearer_of}
+use Rattle.cpi_rows.specs.Keyed.{row_by_number}
+use Rattle.cpi_store.specs.declared.registration.Registration.{Registration}
+use Rattle.cpi_store.specs.Registration.{registration_of}
 
-some_more : (n : ℕ) (x : Bearer) (bs : List Bearer) → (t : Bool) → is_eq (nat_cmp x.number n) ≡ t →
-    IsSome (at (λ b. b.number) n bs) → IsSome (at (λ b. b.number) n (x ∷ bs))
+some_more : (n : ℕ) (x : Registration) (bs : List Registration) → (t : Bool) → is_eq (nat_cmp x.number n) ≡ t →
+    IsSome (row_by_number (λ b. b.number) n bs) → IsSome (row_by_number (λ b. b.number) n (x ∷ bs))
 some_more n x bs true e some = rw e refl
 some_more n x bs false e some = rw e some
 
-pub bearer_some : (key : ℕ) (b : Bearer) (bs : List Bearer) → bearer_of key bs ≡ Some b →
-    IsSome (at (λ b. b.number) b.number bs)
-bearer_some key b [] borne = let no : None ≡ Some b = borne in cc
-bearer_some key b (x ∷ bs) borne = by (eqb x.key key) refl (bearer_some key b bs)
+pub registration_some : (key : ℕ) (b : Registration) (bs : List Registration) → registration_of key bs ≡ Some b →
+    IsSome (row_by_number (λ b. b.number) b.number bs)
+registration_some key b [] borne = let no : None ≡ Some b = borne in cc
+registration_some key b (x ∷ bs) borne = by (eqb x.key key) refl (registration_some key b bs)
   where
-    by : (t : Bool) → eqb x.key key ≡ t → (bearer_of key bs ≡ Some b → IsSome (at (λ b. b.number) b.number bs)) →
-        IsSome (at (λ b. b.number) b.number (x ∷ bs))
+    by : (t : Bool) → eqb x.key key ≡ t → (registration_of key bs ≡ Some b → IsSome
+        (row_by_number (λ b. b.number) b.number bs)) →
+        IsSome (row_by_number (λ b. b.number) b.number (x ∷ bs))
     by true e rest =
         let here : Some x ≡ Some b = rw e at borne in
         let is : x ≡ b = cc in
@@ -27,13 +28,14 @@ bearer_some key b (x ∷ bs) borne = by (eqb x.key key) refl (bearer_some key b 
     by false e rest = some_more b.number x bs (is_eq (nat_cmp x.number b.number)) refl (rest (rw e at borne))
 
 -- and bears the key
-pub bearer_key : (key : ℕ) (b : Bearer) (bs : List Bearer) → bearer_of key bs ≡ Some b → b.key ≡ key
-bearer_key key b [] borne = let no : None ≡ Some b = borne in cc
-bearer_key key b (x ∷ bs) borne = by (eqb x.key key) refl (bearer_key key b bs)
+pub registration_key : (key : ℕ) (b : Registration) (bs : List Registration) → registration_of key bs ≡ Some b →
+    b.key ≡ key
+registration_key key b [] borne = let no : None ≡ Some b = borne in cc
+registration_key key b (x ∷ bs) borne = by (eqb x.key key) refl (registration_key key b bs)
   where
-    by : (t : Bool) → eqb x.key key ≡ t → (bearer_of key bs ≡ Some b → b.key ≡ key) → b.key ≡ key
+    by : (t : Bool) → eqb x.key key ≡ t → (registration_of key bs ≡ Some b → b.key ≡ key) → b.key ≡ key
     by true e rest =
         let here : Some x ≡ Some b = rw e at borne in
         let is : x ≡ b = cc in
-        ap (λ (b : Bearer). b.key) (sym is) ∙ eqb-true x.key key e
+        ap (λ (b : Registration). b.key) (sym is) ∙ eqb-true x.key key e
     by false e rest = rest (rw e at borne)

@@ -6,10 +6,10 @@ use Rattle.cpi_plan.specs.Plan.{Plan}
 use Rattle.cpi_plan.specs.Calendar.{CalendarPart}
 use Rattle.cpi_index.specs.declared.fault.IndexFault.{IndexFault}
 use Rattle.cpi_index.specs.declared.fault.IndexFault.TheVariants.{NoReference, NoSample, NoMatch, OutOfRange, NoMemory}
-use Rattle.cpi_release.specs.Asking.{IsAsked}
-use Rattle.cpi_release.specs.FrozenMonths.{frozen_months, is_next, plan_for}
+use Rattle.cpi_release.specs.Asking.{MayFreeze}
+use Rattle.cpi_release.specs.FrozenMonths.{frozen_months, is_next_month, plan_for}
 use Rattle.cpi_release.specs.GroupCalls.{Sources}
-use Rattle.cpi_release.specs.Releasing.{Freeze, fault_of, released}
+use Rattle.cpi_release.specs.Releasing.{Freeze, fault_of, release_of_month}
 use Rattle.cpi_release.specs.Summed.{IsFreezeFault}
 use Rattle.cpi_release.specs.declared.freeze_fault.FreezeFault.{FreezeFault}
 use Rattle.cpi_release.specs.declared.freeze_fault.FreezeFault.TheVariants.{Index, Group}
@@ -23,7 +23,7 @@ use Rattle.cpi_office.specs.Calls.{is_unavailable}
 use Rattle.cpi_office.specs.Freezing.{frozen_with, unless_fault, IsMade, fault_refusal, release_verdict}
 use Rattle.cpi_office.specs.Verdicts.{Refuses}
 use Rattle.cpi_office.specs.declared.refusal.Refusal.TheVariants.{Unavailable}
-use Rattle.cpi_office.proofs.Asked.{owed}
+use Rattle.cpi_office.proofs.FreezePreconditions.{owed}
 
 -- what the groups make is what is made of the office
 pub made_is : (wanted : Option IndexFault) (release : Release) (made : Result Release FreezeFault) →
@@ -51,19 +51,19 @@ fault_told wanted (Index (OutOfRange code)) made = inl (ap release_verdict (made
 
 -- a freeze that isn't refused asks for what it may ask for
 pub asked_for : (o : Office) → IsSound o → (now : ℕ) (row : CalendarPart) (carry : List Code) →
-    is_next row.month (frozen_months o.releases) ≡ true →
-    IsAsked (office_sources o) (plan_for o.plans (frozen_months o.releases) row.month) (frozen_with now row carry o)
+    is_next_month row.month (frozen_months o.releases) ≡ true →
+    MayFreeze (office_sources o) (plan_for o.plans (frozen_months o.releases) row.month) (frozen_with now row carry o)
 asked_for o s now row carry next = let w = owed o.plans row.month o.releases s.releases s.released next in
     record { plan_is = w.plan_is; quotes = refl; after = λ some. (w.after some).0 }
 
-pub asked_back : (s t : Sources) (p q : Option Plan) (x y : Freeze) → s ≡ t → p ≡ q → x ≡ y → IsAsked t q y →
-    IsAsked s p x
-asked_back s t p q x y a b d asked = subst (λ z. IsAsked z p x) (sym a)
-    (subst (λ z. IsAsked t z x) (sym b) (subst (λ z. IsAsked t q z) (sym d) asked))
+pub asked_back : (s t : Sources) (p q : Option Plan) (x y : Freeze) → s ≡ t → p ≡ q → x ≡ y → MayFreeze t q y →
+    MayFreeze s p x
+asked_back s t p q x y a b d asked = subst (λ z. MayFreeze z p x) (sym a)
+    (subst (λ z. MayFreeze t z x) (sym b) (subst (λ z. MayFreeze t q z) (sym d) asked))
 
 abbrev pub Computed : Sources → Option Plan → Freeze → Result Release FreezeFault → Type 0
 Computed s plan x made = MatchResult made (λ r. (fault_of plan s.releases x ≡ None)
-    × (r ≡ released plan s.releases x)) (IsFreezeFault (fault_of plan s.releases x))
+    × (r ≡ release_of_month plan s.releases x)) (IsFreezeFault (fault_of plan s.releases x))
 
 pub moved_to : (s t : Sources) (p q : Option Plan) (x y : Freeze) (made : Result Release FreezeFault) → s ≡ t →
     p ≡ q → x ≡ y → Computed s p x made → Computed t q y made

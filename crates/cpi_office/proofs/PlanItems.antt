@@ -11,9 +11,11 @@ use Rattle.cpi_plan.specs.declared.plan_faults.PlanFault.{PlanFault}
 use Rattle.cpi_plan.specs.declared.plan_faults.PlanFault.TheVariants.{TitleMissing, DuplicateCode, NotElementary}
 use Rattle.cpi_plan.specs.declared.plan_faults.PlanFault.TheVariants.{ZeroWeight, WeightSum, UnknownItem, ItemTwice}
 use Rattle.cpi_plan.specs.declared.plan_faults.PlanFault.TheVariants.{UnknownAggregate, Reference}
-use Rattle.cpi_plan.specs.Plan.{Body, Plan, is_unknown, has_unknown, has_unplaced, has_zero, are_elementary, total}
+use Rattle.cpi_plan.specs.Plan.{Body, Plan, is_unknown_item, has_unknown_item, has_unplaced_item, has_zero_weight}
+use Rattle.cpi_plan.specs.Plan.{are_all_elementary, total_weight}
 use Rattle.cpi_plan.specs.Plan.{has_fit_reference}
-use Rattle.cpi_plan.specs.Planned.{planned, are_codes_once, are_items_once, placed, titled, plan_of, in_order}
+use Rattle.cpi_plan.specs.Planned.{plan_or_fault, are_codes_once, are_items_once, plan_if_placed, plan_if_titled}
+use Rattle.cpi_plan.specs.Planned.{plan_from_body, rows_in_order}
 use Rattle.cpi_plan.specs.Planned.{first_untitled}
 use Rattle.cpi_office.specs.Replacing.{plan_standing}
 use Rattle.cpi_office.specs.declared.standing.Standing.{Standing}
@@ -32,14 +34,15 @@ is_none_of p [] h = refl
 is_none_of p (x ∷ xs) h = rw h.0 (is_none_of p xs h.1)
 
 module _ (known : List Item) where
-  all_known : (places : List Place) → AllByRecursion (λ p. is_unknown known p ≡ false) places →
-      AllByRecursion (λ p. is_unknown known p ≡ false) (in_order nat_cmp (λ p. p.item) places)
+  all_known : (places : List Place) → AllByRecursion (λ p. is_unknown_item known p ≡ false) places →
+      AllByRecursion (λ p. is_unknown_item known p ≡ false) (rows_in_order nat_cmp (λ p. p.item) places)
   all_known [] h = tt
-  all_known (p ∷ ps) h = all-put (λ p. is_unknown known p ≡ false) nat_cmp (λ p. p.item) p _ h.0 (all_known ps h.1)
+  all_known (p ∷ ps) h = all-put (λ p. is_unknown_item known p ≡ false) nat_cmp (λ p. p.item) p _ h.0 (all_known ps h.1)
 
-  known_in_order : (places : List Place) → has_unknown known places ≡ false →
-      has_unknown known (in_order nat_cmp (λ p. p.item) places) ≡ false
-  known_in_order places h = is_none_of (is_unknown known) _ (all_known places (none_is (is_unknown known) places h))
+  known_in_order : (places : List Place) → has_unknown_item known places ≡ false →
+      has_unknown_item known (rows_in_order nat_cmp (λ p. p.item) places) ≡ false
+  known_in_order places h = is_none_of (is_unknown_item known) _
+      (all_known places (none_is (is_unknown_item known) places h))
 
 -- what is answered after a test that wasn't met
 after_test : {A E : Type 0} (t : Bool) (f : E) (rest : Result A E) (x : A) → (if t then Err f else rest) ≡ Ok x →
@@ -51,35 +54,37 @@ abbrev value_or : {A E : Type 0} → A → Result A E → A
 value_or x (Ok y) = y
 value_or x (Err f) = x
 
-placed_known : (year : ℕ) (b : Body) (p : Plan) → placed year b ≡ Ok p → has_unknown b.known p.places ≡ false
+placed_known : (year : ℕ) (b : Body) (p : Plan) → plan_if_placed year b ≡ Ok p → has_unknown_item b.known
+    p.places ≡ false
 placed_known year b p h =
-    let one = after_test (has_unknown b.known b.places) UnknownItem _ p h in
+    let one = after_test (has_unknown_item b.known b.places) UnknownItem _ p h in
     let two = after_test (not (are_items_once b.places)) ItemTwice _ p one.1 in
-    let three = after_test (has_unplaced b.weights b.places) UnknownAggregate _ p two.1 in
+    let three = after_test (has_unplaced_item b.weights b.places) UnknownAggregate _ p two.1 in
     let four = after_test (not (has_fit_reference year b.references)) Reference _ p three.1 in
-    let is : plan_of year b ≡ p = ap (value_or p) four.1 in
-    subst (λ (q : Plan). has_unknown b.known q.places ≡ false) is (known_in_order b.known b.places one.0)
+    let is : plan_from_body year b ≡ p = ap (value_or p) four.1 in
+    subst (λ (q : Plan). has_unknown_item b.known q.places ≡ false) is (known_in_order b.known b.places one.0)
 
-titled_known : (year : ℕ) (b : Body) (p : Plan) (code : Option Code) → titled year b code ≡ Ok p →
-    has_unknown b.known p.places ≡ false
+titled_known : (year : ℕ) (b : Body) (p : Plan) (code : Option Code) → plan_if_titled year b code ≡ Ok p →
+    has_unknown_item b.known p.places ≡ false
 titled_known year b p (Some code) h = let no : Err (TitleMissing code) ≡ Ok p = h in cc
 titled_known year b p None h = placed_known year b p h
 
-pub planned_known : (year : ℕ) (b : Body) (p : Plan) → planned year b ≡ Ok p → has_unknown b.known p.places ≡ false
+pub planned_known : (year : ℕ) (b : Body) (p : Plan) → plan_or_fault year b ≡ Ok p → has_unknown_item b.known
+    p.places ≡ false
 planned_known year b p h =
     let one = after_test (not (are_codes_once b.titles b.weights)) DuplicateCode _ p h in
-    let two = after_test (not (are_elementary b.weights b.places)) NotElementary _ p one.1 in
-    let three = after_test (has_zero b.weights) ZeroWeight _ p two.1 in
-    let four = after_test (not (total b.weights == 1000000)) (WeightSum (total b.weights)) _ p three.1 in
+    let two = after_test (not (are_all_elementary b.weights b.places)) NotElementary _ p one.1 in
+    let three = after_test (has_zero_weight b.weights) ZeroWeight _ p two.1 in
+    let four = after_test (not (total_weight b.weights == 1000000)) (WeightSum (total_weight b.weights)) _ p three.1 in
     titled_known year b p (first_untitled b.titles b.weights) four.1
 
 -- the same of a plan that was judged
 pub judged_known : (year : ℕ) (b : Body) (plans : List Plan) (p : Plan) (s : Standing) →
-    plan_standing plans (planned year b) ≡ Ok (p, s) → has_unknown b.known p.places ≡ false
-judged_known year b plans p s h = by (planned year b) refl h
+    plan_standing plans (plan_or_fault year b) ≡ Ok (p, s) → has_unknown_item b.known p.places ≡ false
+judged_known year b plans p s h = by (plan_or_fault year b) refl h
   where
-    by : (r : Result Plan PlanFault) → planned year b ≡ r → plan_standing plans r ≡ Ok (p, s) →
-        has_unknown b.known p.places ≡ false
+    by : (r : Result Plan PlanFault) → plan_or_fault year b ≡ r → plan_standing plans r ≡ Ok (p, s) →
+        has_unknown_item b.known p.places ≡ false
     by (Err f) e h = let no : plan_standing plans (Err f) ≡ Ok (p, s) = h in cc
     by (Ok q) e h = let is : q ≡ p = ap (λ (r : Result (Plan × Standing) PlanFault). (value_or (p, s) r).0) h in
         planned_known year b p (e ∙ ap Ok is)

@@ -1,7 +1,7 @@
 -- What is stored is what the verdict on a decision changes, and its receipt is above the greatest.
 use Rattle.std.proofs.Common.{◌≡◌, ℕ, Option, Some, None, Result, Ok, Err, refl, sym, subst, arith}
 use Rattle.std.specs.Prelude.{nat_lt, nat_le, IsSome}
-use Rattle.cpi_rows.specs.Keyed.{at}
+use Rattle.cpi_rows.specs.Keyed.{row_by_number}
 use Rattle.cpi_plan.specs.Calendar.{CalendarPart}
 use Rattle.cpi_survey.specs.Entry.{EntryRow}
 use Rattle.cpi_survey.specs.Quote.{QuoteRow, greatest_receipt}
@@ -9,32 +9,34 @@ use Rattle.cpi_survey.specs.Mark.{is_same_mark}
 use Rattle.cpi_survey.specs.Assignment.{is_active}
 use Rattle.cpi_survey.specs.Public.{PublicPart}
 use Rattle.cpi_survey.specs.Own.{OwnPart, assignment_of}
-use Rattle.cpi_survey.specs.Decision.{decided, in_slot, over_quote, in_month, in_window, once_checked, with_receipt}
+use Rattle.cpi_survey.specs.Decision.{entry_decision, in_slot, over_quote, in_month, in_window, once_checked}
+use Rattle.cpi_survey.specs.Decision.{with_receipt}
 use Rattle.cpi_survey.specs.declared.assignment.Assignment.{Assignment}
 use Rattle.cpi_survey.specs.declared.assignment.Assigned.{Assigned}
-use Rattle.cpi_store.specs.declared.bearer.Bearer.{Bearer}
+use Rattle.cpi_store.specs.declared.registration.Registration.{Registration}
 use Rattle.cpi_survey.specs.declared.decision.Decision.{Decision}
 use Rattle.cpi_survey.specs.declared.decision.Decision.TheVariants.{Again, Put}
 use Rattle.cpi_survey.specs.declared.refusal.Refusal.{Refusal as EntryRefusal}
 use Rattle.cpi_store.specs.Office.{Office}
 use Rattle.cpi_office.specs.Entries.{decision_verdict}
 use Rattle.cpi_office.specs.Verdicts.{with_verdict}
-use Rattle.cpi_office.specs.Receipts.{IsNew, stored}
+use Rattle.cpi_office.specs.Receipts.{IsNewReceipt, office_with_quote}
 use Rattle.cpi_office.proofs.Failures.{if_holds}
 
-pub stored_is : (b : Bearer) (entry : EntryRow) (d : Result Decision EntryRefusal) (o : Office) →
-    stored b d o ≡ with_verdict (decision_verdict b entry d) o
+pub stored_is : (b : Registration) (entry : EntryRow) (d : Result Decision EntryRefusal) (o : Office) →
+    office_with_quote b d o ≡ with_verdict (decision_verdict b entry d) o
 stored_is b entry (Err f) o = refl
 stored_is b entry (Ok (Again receipt)) o = refl
 stored_is b entry (Ok (Put q)) o = refl
 
-module _ (entry : EntryRow) (own : OwnPart) (has : IsSome (at (λ a. a.assignment.slot) entry.slot own.assignments))
+module _ (entry : EntryRow) (own : OwnPart) (has : IsSome
+    (row_by_number (λ a. a.assignment.slot) entry.slot own.assignments))
   where
     abbrev greatest : ℕ
     greatest = greatest_receipt own.quotes
 
     abbrev New : Result Decision EntryRefusal → Type 0
-    New d = IsNew d own
+    New d = IsNewReceipt d own
 
     receipt_new : New (with_receipt entry greatest)
     receipt_new = if_holds New (nat_le 1000000 greatest) _ _ (λ e. tt) (λ e. (omega arith, has))
@@ -63,9 +65,9 @@ module _ (entry : EntryRow) (own : OwnPart) (has : IsSome (at (λ a. a.assignmen
 
 -- a new quote has a receipt above all of its collector's, and its slot is the collector's
 pub decided_new : (now : ℕ) (entry : EntryRow) (public : PublicPart) (own : OwnPart) →
-    IsNew (decided now entry public own) own
+    IsNewReceipt (entry_decision now entry public own) own
 decided_new now entry public own = by (assignment_of entry.slot own) refl
   where
-    by : (a : Option Assigned) → assignment_of entry.slot own ≡ a → IsNew (in_slot now entry public a own) own
+    by : (a : Option Assigned) → assignment_of entry.slot own ≡ a → IsNewReceipt (in_slot now entry public a own) own
     by None e = tt
     by (Some a) e = over_new entry own (subst IsSome (sym e) refl) now _ a.assignment _ _

@@ -3,17 +3,17 @@ use Rattle.std.proofs.Common.{◌≡◌, ℕ, zero, suc, Bool, true, false, List
 use Rattle.std.specs.Prelude.{IsFalse, slice_get}
 use Rattle.std.proofs.lemmas.Bool.{false≢true}
 use Rattle.cpi_store.specs.Office.{Office}
-use Rattle.cpi_office.specs.Views.{view}
+use Rattle.cpi_office.specs.Projections.{view}
 use Rattle.cpi_office.specs.Answers.{answer}
 use Rattle.cpi_office.specs.Runs.{replies, reply_to, after, next}
 use Rattle.cpi_store.specs.Sound.{IsSound}
-use Rattle.cpi_office.specs.Calls.{is_failure}
+use Rattle.cpi_office.specs.Calls.{is_failure_of}
 use Rattle.cpi_office.specs.Served.{all_served, all_told, IsRun}
-use Rattle.cpi_office.specs.Rebuilt.{AreRebuilt, AreFromViews}
+use Rattle.cpi_office.specs.RebuiltProjections.{AreRebuilt, AreFromViews}
 use Rattle.cpi_office.specs.declared.request.Ask.{Ask}
 use Rattle.cpi_office.specs.declared.reply.Reply.{Reply}
 use Rattle.cpi_office.specs.Releases.{KeepsReleases}
-use Rattle.cpi_office.proofs.Rebuilt.{rebuilt, told, releases_stay}
+use Rattle.cpi_office.proofs.RebuiltProjections.{rebuilt, told, releases_stay}
 
 pub run_rebuilt : (o u : Office) (asks : List Ask) (rs : List Reply) → IsSound o → IsRun o asks rs u →
     AreRebuilt o asks rs u
@@ -35,22 +35,22 @@ none_is x e = cc
 abbrev RepliesIn : List Ask → List Reply → Office → Type 0
 RepliesIn asks rs u =
     replies (all_served asks rs) u ≡ all_told rs → (m : ℕ) (a : Ask) (r : Reply) → slice_get asks m ≡ Some a →
-    slice_get rs m ≡ Some r → IsFalse (is_failure r) →
+    slice_get rs m ≡ Some r → IsFalse (is_failure_of r) →
     r ≡ reply_to a.now a.caller a.request (after (all_served (take m asks) (take m rs)) u)
 
 -- each reply in its place is that of the office after the requests before it
 pub reply_in : (o : Office) (asks : List Ask) (rs : List Reply) → replies (all_served asks rs) o ≡ all_told rs →
-    (n : ℕ) (a : Ask) (r : Reply) → slice_get asks n ≡ Some a → slice_get rs n ≡ Some r → IsFalse (is_failure r) →
+    (n : ℕ) (a : Ask) (r : Reply) → slice_get asks n ≡ Some a → slice_get rs n ≡ Some r → IsFalse (is_failure_of r) →
     r ≡ reply_to a.now a.caller a.request (after (all_served (take n asks) (take n rs)) o)
 reply_in o [] rs run n a r asked said fine = none_is a asked
 reply_in o (b ∷ asks) [] run n a r asked said fine = none_is r said
-reply_in o (b ∷ asks) (s ∷ rs) run n a r asked said fine = by (is_failure s) refl n asked said (reply_in o asks rs)
+reply_in o (b ∷ asks) (s ∷ rs) run n a r asked said fine = by (is_failure_of s) refl n asked said (reply_in o asks rs)
     (reply_in (next b o) asks rs)
   where
-    by : (w : Bool) → is_failure s ≡ w → (n : ℕ) → slice_get (b ∷ asks) n ≡ Some a → slice_get (s ∷ rs) n ≡ Some r →
+    by : (w : Bool) → is_failure_of s ≡ w → (n : ℕ) → slice_get (b ∷ asks) n ≡ Some a → slice_get (s ∷ rs) n ≡ Some r →
         RepliesIn asks rs o → RepliesIn asks rs (next b o) →
         r ≡ reply_to a.now a.caller a.request (after (all_served (take n (b ∷ asks)) (take n (s ∷ rs))) o)
-    by true e zero asked said same on = absurd (false≢true (sym fine ∙ ap is_failure (sym (some_is s r said)) ∙ e))
+    by true e zero asked said same on = absurd (false≢true (sym fine ∙ ap is_failure_of (sym (some_is s r said)) ∙ e))
     by false e zero asked said same on =
         let first = same_heads (reply_to b.now b.caller b.request o) s (replies (all_served asks rs) (next b o))
         (all_told rs) (rw e at run) in

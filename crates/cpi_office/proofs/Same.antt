@@ -6,11 +6,11 @@ use Rattle.std.proofs.lemmas.Bool.{eqb-true, false≢true}
 use Rattle.cpi_codes.specs.Text.{same_text}
 use Rattle.cpi_plan.specs.Items.{same_item}
 use Rattle.cpi_plan.specs.Calendar.{same_calendar, CalendarPart}
-use Rattle.cpi_store.specs.Bearer.{same_bearer}
+use Rattle.cpi_store.specs.Registration.{same_registration}
 use Rattle.cpi_survey.specs.Assignment.{same_assignment, same_price}
 use Rattle.cpi_survey.specs.Mark.{is_same_mark, is_same_reason}
 use Rattle.cpi_plan.specs.declared.items.Item.{Item}
-use Rattle.cpi_store.specs.declared.bearer.Bearer.{Bearer}
+use Rattle.cpi_store.specs.declared.registration.Registration.{Registration}
 use Rattle.cpi_store.specs.declared.given.Given.{Given}
 use Rattle.cpi_store.specs.Series.{same_series}
 use Rattle.cpi_codes.specs.declared.series.SeriesId.{SeriesId}
@@ -97,8 +97,8 @@ calendar_equal a b e =
       publishes = same_number a.publishes b.publishes h.1 n;
     }
 
-pub bearer_equal : (a b : Bearer) → same_bearer a b ≡ true → a ≡ b
-bearer_equal a b e =
+pub registration_equal : (a b : Registration) → same_registration a b ≡ true → a ≡ b
+registration_equal a b e =
     let h = both (a.number == b.number) (a.key == b.key) e in
     λ n. record { number = same_number a.number b.number h.0 n; key = same_number a.key b.key h.1 n }
 

@@ -4,11 +4,12 @@ use Rattle.std.proofs.Common.{append_assoc}
 use Rattle.std.proofs.lemmas.List.{append-nil}
 use Rattle.cpi_store.specs.Office.{Office}
 use Rattle.cpi_office.specs.Runs.{replies, reply_to, after, next}
-use Rattle.cpi_office.specs.Served.{served, told, all_served, all_told, NoneFails, IsRun, Ran}
+use Rattle.cpi_office.specs.Served.{served_requests, served_replies, all_served, all_told, NoneFails, IsRun}
+use Rattle.cpi_office.specs.Served.{RunOverBook}
 use Rattle.cpi_release.specs.State.{State}
-use Rattle.cpi_office.specs.Calls.{ServesWhere, Lasts, IsServed, is_failure}
+use Rattle.cpi_office.specs.Calls.{ServesWhere, Lasts, IsServed, is_failure_of}
 use Rattle.cpi_store.specs.Sound.{IsSound}
-use Rattle.cpi_office.proofs.Rebuilt.{sound_runs}
+use Rattle.cpi_office.proofs.RebuiltProjections.{sound_runs}
 use Rattle.cpi_office.proofs.Failures.{never_failure}
 use Rattle.cpi_office.specs.declared.request.Ask.{Ask}
 use Rattle.cpi_office.specs.declared.reply.Reply.{Reply}
@@ -25,33 +26,34 @@ replies-append [] ys o = refl
 replies-append (x ∷ xs) ys o = ap (λ rs. reply_to x.now x.caller x.request o ∷ rs) (replies-append xs ys (next x o))
 
 served_more : (front : List Ask) (rs : List Reply) (a : Ask) (r : Reply) → length rs ≡ length front →
-    all_served (front ++ a ∷ []) (rs ++ r ∷ []) ≡ all_served front rs ++ served a r
-served_more [] [] a r e = append-nil (served a r)
+    all_served (front ++ a ∷ []) (rs ++ r ∷ []) ≡ all_served front rs ++ served_requests a r
+served_more [] [] a r e = append-nil (served_requests a r)
 served_more [] (s ∷ rs) a r e = absurd (omega (arith, e))
 served_more (b ∷ front) [] a r e = absurd (omega (arith, e))
 served_more (b ∷ front) (s ∷ rs) a r e =
-    ap (λ xs. served b s ++ xs) (served_more front rs a r (omega (arith, e)))
-    ∙ sym (append_assoc (served b s) (all_served front rs) (served a r))
+    ap (λ xs. served_requests b s ++ xs) (served_more front rs a r (omega (arith, e)))
+    ∙ sym (append_assoc (served_requests b s) (all_served front rs) (served_requests a r))
 
-told_more : (rs : List Reply) (r : Reply) → all_told (rs ++ r ∷ []) ≡ all_told rs ++ told r
-told_more [] r = append-nil (told r)
-told_more (s ∷ rs) r = ap (λ xs. told s ++ xs) (told_more rs r) ∙ sym (append_assoc (told s) (all_told rs) (told r))
+told_more : (rs : List Reply) (r : Reply) → all_told (rs ++ r ∷ []) ≡ all_told rs ++ served_replies r
+told_more [] r = append-nil (served_replies r)
+told_more (s ∷ rs) r = ap (λ xs. served_replies s ++ xs) (told_more rs r) ∙ sym
+    (append_assoc (served_replies s) (all_told rs) (served_replies r))
 
 module _ (o u w : Office) (front : List Ask) (rs : List Reply) (a : Ask) (r : Reply) where
-  pub run_more : length rs ≡ length front → IsRun o front rs u → replies (served a r) u ≡ told r →
-      w ≡ after (served a r) u → IsRun o (front ++ a ∷ []) (rs ++ r ∷ []) w
+  pub run_more : length rs ≡ length front → IsRun o front rs u → replies (served_requests a r) u ≡ served_replies r →
+      w ≡ after (served_requests a r) u → IsRun o (front ++ a ∷ []) (rs ++ r ∷ []) w
   run_more same so_far reply office = record {
     answers =
         ap (λ xs. replies xs o) (served_more front rs a r same)
-        ∙ replies-append (all_served front rs) (served a r) o
-        ∙ ap (λ x. replies (all_served front rs) o ++ replies (served a r) x) (sym so_far.office)
+        ∙ replies-append (all_served front rs) (served_requests a r) o
+        ∙ ap (λ x. replies (all_served front rs) o ++ replies (served_requests a r) x) (sym so_far.office)
         ∙ ap (λ ys. replies (all_served front rs) o ++ ys) reply
-        ∙ ap (λ ys. ys ++ told r) so_far.answers
+        ∙ ap (λ ys. ys ++ served_replies r) so_far.answers
         ∙ sym (told_more rs r);
     office =
         office
-        ∙ ap (after (served a r)) so_far.office
-        ∙ sym (after-append (all_served front rs) (served a r) o)
+        ∙ ap (after (served_requests a r)) so_far.office
+        ∙ sym (after-append (all_served front rs) (served_requests a r) o)
         ∙ ap (λ xs. after xs o) (sym (served_more front rs a r same));
   }
 
@@ -61,17 +63,17 @@ run_sound o u asks rs run s = rw run.office (sound_runs (all_served asks rs) o s
 
 -- one call of the office is a run of the one request, or of none
 run_one : (a : Ask) (r : Reply) (o u : Office) → (r ≡ reply_to a.now a.caller a.request o) → (u ≡ next a o) →
-    (replies (served a r) o ≡ told r) × (u ≡ after (served a r) o)
+    (replies (served_requests a r) o ≡ served_replies r) × (u ≡ after (served_requests a r) o)
 run_one a r o u e f =
-    let fair : is_failure r ≡ false = ap is_failure e ∙ never_failure a.now a.caller a.request o in
+    let fair : is_failure_of r ≡ false = ap is_failure_of e ∙ never_failure a.now a.caller a.request o in
     rw fair (ap (λ x. x ∷ []) (sym e), f)
 
 run_none : (a : Ask) (r : Reply) (o u : Office) → (r ≡ Refused Unavailable) → (u ≡ o) →
-    (replies (served a r) o ≡ told r) × (u ≡ after (served a r) o)
+    (replies (served_requests a r) o ≡ served_replies r) × (u ≡ after (served_requests a r) o)
 run_none a r o u e f = rw e (refl, f)
 
 -- of replies none of which fails, none of the first fails, and the last doesn't
-none_before : (rs : List Reply) (r : Reply) → NoneFails (rs ++ r ∷ []) → NoneFails rs × IsFalse (is_failure r)
+none_before : (rs : List Reply) (r : Reply) → NoneFails (rs ++ r ∷ []) → NoneFails rs × IsFalse (is_failure_of r)
 none_before [] r none = (tt, none.0)
 none_before (s ∷ rs) r none = let rest = none_before rs r none.1 in ((none.0, rest.0), rest.1)
 
@@ -90,9 +92,9 @@ lasts_more old mid new first then o left = by (then o left)
     by (inr h) = before h.0 (first o h.1)
 
 pub ran_more : (old mid new : State Office) (front : List Ask) (rs : List Reply) (a : Ask) (r : Reply) →
-    length rs ≡ length front → Ran old mid front rs →
+    length rs ≡ length front → RunOverBook old mid front rs →
     ServesWhere mid new (IsSound mid.held) r (reply_to a.now a.caller a.request mid.held) (next a mid.held) →
-    Ran old new (front ++ a ∷ []) (rs ++ r ∷ [])
+    RunOverBook old new (front ++ a ∷ []) (rs ++ r ∷ [])
 ran_more old mid new front rs a r same ran serves = record {
   was_clean = λ clean. ran.was_clean (serves.was_clean clean);
   run = λ clean s.

@@ -8,16 +8,16 @@ use Rattle.std.specs.Ordering.{nat_cmp, is_eq, ordering_then}
 use Rattle.std.specs.Cmp.{IsTotalOrder}
 use Rattle.std.proofs.lemmas.Bool.Decides.{eqb_tells}
 use Rattle.std.proofs.lemmas.Cmp.{nat_cmp_total, tied_itself, ranked, on_total, then_total}
-use Rattle.cpi_rows.specs.Keyed.{row_at, at}
+use Rattle.cpi_rows.specs.Keyed.{row_at, row_by_number}
 use Rattle.cpi_rows.specs.Held.{held_by, held_cmp, held_key}
-use Rattle.cpi_store.specs.Bearer.{bearer_of}
+use Rattle.cpi_store.specs.Registration.{registration_of}
 use Rattle.cpi_survey.specs.Quote.{quote_key, quote_cmp}
-use Rattle.cpi_store.specs.Office.{Office, Change, changed, PutsItem, PutsPlan, PutsCalendar, Registers, PutsOutlet}
+use Rattle.cpi_store.specs.Office.{Office, Change, office_with, PutsItem, PutsPlan, PutsCalendar, Registers, PutsOutlet}
 use Rattle.cpi_store.specs.Office.{Assigns, HandsOver, Quotes, Freezes}
-use Rattle.cpi_office.specs.Views.{view}
-use Rattle.cpi_office.specs.Sights.{sights, build}
+use Rattle.cpi_office.specs.Projections.{view}
+use Rattle.cpi_office.specs.ProjectedChanges.{sights, build}
 use Rattle.cpi_store.specs.Sound.{IsSound}
-use Rattle.cpi_store.specs.declared.bearer.Bearer.{Bearer}
+use Rattle.cpi_store.specs.declared.registration.Registration.{Registration}
 use Rattle.cpi_store.specs.declared.given.Given.{Given}
 use Rattle.cpi_store.specs.Series.{first_of_series}
 use Rattle.cpi_store.proofs.GivenRows.{given_total, handed_standing}
@@ -25,8 +25,9 @@ use Rattle.cpi_office.specs.declared.caller.Caller.{Caller}
 use Rattle.cpi_office.specs.declared.caller.Caller.TheVariants.{Public, Collector, Desk}
 use Rattle.cpi_rows.proofs.Puts.{put_standing}
 use Rattle.cpi_office.proofs.Accepted.{Stood}
-use Rattle.cpi_office.proofs.Sights.{Shows, shows_item, shows_plan, shows_calendar, shows_assignment, shows_handover}
-use Rattle.cpi_office.proofs.Sights.{shows_quote}
+use Rattle.cpi_office.proofs.ProjectedChanges.{Shows, shows_item, shows_plan, shows_calendar, shows_assignment}
+use Rattle.cpi_office.proofs.ProjectedChanges.{shows_handover}
+use Rattle.cpi_office.proofs.ProjectedChanges.{shows_quote}
 
 pub held_total : {K : Type 0} {cmp : K → K → Ordering} → IsTotalOrder cmp → IsTotalOrder (held_cmp cmp)
 held_total o = then_total (on_total (λ r. r.0) nat_cmp_total) (on_total (λ r. r.1) o)
@@ -66,18 +67,19 @@ row_held cmp key n k x (r ∷ rows) found = by (eqb_tells r.0 n) (row_held cmp k
 
 module _ (k : Caller) (t : ℕ) (o : Office) (s : IsSound o) where
   -- a change that leaves the office shows nothing new
-  unmoved : (c : Change) → changed c o ≡ o → Shows k t o c → view k t o ≡ build (view k t o) (sights k t c)
+  unmoved : (c : Change) → office_with c o ≡ o → Shows k t o c → view k t o ≡ build (view k t o) (sights k t c)
   unmoved c same shows = sym (ap (view k t) same) ∙ shows
 
-registered_stands : (k : Caller) (t : ℕ) (o : Office) → IsSound o → (b : Bearer) →
-    at (λ b. b.number) b.number o.collectors ≡ Some b → view k t o ≡ build (view k t o) (sights k t (Registers b))
+registered_stands : (k : Caller) (t : ℕ) (o : Office) → IsSound o → (b : Registration) →
+    row_by_number (λ b. b.number) b.number o.collectors ≡ Some b → view k t o ≡ build (view k t o)
+    (sights k t (Registers b))
 registered_stands Public t o s b found = refl
 registered_stands Desk t o s b found = refl
 registered_stands (Collector key) t o s b found = by (eqb_tells b.key key)
   where
     by : ((eqb b.key key ≡ true) × (b.key ≡ key)) ⊎ ((eqb b.key key ≡ false) × (b.key ≢ key)) →
         view (Collector key) t o ≡ build (view (Collector key) t o) (sights (Collector key) t (Registers b))
-    by (inl same) = rw (same.0, ap (λ k. bearer_of k o.collectors) (sym same.1) ∙ s.keys b.number b found) refl
+    by (inl same) = rw (same.0, ap (λ k. registration_of k o.collectors) (sym same.1) ∙ s.keys b.number b found) refl
     by (inr apart) = rw apart.0 refl
 
 pub stood_shows : (k : Caller) (t : ℕ) (o : Office) → IsSound o → (c : Change) → Stood c o →

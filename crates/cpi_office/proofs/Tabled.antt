@@ -6,19 +6,20 @@ use Rattle.std.specs.Option.{option_or}
 use Rattle.std.specs.List.{AllByRecursion}
 use Rattle.std.proofs.lemmas.Bool.{eqb-true}
 use Rattle.std.proofs.lemmas.Bool.Decides.{eqb_tells}
-use Rattle.cpi_release.specs.Latest.{latest}
+use Rattle.cpi_release.specs.Latest.{latest_row}
 use Rattle.cpi_release.specs.PublishedTables.{PublishedTable, asked_table, is_asked, printed_bytes}
 use Rattle.cpi_release.specs.declared.form.Form.{Form}
 use Rattle.cpi_release.specs.State.{State, Keeps, StaysClean, Reads}
 use Rattle.cpi_release.proofs.PassLemmas.{keeps_more, stays_more}
 use Rattle.cpi_release.proofs.LatestRows.{latest_all}
-use Rattle.cpi_office.specs.Answers.{bytes_of, table_reply}
+use Rattle.cpi_office.specs.Answers.{table_bytes, reply_with_table}
 use Rattle.cpi_office.specs.declared.reply.Reply.TheVariants.{Table}
 
 pub printed_found : (form : Form) (month : ℕ) (t : Option PublishedTable) (printed_table : List ℕ) →
-    Some printed_table ≡ option_map (bytes_of form month) t → Table printed_table ≡ table_reply form month t
+    Some printed_table ≡ option_map (table_bytes form month) t → Table printed_table ≡ reply_with_table form month t
 printed_found form month None printed_table e = cc
-printed_found form month (Some t) printed_table e = let is : printed_table ≡ bytes_of form month t = cc in ap Table is
+printed_found form month (Some t) printed_table e = let is : printed_table ≡ table_bytes form month t = cc in
+    ap Table is
 
 -- ---- the latest among those that pass a test
 
@@ -34,23 +35,24 @@ module _ {X : Type 0} (month_of : X → ℕ) (month : ℕ) (p : X → Bool) wher
   no_last None b e = e
   no_last (Some x) b e = let no : Some x ≡ None = e in cc
 
-  none_passes : (xs : List X) → latest month_of month xs ≡ None → latest month_of month (filter p xs) ≡ None
+  none_passes : (xs : List X) → latest_row month_of month xs ≡ None → latest_row month_of month (filter p xs) ≡ None
   none_passes [] e = refl
-  none_passes (x ∷ xs) e = by (p x) refl (none_passes xs (no_first (latest month_of month xs) (own x) e))
+  none_passes (x ∷ xs) e = by (p x) refl (none_passes xs (no_first (latest_row month_of month xs) (own x) e))
     where
-      by : (b : Bool) → p x ≡ b → latest month_of month (filter p xs) ≡ None →
-          latest month_of month (filter p (x ∷ xs)) ≡ None
-      by true f rest = rw f (ap (λ o. option_or o (own x)) rest ∙ no_last (latest month_of month xs) (own x) e)
+      by : (b : Bool) → p x ≡ b → latest_row month_of month (filter p xs) ≡ None →
+          latest_row month_of month (filter p (x ∷ xs)) ≡ None
+      by true f rest = rw f (ap (λ o. option_or o (own x)) rest ∙ no_last (latest_row month_of month xs) (own x) e)
       by false f rest = rw f rest
 
-  pub latest_passes : (xs : List X) (t : X) → latest month_of month xs ≡ Some t → p t ≡ true →
-      latest month_of month (filter p xs) ≡ Some t
+  pub latest_passes : (xs : List X) (t : X) → latest_row month_of month xs ≡ Some t → p t ≡ true →
+      latest_row month_of month (filter p xs) ≡ Some t
   latest_passes [] t e passes = cc
-  latest_passes (x ∷ xs) t e passes = by (latest month_of month xs) refl (p x) refl (λ f. latest_passes xs t f passes)
+  latest_passes (x ∷ xs) t e passes = by (latest_row month_of month xs) refl (p x) refl
+      (λ f. latest_passes xs t f passes)
     where
-      by : (o : Option X) → latest month_of month xs ≡ o → (b : Bool) → p x ≡ b →
-          (latest month_of month xs ≡ Some t → latest month_of month (filter p xs) ≡ Some t) →
-          latest month_of month (filter p (x ∷ xs)) ≡ Some t
+      by : (o : Option X) → latest_row month_of month xs ≡ o → (b : Bool) → p x ≡ b →
+          (latest_row month_of month xs ≡ Some t → latest_row month_of month (filter p xs) ≡ Some t) →
+          latest_row month_of month (filter p (x ∷ xs)) ≡ Some t
       by (Some z) f true g rest =
           let is : Some z ≡ Some t = sym (ap (λ o. option_or o (own x)) f) ∙ e in
           rw g (ap (λ o. option_or o (own x)) (rest (f ∙ is)))
@@ -101,18 +103,18 @@ module _ (month : ℕ) (tables : List PublishedTable) where
       asked_table month (Some t.revision) tables ≡ Some t
   latest_named t e =
       latest_passes (λ (x : PublishedTable). x.month) month (λ x. is_asked (Some t.revision) x.revision) tables t
-      (sym (ap (latest (λ (x : PublishedTable). x.month) month) (all_asked tables)) ∙ e) (same_revision t.revision)
+      (sym (ap (latest_row (λ (x : PublishedTable). x.month) month) (all_asked tables)) ∙ e) (same_revision t.revision)
 
   -- a table that is asked for by its revision is printed with it
   pub named_bytes : (form : Form) (revision : ℕ) →
       option_map (printed_bytes form month revision)
       (option_map (λ (t : PublishedTable). t.levels) (asked_table month (Some revision) tables)) ≡ option_map
-      (bytes_of form month) (asked_table month (Some revision) tables)
+      (table_bytes form month) (asked_table month (Some revision) tables)
   named_bytes form revision = by (asked_table month (Some revision) tables) refl
     where
       by : (o : Option PublishedTable) → asked_table month (Some revision) tables ≡ o →
           option_map (printed_bytes form month revision) (option_map (λ (t : PublishedTable). t.levels) o) ≡
-          option_map (bytes_of form month) o
+          option_map (table_bytes form month) o
       by None e = refl
       by (Some t) e =
           let asked : PublishedTable → Bool = λ x. is_asked (Some revision) x.revision in
@@ -123,25 +125,25 @@ module _ (month : ℕ) (tables : List PublishedTable) where
 
   -- so it is where none is named
   pub latest_bytes : (form : Form) (revision : ℕ) → Some revision ≡ option_map (λ (t : PublishedTable). t.revision)
-      (asked_table month None tables) → option_map (bytes_of form month)
-      (asked_table month (Some revision) tables) ≡ option_map (bytes_of form month) (asked_table month None tables)
+      (asked_table month None tables) → option_map (table_bytes form month)
+      (asked_table month (Some revision) tables) ≡ option_map (table_bytes form month) (asked_table month None tables)
   latest_bytes form revision is = by (asked_table month None tables) refl is
     where
       by : (o : Option PublishedTable) → asked_table month None tables ≡ o →
           Some revision ≡ option_map (λ (t : PublishedTable). t.revision) o →
-          option_map (bytes_of form month) (asked_table month (Some revision) tables) ≡ option_map
-          (bytes_of form month) o
+          option_map (table_bytes form month) (asked_table month (Some revision) tables) ≡ option_map
+          (table_bytes form month) o
       by None e is = cc
       by (Some t) e is =
           let same : revision ≡ t.revision = cc in
-          ap (option_map (bytes_of form month)) (ap (λ r. asked_table month (Some r) tables) same ∙ latest_named t e)
+          ap (option_map (table_bytes form month)) (ap (λ r. asked_table month (Some r) tables) same ∙ latest_named t e)
 
   pub none_bytes : (form : Form) → None ≡ option_map (λ (t : PublishedTable). t.revision)
-      (asked_table month None tables) → None ≡ option_map (bytes_of form month) (asked_table month None tables)
+      (asked_table month None tables) → None ≡ option_map (table_bytes form month) (asked_table month None tables)
   none_bytes form is = by (asked_table month None tables) is
     where
       by : (o : Option PublishedTable) → None ≡ option_map (λ (t : PublishedTable). t.revision) o →
-          None ≡ option_map (bytes_of form month) o
+          None ≡ option_map (table_bytes form month) o
       by None is = refl
       by (Some t) is = cc
 

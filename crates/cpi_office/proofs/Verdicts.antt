@@ -5,25 +5,26 @@ use Rattle.std.specs.Prelude.{IsSome, nat_lt, nat_le, is_none, option_map, not, 
 use Rattle.std.specs.Ordering.{nat_cmp}
 use Rattle.std.proofs.lemmas.Bool.{false≢true, leb-true, ltb-true, eqb-true}
 use Rattle.std.proofs.lemmas.Map.Lookups.{exact_pairs, exact_unsigned}
-use Rattle.cpi_rows.specs.Keyed.{at, row_at}
+use Rattle.cpi_rows.specs.Keyed.{row_by_number, row_at}
 use Rattle.cpi_rows.specs.Held.{held_by}
 use Rattle.cpi_rows.proofs.Found.{row_key, at_key, at-map}
 use Rattle.cpi_survey.specs.Quote.{QuoteRow, quote_cmp, quote_key}
 use Rattle.cpi_survey.specs.Entry.{EntryRow}
 use Rattle.cpi_survey.specs.Assignment.{is_active}
-use Rattle.cpi_survey.specs.Decision.{decided, in_slot, over_quote, in_month, in_window, once_checked, with_receipt}
+use Rattle.cpi_survey.specs.Decision.{entry_decision, in_slot, over_quote, in_month, in_window, once_checked}
+use Rattle.cpi_survey.specs.Decision.{with_receipt}
 use Rattle.cpi_survey.specs.Mark.{is_same_mark}
 use Rattle.cpi_store.specs.Outlet.{with_name, same_outlet}
 use Rattle.cpi_plan.specs.Items.{same_item}
 use Rattle.cpi_plan.specs.Plan.{Plan}
-use Rattle.cpi_plan.specs.Planned.{planned}
+use Rattle.cpi_plan.specs.Planned.{plan_or_fault}
 use Rattle.cpi_plan.specs.SamePlan.{same_plan}
 use Rattle.cpi_plan.specs.declared.plan_faults.PlanFault.{PlanFault}
 use Rattle.cpi_plan.proofs.SamePlans.{plan_decides}
 use Rattle.cpi_plan.specs.Calendar.{same_calendar, CalendarPart}
-use Rattle.cpi_store.specs.Bearer.{same_bearer, bearer_of}
+use Rattle.cpi_store.specs.Registration.{same_registration, registration_of}
 use Rattle.cpi_plan.specs.declared.items.Item.{Item}
-use Rattle.cpi_store.specs.declared.bearer.Bearer.{Bearer}
+use Rattle.cpi_store.specs.declared.registration.Registration.{Registration}
 use Rattle.cpi_store.specs.declared.outlet.Outlet.{Outlet}
 use Rattle.cpi_survey.specs.declared.assignment.Assignment.{Assignment}
 use Rattle.cpi_survey.specs.declared.assignment.Assigned.{Assigned}
@@ -38,29 +39,32 @@ use Rattle.cpi_store.proofs.Changes.{IsHandover}
 use Rattle.cpi_codes.specs.declared.series.SeriesId.{SeriesId}
 use Rattle.cpi_codes.specs.declared.codes.Code.{Code}
 use Rattle.cpi_index.specs.declared.fault.IndexFault.{IndexFault}
-use Rattle.cpi_release.specs.FrozenMonths.{frozen_months, last_frozen, stays_frozen, is_year_frozen, is_next, plan_for}
+use Rattle.cpi_release.specs.FrozenMonths.{frozen_months, last_frozen, keeps_frozen, has_year_frozen, is_next_month}
+use Rattle.cpi_release.specs.FrozenMonths.{plan_for}
 use Rattle.cpi_release.specs.FrozenMonths.{lacks_plan}
 use Rattle.cpi_release.specs.Releasing.{fault_of}
-use Rattle.cpi_office.specs.Freezing.{has_weightless, row_judged, frozen_with, judged_release, release_verdict}
-use Rattle.cpi_office.specs.Freezing.{freeze_verdict, frozen}
+use Rattle.cpi_office.specs.Freezing.{has_unweighed, row_judged, frozen_with, judged_release, release_verdict}
+use Rattle.cpi_office.specs.Freezing.{freeze_verdict, verdict_of_freeze}
 use Rattle.cpi_store.specs.Sound.{IsWellMade, HasNodesInOrder, IsSound}
 use Rattle.cpi_plan.proofs.PlanNodes.{planned_nodes}
 use Rattle.cpi_office.specs.declared.request.NewAssignment.{NewAssignment}
 use Rattle.cpi_office.specs.declared.request.HandOver.{HandOver}
 use Rattle.cpi_office.specs.declared.refusal.Refusal.{Refusal}
 use Rattle.cpi_office.specs.declared.refusal.Refusal.TheVariants.{PlanFrozen, MonthFrozen}
-use Rattle.cpi_office.specs.Views.{view, own_view}
+use Rattle.cpi_office.specs.Projections.{view, own_view}
 use Rattle.cpi_office.specs.Verdicts.{Verdict, Stands, Makes}
 use Rattle.cpi_office.specs.Standing.{standing}
-use Rattle.cpi_office.specs.Assigning.{assigned_in, to_collector, standing_for, assigned, assignment_of, same_given}
-use Rattle.cpi_office.specs.Assigning.{is_assignable}
+use Rattle.cpi_office.specs.Assigning.{assigned_in, to_collector, standing_for, assignment_verdict, assignment_sent}
+use Rattle.cpi_office.specs.Assigning.{same_given}
+use Rattle.cpi_office.specs.Assigning.{may_be_assigned}
 use Rattle.cpi_office.specs.HandingOver.{is_takeable, handed_over, over_collectors, over_slots, over_free}
 use Rattle.cpi_office.specs.HandingOver.{over_standing, over_judged, stands_over, is_handed_within, is_not_after}
 use Rattle.cpi_office.specs.HandingOver.{handover_of, taken_on}
-use Rattle.cpi_office.specs.Replacing.{unless_frozen, replaced, calendar_put, sent, plan_standing, plan_put}
-use Rattle.cpi_office.specs.Desk.{item_put, outlet_put, registered, commanded}
-use Rattle.cpi_office.specs.Entries.{of_collector, decision_verdict, entered, quoted}
-use Rattle.cpi_office.specs.Runs.{verdict}
+use Rattle.cpi_office.specs.Replacing.{unless_frozen, replacement_verdict, calendar_put, sent_body, plan_standing}
+use Rattle.cpi_office.specs.Replacing.{plan_put}
+use Rattle.cpi_office.specs.Desk.{item_put, outlet_put, registration_verdict, command_verdict}
+use Rattle.cpi_office.specs.Entries.{of_collector, decision_verdict, entry_verdict, quote_of_entry}
+use Rattle.cpi_office.specs.Runs.{request_verdict}
 use Rattle.cpi_office.specs.declared.request.Request.{Request}
 use Rattle.cpi_office.specs.declared.request.Request.TheVariants as request
 use Rattle.cpi_office.specs.declared.caller.Caller.{Caller}
@@ -68,14 +72,15 @@ use Rattle.cpi_office.specs.declared.caller.Caller.TheVariants as caller
 use Rattle.cpi_office.proofs.Accepted.{Holds}
 use Rattle.cpi_office.proofs.Failures.{if_holds}
 use Rattle.cpi_store.proofs.Released.{none_follows}
-use Rattle.cpi_office.proofs.Bearers.{bearer_listed}
-use Rattle.cpi_office.proofs.Same.{item_equal, calendar_equal, bearer_equal, given_equal, series_equal, mark_equal}
+use Rattle.cpi_office.proofs.Registrations.{registration_listed}
+use Rattle.cpi_office.proofs.Same.{item_equal, calendar_equal, registration_equal, given_equal, series_equal}
+use Rattle.cpi_office.proofs.Same.{mark_equal}
 
 module _ (o : Office) where
   abbrev Fair : Verdict → Type 0
   Fair v = Holds (Some v) o
 
-  item_fair : (i : Item) (w : Option Item) → at (λ i. i.code) i.code o.items ≡ w → Fair (item_put i w)
+  item_fair : (i : Item) (w : Option Item) → row_by_number (λ i. i.code) i.code o.items ≡ w → Fair (item_put i w)
   item_fair i None e = e
   item_fair i (Some old) e = by (same_item old i) refl
     where
@@ -83,7 +88,8 @@ module _ (o : Office) where
       by true f = rw f (e ∙ ap Some (item_equal old i f))
       by false f = rw f tt
 
-  outlet_fair : (u : Outlet) (w : Option Outlet) → at (λ u. u.number) u.number o.outlets ≡ w → Fair (outlet_put u w)
+  outlet_fair : (u : Outlet) (w : Option Outlet) → row_by_number (λ u. u.number) u.number o.outlets ≡ w → Fair
+      (outlet_put u w)
   outlet_fair u None e = e
   outlet_fair u (Some old) e = by (same_outlet old u) refl
     where
@@ -92,44 +98,46 @@ module _ (o : Office) where
       by false f = rw f tt
 
   -- what may be put unless it was frozen
-  unless_fair : (frozen : Bool) (f : Refusal) (c : Change) → (frozen ≡ false → Fair (Makes c)) →
-      Fair (unless_frozen frozen f c)
+  unless_fair : (verdict_of_freeze : Bool) (f : Refusal) (c : Change) → (verdict_of_freeze ≡ false → Fair (Makes c)) →
+      Fair (unless_frozen verdict_of_freeze f c)
   unless_fair true f c fair = tt
   unless_fair false f c fair = fair refl
 
-  calendar_fair : (r : CalendarPart) (w : Option CalendarPart) → at (λ r. r.month) r.month o.calendar ≡ w →
+  calendar_fair : (r : CalendarPart) (w : Option CalendarPart) → row_by_number (λ r. r.month) r.month o.calendar ≡ w →
       Fair (calendar_put (frozen_months o.releases) r w)
   calendar_fair r None e = unless_fair _ _ _ (λ free. tt)
   calendar_fair r (Some old) e = by (same_calendar old r) refl
     where
       by : (t : Bool) → same_calendar old r ≡ t → Fair (calendar_put (frozen_months o.releases) r (Some old))
       by true f = rw f (e ∙ ap Some (calendar_equal old r f))
-      by false f = rw f (unless_fair (stays_frozen r.month (Some r.publishes) (frozen_months o.releases)) MonthFrozen
+      by false f = rw f (unless_fair (keeps_frozen r.month (Some r.publishes) (frozen_months o.releases)) MonthFrozen
           (PutsCalendar r) (λ free. tt))
 
-  plan_fair : (p : Plan) (w : Option Plan) → HasNodesInOrder p → at (λ y. y.year) p.year o.plans ≡ w →
-      Fair (replaced (is_year_frozen p.year (frozen_months o.releases)) PlanFrozen (PutsPlan p)
+  plan_fair : (p : Plan) (w : Option Plan) → HasNodesInOrder p → row_by_number (λ y. y.year) p.year o.plans ≡ w →
+      Fair (replacement_verdict (has_year_frozen p.year (frozen_months o.releases)) PlanFrozen (PutsPlan p)
       (standing same_plan p w))
   plan_fair p None nodes e = unless_fair _ _ _ (λ free. (free, nodes))
   plan_fair p (Some old) nodes e = by (same_plan old p) refl
     where
-      by : (t : Bool) → same_plan old p ≡ t → Fair (replaced (is_year_frozen p.year (frozen_months o.releases))
+      by : (t : Bool) → same_plan old p ≡ t → Fair
+          (replacement_verdict (has_year_frozen p.year (frozen_months o.releases))
           PlanFrozen (PutsPlan p) (standing same_plan p (Some old)))
       by true f = rw f (e ∙ ap Some ((plan_decides old p).0 f))
-      by false f = rw f (unless_fair (is_year_frozen p.year (frozen_months o.releases)) PlanFrozen (PutsPlan p)
+      by false f = rw f (unless_fair (has_year_frozen p.year (frozen_months o.releases)) PlanFrozen (PutsPlan p)
           (λ free. (free, nodes)))
 
   planned_fair : (r : Result Plan PlanFault) → ((p : Plan) → r ≡ Ok p → HasNodesInOrder p) →
       Fair (plan_put (frozen_months o.releases) (plan_standing o.plans r))
   planned_fair (Err fault) nodes = tt
-  planned_fair (Ok p) nodes = plan_fair p (at (λ y. y.year) p.year o.plans) (nodes p refl) refl
+  planned_fair (Ok p) nodes = plan_fair p (row_by_number (λ y. y.year) p.year o.plans) (nodes p refl) refl
 
-  registered_fair : (b : Bearer) (w v : Option Bearer) → at (λ b. b.number) b.number o.collectors ≡ w →
-      bearer_of b.key o.collectors ≡ v → Fair (registered b w v)
+  registered_fair : (b : Registration) (w v : Option Registration) → row_by_number (λ b. b.number) b.number
+      o.collectors ≡ w →
+      registration_of b.key o.collectors ≡ v → Fair (registration_verdict b w v)
   registered_fair b None None e f = (e, f)
   registered_fair b None (Some other) e f = tt
-  registered_fair b (Some old) v e f = if_holds Fair (same_bearer old b) _ _
-      (λ same. e ∙ ap Some (bearer_equal old b same)) (λ other. tt)
+  registered_fair b (Some old) v e f = if_holds Fair (same_registration old b) _ _
+      (λ same. e ∙ ap Some (registration_equal old b same)) (λ other. tt)
 
   both : (a b : Bool) → (a && b) ≡ true → (a ≡ true) × (b ≡ true)
   both true b e = (refl, e)
@@ -140,19 +148,21 @@ module _ (o : Office) where
   passes false e = absurd (false≢true (sym e))
 
   abbrev in_slot_of : ℕ → ℕ → Option Given
-  in_slot_of n slot = at (λ (g : Given). g.assignment.slot) slot (held_by n o.assignments)
+  in_slot_of n slot = row_by_number (λ (g : Given). g.assignment.slot) slot (held_by n o.assignments)
 
   -- who is found by a number has it
-  bears_number : (n : ℕ) (b : Bearer) → at (λ b. b.number) n o.collectors ≡ Some b → b.number ≡ n
+  bears_number : (n : ℕ) (b : Registration) → row_by_number (λ b. b.number) n o.collectors ≡ Some b → b.number ≡ n
   bears_number n b e = at_key (λ b. b.number) n b o.collectors e
 
-  found_itself : (n : ℕ) (b : Bearer) → at (λ b. b.number) n o.collectors ≡ Some b →
-      at (λ b. b.number) b.number o.collectors ≡ Some b
-  found_itself n b e = ap (λ k. at (λ b. b.number) k o.collectors) (bears_number n b e) ∙ e
+  found_itself : (n : ℕ) (b : Registration) → row_by_number (λ b. b.number) n o.collectors ≡ Some b →
+      row_by_number (λ b. b.number) b.number o.collectors ≡ Some b
+  found_itself n b e = ap (λ k. row_by_number (λ b. b.number) k o.collectors) (bears_number n b e) ∙ e
 
   module _ (n : ℕ) (x : Assignment) (made : IsWellMade (n, x)) where
-    to_collector_fair : (w : Option Bearer) → at (λ b. b.number) n o.collectors ≡ w → in_slot_of n x.slot ≡ None →
-        IsSome (at (λ u. u.number) x.outlet o.outlets) → IsSome (at (λ i. i.code) x.item o.items) →
+    to_collector_fair : (w : Option Registration) → row_by_number (λ b. b.number) n o.collectors ≡ w → in_slot_of n
+        x.slot ≡ None →
+        IsSome (row_by_number (λ u. u.number) x.outlet o.outlets) → IsSome
+        (row_by_number (λ i. i.code) x.item o.items) →
         Fair (to_collector (with_name o.outlets x) w)
     to_collector_fair None e free outlet item = tt
     to_collector_fair (Some b) e free outlet item =
@@ -165,7 +175,7 @@ module _ (o : Office) where
           subst (λ k. IsWellMade (k, x)) (sym same) made,
         )
 
-    standing_fair : (w : Option Bearer) → at (λ b. b.number) n o.collectors ≡ w →
+    standing_fair : (w : Option Registration) → row_by_number (λ b. b.number) n o.collectors ≡ w →
         in_slot_of n x.slot ≡ Some (first_of_series n x) → Fair (standing_for (with_name o.outlets x) w)
     standing_fair None e there = tt
     standing_fair (Some b) e there =
@@ -179,26 +189,26 @@ module _ (o : Office) where
     known None e = absurd (false≢true (sym e))
     known (Some y) e = refl
 
-    assigned_fair : (w : Option Bearer) (v : Option Given) → at (λ b. b.number) n o.collectors ≡ w →
+    assigned_fair : (w : Option Registration) (v : Option Given) → row_by_number (λ b. b.number) n o.collectors ≡ w →
         in_slot_of n x.slot ≡ v →
-        Fair (assigned (with_name o.outlets x) (at (λ i. i.code) x.item o.items)
-        (at (λ u. u.number) x.outlet o.outlets) w (standing same_given (first_of_series n x) v))
+        Fair (assignment_verdict (with_name o.outlets x) (row_by_number (λ i. i.code) x.item o.items)
+        (row_by_number (λ u. u.number) x.outlet o.outlets) w (standing same_given (first_of_series n x) v))
     assigned_fair w None e free =
-        if_holds Fair (is_none (at (λ i. i.code) x.item o.items)) _ _ (λ miss. tt) (λ item.
-        if_holds Fair (is_none (at (λ u. u.number) x.outlet o.outlets)) _ _ (λ miss. tt) (λ outlet.
-        to_collector_fair w e free (known (at (λ u. u.number) x.outlet o.outlets) outlet)
-        (known (at (λ i. i.code) x.item o.items) item)))
+        if_holds Fair (is_none (row_by_number (λ i. i.code) x.item o.items)) _ _ (λ miss. tt) (λ item.
+        if_holds Fair (is_none (row_by_number (λ u. u.number) x.outlet o.outlets)) _ _ (λ miss. tt) (λ outlet.
+        to_collector_fair w e free (known (row_by_number (λ u. u.number) x.outlet o.outlets) outlet)
+        (known (row_by_number (λ i. i.code) x.item o.items) item)))
     assigned_fair w (Some old) e there = by (same_given old (first_of_series n x)) refl
       where
         by : (t : Bool) → same_given old (first_of_series n x) ≡ t →
-            Fair (assigned (with_name o.outlets x) (at (λ i. i.code) x.item o.items)
-            (at (λ u. u.number) x.outlet o.outlets) w (standing same_given (first_of_series n x) (Some old)))
+            Fair (assignment_verdict (with_name o.outlets x) (row_by_number (λ i. i.code) x.item o.items)
+            (row_by_number (λ u. u.number) x.outlet o.outlets) w (standing same_given (first_of_series n x) (Some old)))
         by true f = rw f (standing_fair w e (there ∙ ap Some (given_equal old (first_of_series n x) f)))
         by false f = rw f tt
 
   -- ---- an assignment that is sent
 
-  well_made : (n : ℕ) (p : NewAssignment) → is_assignable n p ≡ true → IsWellMade (n, assignment_of p)
+  well_made : (n : ℕ) (p : NewAssignment) → may_be_assigned n p ≡ true → IsWellMade (n, assignment_sent p)
   well_made n p e =
       let last = both (nat_le p.first_month p.last_month && nat_le 1 n && nat_le 1 p.slot) (nat_le p.slot 400) e in
       let slot = both (nat_le p.first_month p.last_month && nat_le 1 n) (nat_le 1 p.slot) last.0 in
@@ -211,14 +221,15 @@ module _ (o : Office) where
 
   placed_fair : (n : ℕ) (p : NewAssignment) → Fair (assigned_in n p o)
   placed_fair n p =
-      if_holds Fair (is_assignable n p) _ _ (λ e.
-      assigned_fair n (assignment_of p) (well_made n p e) (at (λ b. b.number) n o.collectors)
+      if_holds Fair (may_be_assigned n p) _ _ (λ e.
+      assigned_fair n (assignment_sent p) (well_made n p e) (row_by_number (λ b. b.number) n o.collectors)
       (in_slot_of n p.slot) refl refl) (λ e. tt)
 
   -- ---- a hand-over that is sent
 
-  module _ (h : HandOver) (takeable : is_takeable h ≡ true) (b c : Bearer)
-      (from : at (λ b. b.number) h.from o.collectors ≡ Some b) (to : at (λ b. b.number) h.to o.collectors ≡ Some c)
+  module _ (h : HandOver) (takeable : is_takeable h ≡ true) (b c : Registration)
+      (from : row_by_number (λ b. b.number) h.from o.collectors ≡ Some b)
+      (to : row_by_number (λ b. b.number) h.to o.collectors ≡ Some c)
       (former : Given) (has : in_slot_of b.number h.slot ≡ Some former) where
     former_slot : former.assignment.slot ≡ h.slot
     former_slot = at_key (λ (g : Given). g.assignment.slot) h.slot former (held_by b.number o.assignments) has
@@ -290,15 +301,16 @@ module _ (o : Office) where
     over_new_fair None e = over_free_fair e
     over_new_fair (Some new) e = over_standing_fair new e
 
-  over_slots_fair : (h : HandOver) → is_takeable h ≡ true → (b c : Bearer) →
-      at (λ b. b.number) h.from o.collectors ≡ Some b → at (λ b. b.number) h.to o.collectors ≡ Some c →
+  over_slots_fair : (h : HandOver) → is_takeable h ≡ true → (b c : Registration) →
+      row_by_number (λ b. b.number) h.from o.collectors ≡ Some b → row_by_number (λ b. b.number) h.to o.collectors
+      ≡ Some c →
       (w : Option Given) → in_slot_of b.number h.slot ≡ w → Fair (over_slots h o b c w (in_slot_of c.number h.new_slot))
   over_slots_fair h takeable b c from to None e = tt
   over_slots_fair h takeable b c from to (Some former) e =
       over_new_fair h takeable b c from to former e (in_slot_of c.number h.new_slot) refl
 
-  over_collectors_fair : (h : HandOver) → is_takeable h ≡ true → (w v : Option Bearer) →
-      at (λ b. b.number) h.from o.collectors ≡ w → at (λ b. b.number) h.to o.collectors ≡ v →
+  over_collectors_fair : (h : HandOver) → is_takeable h ≡ true → (w v : Option Registration) →
+      row_by_number (λ b. b.number) h.from o.collectors ≡ w → row_by_number (λ b. b.number) h.to o.collectors ≡ v →
       Fair (over_collectors h o w v)
   over_collectors_fair h takeable None v from to = tt
   over_collectors_fair h takeable (Some b) None from to = tt
@@ -308,16 +320,17 @@ module _ (o : Office) where
   handed_fair : (h : HandOver) → Fair (handed_over h o)
   handed_fair h =
       if_holds Fair (is_takeable h) _ _
-      (λ e. over_collectors_fair h e (at (λ b. b.number) h.from o.collectors)
-      (at (λ b. b.number) h.to o.collectors) refl refl) (λ e. tt)
+      (λ e. over_collectors_fair h e (row_by_number (λ b. b.number) h.from o.collectors)
+      (row_by_number (λ b. b.number) h.to o.collectors) refl refl) (λ e. tt)
 
   -- ---- a freeze
 
   module _ (now : ℕ) (carry : List Code) where
-    release_fair : (row : CalendarPart) → is_next row.month (frozen_months o.releases) ≡ true →
+    release_fair : (row : CalendarPart) → is_next_month row.month (frozen_months o.releases) ≡ true →
         lacks_plan o.plans (frozen_months o.releases) row.month ≡ false →
         Fair (release_verdict (judged_release now carry o row))
-    release_fair row follows planned = by (fault_of (plan_for o.plans (frozen_months o.releases) row.month) o.releases
+    release_fair row follows planned = by (fault_of (plan_for o.plans (frozen_months o.releases) row.month)
+        o.releases
         (frozen_with now row carry o)) refl
       where
         by : (w : Option IndexFault) → fault_of (plan_for o.plans (frozen_months o.releases) row.month) o.releases
@@ -332,28 +345,31 @@ module _ (o : Office) where
     abbrev Fairly : Result CalendarPart Refusal → Type 0
     Fairly judged = Fair (freeze_verdict (judged_release now carry o) judged)
 
-    row_fair : (month : ℕ) (w : Option CalendarPart) → at (λ r. r.month) month o.calendar ≡ w →
-        is_next month (frozen_months o.releases) ≡ true →
+    row_fair : (month : ℕ) (w : Option CalendarPart) → row_by_number (λ r. r.month) month o.calendar ≡ w →
+        is_next_month month (frozen_months o.releases) ≡ true →
         Fairly (row_judged now o.plans (frozen_months o.releases) carry w)
     row_fair month None e follows = tt
     row_fair month (Some row) e follows =
         let same : row.month ≡ month = at_key (λ r. r.month) month row o.calendar e in
         if_holds Fairly (nat_lt now row.closes) _ _ (λ f. tt) (λ f.
         if_holds Fairly (lacks_plan o.plans (frozen_months o.releases) row.month) _ _ (λ f. tt) (λ planned.
-        if_holds Fairly (has_weightless (plan_for o.plans (frozen_months o.releases) row.month) carry) _ _ (λ f. tt)
+        if_holds Fairly (has_unweighed (plan_for o.plans (frozen_months o.releases) row.month) carry) _ _ (λ f. tt)
         (λ f.
-        release_fair row (ap (λ k. is_next k (frozen_months o.releases)) same ∙ follows) planned)))
+        release_fair row (ap (λ k. is_next_month k (frozen_months o.releases)) same ∙ follows) planned)))
 
-    frozen_fair : (month : ℕ) → Fair (frozen now month carry o)
+    frozen_fair : (month : ℕ) → Fair (verdict_of_freeze now month carry o)
     frozen_fair month =
-        if_holds Fairly (stays_frozen month (option_map (λ r. r.publishes) (at (λ r. r.month) month o.calendar))
+        if_holds Fairly (keeps_frozen month (option_map (λ r. r.publishes)
+        (row_by_number (λ r. r.month) month o.calendar))
         (frozen_months o.releases)) _ _ (λ e. tt) (λ e.
-        if_holds Fairly (not (is_next month (frozen_months o.releases))) _ _ (λ f. tt) (λ f.
-        row_fair month (at (λ r. r.month) month o.calendar) refl (passes (is_next month (frozen_months o.releases)) f)))
+        if_holds Fairly (not (is_next_month month (frozen_months o.releases))) _ _ (λ f. tt) (λ f.
+        row_fair month (row_by_number (λ r. r.month) month o.calendar) refl
+        (passes (is_next_month month (frozen_months o.releases)) f)))
 
   -- ---- an entry
 
-  module _ (b : Bearer) (found : at (λ b. b.number) b.number o.collectors ≡ Some b) (entry : EntryRow) (g : Given)
+  module _ (b : Registration) (found : row_by_number (λ b. b.number) b.number o.collectors ≡ Some b) (entry : EntryRow)
+      (g : Given)
       (has : in_slot_of b.number entry.slot ≡ Some g) where
     abbrev Meets : Result Decision EntryRefusal → Type 0
     Meets d = Holds (Some (decision_verdict b entry d)) o
@@ -382,13 +398,14 @@ module _ (o : Office) where
     -- the stored quote is the entry with its receipt
     again_is : (q : QuoteRow) → row_at quote_cmp quote_key (entry.slot, entry.month)
         (held_by b.number o.quotes) ≡ Some q → is_same_mark q.mark entry.mark ≡ true →
-        row_at quote_cmp quote_key (entry.slot, entry.month) (held_by b.number o.quotes) ≡ Some (quoted entry q.receipt)
+        row_at quote_cmp quote_key (entry.slot, entry.month) (held_by b.number o.quotes) ≡ Some
+        (quote_of_entry entry q.receipt)
     again_is q stored same =
         let keys : (q.slot, q.month) ≡ (entry.slot, entry.month) =
         exact_pairs nat_cmp nat_cmp exact_unsigned exact_unsigned (q.slot, q.month) (entry.slot, entry.month)
         (row_key quote_cmp quote_key (entry.slot, entry.month) q (held_by b.number o.quotes) stored) in
         let marks = mark_equal q.mark entry.mark same in
-        let is : q ≡ quoted entry q.receipt = λ n. record {
+        let is : q ≡ quote_of_entry entry q.receipt = λ n. record {
           slot = (keys n).0;
           month = (keys n).1;
           mark =
@@ -406,7 +423,8 @@ module _ (o : Office) where
         if_holds Meets (is_same_mark q.mark entry.mark) _ _ (λ same. (found, again_is q stored same))
         (λ other. month_meets now row check greatest)
 
-  module _ (b : Bearer) (found : at (λ b. b.number) b.number o.collectors ≡ Some b) (now : ℕ) (entry : EntryRow) where
+  module _ (b : Registration) (found : row_by_number (λ b. b.number) b.number o.collectors ≡ Some b) (now : ℕ)
+      (entry : EntryRow) where
     abbrev Slotted : Option Assigned → Type 0
     Slotted a = Holds (Some (decision_verdict b entry (in_slot now entry (public_part o) a (own_part b.number o)))) o
 
@@ -415,10 +433,11 @@ module _ (o : Office) where
     slot_meets None e = tt
     slot_meets (Some g) e = over_meets b found entry g e now _ _ _ _ refl
 
-    decided_meets : Holds (Some (decision_verdict b entry (decided now entry (public_part o) (own_part b.number o)))) o
+    decided_meets : Holds (Some (decision_verdict b entry
+        (entry_decision now entry (public_part o) (own_part b.number o)))) o
     decided_meets = subst Slotted (sym named) (slot_meets (in_slot_of b.number entry.slot) refl)
       where
-        named : at (λ a. a.assignment.slot) entry.slot (own_part b.number o).assignments ≡ option_map
+        named : row_by_number (λ a. a.assignment.slot) entry.slot (own_part b.number o).assignments ≡ option_map
             (with_name o.outlets) (option_map (λ (g : Given). g.assignment) (in_slot_of b.number entry.slot))
         named = at-map (with_name o.outlets) (λ (a : Assigned). a.assignment.slot) entry.slot
             (assignments_by b.number o)
@@ -427,26 +446,26 @@ module _ (o : Office) where
 
 entered_holds : (o : Office) → IsSound o → (key now : ℕ) (entry : EntryRow) →
     Holds (of_collector key now (request.Submit entry) (view (caller.Collector key) now o)) o
-entered_holds o s key now entry = by (bearer_of key o.collectors) refl
+entered_holds o s key now entry = by (registration_of key o.collectors) refl
   where
-    by : (w : Option Bearer) → bearer_of key o.collectors ≡ w →
-        Holds (entered key now entry (view (caller.Collector key) now o) (option_map (own_view o) w)) o
+    by : (w : Option Registration) → registration_of key o.collectors ≡ w →
+        Holds (entry_verdict key now entry (view (caller.Collector key) now o) (option_map (own_view o) w)) o
     by None e = tt
     by (Some b) e =
-        let listed = bearer_listed key b o.collectors s.collectors e in
+        let listed = registration_listed key b o.collectors s.collectors e in
         subst (λ k. Holds (Some (decision_verdict (record { number = b.number; key = k }) entry
-        (decided now entry (public_part o) (own_part b.number o)))) o) listed.bears
+        (entry_decision now entry (public_part o) (own_part b.number o)))) o) listed.bears
         (decided_meets o b listed.found now entry)
 
 module _ (now : ℕ) (o : Office) where
-  command_holds : (r : Request) → Holds (commanded now r o) o
-  command_holds (request.PutItem i) = item_fair o i (at (λ i. i.code) i.code o.items) refl
-  command_holds (request.PutPlan year body) = planned_fair o (planned year (sent o.items body))
-      (planned_nodes year (sent o.items body))
-  command_holds (request.PutCalendar row) = calendar_fair o row (at (λ r. r.month) row.month o.calendar) refl
-  command_holds (request.Register b) = registered_fair o b (at (λ b. b.number) b.number o.collectors)
-      (bearer_of b.key o.collectors) refl refl
-  command_holds (request.PutOutlet u) = outlet_fair o u (at (λ u. u.number) u.number o.outlets) refl
+  command_holds : (r : Request) → Holds (command_verdict now r o) o
+  command_holds (request.PutItem i) = item_fair o i (row_by_number (λ i. i.code) i.code o.items) refl
+  command_holds (request.PutPlan year body) = planned_fair o (plan_or_fault year (sent_body o.items body))
+      (planned_nodes year (sent_body o.items body))
+  command_holds (request.PutCalendar row) = calendar_fair o row (row_by_number (λ r. r.month) row.month o.calendar) refl
+  command_holds (request.Register b) = registered_fair o b (row_by_number (λ b. b.number) b.number o.collectors)
+      (registration_of b.key o.collectors) refl refl
+  command_holds (request.PutOutlet u) = outlet_fair o u (row_by_number (λ u. u.number) u.number o.outlets) refl
   command_holds (request.Assign n a) = placed_fair o n a
   command_holds (request.HandOver h) = handed_fair o h
   command_holds (request.Freeze month carry) = frozen_fair o now carry month
@@ -474,7 +493,7 @@ module _ (now : ℕ) (o : Office) where
   collector_holds s key (request.Work month) = tt
   collector_holds s key (request.Quotes first last) = tt
 
-  pub verdict_holds : IsSound o → (k : Caller) (r : Request) → Holds (verdict now k r o) o
+  pub verdict_holds : IsSound o → (k : Caller) (r : Request) → Holds (request_verdict now k r o) o
   verdict_holds s caller.Public r = tt
   verdict_holds s caller.Desk r = command_holds r
   verdict_holds s (caller.Collector key) r = collector_holds s key r

@@ -3,7 +3,7 @@ use Rattle.std.specs.Prelude.{ℕ, List, map, Option, Some, None, Result, Ok, Er
 use Rattle.cpi_release.specs.PublishedTables.{PublishedTable, asked_table, frozen_month_of, printed_bytes}
 use Rattle.cpi_release.specs.declared.form.Form.{Form}
 use Rattle.cpi_survey.specs.Own.{OwnPart}
-use Rattle.cpi_survey.specs.Decision.{decided}
+use Rattle.cpi_survey.specs.Decision.{entry_decision}
 use Rattle.cpi_survey.specs.Within.{quotes_within}
 use Rattle.cpi_survey.specs.WorkPart.{WorkPart}
 use Rattle.cpi_survey.specs.Work.{work}
@@ -12,7 +12,7 @@ use Rattle.cpi_survey.specs.declared.decision.Decision.TheVariants.{Again, Put}
 use Rattle.cpi_survey.specs.declared.refusal.Refusal.{Refusal as EntryRefusal}
 use Rattle.cpi_office.specs.declared.refusal.Refusal.TheVariants as refusal
 use Rattle.cpi_office.specs.Refusal.{of_survey}
-use Rattle.cpi_office.specs.Views.{View, OwnView}
+use Rattle.cpi_office.specs.Projections.{View, OwnView}
 use Rattle.cpi_office.specs.declared.caller.Caller.{Caller}
 use Rattle.cpi_office.specs.declared.caller.Caller.TheVariants as caller
 use Rattle.cpi_office.specs.declared.request.Request.{Request}
@@ -20,19 +20,19 @@ use Rattle.cpi_office.specs.declared.request.Request.TheVariants as request
 use Rattle.cpi_office.specs.declared.reply.Reply.{Reply}
 use Rattle.cpi_office.specs.declared.reply.Reply.TheVariants as reply
 
-abbrev pub bytes_of : Form → ℕ → PublishedTable → List ℕ
-bytes_of form month t = printed_bytes form month t.revision t.levels
+abbrev pub table_bytes : Form → ℕ → PublishedTable → List ℕ
+table_bytes form month t = printed_bytes form month t.revision t.levels
 
-abbrev pub table_reply : Form → ℕ → Option PublishedTable → Reply
-table_reply form month None = reply.Refused refusal.NoTable
-table_reply form month (Some t) = reply.Table (bytes_of form month t)
+abbrev pub reply_with_table : Form → ℕ → Option PublishedTable → Reply
+reply_with_table form month None = reply.Refused refusal.NoTable
+reply_with_table form month (Some t) = reply.Table (table_bytes form month t)
 
 -- what every caller may ask
-abbrev pub read : Request → View → Reply
-read request.Items v = reply.Items v.public.items
-read request.Tables v = reply.Tables (map frozen_month_of v.tables)
-read (request.Table month form edition) v = table_reply form month (asked_table month edition v.tables)
-read _ v = reply.Refused refusal.NotForCaller
+abbrev pub reply_to_read : Request → View → Reply
+reply_to_read request.Items v = reply.Items v.public.items
+reply_to_read request.Tables v = reply.Tables (map frozen_month_of v.tables)
+reply_to_read (request.Table month form edition) v = reply_with_table form month (asked_table month edition v.tables)
+reply_to_read _ v = reply.Refused refusal.NotForCaller
 
 abbrev pub decision_reply : Result Decision EntryRefusal → Reply
 decision_reply (Err f) = reply.Refused (of_survey f)
@@ -47,8 +47,8 @@ work_reply (Ok rows) = reply.Work rows
 abbrev pub collector_answer : ℕ → Request → View → OwnPart → Reply
 collector_answer now (request.Work month) v own = work_reply (work month v.public own)
 collector_answer now (request.Quotes first last) v own = reply.Quotes (quotes_within first last own.quotes)
-collector_answer now (request.Submit entry) v own = decision_reply (decided now entry v.public own)
-collector_answer now r v own = read r v
+collector_answer now (request.Submit entry) v own = decision_reply (entry_decision now entry v.public own)
+collector_answer now r v own = reply_to_read r v
 
 abbrev pub known_answer : ℕ → Request → View → Option OwnView → Reply
 known_answer now r v None = reply.Refused refusal.UnknownKey
@@ -56,6 +56,6 @@ known_answer now r v (Some own) = collector_answer now r v own.part
 
 -- What a caller is answered: by the caller's view alone. The desk is answered here as the public is.
 abbrev pub answer : ℕ → Caller → Request → View → Reply
-answer now caller.Public r v = read r v
-answer now caller.Desk r v = read r v
+answer now caller.Public r v = reply_to_read r v
+answer now caller.Desk r v = reply_to_read r v
 answer now (caller.Collector key) r v = known_answer now r v v.own

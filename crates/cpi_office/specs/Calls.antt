@@ -16,9 +16,9 @@ is_unavailable Unavailable = true
 is_unavailable _ = false
 
 -- the reply says that the office is unavailable
-abbrev pub is_failure : Reply → Bool
-is_failure (say.Refused f) = is_unavailable f
-is_failure _ = false
+abbrev pub is_failure_of : Reply → Bool
+is_failure_of (say.Refused f) = is_unavailable f
+is_failure_of _ = false
 
 -- the reply is the one that is wanted, and the office is so; or the call was unavailable, and nothing has changed
 abbrev pub IsServed : Reply → Reply → Office → Office → Office → Type 0
@@ -33,8 +33,8 @@ module _ (old new : State Office) where
   -- what was answered endures: the store is as clean as before, and a crash leaves what the call made
   pub record Endures (reply : Reply) : Type 0 where
     pub was_kept : new.is_kept → old.is_kept
-    pub stays : IsFalse (is_failure reply) → StaysClean old new
-    pub answered : IsFalse (is_failure reply) → new.is_clean → Lasts
+    pub stays : IsFalse (is_failure_of reply) → StaysClean old new
+    pub answered : IsFalse (is_failure_of reply) → new.is_clean → Lasts
 
   -- a crash leaves the office as it could be left before the call, or the office after it
   abbrev pub Crashes : Office → Type 0

@@ -3,12 +3,12 @@ use Rattle.std.specs.Prelude.{◌≡◌, ⊤, ℕ, IsFalse, IsSome, List, Option
 use Rattle.cpi_release.specs.declared.form.Form.{Form}
 use Rattle.cpi_release.specs.Releasing.{all_released, freeze_of}
 use Rattle.cpi_release.specs.PublishedTables.{PublishedTable, asked_table, published_until}
-use Rattle.cpi_store.specs.Bearer.{bearer_of}
+use Rattle.cpi_store.specs.Registration.{registration_of}
 use Rattle.cpi_store.specs.Office.{Office}
 use Rattle.cpi_store.specs.Sound.{IsSound}
-use Rattle.cpi_office.specs.Answers.{table_reply}
-use Rattle.cpi_office.specs.Calls.{is_failure}
-use Rattle.cpi_office.specs.Rebuilt.{served_before}
+use Rattle.cpi_office.specs.Answers.{reply_with_table}
+use Rattle.cpi_office.specs.Calls.{is_failure_of}
+use Rattle.cpi_office.specs.RebuiltProjections.{served_before}
 use Rattle.cpi_office.specs.Runs.{after, reply_to}
 use Rattle.cpi_office.specs.declared.caller.Caller.{Caller}
 use Rattle.cpi_office.specs.declared.caller.Caller.TheVariants.{Public, Collector, Desk}
@@ -24,13 +24,14 @@ computed_tables now o = published_until now (all_released o.plans (map freeze_of
 -- Of these the one of the month, printed: in the revision that is named, or else in the latest of them. Where there is
 -- none it is refused.
 abbrev pub computed_reply : ℕ → ℕ → Form → Option ℕ → Office → Reply
-computed_reply now month form revision o = table_reply form month (asked_table month revision (computed_tables now o))
+computed_reply now month form revision o = reply_with_table form month
+    (asked_table month revision (computed_tables now o))
 
 -- the caller isn't turned away
 abbrev pub IsKnown : Caller → Office → Type 0
 IsKnown Public o = ⊤
 IsKnown Desk o = ⊤
-IsKnown (Collector key) o = IsSome (bearer_of key o.collectors)
+IsKnown (Collector key) o = IsSome (registration_of key o.collectors)
 
 -- a request for a table is answered so
 abbrev pub TellsTable : Ask → Office → Reply → Type 0
@@ -47,5 +48,5 @@ TablesAreTold = (a : Ask) (o : Office) → IsSound o → TellsTable a o (reply_t
 abbrev pub TellTables : Office → List Ask → List Reply → Type 0
 TellTables o asks rs =
     (place : ℕ) (a : Ask) (r : Reply) →
-    slice_get asks place ≡ Some a → slice_get rs place ≡ Some r → IsFalse (is_failure r) →
+    slice_get asks place ≡ Some a → slice_get rs place ≡ Some r → IsFalse (is_failure_of r) →
     TellsTable a (after (served_before place asks rs) o) r

@@ -10,8 +10,8 @@ use Rattle.cpi_store.specs.Office.{Office, empty_office}
 use Rattle.cpi_store.specs.Series.{first_of_series}
 use Rattle.cpi_store.specs.declared.given.Given.{Given}
 use Rattle.cpi_office.specs.Runs.{replies}
-use Rattle.cpi_office.specs.Alone.{told_to}
-use Rattle.cpi_office.specs.Assigning.{assignment_of}
+use Rattle.cpi_office.specs.NonInterference.{told_to}
+use Rattle.cpi_office.specs.Assigning.{assignment_sent}
 use Rattle.cpi_office.specs.declared.caller.Caller.TheVariants.{Public, Collector, Desk}
 use Rattle.cpi_office.specs.declared.request.Request.{Request}
 use Rattle.cpi_office.specs.declared.request.Request.TheVariants as request
@@ -71,7 +71,7 @@ new_assignment slot outlet item =
 abbrev pub placed : ℕ → ℕ → ℕ → ℕ → ℕ × Given
 placed number slot outlet item = (
   number,
-  first_of_series number (assignment_of (new_assignment slot outlet item)),
+  first_of_series number (assignment_sent (new_assignment slot outlet item)),
 )
 
 abbrev pub assign : ℕ → ℕ → ℕ → ℕ → Request

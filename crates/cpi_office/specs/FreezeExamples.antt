@@ -166,8 +166,8 @@ Reopened =
     ∷ Tables (frozen_month 311 1 1000 ∷ frozen_month 312 1 3000 ∷ frozen_month 312 2 3300 ∷ []) ∷ []
 
 -- a month stays frozen where its table would be published no later, or where it isn't the last one
-abbrev pub KeptFrozen : Type 0
-KeptFrozen =
+abbrev pub CachedFrozen : Type 0
+CachedFrozen =
     replies (two_months ++ by_desk (put_month 312 3100 3200 3300) ∷ freeze 3200 312 []
     ∷ by_desk (put_month 312 3100 3200 3300) ∷ by_desk (put_month 312 3100 3200 3250)
     ∷ by_desk (put_month 311 0 4000 5000) ∷ freeze 9000 311 [] ∷ []) empty_office

@@ -1,7 +1,7 @@
 -- What becomes of a hand-over that the desk sends.
 use Rattle.std.specs.Prelude.{◌≡◌, ℕ, ◌+◌, ◌-◌, ◌&&◌, ◌==◌, nat_lt, nat_le, not, Bool, false, List, Option, Some, None}
 use Rattle.std.specs.Prelude.{Result, Ok, Err, if◌then◌else◌}
-use Rattle.cpi_rows.specs.Keyed.{at}
+use Rattle.cpi_rows.specs.Keyed.{row_by_number}
 use Rattle.cpi_rows.specs.Held.{held_by}
 use Rattle.cpi_survey.specs.LastPrice.{last_price}
 use Rattle.cpi_survey.specs.Quote.{QuoteRow}
@@ -9,7 +9,7 @@ use Rattle.cpi_survey.specs.Within.{has_quotes_since}
 use Rattle.cpi_survey.specs.declared.assignment.Assignment.{Assignment}
 use Rattle.cpi_release.specs.FrozenMonths.{frozen_months, last_frozen}
 use Rattle.cpi_release.specs.declared.frozen_month.FrozenMonth.{FrozenMonth}
-use Rattle.cpi_store.specs.declared.bearer.Bearer.{Bearer}
+use Rattle.cpi_store.specs.declared.registration.Registration.{Registration}
 use Rattle.cpi_store.specs.declared.given.Given.{Given}
 use Rattle.cpi_store.specs.declared.series_move.SeriesMove.{SeriesMove}
 use Rattle.cpi_store.specs.Office.{Office, HandsOver, given_until}
@@ -30,7 +30,7 @@ taken_on h former quotes = record former {
 }
 
 -- what a hand-over does: the former slot ends with the month before, and the new one has this assignment
-abbrev pub handover_of : HandOver → Bearer → Bearer → Given → Assignment → Office → SeriesMove
+abbrev pub handover_of : HandOver → Registration → Registration → Given → Assignment → Office → SeriesMove
 handover_of h b c former a o = record {
   former = b;
   ended = given_until (h.month - 1) former;
@@ -41,18 +41,18 @@ handover_of h b c former a o = record {
 -- ---- what is there
 
 -- both collectors are registered, with these keys
-pub record AreRegistered (former taker : Bearer) (o : Office) : Type 0 where
-  pub former_is : at (λ b. b.number) former.number o.collectors ≡ Some former
-  pub taker_is : at (λ b. b.number) taker.number o.collectors ≡ Some taker
+pub record AreRegistered (former taker : Registration) (o : Office) : Type 0 where
+  pub former_is : row_by_number (λ b. b.number) former.number o.collectors ≡ Some former
+  pub taker_is : row_by_number (λ b. b.number) taker.number o.collectors ≡ Some taker
 
 -- both collectors, and what the former one's slot was given
-pub record AreThere (h : HandOver) (former taker : Bearer) (given : Given) (o : Office) : Type 0 where
+pub record AreThere (h : HandOver) (former taker : Registration) (given : Given) (o : Office) : Type 0 where
   pub registered : AreRegistered former taker o
-  pub stands : at (λ g. g.assignment.slot) h.slot (held_by former.number o.assignments) ≡ Some given
+  pub stands : row_by_number (λ g. g.assignment.slot) h.slot (held_by former.number o.assignments) ≡ Some given
 
 -- the new collector has nothing in the new slot
-abbrev pub IsFree : HandOver → Bearer → Office → Type 0
-IsFree h taker o = at (λ g. g.assignment.slot) h.new_slot (held_by taker.number o.assignments) ≡ None
+abbrev pub IsSlotFree : HandOver → Registration → Office → Type 0
+IsSlotFree h taker o = row_by_number (λ g. g.assignment.slot) h.new_slot (held_by taker.number o.assignments) ≡ None
 
 -- ---- a new slot that stands
 
@@ -62,7 +62,7 @@ stands_over h former new =
     same_series new.series former.series && new.assignment.first_month == h.month
     && former.assignment.last_month + 1 == h.month
 
-abbrev pub over_standing : HandOver → Office → Bearer → Bearer → Given → Given → Verdict
+abbrev pub over_standing : HandOver → Office → Registration → Registration → Given → Given → Verdict
 over_standing h o b c former new =
     if stands_over h former new then Stands (HandsOver (handover_of h b c former new.assignment o)) else Refuses Taken
 
@@ -85,28 +85,28 @@ judged_over h former frozen quotes =
     else if has_quotes_since h.slot h.month quotes then Err QuotesStand
     else Ok (taken_on h former quotes)
 
-abbrev pub over_judged : HandOver → Office → Bearer → Bearer → Given → Result Assignment Refusal → Verdict
+abbrev pub over_judged : HandOver → Office → Registration → Registration → Given → Result Assignment Refusal → Verdict
 over_judged h o b c former (Err f) = Refuses f
 over_judged h o b c former (Ok a) = Makes (HandsOver (handover_of h b c former a o))
 
-abbrev pub over_free : HandOver → Office → Bearer → Bearer → Given → Verdict
+abbrev pub over_free : HandOver → Office → Registration → Registration → Given → Verdict
 over_free h o b c former =
     over_judged h o b c former
     (judged_over h former.assignment (frozen_months o.releases) (held_by b.number o.quotes))
 
 -- ---- in order: the collectors, the former slot, the new slot
 
-abbrev pub over_slots : HandOver → Office → Bearer → Bearer → Option Given → Option Given → Verdict
+abbrev pub over_slots : HandOver → Office → Registration → Registration → Option Given → Option Given → Verdict
 over_slots h o b c None new = Refuses UnknownSlot
 over_slots h o b c (Some former) None = over_free h o b c former
 over_slots h o b c (Some former) (Some new) = over_standing h o b c former new
 
-abbrev pub over_collectors : HandOver → Office → Option Bearer → Option Bearer → Verdict
+abbrev pub over_collectors : HandOver → Office → Option Registration → Option Registration → Verdict
 over_collectors h o None c = Refuses UnknownCollector
 over_collectors h o (Some b) None = Refuses UnknownCollector
 over_collectors h o (Some b) (Some c) =
-    over_slots h o b c (at (λ g. g.assignment.slot) h.slot (held_by b.number o.assignments))
-    (at (λ g. g.assignment.slot) h.new_slot (held_by c.number o.assignments))
+    over_slots h o b c (row_by_number (λ g. g.assignment.slot) h.slot (held_by b.number o.assignments))
+    (row_by_number (λ g. g.assignment.slot) h.new_slot (held_by c.number o.assignments))
 
 -- the new collector's number and slot are within their limits, which their types keep
 abbrev pub is_takeable : HandOver → Bool
@@ -119,4 +119,5 @@ if_takeable h next = if is_takeable h then next else Refuses BadRequest
 abbrev pub handed_over : HandOver → Office → Verdict
 handed_over h o =
     if_takeable h
-    (over_collectors h o (at (λ b. b.number) h.from o.collectors) (at (λ b. b.number) h.to o.collectors))
+    (over_collectors h o (row_by_number (λ b. b.number) h.from o.collectors)
+    (row_by_number (λ b. b.number) h.to o.collectors))

@@ -98,8 +98,8 @@ LaterQuotes = Answers
     ∷ Refused refusal.QuotesStand ∷ Refused refusal.QuotesStand ∷ Done ∷ [])
 
 -- no month is handed over that was frozen, or that comes before the last frozen one, whatever quotes stand
-abbrev pub KeptMonths : Type 0
-KeptMonths = Answers
+abbrev pub CachedMonths : Type 0
+CachedMonths = Answers
     (two_hands ++ by_desk (put_month 323 0 1000 1000) ∷ freeze 1000 323 [] ∷ by_key 1500 key_a (quote 4 314 490)
     ∷ by_desk (hand 7 4 8 1 314) ∷ by_desk (hand 7 4 8 1 323) ∷ by_desk (hand 7 4 8 1 324) ∷ [])
     (Done ∷ Done ∷ Done ∷ Done ∷ Done ∷ Receipt 1

@@ -11,7 +11,7 @@ use Rattle.cpi_plan.specs.declared.plan_faults.PlanFault.TheVariants as fault
 use Rattle.cpi_plan.specs.Plan.{Plan}
 use Rattle.cpi_store.specs.Office.{Office, empty_office, PutsPlan}
 use Rattle.cpi_office.specs.Runs.{replies, after, trace, changes}
-use Rattle.cpi_office.specs.Sights.{seen, SeesPlan}
+use Rattle.cpi_office.specs.ProjectedChanges.{sights_of, SeesPlan}
 use Rattle.cpi_office.specs.Examples.{rice, tea_code, key_a, key_c, by_desk, by_key, by_public, register}
 use Rattle.cpi_office.specs.declared.caller.Caller.TheVariants.{Public}
 use Rattle.cpi_office.specs.declared.request.Request.TheVariants as request
@@ -262,7 +262,7 @@ NoFirstReference =
 -- everybody sees the plans that were accepted
 abbrev pub PlansAreSeen : Type 0
 PlansAreSeen =
-    seen Public 0 (trace again shelf) ≡ SeesPlan (plan 2026 (codes "Food")) ∷ SeesPlan (plan 2026 (codes "Food"))
+    sights_of Public 0 (trace again shelf) ≡ SeesPlan (plan 2026 (codes "Food")) ∷ SeesPlan (plan 2026 (codes "Food"))
     ∷ SeesPlan (plan 2026 (codes "Foods")) ∷ []
 
 -- each year has a plan of its own

@@ -1,22 +1,22 @@
 -- Runs of requests: what each is answered, and what it does to the office.
 use Rattle.std.specs.Prelude.{[], ℕ, List, ◌∷◌, ◌++◌, Option, Some, None}
 use Rattle.cpi_store.specs.Office.{Office, Change}
-use Rattle.cpi_office.specs.Views.{view}
+use Rattle.cpi_office.specs.Projections.{view}
 use Rattle.cpi_office.specs.declared.caller.Caller.{Caller}
 use Rattle.cpi_office.specs.declared.caller.Caller.TheVariants as caller
 use Rattle.cpi_office.specs.declared.request.Request.{Request}
 use Rattle.cpi_office.specs.declared.request.Ask.{Ask}
 use Rattle.cpi_office.specs.declared.reply.Reply.{Reply}
-use Rattle.cpi_office.specs.Verdicts.{Verdict, verdict_reply, after_verdict, accepted, made}
-use Rattle.cpi_office.specs.Desk.{commanded}
+use Rattle.cpi_office.specs.Verdicts.{Verdict, verdict_reply, after_verdict, accepted_changes, new_changes}
+use Rattle.cpi_office.specs.Desk.{command_verdict}
 use Rattle.cpi_office.specs.Entries.{of_collector}
 use Rattle.cpi_office.specs.Answers.{answer}
 
 -- what becomes of a request; None of one that changes nothing
-abbrev pub verdict : ℕ → Caller → Request → Office → Option Verdict
-verdict now caller.Public r o = None
-verdict now caller.Desk r o = commanded now r o
-verdict now (caller.Collector key) r o = of_collector key now r (view (caller.Collector key) now o)
+abbrev pub request_verdict : ℕ → Caller → Request → Office → Option Verdict
+request_verdict now caller.Public r o = None
+request_verdict now caller.Desk r o = command_verdict now r o
+request_verdict now (caller.Collector key) r o = of_collector key now r (view (caller.Collector key) now o)
 
 abbrev pub desk_reply : Reply → Option Verdict → Reply
 desk_reply told None = told
@@ -26,11 +26,11 @@ desk_reply told (Some v) = verdict_reply v
 abbrev pub reply_to : ℕ → Caller → Request → Office → Reply
 reply_to now caller.Public r o = answer now caller.Public r (view caller.Public now o)
 reply_to now (caller.Collector key) r o = answer now (caller.Collector key) r (view (caller.Collector key) now o)
-reply_to now caller.Desk r o = desk_reply (answer now caller.Desk r (view caller.Desk now o)) (commanded now r o)
+reply_to now caller.Desk r o = desk_reply (answer now caller.Desk r (view caller.Desk now o)) (command_verdict now r o)
 
 -- the office after a request
 abbrev pub after_one : ℕ → Caller → Request → Office → Office
-after_one now k r o = after_verdict (verdict now k r o) o
+after_one now k r o = after_verdict (request_verdict now k r o) o
 
 abbrev pub next : Ask → Office → Office
 next a o = after_one a.now a.caller a.request o
@@ -46,9 +46,9 @@ after (a ∷ asks) o = after asks (next a o)
 -- what was accepted, in order
 abbrev pub trace : List Ask → Office → List Change
 trace [] o = []
-trace (a ∷ asks) o = accepted (verdict a.now a.caller a.request o) ++ trace asks (next a o)
+trace (a ∷ asks) o = accepted_changes (request_verdict a.now a.caller a.request o) ++ trace asks (next a o)
 
 -- what was changed, in order
 abbrev pub changes : List Ask → Office → List Change
 changes [] o = []
-changes (a ∷ asks) o = made (verdict a.now a.caller a.request o) ++ changes asks (next a o)
+changes (a ∷ asks) o = new_changes (request_verdict a.now a.caller a.request o) ++ changes asks (next a o)

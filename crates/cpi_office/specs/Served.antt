@@ -3,28 +3,28 @@ use Rattle.std.specs.List.{AllByRecursion}
 use Rattle.std.specs.Prelude.{◌≡◌, IsFalse, List, [], ◌∷◌, ◌++◌, if◌then◌else◌}
 use Rattle.cpi_release.specs.State.{State}
 use Rattle.cpi_store.specs.Office.{Office}
-use Rattle.cpi_office.specs.Calls.{is_failure, Lasts}
+use Rattle.cpi_office.specs.Calls.{is_failure_of, Lasts}
 use Rattle.cpi_office.specs.Runs.{replies, after}
 use Rattle.cpi_store.specs.Sound.{IsSound}
 use Rattle.cpi_office.specs.declared.request.Ask.{Ask}
 use Rattle.cpi_office.specs.declared.reply.Reply.{Reply}
 
 -- the request, unless it was answered that the office is unavailable
-abbrev pub served : Ask → Reply → List Ask
-served a r = if is_failure r then [] else a ∷ []
+abbrev pub served_requests : Ask → Reply → List Ask
+served_requests a r = if is_failure_of r then [] else a ∷ []
 
-abbrev pub told : Reply → List Reply
-told r = if is_failure r then [] else r ∷ []
+abbrev pub served_replies : Reply → List Reply
+served_replies r = if is_failure_of r then [] else r ∷ []
 
 -- the requests of a run that were served, and what they were told
 abbrev pub all_served : List Ask → List Reply → List Ask
-all_served (a ∷ asks) (r ∷ rs) = served a r ++ all_served asks rs
+all_served (a ∷ asks) (r ∷ rs) = served_requests a r ++ all_served asks rs
 all_served [] rs = []
 all_served (a ∷ asks) [] = []
 
 abbrev pub all_told : List Reply → List Reply
 all_told [] = []
-all_told (r ∷ rs) = told r ++ all_told rs
+all_told (r ∷ rs) = served_replies r ++ all_told rs
 
 -- The office goes from o to u by these requests, each answered by the one reply in its place, apart from those that
 -- failed.
@@ -34,11 +34,11 @@ pub record IsRun (o : Office) (asks : List Ask) (rs : List Reply) (u : Office) :
 
 -- no reply says that the office is unavailable
 abbrev pub NoneFails : List Reply → Type 0
-NoneFails rs = AllByRecursion (λ r. IsFalse (is_failure r)) rs
+NoneFails rs = AllByRecursion (λ r. IsFalse (is_failure_of r)) rs
 
 -- The requests were carried out over a book that held a sound office. Where none failed, a crash leaves the office
 -- after the last that changed it.
-pub record Ran (old new : State Office) (asks : List Ask) (rs : List Reply) : Type 0 where
+pub record RunOverBook (old new : State Office) (asks : List Ask) (rs : List Reply) : Type 0 where
   pub was_clean : new.is_clean → old.is_clean
   pub run : new.is_clean → IsSound old.held → IsRun old.held asks rs new.held
   pub lasts : new.is_clean → IsSound old.held → NoneFails rs → Lasts old new

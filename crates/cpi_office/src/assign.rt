@@ -1,16 +1,16 @@
 //! A collector's slot is given an assignment, as a series of its own.
 ghost use Rattle.std.specs.Prelude.{◌≡◌, Some, None, IsSome, IfOk, is_none, option_map};
 ghost use Rattle.std.specs.Option.{option_copied};
-ghost use Rattle.cpi_rows.specs.Keyed.{at};
+ghost use Rattle.cpi_rows.specs.Keyed.{row_by_number};
 ghost use Rattle.cpi_rows.specs.Held.{held_by};
 ghost use Rattle.cpi_release.specs.State.{Reads};
 ghost use Rattle.cpi_store.specs.Outlet.{with_name};
 ghost use Rattle.cpi_store.specs.Sound.{IsWellMade};
 ghost use Rattle.cpi_office.specs.Standing.{standing};
 ghost use Rattle.cpi_office.specs.Assigning.{assigned_in, slot_given, to_collector, outlet_judged};
-ghost use Rattle.cpi_office.specs.Assigning.{is_assignable as assignable_is, assignment_of as made_of};
+ghost use Rattle.cpi_office.specs.Assigning.{may_be_assigned, assignment_sent};
 ghost use Rattle.cpi_office.specs.Verdicts.{with_verdict, verdict_reply};
-ghost use Rattle.cpi_office.specs.Named.{slot_standing, again_reply, is_first, same_assigned, IsNamed};
+ghost use Rattle.cpi_office.specs.Named.{slot_standing, again_reply, is_first_series, same_assigned, IsNamed};
 ghost use Rattle.cpi_office.specs.Calls.{Serves};
 
 use crate::refusal::Refusal;
@@ -42,7 +42,7 @@ pub fn assign<B: Book>(
 
 /// Whether the first month isn't after the last. Number and slot are within their limits by their types.
 fn is_assignable(collector: CollectorId, new_assignment: &NewAssignment) -> bool
-    ensures { result ≡ assignable_is collector new_assignment.now }
+    ensures { result ≡ may_be_assigned collector new_assignment.now }
 {
     let number = collector.number();
     let slot = new_assignment.slot.number();
@@ -54,7 +54,7 @@ fn is_assignable(collector: CollectorId, new_assignment: &NewAssignment) -> bool
 
 /// The assignment that is sent. No price is copied.
 fn assignment_of(new_assignment: NewAssignment) -> Assignment
-    ensures { result ≡ made_of new_assignment }
+    ensures { result ≡ assignment_sent new_assignment }
 {
     Assignment {
         slot: new_assignment.slot,
@@ -94,7 +94,7 @@ fn find_slot<B: Book>(
 ) -> Result<(Standing, bool), StoreFault>
     ensures { Reads (B.state book.old) (B.state book.new) result (λ found.
         (found.0 ≡ slot_standing collector assignment.now (B.state book.old).held)
-        × (found.1 ≡ is_none (at (λ i. i.code) assignment.now.item (B.state book.old).held.items))) }
+        × (found.1 ≡ is_none (row_by_number (λ i. i.code) assignment.now.item (B.state book.old).held.items))) }
 {
     let parts = book.parts(collector)?;
     let standing = standing_assignment(assignment, parts.own.assigned(assignment.slot));
@@ -119,14 +119,15 @@ fn standing_assignment(assignment: &Assignment, old: Option<&Assigned>) -> Stand
 /// Answers an assignment that stands, if the slot names its series, and there is the collector.
 fn assign_again<B: Book>(book: &mut B, collector: CollectorId, slot: Slot) -> Reply
     ensures { let o = (B.state book.old).held in
-        let first = is_first collector slot (at (λ g. g.assignment.slot) slot (held_by collector o.assignments)) in
+        let first = is_first_series collector slot
+        (row_by_number (λ g. g.assignment.slot) slot (held_by collector o.assignments)) in
         Serves (B.state book.old) (B.state book.new) result
-        (again_reply first (at (λ b. b.number) collector o.collectors)) o }
+        (again_reply first (row_by_number (λ b. b.number) collector o.collectors)) o }
 {
     match names_series(book, collector, slot) {
         Err(StoreFault) => Reply::Refused(Refusal::Unavailable),
         Ok(false) => Reply::Refused(Refusal::Taken),
-        Ok(true) => match book.bearer_at(collector) {
+        Ok(true) => match book.registration_at(collector) {
             Err(StoreFault) => Reply::Refused(Refusal::Unavailable),
             Ok(None) => Reply::Refused(Refusal::Taken),
             Ok(Some(_)) => Reply::Done,
@@ -141,8 +142,8 @@ fn names_series<B: Book>(
     slot: Slot,
 ) -> Result<bool, StoreFault>
     ensures { Reads (B.state book.old) (B.state book.new) result (λ found.
-        found ≡ is_first collector slot
-        (at (λ g. g.assignment.slot) slot (held_by collector (B.state book.old).held.assignments))) }
+        found ≡ is_first_series collector slot
+        (row_by_number (λ g. g.assignment.slot) slot (held_by collector (B.state book.old).held.assignments))) }
 {
     match book.given(collector, slot)? {
         None => Ok(false),
@@ -159,13 +160,14 @@ fn assign_new<B: Book>(
 ) -> Reply
     requires made { IsWellMade (collector, assignment) }
     requires free { (B.state book.old).is_clean →
-        at (λ g. g.assignment.slot) assignment.slot (held_by collector (B.state book.old).held.assignments) ≡ None }
+        row_by_number (λ g. g.assignment.slot) assignment.slot
+        (held_by collector (B.state book.old).held.assignments) ≡ None }
     requires item { (B.state book.old).is_clean →
-        IsSome (at (λ i. i.code) assignment.item (B.state book.old).held.items) }
+        IsSome (row_by_number (λ i. i.code) assignment.item (B.state book.old).held.items) }
     ensures { let o = (B.state book.old).held in
-        let outlet = at (λ u. u.number) assignment.outlet o.outlets in
-        let bearer = at (λ b. b.number) collector o.collectors in
-        let v = outlet_judged (with_name o.outlets assignment) outlet bearer in
+        let outlet = row_by_number (λ u. u.number) assignment.outlet o.outlets in
+        let registration = row_by_number (λ b. b.number) collector o.collectors in
+        let v = outlet_judged (with_name o.outlets assignment) outlet registration in
         Serves (B.state book.old) (B.state book.new) result (verdict_reply v) (with_verdict v o) }
 {
     match name_outlet(alloc, book, assignment) {
@@ -211,22 +213,22 @@ fn with_name(
 fn assign_to<B: Book>(book: &mut B, collector: CollectorId, assigned: Assigned) -> Reply
     requires made { (B.state book.old).is_clean → IsWellMade (collector, assigned.assignment) }
     requires free { (B.state book.old).is_clean →
-        at (λ g. g.assignment.slot) assigned.assignment.slot
+        row_by_number (λ g. g.assignment.slot) assigned.assignment.slot
         (held_by collector (B.state book.old).held.assignments) ≡ None }
     requires item { (B.state book.old).is_clean →
-        IsSome (at (λ i. i.code) assigned.assignment.item (B.state book.old).held.items) }
+        IsSome (row_by_number (λ i. i.code) assigned.assignment.item (B.state book.old).held.items) }
     requires outlet { (B.state book.old).is_clean →
-        IsSome (at (λ u. u.number) assigned.assignment.outlet (B.state book.old).held.outlets) }
+        IsSome (row_by_number (λ u. u.number) assigned.assignment.outlet (B.state book.old).held.outlets) }
     requires name { (B.state book.old).is_clean →
         assigned ≡ with_name (B.state book.old).held.outlets assigned.assignment }
     ensures { let o = (B.state book.old).held in
-        let v = to_collector assigned (at (λ b. b.number) collector o.collectors) in
+        let v = to_collector assigned (row_by_number (λ b. b.number) collector o.collectors) in
         Serves (B.state book.old) (B.state book.new) result (verdict_reply v) (with_verdict v o) }
 {
-    match book.bearer_at(collector) {
+    match book.registration_at(collector) {
         Err(StoreFault) => Reply::Refused(Refusal::Unavailable),
         Ok(None) => Reply::Refused(Refusal::UnknownCollector),
-        Ok(Some(bearer)) => match book.put_assignment(bearer, assigned) {
+        Ok(Some(registration)) => match book.put_assignment(registration, assigned) {
             Ok(()) => Reply::Done,
             Err(StoreFault) => Reply::Refused(Refusal::Unavailable),
         },

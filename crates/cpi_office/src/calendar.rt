@@ -1,11 +1,11 @@
 //! A month's row is put into the calendar.
 ghost use Rattle.std.specs.Prelude.{◌≡◌, Some, None};
 ghost use Rattle.std.specs.Option.{option_copied};
-ghost use Rattle.cpi_rows.specs.Keyed.{at};
+ghost use Rattle.cpi_rows.specs.Keyed.{row_by_number};
 ghost use Rattle.cpi_release.specs.State.{Reads};
 ghost use Rattle.cpi_store.specs.Office.{public_part, PutsCalendar};
 ghost use Rattle.cpi_plan.specs.Calendar.{same_calendar};
-ghost use Rattle.cpi_release.specs.FrozenMonths.{frozen_months, stays_frozen};
+ghost use Rattle.cpi_release.specs.FrozenMonths.{frozen_months, keeps_frozen};
 ghost use Rattle.cpi_office.specs.Standing.{standing};
 ghost use Rattle.cpi_office.specs.Replacing.{scheduled_in, unless_frozen};
 ghost use Rattle.cpi_office.specs.Verdicts.{with_verdict, verdict_reply};
@@ -33,7 +33,7 @@ pub fn put_calendar<B: Book>(book: &mut B, row: CalendarRow) -> Reply
 /// Stores a month's row, unless the month was frozen and isn't reopened by it.
 fn store_calendar<B: Book>(book: &mut B, row: CalendarRow) -> Reply
     ensures { let o = (B.state book.old).held in
-        let kept = stays_frozen row.month (Some row.publishes) (frozen_months o.releases) in
+        let kept = keeps_frozen row.month (Some row.publishes) (frozen_months o.releases) in
         let v = unless_frozen kept Refusal.MonthFrozen (PutsCalendar row) in
         Serves (B.state book.old) (B.state book.new) result (verdict_reply v) (with_verdict v o) }
 {
@@ -50,7 +50,8 @@ fn store_calendar<B: Book>(book: &mut B, row: CalendarRow) -> Reply
 /// What stands at the month of the row.
 fn find_calendar<B: Book>(book: &mut B, row: &CalendarRow) -> Result<Standing, StoreFault>
     ensures { Reads (B.state book.old) (B.state book.new) result (λ found.
-        found ≡ standing same_calendar row.now (at (λ r. r.month) row.now.month (B.state book.old).held.calendar)) }
+        found ≡ standing same_calendar row.now (row_by_number (λ r. r.month) row.now.month
+        (B.state book.old).held.calendar)) }
 {
     let public = book.public_part()?;
     Ok(standing_calendar(row, public.calendar_row(row.month())))

@@ -1,14 +1,14 @@
 //! What each caller may ask, and what answers it.
 ghost use Rattle.std.specs.Prelude.{◌≡◌, IsTrue, Some, None, IsSome};
-ghost use Rattle.cpi_rows.specs.Keyed.{at};
+ghost use Rattle.cpi_rows.specs.Keyed.{row_by_number};
 ghost use Rattle.cpi_store.specs.Office.{Quotes};
-ghost use Rattle.cpi_store.specs.Bearer.{bearer_of};
-ghost use Rattle.cpi_office.specs.Known.{collector_reply, collector_after};
+ghost use Rattle.cpi_store.specs.Registration.{registration_of};
+ghost use Rattle.cpi_office.specs.Authentication.{collector_reply, collector_after};
 ghost use Rattle.cpi_office.specs.Runs.{reply_to, after_one};
 ghost use Rattle.cpi_office.specs.declared.caller.Caller.{Caller};
 ghost use Rattle.cpi_office.specs.Calls.{Serves, ServesWhere};
 ghost use Rattle.cpi_store.specs.Sound.{IsSound};
-ghost use Rattle.cpi_office.specs.Turned.{TurnsAway, is_turned_away};
+ghost use Rattle.cpi_office.specs.Authorization.{TurnsAway, is_turned_away};
 
 use crate::assign::assign;
 use crate::calendar::put_calendar;
@@ -26,7 +26,7 @@ use crate::submit::enter;
 use crate::tables::{table, tables};
 use crate::work::work;
 use cpi_codes::{Key, Moment};
-use cpi_store::{Bearer, Book, StoreFault};
+use cpi_store::{Book, Registration, StoreFault};
 use std::alloc::Global;
 
 /// Answers the public.
@@ -59,10 +59,10 @@ pub fn serve_collector<B: Book>(
     ensures turns { TurnsAway B.state B.finds_always book.old book.new (Caller.Collector key) result
         (reply_to now (Caller.Collector key) request (B.state book.old).held) }
 {
-    match book.bearer_of(key) {
+    match book.registration_of(key) {
         Err(StoreFault) => Reply::Refused(Refusal::Unavailable),
         Ok(None) => Reply::Refused(Refusal::UnknownKey),
-        Ok(Some(bearer)) => serve_known(alloc, book, now, bearer, request),
+        Ok(Some(registration)) => serve_known(alloc, book, now, registration, request),
     }
 }
 
@@ -71,24 +71,25 @@ fn serve_known<B: Book>(
     alloc: Global,
     book: &mut B,
     now: Moment,
-    bearer: Bearer,
+    registration: Registration,
     request: Request,
 ) -> Reply
     requires known { (B.state book.old).is_clean →
-        IsSome (at (λ b. b.number) bearer.number (B.state book.old).held.collectors) }
+        IsSome (row_by_number (λ b. b.number) registration.number (B.state book.old).held.collectors) }
     ensures serves { let o = (B.state book.old).held in
         Serves (B.state book.old) (B.state book.new) result
-        (collector_reply now request o (Some bearer)) (collector_after bearer.key now request o (Some bearer)) }
-    ensures turns { let wanted = collector_reply now request (B.state book.old).held (Some bearer) in
+        (collector_reply now request o (Some registration))
+        (collector_after registration.key now request o (Some registration)) }
+    ensures turns { let wanted = collector_reply now request (B.state book.old).held (Some registration) in
         IsTrue (is_turned_away wanted) → result ≡ wanted }
 {
     match request {
         Request::Items => items(alloc, book),
         Request::Tables => tables(book, now),
         Request::Table(month, form, edition) => { table(alloc, book, now, month, form, edition) }
-        Request::Submit(entry) => enter(book, now, bearer, entry),
-        Request::Work(month) => work(alloc, book, bearer.number, month),
-        Request::Quotes(first, last) => quotes(alloc, book, bearer.number, first, last),
+        Request::Submit(entry) => enter(book, now, registration, entry),
+        Request::Work(month) => work(alloc, book, registration.number, month),
+        Request::Quotes(first, last) => quotes(alloc, book, registration.number, first, last),
         _ => Reply::Refused(Refusal::NotForCaller),
     }
 }
@@ -108,7 +109,7 @@ pub fn serve_desk<B: Book>(alloc: Global, book: &mut B, now: Moment, request: Re
         Request::PutItem(item) => put_item(book, item),
         Request::PutPlan(year, body) => put_plan(alloc, book, year, body),
         Request::PutCalendar(row) => put_calendar(book, row),
-        Request::Register(bearer) => register(book, bearer),
+        Request::Register(registration) => register(book, registration),
         Request::PutOutlet(outlet) => put_outlet(book, outlet),
         Request::Assign(collector, new_assignment) => assign(
             alloc,

@@ -2,14 +2,15 @@
 ghost use Rattle.std.specs.Prelude.{◌≡◌, ◌≢◌, ◌≤◌, ◌<◌, true, Err, IfOk, IfErr, IfSome, option_map};
 ghost use Rattle.std.specs.Option.{option_copied};
 ghost use Rattle.cpi_codes.specs.Month.{year_of};
-ghost use Rattle.cpi_rows.specs.Keyed.{at};
-ghost use Rattle.cpi_release.specs.FrozenMonths.{frozen_months, next_revision as revision_of};
-ghost use Rattle.cpi_release.specs.FrozenMonths.{is_next as next_after, is_after_first as after_first};
+ghost use Rattle.cpi_rows.specs.Keyed.{row_by_number};
+ghost use Rattle.cpi_release.specs.FrozenMonths.{frozen_months, revision_to_give};
+ghost use Rattle.cpi_release.specs.FrozenMonths.{is_next_month, is_past_first_month};
 ghost use Rattle.cpi_release.specs.FrozenMonths.{plan_for};
 ghost use Rattle.cpi_release.specs.declared.freeze_fault.FreezeFault.TheVariants.{Group};
 ghost use Rattle.cpi_release.specs.State.{Reads, Keeps, StaysClean};
-ghost use Rattle.cpi_office.specs.Freezing.{frozen, freeze_judged, freeze_judged_in, plan_judged, carry_judged};
-ghost use Rattle.cpi_office.specs.Freezing.{has_weight as weighs, has_weightless as weightless_in};
+ghost use Rattle.cpi_office.specs.Freezing.{verdict_of_freeze, freeze_judged, freeze_judged_in, plan_judged};
+ghost use Rattle.cpi_office.specs.Freezing.{carry_judged};
+ghost use Rattle.cpi_office.specs.Freezing.{may_be_weighed, has_unweighed};
 ghost use Rattle.cpi_office.specs.Freezing.{judged_release, release_verdict, IsMade, fault_refusal};
 ghost use Rattle.cpi_store.specs.Sound.{IsSound};
 ghost use Rattle.cpi_office.specs.Verdicts.{with_verdict, verdict_reply};
@@ -35,7 +36,7 @@ pub fn freeze<B: Book>(
     month: Month,
     carry: Rows<Code>,
 ) -> Reply
-    ensures { let o = (B.state book.old).held in let v = frozen now month carry o in
+    ensures { let o = (B.state book.old).held in let v = verdict_of_freeze now month carry o in
         ServesWhere (B.state book.old) (B.state book.new) (IsSound o) result
         (verdict_reply v) (with_verdict v o) }
 {
@@ -69,7 +70,7 @@ fn judge_month(
     frozen: &[FrozenMonth],
     public: &Public,
 ) -> Result<CalendarRow, Refusal>
-    ensures { let row = at (λ r. r.month) month public.now.calendar in
+    ensures { let row = row_by_number (λ r. r.month) month public.now.calendar in
         result ≡ freeze_judged now month carry.now frozen.now row public.now.plans }
 {
     let row = public.calendar_row(month);
@@ -137,14 +138,14 @@ fn judge_carry(
 
 /// Whether a code of the list has no weight in the plan.
 fn has_weightless(carry: &[Code], plan: Option<&YearPlan>) -> bool
-    ensures { result ≡ weightless_in (option_copied plan.entry) carry.now }
+    ensures { result ≡ has_unweighed (option_copied plan.entry) carry.now }
 {
     carry.iter().any(|code| !has_weight(plan, code))
 }
 
 /// Whether the code has weight in the plan.
 fn has_weight(plan: Option<&YearPlan>, code: &Code) -> bool
-    ensures { result ≡ weighs (option_copied plan.entry) code.now }
+    ensures { result ≡ may_be_weighed (option_copied plan.entry) code.now }
 {
     match plan {
         None => false,
@@ -154,7 +155,7 @@ fn has_weight(plan: Option<&YearPlan>, code: &Code) -> bool
 
 /// The plan of the month's year.
 fn year_plan(public: &Public, month: Month) -> Option<&YearPlan>
-    ensures { option_copied result ≡ at (λ y. y.year) (year_of month) public.now.plans }
+    ensures { option_copied result ≡ row_by_number (λ y. y.year) (year_of month) public.now.plans }
 {
     match Year::new(month.year()) {
         Some(year) => public.plan(year),
@@ -164,14 +165,14 @@ fn year_plan(public: &Public, month: Month) -> Option<&YearPlan>
 
 /// Whether a month before this one was frozen.
 fn is_after_first(frozen: &[FrozenMonth], month: Month) -> bool
-    ensures { result ≡ after_first month frozen.now }
+    ensures { result ≡ is_past_first_month month frozen.now }
 {
     frozen.iter().any(|frozen_month| frozen_month.month < month)
 }
 
 /// Whether the month is the last frozen one or the one after it, or a December where there is none.
 fn is_next(frozen: &[FrozenMonth], month: Month) -> bool
-    ensures { result ≡ next_after month frozen.now }
+    ensures { result ≡ is_next_month month frozen.now }
 {
     match last(frozen) {
         None => month.index() % 12 == 11,
@@ -181,7 +182,7 @@ fn is_next(frozen: &[FrozenMonth], month: Month) -> bool
 
 /// The revision in which such a month is frozen, if it has fewer than nine.
 fn next_revision(frozen: &[FrozenMonth], month: Month) -> Revision
-    ensures { revision_of month frozen.now ≤ 9 → result ≡ revision_of month frozen.now }
+    ensures { revision_to_give month frozen.now ≤ 9 → result ≡ revision_to_give month frozen.now }
 {
     match last(frozen) {
         Some(last) if last.month == month => last.revision.next().unwrap_or(Revision::first()),
@@ -198,9 +199,9 @@ fn release<B: Book>(
     carry: Rows<Code>,
 ) -> Reply
     requires next { (B.state book.old).is_clean →
-        next_after row.month (frozen_months (B.state book.old).held.releases) ≡ true }
+        is_next_month row.month (frozen_months (B.state book.old).held.releases) ≡ true }
     requires few { (B.state book.old).is_clean →
-        revision_of row.month (frozen_months (B.state book.old).held.releases) ≤ 9 }
+        revision_to_give row.month (frozen_months (B.state book.old).held.releases) ≤ 9 }
     ensures { let o = (B.state book.old).held in let v = release_verdict (judged_release now carry o row) in
         ServesWhere (B.state book.old) (B.state book.new) (IsSound o) result
         (verdict_reply v) (with_verdict v o) }
@@ -234,9 +235,9 @@ fn make<B: Book>(
     carry: Rows<Code>,
 ) -> Result<Release, FreezeFault>
     requires next { (B.state book.old).is_clean →
-        next_after row.month (frozen_months (B.state book.old).held.releases) ≡ true }
+        is_next_month row.month (frozen_months (B.state book.old).held.releases) ≡ true }
     requires few { (B.state book.old).is_clean →
-        revision_of row.month (frozen_months (B.state book.old).held.releases) ≤ 9 }
+        revision_to_give row.month (frozen_months (B.state book.old).held.releases) ≤ 9 }
     ensures keeps { Keeps (B.state book.old) (B.state book.new) }
     ensures stays { result ≢ Err Group → StaysClean (B.state book.old) (B.state book.new) }
     ensures count { (B.state book.old).failures ≤ (B.state book.new).failures }
@@ -245,7 +246,7 @@ fn make<B: Book>(
         IsMade (judged_release now carry o row) result }
     ensures month { IfOk result (λ release. release.month ≡ row.month) }
     ensures revision { (B.state book.new).is_clean → IfOk result (λ release.
-        release.revision ≡ revision_of row.month (frozen_months (B.state book.old).held.releases)) }
+        release.revision ≡ revision_to_give row.month (frozen_months (B.state book.old).held.releases)) }
 {
     let month = row.month();
     let publishes = row.publishes();
@@ -288,7 +289,7 @@ fn find_basis<B: Book>(
     ensures { let o = (B.state book.old).held in let frozen = frozen_months o.releases in
         Reads (B.state book.old) (B.state book.new) result (λ found.
         IfSome found (λ basis. (basis.plan ≡ plan_for o.plans frozen month)
-        × (revision_of month frozen ≤ 9 → basis.revision ≡ revision_of month frozen))) }
+        × (revision_to_give month frozen ≤ 9 → basis.revision ≡ revision_to_give month frozen))) }
 {
     let frozen = book.frozen_months()?;
     let public = book.public_part()?;
@@ -297,7 +298,8 @@ fn find_basis<B: Book>(
 
 fn basis_in(alloc: Global, frozen: &[FrozenMonth], public: &Public, month: Month) -> Option<Basis>
     ensures { IfSome result (λ basis. (basis.plan ≡ plan_for public.now.plans frozen.now month)
-        × (revision_of month frozen.now ≤ 9 → basis.revision ≡ revision_of month frozen.now)) }
+        × (revision_to_give month frozen.now ≤ 9 → basis.revision ≡ revision_to_give month
+        frozen.now)) }
 {
     let Ok(plan) = copy_plan(alloc, frozen, public, month) else {
         return None;

@@ -1,6 +1,6 @@
 //! Examples of runs with freezes.
 ghost use Rattle.cpi_office.specs.FreezeExamples.{OneMonth, FreezeRefusals, WithoutReference, WithoutRows, FrozenRows};
-ghost use Rattle.cpi_office.specs.FreezeExamples.{Reopened, KeptFrozen, Backwards};
+ghost use Rattle.cpi_office.specs.FreezeExamples.{Reopened, CachedFrozen, Backwards};
 
 /// Small runs with freezes, computed by the definitions: a month from its quotes to its table, the same month
 /// reopened and frozen again, and what is refused.
@@ -11,6 +11,6 @@ pub fn worked_freezes()
     ensures without_rows { WithoutRows }
     ensures frozen_rows { FrozenRows }
     ensures reopened { Reopened }
-    ensures kept_frozen { KeptFrozen }
+    ensures cached_frozen { CachedFrozen }
     ensures backwards { Backwards }
 {}

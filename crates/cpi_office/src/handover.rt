@@ -1,16 +1,16 @@
 //! A series is handed over from one slot to another.
 ghost use Rattle.std.specs.Prelude.{◌≡◌, Some, None, Ok, IsSome, option_map, if◌then◌else◌};
 ghost use Rattle.std.specs.Option.{option_copied};
-ghost use Rattle.cpi_rows.specs.Keyed.{at};
+ghost use Rattle.cpi_rows.specs.Keyed.{row_by_number};
 ghost use Rattle.cpi_rows.specs.Held.{held_by};
 ghost use Rattle.cpi_release.specs.State.{Reads};
 ghost use Rattle.cpi_release.specs.FrozenMonths.{frozen_months};
 ghost use Rattle.cpi_store.specs.Sound.{IsSound};
 ghost use Rattle.cpi_store.specs.Outlet.{with_name};
-ghost use Rattle.cpi_store.specs.Office.{changed, HandsOver, given_until};
+ghost use Rattle.cpi_store.specs.Office.{office_with, HandsOver, given_until};
 ghost use Rattle.cpi_office.specs.HandingOver.{handed_over, over_collectors, over_slots, over_free, over_judged};
 ghost use Rattle.cpi_office.specs.HandingOver.{judged_over, is_takeable, is_handed_within, is_not_after, taken_on};
-ghost use Rattle.cpi_office.specs.HandingOver.{stands_over, AreRegistered, AreThere, IsFree};
+ghost use Rattle.cpi_office.specs.HandingOver.{stands_over, AreRegistered, AreThere, IsSlotFree};
 ghost use Rattle.cpi_office.specs.Verdicts.{with_verdict, verdict_reply};
 ghost use Rattle.cpi_office.specs.Calls.{Serves, ServesWhere};
 
@@ -21,7 +21,7 @@ use crate::reply::Reply;
 use crate::request::HandOver;
 use cpi_codes::{CollectorId, Month};
 use cpi_release::FrozenMonth;
-use cpi_store::{Bearer, Book, Given, SeriesMove, StoreFault};
+use cpi_store::{Book, Given, Registration, SeriesMove, StoreFault};
 use cpi_survey::{Assignment, Own};
 use std::alloc::Global;
 
@@ -49,8 +49,8 @@ fn can_take(what: &HandOver) -> bool
 /// Hands a series over, if there are both collectors.
 fn hand_over_between<B: Book>(alloc: Global, book: &mut B, what: HandOver) -> Reply
     ensures { let o = (B.state book.old).held in
-        let v = over_collectors what o (at (λ b. b.number) what.from o.collectors)
-        (at (λ b. b.number) what.to o.collectors) in
+        let v = over_collectors what o (row_by_number (λ b. b.number) what.from o.collectors)
+        (row_by_number (λ b. b.number) what.to o.collectors) in
         ServesWhere (B.state book.old) (B.state book.new) (IsSound o) result (verdict_reply v) (with_verdict v o) }
 {
     match find_both(book, what.from, what.to) {
@@ -68,13 +68,13 @@ fn find_both<B: Book>(
     book: &mut B,
     from: CollectorId,
     to: CollectorId,
-) -> Result<(Option<Bearer>, Option<Bearer>), StoreFault>
+) -> Result<(Option<Registration>, Option<Registration>), StoreFault>
     ensures { Reads (B.state book.old) (B.state book.new) result (λ found.
-        (found.0 ≡ at (λ b. b.number) from (B.state book.old).held.collectors)
-        × (found.1 ≡ at (λ b. b.number) to (B.state book.old).held.collectors)) }
+        (found.0 ≡ row_by_number (λ b. b.number) from (B.state book.old).held.collectors)
+        × (found.1 ≡ row_by_number (λ b. b.number) to (B.state book.old).held.collectors)) }
 {
-    let former = book.bearer_at(from)?;
-    let taker = book.bearer_at(to)?;
+    let former = book.registration_at(from)?;
+    let taker = book.registration_at(to)?;
     Ok((former, taker))
 }
 
@@ -83,14 +83,14 @@ fn hand_over_slot<B: Book>(
     alloc: Global,
     book: &mut B,
     what: HandOver,
-    former: Bearer,
-    taker: Bearer,
+    former: Registration,
+    taker: Registration,
 ) -> Reply
     requires registered { (B.state book.old).is_clean → AreRegistered former taker (B.state book.old).held }
     ensures { let o = (B.state book.old).held in
         let v = over_slots what o former taker
-        (at (λ g. g.assignment.slot) what.slot (held_by former.number o.assignments))
-        (at (λ g. g.assignment.slot) what.new_slot (held_by taker.number o.assignments)) in
+        (row_by_number (λ g. g.assignment.slot) what.slot (held_by former.number o.assignments))
+        (row_by_number (λ g. g.assignment.slot) what.new_slot (held_by taker.number o.assignments)) in
         ServesWhere (B.state book.old) (B.state book.new) (IsSound o) result (verdict_reply v) (with_verdict v o) }
 {
     match book.given(former.number, what.slot) {
@@ -105,14 +105,14 @@ fn hand_over_given<B: Book>(
     alloc: Global,
     book: &mut B,
     what: HandOver,
-    former: Bearer,
-    taker: Bearer,
+    former: Registration,
+    taker: Registration,
     given: Given,
 ) -> Reply
     requires there { (B.state book.old).is_clean → AreThere what former taker given (B.state book.old).held }
     ensures { let o = (B.state book.old).held in
         let v = over_slots what o former taker (Some given)
-        (at (λ g. g.assignment.slot) what.new_slot (held_by taker.number o.assignments)) in
+        (row_by_number (λ g. g.assignment.slot) what.new_slot (held_by taker.number o.assignments)) in
         ServesWhere (B.state book.old) (B.state book.new) (IsSound o) result (verdict_reply v) (with_verdict v o) }
 {
     match book.given(taker.number, what.new_slot) {
@@ -148,12 +148,12 @@ fn hand_over_free<B: Book>(
     alloc: Global,
     book: &mut B,
     what: HandOver,
-    former: Bearer,
-    taker: Bearer,
+    former: Registration,
+    taker: Registration,
     given: Given,
 ) -> Reply
     requires there { (B.state book.old).is_clean → AreThere what former taker given (B.state book.old).held }
-    requires free { (B.state book.old).is_clean → IsFree what taker (B.state book.old).held }
+    requires free { (B.state book.old).is_clean → IsSlotFree what taker (B.state book.old).held }
     ensures { let o = (B.state book.old).held in let v = over_free what o former taker given in
         ServesWhere (B.state book.old) (B.state book.new) (IsSound o) result (verdict_reply v) (with_verdict v o) }
 {
@@ -236,13 +236,13 @@ fn put_over<B: Book>(
     alloc: Global,
     book: &mut B,
     what: &HandOver,
-    former: Bearer,
-    taker: Bearer,
+    former: Registration,
+    taker: Registration,
     given: Given,
     assignment: Assignment,
 ) -> Reply
     requires there { (B.state book.old).is_clean → AreThere what.now former taker given (B.state book.old).held }
-    requires free { (B.state book.old).is_clean → IsFree what.now taker (B.state book.old).held }
+    requires free { (B.state book.old).is_clean → IsSlotFree what.now taker (B.state book.old).held }
     requires judged { (B.state book.old).is_clean → let o = (B.state book.old).held in
         judged_over what.now given.assignment (frozen_months o.releases) (held_by former.number o.quotes)
         ≡ Ok assignment }
@@ -270,21 +270,22 @@ fn put_over<B: Book>(
 /// Stores both assignments.
 fn store_both<B: Book>(book: &mut B, handover: SeriesMove) -> Reply
     requires former { (B.state book.old).is_clean →
-        at (λ b. b.number) handover.former.number (B.state book.old).held.collectors ≡ Some handover.former }
+        row_by_number (λ b. b.number) handover.former.number (B.state book.old).held.collectors ≡ Some handover.former }
     requires taker { (B.state book.old).is_clean →
-        at (λ b. b.number) handover.taker.number (B.state book.old).held.collectors ≡ Some handover.taker }
+        row_by_number (λ b. b.number) handover.taker.number (B.state book.old).held.collectors ≡ Some handover.taker }
     requires stands { (B.state book.old).is_clean →
-        option_map (given_until handover.ended.assignment.last_month) (at (λ g. g.assignment.slot)
+        option_map (given_until handover.ended.assignment.last_month) (row_by_number (λ g. g.assignment.slot)
         handover.ended.assignment.slot (held_by handover.former.number (B.state book.old).held.assignments))
         ≡ Some handover.ended }
-    requires new { (B.state book.old).is_clean → at (λ g. g.assignment.slot) handover.assigned.assignment.slot
+    requires new { (B.state book.old).is_clean → row_by_number (λ g. g.assignment.slot)
+        handover.assigned.assignment.slot
         (held_by handover.taker.number (B.state book.old).held.assignments) ≡ None }
     requires outlet { (B.state book.old).is_clean →
-        IsSome (at (λ u. u.number) handover.assigned.assignment.outlet (B.state book.old).held.outlets) }
+        IsSome (row_by_number (λ u. u.number) handover.assigned.assignment.outlet (B.state book.old).held.outlets) }
     requires name { (B.state book.old).is_clean →
         handover.assigned ≡ with_name (B.state book.old).held.outlets handover.assigned.assignment }
     ensures { Serves (B.state book.old) (B.state book.new) result
-        Reply.Done (changed (HandsOver handover) (B.state book.old).held) }
+        Reply.Done (office_with (HandsOver handover) (B.state book.old).held) }
 {
     match book.put_handover(handover) {
         Ok(()) => Reply::Done,

@@ -1,6 +1,6 @@
 //! Examples of runs with series that are handed over.
 ghost use Rattle.cpi_office.specs.HandoverExamples.{HandedOver, CopiedOnce, HandedOn, HandoverRefusals, LaterQuotes};
-ghost use Rattle.cpi_office.specs.HandoverExamples.{KeptMonths, NotAssigned, StaysInSample, TwoYears};
+ghost use Rattle.cpi_office.specs.HandoverExamples.{CachedMonths, NotAssigned, StaysInSample, TwoYears};
 
 /// Small runs with series that are handed over, computed by the definitions: what both collectors see of it, what is
 /// refused, and the table of a month after it.
@@ -10,7 +10,7 @@ pub fn worked_handovers()
     ensures handed_on { HandedOn }
     ensures refusals { HandoverRefusals }
     ensures later_quotes { LaterQuotes }
-    ensures kept_months { KeptMonths }
+    ensures cached_months { CachedMonths }
     ensures not_assigned { NotAssigned }
     ensures stays_in_sample { StaysInSample }
     ensures two_years { TwoYears }

@@ -1,7 +1,7 @@
 //! The items: one is put, and all are listed.
 ghost use Rattle.std.specs.Prelude.{◌≡◌, Some, None, IfOk};
 ghost use Rattle.std.specs.Option.{option_copied};
-ghost use Rattle.cpi_rows.specs.Keyed.{at};
+ghost use Rattle.cpi_rows.specs.Keyed.{row_by_number};
 ghost use Rattle.cpi_release.specs.State.{Reads};
 ghost use Rattle.cpi_store.specs.Office.{public_part};
 ghost use Rattle.cpi_plan.specs.Items.{same_item};
@@ -20,7 +20,8 @@ use std::alloc::{AllocError, Global};
 
 /// Puts an item, unless its code stands with other content.
 pub fn put_item<B: Book>(book: &mut B, item: Item) -> Reply
-    ensures { let o = (B.state book.old).held in let v = item_put item (at (λ i. i.code) item.code o.items) in
+    ensures { let o = (B.state book.old).held in let v = item_put item
+        (row_by_number (λ i. i.code) item.code o.items) in
         Serves (B.state book.old) (B.state book.new) result (verdict_reply v) (with_verdict v o) }
 {
     match find_item(book, &item) {
@@ -48,7 +49,7 @@ pub fn items<B: Book>(alloc: Global, book: &mut B) -> Reply
 /// What stands at the code of the item.
 fn find_item<B: Book>(book: &mut B, item: &Item) -> Result<Standing, StoreFault>
     ensures { Reads (B.state book.old) (B.state book.new) result (λ found.
-        found ≡ standing same_item item.now (at (λ i. i.code) item.now.code (B.state book.old).held.items)) }
+        found ≡ standing same_item item.now (row_by_number (λ i. i.code) item.now.code (B.state book.old).held.items)) }
 {
     let public = book.public_part()?;
     Ok(standing_item(item, public.item(item.code)))

@@ -5,12 +5,12 @@ ghost use Rattle.cpi_office.specs.Laws.{StaysSound, ViewsAreRebuilt, ChangesAreE
 ghost use Rattle.cpi_office.specs.Laws.{AnswersAreAlike, RepliesAreFromViews};
 ghost use Rattle.cpi_office.specs.Releases.{ReleasesStay};
 ghost use Rattle.cpi_office.specs.ComputedTables.{TablesAreTold};
-ghost use Rattle.cpi_office.specs.Asked.{JudgedIsOwed};
+ghost use Rattle.cpi_office.specs.FreezePreconditions.{JudgedIsOwed};
 ghost use Rattle.cpi_store.specs.Stored.{FrozenAreStored};
 ghost use Rattle.cpi_store.specs.History.{ReleasesAreComputed, ReleasesAreSound, SourcesAreFit};
-ghost use Rattle.cpi_office.specs.Alone.{OthersDoNotMatter, OthersMayDiffer};
-ghost use Rattle.cpi_office.specs.Told.{RunsTellAlike};
-ghost use Rattle.cpi_office.specs.AnsweredAlike.{RepliesAreAlike};
+ghost use Rattle.cpi_office.specs.NonInterference.{OthersDoNotMatter, OthersMayDiffer};
+ghost use Rattle.cpi_office.specs.NonInterferenceOfRuns.{RunsTellAlike};
+ghost use Rattle.cpi_office.specs.NonInterferenceBetweenOffices.{RepliesAreAlike};
 
 use cpi_store::Book;
 

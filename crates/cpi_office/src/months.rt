@@ -2,9 +2,9 @@
 ghost use Rattle.std.specs.Prelude.{◌≡◌, Some};
 ghost use Rattle.std.specs.Option.{option_copied};
 ghost use Rattle.cpi_release.specs.State.{Reads};
-ghost use Rattle.cpi_release.specs.FrozenMonths.{frozen_months, last_frozen, is_frozen as frozen_in};
-ghost use Rattle.cpi_release.specs.FrozenMonths.{is_reopened as reopened, stays_frozen as kept_in};
-ghost use Rattle.cpi_release.specs.FrozenMonths.{is_year_frozen as year_frozen_in};
+ghost use Rattle.cpi_release.specs.FrozenMonths.{frozen_months, last_frozen, is_month_frozen};
+ghost use Rattle.cpi_release.specs.FrozenMonths.{is_month_reopened, keeps_frozen};
+ghost use Rattle.cpi_release.specs.FrozenMonths.{has_year_frozen};
 
 use cpi_codes::{Moment, Month};
 use cpi_release::FrozenMonth;
@@ -20,7 +20,7 @@ pub fn is_month_kept<B: Book>(
     publishes: Moment,
 ) -> Result<bool, StoreFault>
     ensures { Reads (B.state book.old) (B.state book.new) result (λ found.
-        found ≡ kept_in month (Some publishes) (frozen_months (B.state book.old).held.releases)) }
+        found ≡ keeps_frozen month (Some publishes) (frozen_months (B.state book.old).held.releases)) }
 {
     let frozen = book.frozen_months()?;
     Ok(stays_frozen(&frozen, month, Some(publishes)))
@@ -29,7 +29,7 @@ pub fn is_month_kept<B: Book>(
 /// Whether a month of the year was frozen.
 pub fn is_year_frozen<B: Book>(book: &mut B, year: u16) -> Result<bool, StoreFault>
     ensures { Reads (B.state book.old) (B.state book.new) result (λ found.
-        found ≡ year_frozen_in year (frozen_months (B.state book.old).held.releases)) }
+        found ≡ has_year_frozen year (frozen_months (B.state book.old).held.releases)) }
 {
     let frozen = book.frozen_months()?;
     Ok(has_year(&frozen, year))
@@ -37,14 +37,14 @@ pub fn is_year_frozen<B: Book>(book: &mut B, year: u16) -> Result<bool, StoreFau
 
 /// Whether the month was frozen, and isn't reopened by this moment of publishing.
 pub fn stays_frozen(frozen: &[FrozenMonth], month: Month, publishes: Option<Moment>) -> bool
-    ensures { result ≡ kept_in month publishes frozen.now }
+    ensures { result ≡ keeps_frozen month publishes frozen.now }
 {
     is_frozen(frozen, month) && !is_reopened(last(frozen), month, publishes)
 }
 
 /// Whether the month is among the frozen ones.
 fn is_frozen(frozen: &[FrozenMonth], month: Month) -> bool
-    ensures { result ≡ frozen_in month frozen.now }
+    ensures { result ≡ is_month_frozen month frozen.now }
 {
     frozen
         .iter()
@@ -60,7 +60,7 @@ pub fn last(frozen: &[FrozenMonth]) -> Option<&FrozenMonth>
 
 /// Whether the month is the last one and may have a further revision, published later than its latest.
 fn is_reopened(last: Option<&FrozenMonth>, month: Month, publishes: Option<Moment>) -> bool
-    ensures { result ≡ reopened month publishes (option_copied last.entry) }
+    ensures { result ≡ is_month_reopened month publishes (option_copied last.entry) }
 {
     match (last, publishes) {
         (Some(last), Some(publishes)) => {
@@ -74,7 +74,7 @@ fn is_reopened(last: Option<&FrozenMonth>, month: Month, publishes: Option<Momen
 
 /// Whether a month of the year is among the frozen ones.
 fn has_year(frozen: &[FrozenMonth], year: u16) -> bool
-    ensures { result ≡ year_frozen_in year frozen.now }
+    ensures { result ≡ has_year_frozen year frozen.now }
 {
     frozen
         .iter()

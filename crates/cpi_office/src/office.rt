@@ -1,11 +1,11 @@
 //! The office over a book.
 ghost use Rattle.std.specs.Prelude.{◌≡◌, IsFalse};
 ghost use Rattle.cpi_office.specs.Runs.{reply_to, after_one};
-ghost use Rattle.cpi_office.specs.Calls.{ServesWhere, is_failure};
-ghost use Rattle.cpi_office.specs.Rebuilt.{IsRebuilt};
+ghost use Rattle.cpi_office.specs.Calls.{ServesWhere, is_failure_of};
+ghost use Rattle.cpi_office.specs.RebuiltProjections.{IsRebuilt};
 ghost use Rattle.cpi_office.specs.ComputedTables.{TellsTable};
 ghost use Rattle.cpi_store.specs.Sound.{IsSound};
-ghost use Rattle.cpi_office.specs.Turned.{TurnsAway};
+ghost use Rattle.cpi_office.specs.Authorization.{TurnsAway};
 
 use crate::caller::Caller;
 use crate::callers::{serve_collector, serve_desk, serve_public};
@@ -69,7 +69,7 @@ impl<B: Book> Office<B> {
             IsRebuilt before (record { now = now; caller = caller; request = request }) result
             (B.state self.new.book).held }
         ensures tables { let before = (B.state self.old.book).held in
-            (B.state self.new.book).is_clean → IsSound before → IsFalse (is_failure result) →
+            (B.state self.new.book).is_clean → IsSound before → IsFalse (is_failure_of result) →
             TellsTable (record { now = now; caller = caller; request = request }) before result }
     {
         match caller {

@@ -1,7 +1,7 @@
 //! An outlet is put.
 ghost use Rattle.std.specs.Prelude.{◌≡◌, Some, None};
 ghost use Rattle.std.specs.Option.{option_copied};
-ghost use Rattle.cpi_rows.specs.Keyed.{at};
+ghost use Rattle.cpi_rows.specs.Keyed.{row_by_number};
 ghost use Rattle.cpi_release.specs.State.{Reads};
 ghost use Rattle.cpi_store.specs.Outlet.{same_outlet};
 ghost use Rattle.cpi_office.specs.Standing.{standing};
@@ -17,7 +17,7 @@ use cpi_store::{Book, Outlet, StoreFault};
 /// Puts an outlet, unless its number stands with other content.
 pub fn put_outlet<B: Book>(book: &mut B, outlet: Outlet) -> Reply
     ensures { let o = (B.state book.old).held in
-        let v = outlet_put outlet (at (λ u. u.number) outlet.number o.outlets) in
+        let v = outlet_put outlet (row_by_number (λ u. u.number) outlet.number o.outlets) in
         Serves (B.state book.old) (B.state book.new) result (verdict_reply v) (with_verdict v o) }
 {
     match find_outlet(book, &outlet) {
@@ -34,7 +34,7 @@ pub fn put_outlet<B: Book>(book: &mut B, outlet: Outlet) -> Reply
 /// What stands at the number of the outlet.
 fn find_outlet<B: Book>(book: &mut B, outlet: &Outlet) -> Result<Standing, StoreFault>
     ensures { Reads (B.state book.old) (B.state book.new) result (λ found.
-        let old = at (λ u. u.number) outlet.now.number (B.state book.old).held.outlets in
+        let old = row_by_number (λ u. u.number) outlet.now.number (B.state book.old).held.outlets in
         found ≡ standing same_outlet outlet.now old) }
 {
     let old = book.outlet(outlet.number)?;

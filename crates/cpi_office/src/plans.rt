@@ -3,12 +3,12 @@ ghost use Rattle.std.specs.Prelude.{◌≡◌, IfOk, false};
 ghost use Rattle.std.specs.Option.{option_copied};
 ghost use Rattle.cpi_release.specs.State.{Reads};
 ghost use Rattle.cpi_store.specs.Office.{PutsPlan};
-ghost use Rattle.cpi_plan.specs.Plan.{has_unknown};
-ghost use Rattle.cpi_plan.specs.Planned.{planned};
+ghost use Rattle.cpi_plan.specs.Plan.{has_unknown_item};
+ghost use Rattle.cpi_plan.specs.Planned.{plan_or_fault};
 ghost use Rattle.cpi_plan.specs.SamePlan.{same_plan};
 ghost use Rattle.cpi_office.specs.Standing.{standing};
-ghost use Rattle.cpi_office.specs.Replacing.{sent, body_judged, planned_in, unless_frozen};
-ghost use Rattle.cpi_release.specs.FrozenMonths.{frozen_months, is_year_frozen as year_frozen_in};
+ghost use Rattle.cpi_office.specs.Replacing.{sent_body, body_judged, planned_in, unless_frozen};
+ghost use Rattle.cpi_release.specs.FrozenMonths.{frozen_months, has_year_frozen};
 ghost use Rattle.cpi_office.specs.Verdicts.{with_verdict, verdict_reply};
 ghost use Rattle.cpi_office.specs.Calls.{Serves};
 
@@ -63,7 +63,7 @@ fn build(
     known: &RowsByKey<Item>,
     body: PlanBody,
 ) -> Result<Result<YearPlan, PlanFault>, AllocError>
-    ensures { IfOk result (λ built. built ≡ planned year (sent known.now body)) }
+    ensures { IfOk result (λ built. built ≡ plan_or_fault year (sent_body known.now body)) }
 {
     let titles = body.titles.into_vec();
     let weights = body.weights.into_vec();
@@ -101,9 +101,9 @@ fn standing_plan(plan: &YearPlan, old: Option<&YearPlan>) -> Standing
 
 /// Stores a plan, unless a month of its year was frozen.
 fn store_plan<B: Book>(book: &mut B, plan: YearPlan) -> Reply
-    requires known { (B.state book.old).is_clean → has_unknown (B.state book.old).held.items plan.places ≡ false }
+    requires known { (B.state book.old).is_clean → has_unknown_item (B.state book.old).held.items plan.places ≡ false }
     ensures { let o = (B.state book.old).held in
-        let frozen = year_frozen_in plan.year (frozen_months o.releases) in
+        let frozen = has_year_frozen plan.year (frozen_months o.releases) in
         let v = unless_frozen frozen Refusal.PlanFrozen (PutsPlan plan) in
         Serves (B.state book.old) (B.state book.new) result (verdict_reply v) (with_verdict v o) }
 {

@@ -1,6 +1,6 @@
 //! Refusals of requests.
 ghost use Rattle.std.specs.Prelude.{◌≡◌};
-ghost use Rattle.cpi_office.specs.Refusal.{of_survey, number_of};
+ghost use Rattle.cpi_office.specs.Refusal.{of_survey, refusal_number};
 
 use cpi_codes::Price;
 use cpi_index::IndexFault;
@@ -72,7 +72,7 @@ pub enum Refusal {
 impl Refusal {
     /// The number by which the refusal is told.
     pub fn number(self) -> u16
-        ensures { result ≡ number_of self }
+        ensures { result ≡ refusal_number self }
     {
         match self {
             Refusal::BadRequest => 10,

@@ -5,7 +5,7 @@ use cpi_codes::{Code, CollectorId, ItemCode, Moment, Month, OutletId, Slot, Year
 use cpi_plan::{CalendarRow, Item, PlanBody};
 use cpi_release::Form;
 use cpi_rows::Rows;
-use cpi_store::{Bearer, Outlet};
+use cpi_store::{Outlet, Registration};
 use cpi_survey::Entry;
 
 /// What a free slot is given: an item to be priced in an outlet, from the first month to the last.
@@ -51,7 +51,7 @@ pub enum Request {
     /// A new item; of the desk, as are all further ones.
     PutItem(Item),
     /// A new collector with a new key.
-    Register(Bearer),
+    Register(Registration),
     /// A new outlet.
     PutOutlet(Outlet),
     /// What a free slot of the collector is for.

@@ -1,11 +1,11 @@
 //! A list of requests, answered in order.
 ghost use Rattle.std.specs.Prelude.{◌≡◌, ◌++◌, List, IfOk, OnErr, length};
-ghost use Rattle.cpi_office.specs.Served.{Ran};
+ghost use Rattle.cpi_office.specs.Served.{RunOverBook};
 ghost use Rattle.cpi_store.specs.Sound.{IsSound};
 ghost use Rattle.cpi_store.specs.History.{HasComputedTables};
-ghost use Rattle.cpi_office.specs.Told.{AreToldAlone};
+ghost use Rattle.cpi_office.specs.NonInterferenceOfRuns.{AreToldAlone};
 ghost use Rattle.cpi_office.specs.Releases.{KeepsReleases};
-ghost use Rattle.cpi_office.specs.Rebuilt.{AreRebuilt, AreFromViews};
+ghost use Rattle.cpi_office.specs.RebuiltProjections.{AreRebuilt, AreFromViews};
 ghost use Rattle.cpi_office.specs.ComputedTables.{TellTables};
 ghost use Rattle.cpi_office.specs.declared.request.Ask.{Ask as TheAsk};
 ghost use Rattle.cpi_office.specs.declared.reply.Reply.{Reply as TheReply};
@@ -37,7 +37,8 @@ impl<B: Book> Office<B> {
     /// out and stay so.
     pub fn run(&mut self, asks: Vec<Ask>) -> Result<Vec<Reply>, AllocError>
         ensures each { IfOk result (λ rs. length rs.items ≡ length asks.items) }
-        ensures ok { IfOk result (λ rs. Ran (B.state self.old.book) (B.state self.new.book) asks.items rs.items) }
+        ensures ok { IfOk result (λ rs. RunOverBook (B.state self.old.book) (B.state self.new.book) asks.items
+            rs.items) }
         ensures told { let before = (B.state self.old.book).held in
             IfOk result (λ rs. (B.state self.new.book).is_clean →
             IsSound before → AreToldAlone before asks.items rs.items) }
@@ -57,7 +58,7 @@ impl<B: Book> Office<B> {
         ensures stay { (B.state self.new.book).is_clean → IsSound (B.state self.old.book).held →
             KeepsReleases (B.state self.old.book).held (B.state self.new.book).held }
         ensures err { OnErr result ((front : List TheAsk) × (rest : List TheAsk) × (rs : List TheReply)
-            × (asks.items ≡ front ++ rest) × Ran (B.state self.old.book) (B.state self.new.book) front rs) }
+            × (asks.items ≡ front ++ rest) × RunOverBook (B.state self.old.book) (B.state self.new.book) front rs) }
     {
         let mut told = Vec::new(self.allocator());
         let mut rest = asks.into_iter();

@@ -4,7 +4,7 @@ ghost use Rattle.std.specs.Option.{option_copied};
 ghost use Rattle.cpi_release.specs.PublishedTables.{asked_table, frozen_month_of, published_until, printed_bytes};
 ghost use Rattle.cpi_release.specs.State.{Reads};
 ghost use Rattle.cpi_store.specs.Tables.{table_until};
-ghost use Rattle.cpi_office.specs.Answers.{bytes_of, table_reply as reply_with};
+ghost use Rattle.cpi_office.specs.Answers.{table_bytes, reply_with_table};
 ghost use Rattle.cpi_office.specs.Calls.{Serves};
 
 use crate::edition::Edition;
@@ -39,7 +39,7 @@ pub fn table<B: Book>(
 ) -> Reply
     ensures { let o = (B.state book.old).held in
         Serves (B.state book.old) (B.state book.new) result
-        (reply_with form month (asked_table month edition (published_until now o.releases))) o }
+        (reply_with_table form month (asked_table month edition (published_until now o.releases))) o }
 {
     match read_table(alloc, book, now, month, form, edition) {
         Ok(Ok(Some(printed_table))) => Reply::Table(printed_table),
@@ -60,7 +60,7 @@ fn read_table<B: Book>(
     ensures { Reads (B.state book.old) (B.state book.new) result (λ found.
         IfOk found (λ printed_table.
         let releases = (B.state book.old).held.releases in
-        printed_table ≡ option_map (bytes_of form month) (table_until month edition now releases))) }
+        printed_table ≡ option_map (table_bytes form month) (table_until month edition now releases))) }
 {
     match edition.revision() {
         Some(revision) => print_revision(alloc, book, now, month, form, revision),

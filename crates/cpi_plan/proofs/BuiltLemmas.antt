@@ -6,8 +6,8 @@ use Rattle.std.specs.List.{list_any, list_all}
 use Rattle.std.specs.List.Sorted.{IsPermutation}
 use Rattle.std.proofs.lemmas.List.Sorted.{list_any-IsPermutation, sum_by-IsPermutation, IsPermutation-refl}
 use Rattle.std.proofs.lemmas.List.Sorted.{IsPermutation-trans}
-use Rattle.cpi_codes.specs.CodeOrder.{code_cmp, is_same, is_elementary}
-use Rattle.cpi_codes.specs.CodeText.{is_at_or_below}
+use Rattle.cpi_codes.specs.CodeOrder.{code_cmp, is_same_code, is_code_elementary}
+use Rattle.cpi_codes.specs.CodeText.{is_code_at_or_below}
 use Rattle.cpi_codes.specs.declared.codes.Code.{Code}
 use Rattle.cpi_plan.specs.declared.items.Item.{Item}
 use Rattle.cpi_codes.specs.contracts.codes.CodeOrd.TheImpl.Laws.{total-law}
@@ -22,8 +22,9 @@ use Rattle.cpi_plan.specs.declared.plan_faults.PlanFault.TheVariants.{WeightSum,
 use Rattle.cpi_plan.specs.declared.plan_faults.PlanFault.TheVariants.{UnknownAggregate, Reference, NoMemory}
 use Rattle.cpi_plan.specs.Sums.{is_node}
 use Rattle.cpi_plan.specs.Plan.{IsOnePlan, Body, Plan, IsBuilt, IsFirstFault, Passes2, Passes3, Passes4, Passes5}
-use Rattle.cpi_plan.specs.Plan.{Passes6, Passes7, Passes8, Passes9, CodesOnce, are_elementary, has_zero, total}
-use Rattle.cpi_plan.specs.Plan.{is_untitled, has_unplaced, row_of, node}
+use Rattle.cpi_plan.specs.Plan.{Passes6, Passes7, Passes8, Passes9, CodesOnce, are_all_elementary, has_zero_weight}
+use Rattle.cpi_plan.specs.Plan.{total_weight}
+use Rattle.cpi_plan.specs.Plan.{is_untitled, has_unplaced_item, node_of_code, node_of_title}
 use Rattle.cpi_plan.proofs.OnceLemmas.{once_from_order}
 use Rattle.cpi_plan.proofs.UnderLemmas.{any_agree}
 use Rattle.cpi_plan.proofs.MovedLemmas.{all_moved, weight_moved}
@@ -51,37 +52,38 @@ module _ (year : ℕ) (known : List Item) (titles moved : List Title) (weights p
   once : CodesOnce titles weights
   once = codes_once titles moved weights placed m n s t
 
-  elementary : are_elementary weights places ≡ are_elementary placed places
-  elementary = ap (λ b. b && list_all (λ p. is_elementary p.aggregate) places)
-      (all_moved (λ w. is_elementary w.code) weights placed n)
+  elementary : are_all_elementary weights places ≡ are_all_elementary placed places
+  elementary = ap (λ b. b && list_all (λ p. is_code_elementary p.aggregate) places)
+      (all_moved (λ w. is_code_elementary w.code) weights placed n)
 
-  zero : has_zero weights ≡ has_zero placed
+  zero : has_zero_weight weights ≡ has_zero_weight placed
   zero = list_any-IsPermutation (λ w. w.parts == 0) weights placed n
 
-  sum : total placed ≡ total weights
+  sum : total_weight placed ≡ total_weight weights
   sum = sum_by-IsPermutation (λ w. w.parts) weights placed n
 
   node_moved : (q : Code) → is_node weights q ≡ is_node placed q
-  node_moved q = list_any-IsPermutation (λ w. is_at_or_below q w.code) weights placed n
+  node_moved q = list_any-IsPermutation (λ w. is_code_at_or_below q w.code) weights placed n
 
   untitled : (q : Code) → is_untitled titles weights q ≡ is_untitled moved placed q
-  untitled q = rw (node_moved q, list_any-IsPermutation (λ x. is_same x.code q) titles moved m) refl
+  untitled q = rw (node_moved q, list_any-IsPermutation (λ x. is_same_code x.code q) titles moved m) refl
 
-  unplaced : has_unplaced weights places ≡ has_unplaced placed places
-  unplaced = any_agree (λ p. not (list_any (λ w. is_same w.code p.aggregate) weights))
-      (λ p. not (list_any (λ w. is_same w.code p.aggregate) placed))
-      (λ p. ap not (list_any-IsPermutation (λ w. is_same w.code p.aggregate) weights placed n)) places
+  unplaced : has_unplaced_item weights places ≡ has_unplaced_item placed places
+  unplaced = any_agree (λ p. not (list_any (λ w. is_same_code w.code p.aggregate) weights))
+      (λ p. not (list_any (λ w. is_same_code w.code p.aggregate) placed))
+      (λ p. ap not (list_any-IsPermutation (λ w. is_same_code w.code p.aggregate) weights placed n)) places
 
-  node_agree : (o : Option Title) → option_map (node placed) o ≡ option_map (node weights) o
+  node_agree : (o : Option Title) → option_map (node_of_title placed) o ≡ option_map (node_of_title weights) o
   node_agree None = refl
   node_agree (Some x) = ap (λ k. Some (record { code = x.code; title = x.title; weight = k }))
       (weight_moved x.code weights placed n)
 
-  row_agree : (q : Code) → row_of moved placed q ≡ row_of titles weights q
+  row_agree : (q : Code) → node_of_code moved placed q ≡ node_of_code titles weights q
   row_agree q =
-      ap (λ b. cond b (option_map (node placed) (row_at code_cmp (λ x. x.code) q moved)) None) (sym (node_moved q))
+      ap (λ b. cond b (option_map (node_of_title placed) (row_at code_cmp (λ x. x.code) q moved)) None)
+      (sym (node_moved q))
       ∙ ap (λ o. cond (is_node weights q) o None) (node_agree (row_at code_cmp (λ x. x.code) q moved))
-      ∙ ap (λ r. cond (is_node weights q) (option_map (node weights) r) None)
+      ∙ ap (λ r. cond (is_node weights q) (option_map (node_of_title weights) r) None)
       (row_moved total-law (λ x. x.code) q titles moved m s)
 
   pass2 : Passes2 ordered → Passes2 given

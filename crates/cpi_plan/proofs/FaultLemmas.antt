@@ -3,7 +3,7 @@ use Rattle.std.proofs.Common.{◌≡◌, ◌≢◌, ℕ, true, false, refl, sym,
 use Rattle.std.specs.declared.cmp.Ordering.{Ordering}
 use Rattle.std.specs.declared.cmp.Ordering.TheVariants.{Less, Equal, Greater}
 use Rattle.std.specs.Ordering.{is_eq, is_gt, ordering_reverse}
-use Rattle.cpi_codes.specs.CodeOrder.{code_cmp, is_same}
+use Rattle.cpi_codes.specs.CodeOrder.{code_cmp, is_same_code}
 use Rattle.cpi_codes.specs.declared.codes.Code.{Code}
 use Rattle.cpi_codes.specs.contracts.codes.CodeOrd.TheImpl.Laws.{total-law}
 use Rattle.cpi_codes.proofs.CodeIs.{same_code_is}
@@ -17,7 +17,7 @@ use Rattle.cpi_plan.specs.Plan.{Passes8}
 use Rattle.cpi_plan.proofs.UnderLemmas.{number_is, part_is, and_first, and_second}
 
 -- codes that compare equal are one code
-pub equal_is : (n q : Code) → is_same n q ≡ true → n ≡ q
+pub equal_is : (n q : Code) → is_same_code n q ≡ true → n ≡ q
 equal_is n q h =
     let parts = sym (is_eq-parts n q) ∙ h in
     let rest = and_second (q.division == n.division) _ parts in

@@ -12,12 +12,12 @@ use Rattle.std.specs.List.Sorted.{IsStrictlySortedBy}
 use Rattle.std.specs.BTreeMap.{BTreeMap}
 use Rattle.std.proofs.lemmas.Cmp.{alike_right}
 use Rattle.std.proofs.lemmas.Map.Keys.{sorted_head}
-use Rattle.cpi_codes.specs.CodeOrder.{code_cmp, is_same}
+use Rattle.cpi_codes.specs.CodeOrder.{code_cmp, is_same_code}
 use Rattle.cpi_codes.specs.declared.codes.Code.{Code}
 use Rattle.cpi_codes.specs.contracts.codes.CodeOrd.TheImpl.Laws.{total-law}
 use Rattle.cpi_plan.specs.declared.plan_rows.Title.{Title}
 use Rattle.cpi_plan.specs.Sums.{sum_at}
-use Rattle.cpi_plan.specs.Steps.{is_without, IsFirst}
+use Rattle.cpi_plan.specs.Steps.{is_without, IsFirstCode}
 use Rattle.cpi_plan.proofs.SumLemmas.{lookup_agree}
 use Rattle.cpi_plan.proofs.UnderLemmas.{any_agree}
 
@@ -55,14 +55,15 @@ same_without sums titles q k p =
     let sum : sum_at sums q ≡ sum_at sums k = ap (λ o. unwrap_or o 0)
     (lookup_agree (λ e. is_eq (code_cmp q e)) (λ e. is_eq (code_cmp k e))
     (λ e. ap is_eq (total-law.congr q k e p)) sums.entries) in
-    let any : list_any (λ t. is_same t.code q) titles ≡ list_any (λ t. is_same t.code k) titles =
-    any_agree (λ t. is_same t.code q) (λ t. is_same t.code k) (λ t. ap is_eq (alike_right total-law q k t.code p))
+    let any : list_any (λ t. is_same_code t.code q) titles ≡ list_any (λ t. is_same_code t.code k) titles =
+    any_agree (λ t. is_same_code t.code q) (λ t. is_same_code t.code k)
+    (λ t. ap is_eq (alike_right total-law q k t.code p))
     titles in
     rw (sum, any) refl
 
 pub first_at : (sums : BTreeMap Code ℕ) (titles : List Title) (k : Code) (v : ℕ) (es : List (Code × ℕ)) →
     IsStrictlySortedBy code_cmp (keys_of ((k, v) ∷ es)) → Ahead sums titles ((k, v) ∷ es) →
-    is_without sums titles k ≡ true → IsFirst (is_without sums titles) k
+    is_without sums titles k ≡ true → IsFirstCode (is_without sums titles) k
 first_at sums titles k v es rising ahead here =
     (here, λ other wanted. by other wanted (code_cmp other k) refl (ahead other wanted))
   where

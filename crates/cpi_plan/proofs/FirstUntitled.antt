@@ -8,16 +8,16 @@ use Rattle.std.specs.List.{list_any, flat_map}
 use Rattle.std.proofs.lemmas.List.Folds.{list_any-append}
 use Rattle.std.proofs.lemmas.Cmp.{tied_itself, alike_right}
 use Rattle.std.proofs.lemmas.Map.Views.{any-filter_same}
-use Rattle.cpi_codes.specs.CodeOrder.{code_cmp, is_same}
+use Rattle.cpi_codes.specs.CodeOrder.{code_cmp, is_same_code}
 use Rattle.cpi_codes.specs.CodePath.{path}
-use Rattle.cpi_codes.specs.CodeText.{is_at_or_below}
+use Rattle.cpi_codes.specs.CodeText.{is_code_at_or_below}
 use Rattle.cpi_codes.specs.declared.codes.Code.{Code}
 use Rattle.cpi_codes.specs.contracts.codes.CodeOrd.TheImpl.Laws.{total-law}
 use Rattle.cpi_codes.proofs.CodesAbove.{in_path}
 use Rattle.cpi_plan.specs.declared.plan_rows.Title.{Title}
 use Rattle.cpi_plan.specs.declared.plan_rows.Weight.{Weight}
 use Rattle.cpi_plan.specs.Sums.{is_node}
-use Rattle.cpi_plan.specs.Steps.{IsFirst}
+use Rattle.cpi_plan.specs.Steps.{IsFirstCode}
 use Rattle.cpi_plan.specs.Plan.{is_untitled}
 use Rattle.cpi_plan.specs.Planned.{lesser, first_of, first_untitled}
 use Rattle.cpi_plan.proofs.FaultLemmas.{equal_is, level}
@@ -76,9 +76,9 @@ not_after_trans : (c d k : Code) → is_gt (code_cmp c d) ≡ false → is_gt (c
 not_after_trans c d k g h = at_most (code_cmp c d) (code_cmp d k) (code_cmp c k) g h (λ e. total-law.congr c d k e)
     (λ e. alike_right total-law d k c e) (λ e f. total-law.trans c d k e f)
 
-not_later : (k : Code) (cs : List Code) → list_any (is_same k) cs ≡ true → NotAfter k (first_of cs)
+not_later : (k : Code) (cs : List Code) → list_any (is_same_code k) cs ≡ true → NotAfter k (first_of cs)
 not_later k [] h = cc
-not_later k (c ∷ cs) h = by (is_same k c) refl (λ t. not_later k cs t) h
+not_later k (c ∷ cs) h = by (is_same_code k c) refl (λ t. not_later k cs t) h
   where
     here : (o : Option Code) → k ≡ c → is_gt (code_cmp (lesser c o) k) ≡ false
     here None e = subst (λ z. is_gt (code_cmp c z) ≡ false) (sym e) (gt_self c)
@@ -98,14 +98,15 @@ not_later k (c ∷ cs) h = by (is_same k c) refl (λ t. not_later k cs t) h
         least d n true g = n
         least d n false g = not_after_trans c d k g n
 
-    by : (b : Bool) → is_same k c ≡ b → (list_any (is_same k) cs ≡ true → NotAfter k (first_of cs)) →
-        (b || list_any (is_same k) cs) ≡ true → NotAfter k (first_of (c ∷ cs))
+    by : (b : Bool) → is_same_code k c ≡ b → (list_any (is_same_code k) cs ≡ true → NotAfter k (first_of cs)) →
+        (b || list_any (is_same_code k) cs) ≡ true → NotAfter k (first_of (c ∷ cs))
     by true e rest h = here (first_of cs) (equal_is k c e)
     by false e rest h = there (first_of cs) (rest h)
 
-module _ (p : Code → Bool) (k : Code) (f : IsFirst p k) (cs : List Code) (among : list_any (is_same k) cs ≡ true) where
-  kept : list_any (is_same k) (filter p cs) ≡ true
-  kept = any-filter_same (is_same k) p true (λ x e. ap p (sym (equal_is k x e)) ∙ f.0) cs ∙ among
+module _ (p : Code → Bool) (k : Code) (f : IsFirstCode p k) (cs : List Code)
+    (among : list_any (is_same_code k) cs ≡ true) where
+  kept : list_any (is_same_code k) (filter p cs) ≡ true
+  kept = any-filter_same (is_same_code k) p true (λ x e. ap p (sym (equal_is k x e)) ∙ f.0) cs ∙ among
 
   pub first_is_least : first_of (filter p cs) ≡ Some k
   first_is_least = by (first_of (filter p cs)) refl (not_later k (filter p cs) kept)
@@ -125,24 +126,24 @@ or_true_right false b h = h
 
 -- a node is on the path of a code with weight
 node_among : (k : Code) (ws : List Weight) → is_node ws k ≡ true →
-    list_any (is_same k) (flat_map (λ w. path w.code) ws) ≡ true
+    list_any (is_same_code k) (flat_map (λ w. path w.code) ws) ≡ true
 node_among k [] h = h
-node_among k (w ∷ ws) h = list_any-append (is_same k) (path w.code) (flat_map (λ x. path x.code) ws)
-    ∙ by (is_at_or_below k w.code) refl (λ t. node_among k ws t) h
+node_among k (w ∷ ws) h = list_any-append (is_same_code k) (path w.code) (flat_map (λ x. path x.code) ws)
+    ∙ by (is_code_at_or_below k w.code) refl (λ t. node_among k ws t) h
   where
-    by : (b : Bool) → is_at_or_below k w.code ≡ b →
-        (is_node ws k ≡ true → list_any (is_same k) (flat_map (λ x. path x.code) ws) ≡ true) →
-        (b || is_node ws k) ≡ true → (list_any (is_same k) (path w.code) || list_any (is_same k)
+    by : (b : Bool) → is_code_at_or_below k w.code ≡ b →
+        (is_node ws k ≡ true → list_any (is_same_code k) (flat_map (λ x. path x.code) ws) ≡ true) →
+        (b || is_node ws k) ≡ true → (list_any (is_same_code k) (path w.code) || list_any (is_same_code k)
         (flat_map (λ x. path x.code) ws)) ≡ true
-    by true e rest h = or_true_left (list_any (is_same k) (path w.code)) _ (in_path k w.code e)
-    by false e rest h = or_true_right (list_any (is_same k) (path w.code)) _ (rest h)
+    by true e rest h = or_true_left (list_any (is_same_code k) (path w.code)) _ (in_path k w.code e)
+    by false e rest h = or_true_right (list_any (is_same_code k) (path w.code)) _ (rest h)
 
 and_left : (a b : Bool) → (a && b) ≡ true → a ≡ true
 and_left true b h = refl
 and_left false b h = cc
 
 pub first_untitled_is : (titles : List Title) (weights : List Weight) (k : Code) →
-    IsFirst (is_untitled titles weights) k → first_untitled titles weights ≡ Some k
+    IsFirstCode (is_untitled titles weights) k → first_untitled titles weights ≡ Some k
 first_untitled_is titles weights k f = first_is_least (is_untitled titles weights) k f
     (flat_map (λ w. path w.code) weights) (node_among k weights (and_left (is_node weights k) _ f.0))
 

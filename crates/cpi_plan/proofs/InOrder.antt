@@ -6,15 +6,15 @@ use Rattle.std.specs.Ordering.{is_eq}
 use Rattle.std.specs.Cmp.{IsTotalOrder}
 use Rattle.std.specs.List.{list_any, AllByRecursion, IsDistinct}
 use Rattle.std.proofs.lemmas.Cmp.{alike_right}
-use Rattle.cpi_rows.specs.Keyed.{row_at, put, IsInOrder}
+use Rattle.cpi_rows.specs.Keyed.{row_at, with_row, IsInOrder}
 use Rattle.cpi_rows.proofs.Places.{put_in_order, none_in_order}
 use Rattle.cpi_rows.proofs.Puts.{row_at-put_same, row_at-put_apart}
-use Rattle.cpi_plan.specs.Planned.{are_distinct, in_order}
+use Rattle.cpi_plan.specs.Planned.{are_distinct, rows_in_order}
 
 module _ {X K : Type 0} {R : K → K → Ordering} (o : IsTotalOrder R) (key : X → K) where
-  pub is_in_order : (xs : List X) → IsInOrder R key (in_order R key xs)
+  pub is_in_order : (xs : List X) → IsInOrder R key (rows_in_order R key xs)
   is_in_order [] = none_in_order R key
-  is_in_order (x ∷ xs) = put_in_order o key (in_order R key xs) x (is_in_order xs)
+  is_in_order (x ∷ xs) = put_in_order o key (rows_in_order R key xs) x (is_in_order xs)
 
   -- equal keys find the same
   tied_rows : (j k : K) → R j k ≡ Equal → (xs : List X) → row_at R key k xs ≡ row_at R key j xs
@@ -22,16 +22,16 @@ module _ {X K : Type 0} {R : K → K → Ordering} (o : IsTotalOrder R) (key : X
   tied_rows j k e (x ∷ xs) = ap (λ s. cond (is_eq s) (Some x) (row_at R key k xs)) (sym (alike_right o j k (key x) e))
       ∙ ap (λ r. cond (is_eq (R (key x) j)) (Some x) r) (tied_rows j k e xs)
 
-  pub row_in_order : (k : K) (xs : List X) → row_at R key k (in_order R key xs) ≡ row_at R key k xs
+  pub row_in_order : (k : K) (xs : List X) → row_at R key k (rows_in_order R key xs) ≡ row_at R key k xs
   row_in_order k [] = refl
   row_in_order k (x ∷ xs) = by (R (key x) k) refl (row_in_order k xs)
     where
-      by : (s : Ordering) → R (key x) k ≡ s → row_at R key k (in_order R key xs) ≡ row_at R key k xs →
-          row_at R key k (put R key x (in_order R key xs)) ≡ cond (is_eq s) (Some x) (row_at R key k xs)
-      by Equal e h = tied_rows (key x) k e (put R key x (in_order R key xs))
-          ∙ row_at-put_same o key x (in_order R key xs)
-      by Less e h = row_at-put_apart o key k x (in_order R key xs) (is_in_order xs) (ap is_eq e) ∙ h
-      by Greater e h = row_at-put_apart o key k x (in_order R key xs) (is_in_order xs) (ap is_eq e) ∙ h
+      by : (s : Ordering) → R (key x) k ≡ s → row_at R key k (rows_in_order R key xs) ≡ row_at R key k xs →
+          row_at R key k (with_row R key x (rows_in_order R key xs)) ≡ cond (is_eq s) (Some x) (row_at R key k xs)
+      by Equal e h = tied_rows (key x) k e (with_row R key x (rows_in_order R key xs))
+          ∙ row_at-put_same o key x (rows_in_order R key xs)
+      by Less e h = row_at-put_apart o key k x (rows_in_order R key xs) (is_in_order xs) (ap is_eq e) ∙ h
+      by Greater e h = row_at-put_apart o key k x (rows_in_order R key xs) (is_in_order xs) (ap is_eq e) ∙ h
 
 module _ {X : Type 0} (same : X → X → Bool) where
   none_later : (x : X) (xs : List X) → AllByRecursion (λ y. same x y ≡ false) xs → list_any (same x) xs ≡ false

@@ -5,7 +5,7 @@ use Rattle.std.specs.List.{list_any, list_all}
 use Rattle.std.specs.List.Sorted.{IsPermutation}
 use Rattle.std.proofs.lemmas.List.Sorted.{list_any-IsPermutation, sum_by-IsPermutation}
 use Rattle.std.proofs.lemmas.List.Sums.{sum_by-cons}
-use Rattle.cpi_codes.specs.CodeText.{is_at_or_below}
+use Rattle.cpi_codes.specs.CodeText.{is_code_at_or_below}
 use Rattle.cpi_codes.specs.declared.codes.Code.{Code}
 use Rattle.cpi_plan.specs.declared.plan_rows.Weight.{Weight}
 use Rattle.cpi_plan.specs.Sums.{weight_under}
@@ -36,5 +36,5 @@ part_sum f p (x ∷ xs) = part_step f p x xs (p x) refl (part_sum f p xs)
 pub weight_moved : (q : Code) (xs ys : List Weight) → IsPermutation xs ys → weight_under q ys ≡ weight_under q xs
 weight_moved q xs ys m =
     let f : Weight → ℕ = λ w. w.parts in
-    let p : Weight → Bool = λ w. is_at_or_below q w.code in
+    let p : Weight → Bool = λ w. is_code_at_or_below q w.code in
     part_sum f p ys ∙ sum_by-IsPermutation (λ w. cond (p w) (f w) 0) xs ys m ∙ sym (part_sum f p xs)

@@ -12,7 +12,7 @@ use Rattle.std.specs.List.{list_any, list_all, AllByRecursion, Contains}
 use Rattle.std.specs.List.Sorted.{IsStrictlySortedBy, IsPermutation}
 use Rattle.std.proofs.lemmas.List.Sorted.{list_any-IsPermutation, Contains-permutation}
 use Rattle.std.proofs.lemmas.List.Kept.{IsStrictlySortedBy-filter}
-use Rattle.cpi_codes.specs.CodeOrder.{code_cmp, is_same, is_elementary}
+use Rattle.cpi_codes.specs.CodeOrder.{code_cmp, is_same_code, is_code_elementary}
 use Rattle.cpi_codes.specs.declared.codes.Code.{Code}
 use Rattle.cpi_rows.specs.Keyed.{row_at, IsInOrder}
 use Rattle.cpi_rows.proofs.Places.{row_found}
@@ -21,9 +21,10 @@ use Rattle.cpi_plan.specs.declared.plan_rows.Weight.{Weight}
 use Rattle.cpi_plan.specs.declared.plan_rows.Node.{Node}
 use Rattle.cpi_plan.specs.declared.plan_rows.Place.{Place}
 use Rattle.cpi_plan.specs.Sums.{sum_at, weight_under, is_node}
-use Rattle.cpi_plan.specs.Steps.{is_without, IsFirst, node_with, nodes_with}
-use Rattle.cpi_plan.specs.Plan.{Plan, IsPlan, are_elementary, has_zero, total, is_untitled, has_unplaced, row_of, node}
-use Rattle.cpi_plan.specs.Plan.{may_refer, has_fit_reference, reference_in, is_fit_reference}
+use Rattle.cpi_plan.specs.Steps.{is_without, IsFirstCode, node_with, nodes_with}
+use Rattle.cpi_plan.specs.Plan.{Plan, IsPlan, are_all_elementary, has_zero_weight, total_weight, is_untitled}
+use Rattle.cpi_plan.specs.Plan.{has_unplaced_item, node_of_code, node_of_title}
+use Rattle.cpi_plan.specs.Plan.{may_refer_to, has_fit_reference, reference_in, is_fit_reference}
 use Rattle.cpi_plan.proofs.UnderLemmas.{weighs, under_total}
 use Rattle.cpi_plan.proofs.RowLemmas.{found}
 use Rattle.cpi_plan.proofs.FirstLemmas.{same_sum}
@@ -51,23 +52,23 @@ and_left true b h = refl
 and_left false b h = cc
 
 module _ (sums : BTreeMap Code ℕ) (weights : List Weight) (kept : (q : Code) → sum_at sums q ≡ weight_under q weights)
-    (positive : has_zero weights ≡ false) where
+    (positive : has_zero_weight weights ≡ false) where
   pub has_sum : (q : Code) → nat_lt 0 (sum_at sums q) ≡ is_node weights q
   has_sum q =
       let w = weighs q weights positive in
       ap (nat_lt 0) (kept q) ∙ both (weight_under q weights) (is_node weights q) w.0 w.1
 
   pub without_untitled : (titles : List Title) (q : Code) → is_without sums titles q ≡ is_untitled titles weights q
-  without_untitled titles q = ap (λ b. b && not (list_any (λ t. is_same t.code q) titles)) (has_sum q)
+  without_untitled titles q = ap (λ b. b && not (list_any (λ t. is_same_code t.code q) titles)) (has_sum q)
 
-  pub first_is : (titles : List Title) (k : Code) → IsFirst (is_without sums titles) k →
-      IsFirst (is_untitled titles weights) k
+  pub first_is : (titles : List Title) (k : Code) → IsFirstCode (is_without sums titles) k →
+      IsFirstCode (is_untitled titles weights) k
   first_is titles k f = (
     sym (without_untitled titles k) ∙ f.0,
     λ other h. f.1 other (without_untitled titles other ∙ h),
   )
 
-  same_row : (o : Option Title) → option_map (node_with (sum_at sums)) o ≡ option_map (node weights) o
+  same_row : (o : Option Title) → option_map (node_with (sum_at sums)) o ≡ option_map (node_of_title weights) o
   same_row None = refl
   same_row (Some t) = ap (λ n. Some (record { code = t.code; title = t.title; weight = n })) (kept t.code)
 
@@ -94,22 +95,22 @@ module _ (sums : BTreeMap Code ℕ) (weights : List Weight) (kept : (q : Code) �
   rows_with q (t ∷ ts) = rows_step q t ts (code_cmp t.code q) (nat_lt 0 (sum_at sums t.code)) refl refl (rows_with q ts)
 
   pub node_rows : (ts : List Title) (q : Code) →
-      row_at code_cmp (λ n. n.code) q (nodes_with (sum_at sums) ts) ≡ row_of ts weights q
+      row_at code_cmp (λ n. n.code) q (nodes_with (sum_at sums) ts) ≡ node_of_code ts weights q
   node_rows ts q = rows_with q ts ∙ ap (λ b. cond b
       (option_map (node_with (sum_at sums)) (row_at code_cmp (λ x. x.code) q ts)) None) (has_sum q)
       ∙ ap (λ o. cond (is_node weights q) o None) (same_row (row_at code_cmp (λ x. x.code) q ts))
 
   complete_step : (b any : Bool) (o : Option Title) → is_some o ≡ any → (b && not any) ≡ false →
-      is_some (cond b (option_map (node weights) o) None) ≡ b
+      is_some (cond b (option_map (node_of_title weights) o) None) ≡ b
   complete_step true true (Some x) h u = refl
   complete_step true true None h u = h
   complete_step true false o h u = cc
   complete_step false any o h u = refl
 
   pub nodes_complete : (ts : List Title) → ((q : Code) → is_untitled ts weights q ≡ false) → (q : Code) →
-      is_node weights q ≡ list_any (λ n. is_same n.code q) (nodes_with (sum_at sums) ts)
+      is_node weights q ≡ list_any (λ n. is_same_code n.code q) (nodes_with (sum_at sums) ts)
   nodes_complete ts titled q =
-      sym (complete_step (is_node weights q) (list_any (λ t. is_same t.code q) ts)
+      sym (complete_step (is_node weights q) (list_any (λ t. is_same_code t.code q) ts)
       (row_at code_cmp (λ t. t.code) q ts) (found code_cmp (λ t. t.code) q ts) (titled q))
       ∙ ap is_some (sym (node_rows ts q))
       ∙ found code_cmp (λ n. n.code) q (nodes_with (sum_at sums) ts)
@@ -138,14 +139,14 @@ module _ (sums : BTreeMap Code ℕ) (weights : List Weight) (kept : (q : Code) �
   nodes_in_order ts h = in_order_map (filter (λ t. nat_lt 0 (sum_at sums t.code)) ts)
       (IsStrictlySortedBy-filter (λ a b. code_cmp a.code b.code) (λ t. nat_lt 0 (sum_at sums t.code)) ts h)
 
-  pub few : total weights ≡ 1000000 → (q : Code) → sum_at sums q < 2 ^ 32
+  pub few : total_weight weights ≡ 1000000 → (q : Code) → sum_at sums q < 2 ^ 32
   few whole q = omega (arith, kept q, under_total q weights, whole)
 
   pub is_plan : (year : ℕ) (titles : List Title) (places : List Place) (reference : Option ℕ) → (2000 ≤ year)
       × (year ≤ 2199) → IsInOrder code_cmp (λ t. t.code) titles → IsInOrder code_cmp (λ w. w.code) weights →
       IsInOrder nat_cmp (λ p. p.item) places
-      → are_elementary weights places ≡ true → total weights ≡ 1000000 →
-      ((q : Code) → is_untitled titles weights q ≡ false) → has_unplaced weights places ≡ false →
+      → are_all_elementary weights places ≡ true → total_weight weights ≡ 1000000 →
+      ((q : Code) → is_untitled titles weights q ≡ false) → has_unplaced_item weights places ≡ false →
       is_fit_reference year reference ≡ true
       → IsPlan (plan_with year weights places reference (nodes_with (sum_at sums) titles))
   is_plan year titles places reference y s t u elementary whole titled placed referred = record {
@@ -153,8 +154,8 @@ module _ (sums : BTreeMap Code ℕ) (weights : List Weight) (kept : (q : Code) �
     nodes_in_order = nodes_in_order titles s;
     weights_in_order = t;
     places_in_order = u;
-    elementary = and_left (list_all (λ w. is_elementary w.code) weights)
-        (list_all (λ p. is_elementary p.aggregate) places) elementary;
+    elementary = and_left (list_all (λ w. is_code_elementary w.code) weights)
+        (list_all (λ p. is_code_elementary p.aggregate) places) elementary;
     positive = positive;
     whole = whole;
     complete = λ q. nodes_complete titles titled q;
@@ -167,7 +168,7 @@ module _ (sums : BTreeMap Code ℕ) (weights : List Weight) (kept : (q : Code) �
 pub fit_alone : (year : ℕ) (months : List ℕ) → has_fit_reference year months ≡ true →
     is_fit_reference year (reference_in months) ≡ true
 fit_alone year [] h = refl
-fit_alone year (month ∷ []) h = and_left (may_refer year month) true h
+fit_alone year (month ∷ []) h = and_left (may_refer_to year month) true h
 fit_alone year (month ∷ other ∷ months) h = cc
 
 -- ---- a look-up finds the same row after rows were put in order

@@ -5,7 +5,7 @@ use Rattle.std.specs.Cmp.Lexicographic.{pointwise, pointwise_decides, bytes_deci
 use Rattle.std.specs.Ordering.{is_eq}
 use Rattle.std.proofs.lemmas.Bool.Decides.{Decides-eqb}
 use Rattle.std.proofs.lemmas.Cmp.{tied_itself}
-use Rattle.cpi_codes.specs.CodeOrder.{is_same}
+use Rattle.cpi_codes.specs.CodeOrder.{is_same_code}
 use Rattle.cpi_codes.specs.Text.{same_text}
 use Rattle.cpi_codes.specs.declared.codes.Code.{Code}
 use Rattle.cpi_codes.specs.contracts.codes.CodeOrd.TheImpl.Laws.{total-law}
@@ -17,8 +17,8 @@ use Rattle.cpi_plan.specs.SamePlan.{same_node, same_weight, same_place, same_ref
 use Rattle.cpi_plan.proofs.UnderLemmas.{and_first, and_second}
 use Rattle.cpi_plan.proofs.FaultLemmas.{equal_is}
 
-code_decides : (c d : Code) → Decides (is_same c d) (c ≡ d)
-code_decides c d = (equal_is c d, λ e. subst (λ x. is_same c x ≡ true) e (ap is_eq (tied_itself total-law c)))
+code_decides : (c d : Code) → Decides (is_same_code c d) (c ≡ d)
+code_decides c d = (equal_is c d, λ e. subst (λ x. is_same_code c x ≡ true) e (ap is_eq (tied_itself total-law c)))
 
 all_true : (s t : Bool) → s ≡ true → t ≡ true → (s && t) ≡ true
 all_true s t e f = rw (e, f) refl
@@ -28,18 +28,18 @@ node_decides a b = (is, by)
   where
     is : same_node a b ≡ true → a ≡ b
     is e =
-        let front = and_first (is_same a.code b.code && same_text a.title b.title) (a.weight == b.weight) e in
+        let front = and_first (is_same_code a.code b.code && same_text a.title b.title) (a.weight == b.weight) e in
         let code : a.code ≡ b.code = (code_decides a.code b.code).0
-        (and_first (is_same a.code b.code) (same_text a.title b.title) front) in
+        (and_first (is_same_code a.code b.code) (same_text a.title b.title) front) in
         let title : a.title ≡ b.title = (bytes_decides a.title b.title).0
-        (and_second (is_same a.code b.code) (same_text a.title b.title) front) in
+        (and_second (is_same_code a.code b.code) (same_text a.title b.title) front) in
         let weight : a.weight ≡ b.weight = (Decides-eqb a.weight b.weight).0
-        (and_second (is_same a.code b.code && same_text a.title b.title) (a.weight == b.weight) e) in
+        (and_second (is_same_code a.code b.code && same_text a.title b.title) (a.weight == b.weight) e) in
         λ n. record { code = code n; title = title n; weight = weight n }
 
     by : a ≡ b → same_node a b ≡ true
-    by e = all_true (is_same a.code b.code && same_text a.title b.title) (a.weight == b.weight)
-        (all_true (is_same a.code b.code) (same_text a.title b.title)
+    by e = all_true (is_same_code a.code b.code && same_text a.title b.title) (a.weight == b.weight)
+        (all_true (is_same_code a.code b.code) (same_text a.title b.title)
         ((code_decides a.code b.code).1 (ap (λ x. x.code) e))
         ((bytes_decides a.title b.title).1 (ap (λ x. x.title) e)))
         ((Decides-eqb a.weight b.weight).1 (ap (λ x. x.weight) e))
@@ -50,13 +50,14 @@ weight_decides a b = (is, by)
     is : same_weight a b ≡ true → a ≡ b
     is e =
         let code : a.code ≡ b.code = (code_decides a.code b.code).0
-        (and_first (is_same a.code b.code) (a.parts == b.parts) e) in
+        (and_first (is_same_code a.code b.code) (a.parts == b.parts) e) in
         let parts : a.parts ≡ b.parts = (Decides-eqb a.parts b.parts).0
-        (and_second (is_same a.code b.code) (a.parts == b.parts) e) in
+        (and_second (is_same_code a.code b.code) (a.parts == b.parts) e) in
         λ n. record { code = code n; parts = parts n }
 
     by : a ≡ b → same_weight a b ≡ true
-    by e = all_true (is_same a.code b.code) (a.parts == b.parts) ((code_decides a.code b.code).1 (ap (λ x. x.code) e))
+    by e = all_true (is_same_code a.code b.code) (a.parts == b.parts)
+        ((code_decides a.code b.code).1 (ap (λ x. x.code) e))
         ((Decides-eqb a.parts b.parts).1 (ap (λ x. x.parts) e))
 
 place_decides : (a b : Place) → Decides (same_place a b) (a ≡ b)
@@ -65,13 +66,13 @@ place_decides a b = (is, by)
     is : same_place a b ≡ true → a ≡ b
     is e =
         let item : a.item ≡ b.item = (Decides-eqb a.item b.item).0
-        (and_first (a.item == b.item) (is_same a.aggregate b.aggregate) e) in
+        (and_first (a.item == b.item) (is_same_code a.aggregate b.aggregate) e) in
         let aggregate : a.aggregate ≡ b.aggregate = (code_decides a.aggregate b.aggregate).0
-        (and_second (a.item == b.item) (is_same a.aggregate b.aggregate) e) in
+        (and_second (a.item == b.item) (is_same_code a.aggregate b.aggregate) e) in
         λ n. record { item = item n; aggregate = aggregate n }
 
     by : a ≡ b → same_place a b ≡ true
-    by e = all_true (a.item == b.item) (is_same a.aggregate b.aggregate)
+    by e = all_true (a.item == b.item) (is_same_code a.aggregate b.aggregate)
         ((Decides-eqb a.item b.item).1 (ap (λ x. x.item) e))
         ((code_decides a.aggregate b.aggregate).1 (ap (λ x. x.aggregate) e))
 

@@ -6,8 +6,8 @@ use Rattle.std.specs.Ordering.{is_eq}
 use Rattle.std.specs.Cmp.{tied_itself}
 use Rattle.std.specs.List.{list_any, list_all}
 use Rattle.std.proofs.lemmas.List.Folds.{list_all-append}
-use Rattle.cpi_codes.specs.CodeOrder.{is_same}
-use Rattle.cpi_codes.specs.CodeText.{is_at_or_below}
+use Rattle.cpi_codes.specs.CodeOrder.{is_same_code}
+use Rattle.cpi_codes.specs.CodeText.{is_code_at_or_below}
 use Rattle.cpi_codes.specs.CodePath.{path, code_with, code_if}
 use Rattle.cpi_codes.specs.CodeParts.{are_parts}
 use Rattle.cpi_codes.specs.declared.codes.Code.{Code}
@@ -16,12 +16,12 @@ use Rattle.cpi_codes.proofs.CodePath.{at_or_below-parts}
 use Rattle.cpi_codes.proofs.CodeBelow.{fits}
 use Rattle.cpi_codes.proofs.CodeIs.{code}
 use Rattle.cpi_plan.specs.Sums.{weight_under, is_node}
-use Rattle.cpi_plan.specs.Plan.{Plan, IsPlan, total}
+use Rattle.cpi_plan.specs.Plan.{Plan, IsPlan, total_weight}
 use Rattle.cpi_plan.specs.Stored.{is_weighed, is_complete, is_whole}
 use Rattle.cpi_plan.specs.declared.plan_rows.Weight.{Weight}
 use Rattle.cpi_plan.proofs.UnderLemmas.{and_first, and_second}
 
-pub same_itself : (c : Code) → is_same c c ≡ true
+pub same_itself : (c : Code) → is_same_code c c ≡ true
 same_itself c = ap is_eq (tied_itself total-law c)
 
 fits_itself : (x : Option ℕ) → fits x x ≡ true
@@ -40,7 +40,7 @@ fitting true e a b d f p q r s t = refl
 fitting false e a b d f p q r s t = rw (p, q, r, s, t) refl
 
 -- a code is at or below itself
-pub below_itself : (c : Code) → is_at_or_below c c ≡ true
+pub below_itself : (c : Code) → is_code_at_or_below c c ≡ true
 below_itself c = at_or_below-parts c c ∙ fitting (c.division == 0) _ _ _ _ _ (division_same c.division)
     (fits_itself c.group) (fits_itself c.class) (fits_itself c.subclass) (fits_itself c.aggregate)
 
@@ -67,11 +67,11 @@ module _ (p : Code → Bool) where
   both_all : (xs ys : List Code) → list_all p xs ≡ true → list_all p ys ≡ true → list_all p (xs ++ ys) ≡ true
   both_all xs ys h k = list_all-append p xs ys ∙ all_true (list_all p xs) (list_all p ys) h k
 
-below_parts : (n c : Code) → (n.division == 0) ≡ true → is_at_or_below n c ≡ true
+below_parts : (n c : Code) → (n.division == 0) ≡ true → is_code_at_or_below n c ≡ true
 below_parts n c e = at_or_below-parts n c ∙ (rw e refl)
 
 -- what holds of each code that a code is at or below, holds on its path
-path_all : (p : Code → Bool) (c : Code) → ((n : Code) → is_at_or_below n c ≡ true → p n ≡ true) →
+path_all : (p : Code → Bool) (c : Code) → ((n : Code) → is_code_at_or_below n c ≡ true → p n ≡ true) →
     list_all p (path c) ≡ true
 path_all p c h =
     both_all p (code_with 0 None None None None) _
@@ -126,27 +126,28 @@ all_both p q (x ∷ xs) h k =
     (all_both p q xs (and_second (p x) (list_all p xs) h) (and_second (q x) (list_all q xs) k))
 
 all_paths : (q : Code → Bool) (xs : List Weight) →
-    ((n : Code) → list_any (λ w. is_at_or_below n w.code) xs ≡ true → q n ≡ true) →
+    ((n : Code) → list_any (λ w. is_code_at_or_below n w.code) xs ≡ true → q n ≡ true) →
     list_all (λ w. list_all q (path w.code)) xs ≡ true
 all_paths q [] h = refl
 all_paths q (w ∷ xs) h =
-    rw (path_all q w.code (λ n below. h n (or_left (is_at_or_below n w.code)
-    (list_any (λ v. is_at_or_below n v.code) xs) below)))
-    (all_paths q xs (λ n k. h n (or_right (is_at_or_below n w.code) (list_any (λ v. is_at_or_below n v.code) xs) k)))
+    rw (path_all q w.code (λ n below. h n (or_left (is_code_at_or_below n w.code)
+    (list_any (λ v. is_code_at_or_below n v.code) xs) below)))
+    (all_paths q xs (λ n k. h n (or_right (is_code_at_or_below n w.code)
+    (list_any (λ v. is_code_at_or_below n v.code) xs) k)))
 
 module _ (p : Plan) (v : IsPlan p) where
   weighed : list_all (is_weighed p.weights) p.nodes ≡ true
   weighed =
       all_both (λ n. is_node p.weights n.code) (λ n. n.weight == weight_under n.code p.weights) p.nodes
-      (all_among (λ m n. is_same m.code n.code) (λ n. same_itself n.code) (λ n. is_node p.weights n.code) p.nodes
+      (all_among (λ m n. is_same_code m.code n.code) (λ n. same_itself n.code) (λ n. is_node p.weights n.code) p.nodes
       (λ n h. v.complete n.code ∙ h))
       v.weighed
 
   complete : is_complete p ≡ true
-  complete = all_paths (λ c. list_any (λ n. is_same n.code c) p.nodes) p.weights (λ n h. sym (v.complete n) ∙ h)
+  complete = all_paths (λ c. list_any (λ n. is_same_code n.code c) p.nodes) p.weights (λ n h. sym (v.complete n) ∙ h)
 
   -- a plan passes the tests
   pub plan_whole : is_whole p ≡ true
   plan_whole =
-      let whole : (total p.weights == 1000000) ≡ true = rw v.whole refl in
+      let whole : (total_weight p.weights == 1000000) ≡ true = rw v.whole refl in
       rw (whole, v.positive, weighed, complete, v.placed, v.referred) refl

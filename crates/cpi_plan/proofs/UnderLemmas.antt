@@ -5,24 +5,24 @@ use Rattle.std.proofs.lemmas.Bool.Decides.{nat_tests}
 use Rattle.std.proofs.lemmas.List.Elements.{filter_more}
 use Rattle.std.proofs.lemmas.List.Sums.{sum_by-append}
 use Rattle.std.specs.List.{list_any}
-use Rattle.cpi_codes.specs.CodeText.{is_at_or_below}
-use Rattle.cpi_codes.specs.CodeOrder.{is_same}
+use Rattle.cpi_codes.specs.CodeText.{is_code_at_or_below}
+use Rattle.cpi_codes.specs.CodeOrder.{is_same_code}
 use Rattle.cpi_codes.specs.declared.codes.Code.{Code}
 use Rattle.cpi_codes.proofs.CodePath.{same_part, is_eq-parts, at_or_below-parts}
 use Rattle.cpi_codes.proofs.CodeBelow.{fits}
 use Rattle.cpi_plan.specs.declared.plan_rows.Weight.{Weight}
 use Rattle.cpi_plan.specs.Sums.{weight_under, is_node}
-use Rattle.cpi_plan.specs.Plan.{has_zero, total}
+use Rattle.cpi_plan.specs.Plan.{has_zero_weight, total_weight}
 
 one : (b : Bool) (x : Weight) → sum_by (λ w. w.parts) (cond b (x ∷ []) []) ≡ cond b x.parts 0
 one true x = omega arith
 one false x = refl
 
 pub weight_more : (q : Code) (xs : List Weight) (i : ℕ) (x : Weight) → i < length xs → x ≡ get_or xs i x →
-    weight_under q (take (i + 1) xs) ≡ weight_under q (take i xs) + cond (is_at_or_below q x.code) x.parts 0
+    weight_under q (take (i + 1) xs) ≡ weight_under q (take i xs) + cond (is_code_at_or_below q x.code) x.parts 0
 weight_more q xs i x h is =
     let f : Weight → ℕ = λ w. w.parts in
-    let p : Weight → Bool = λ w. is_at_or_below q w.code in
+    let p : Weight → Bool = λ w. is_code_at_or_below q w.code in
     ap (sum_by f) (filter_more p xs i x h)
     ∙ ap (λ y. sum_by f (filter p (take i xs) ++ cond (p y) (y ∷ []) [])) (sym is)
     ∙ sum_by-append f (filter p (take i xs)) (cond (p x) (x ∷ []) [])
@@ -61,7 +61,7 @@ below_parts_agree : (c : Code) (d e : ℕ) (g h k l s t a b : Option ℕ) → e 
 below_parts_agree c d e g h k l s t a b p1 p2 p3 p4 p5 = rw (p1, p2, p3, p4, p5) refl
 
 -- what is at or below a code is at or below one that compares equal
-pub same_below : (n q : Code) → is_same n q ≡ true → (c : Code) → is_at_or_below n c ≡ is_at_or_below q c
+pub same_below : (n q : Code) → is_same_code n q ≡ true → (c : Code) → is_code_at_or_below n c ≡ is_code_at_or_below q c
 same_below n q h c =
     let parts = sym (is_eq-parts n q) ∙ h in
     let rest = and_second (q.division == n.division) _ parts in
@@ -84,12 +84,13 @@ pub any_agree : {X : Type 0} (p q : X → Bool) → ((x : X) → p x ≡ q x) �
 any_agree p q h [] = refl
 any_agree p q h (x ∷ xs) = rw (h x, any_agree p q h xs) refl
 
-pub same_weight : (n q : Code) → is_same n q ≡ true → (ws : List Weight) → weight_under n ws ≡ weight_under q ws
+pub same_weight : (n q : Code) → is_same_code n q ≡ true → (ws : List Weight) → weight_under n ws ≡ weight_under q ws
 same_weight n q h ws = ap (sum_by (λ w. w.parts))
-    (filter_agree (λ w. is_at_or_below n w.code) (λ w. is_at_or_below q w.code) (λ w. same_below n q h w.code) ws)
+    (filter_agree (λ w. is_code_at_or_below n w.code) (λ w. is_code_at_or_below q w.code)
+    (λ w. same_below n q h w.code) ws)
 
-pub same_node : (n q : Code) → is_same n q ≡ true → (ws : List Weight) → is_node ws n ≡ is_node ws q
-same_node n q h ws = any_agree (λ w. is_at_or_below n w.code) (λ w. is_at_or_below q w.code)
+pub same_node : (n q : Code) → is_same_code n q ≡ true → (ws : List Weight) → is_node ws n ≡ is_node ws q
+same_node n q h ws = any_agree (λ w. is_code_at_or_below n w.code) (λ w. is_code_at_or_below q w.code)
     (λ w. same_below n q h w.code) ws
 
 -- ---- a code has a weight where it is a node, if no weight is 0
@@ -98,20 +99,20 @@ has_more : (b : Bool) (n s : ℕ) (any : Bool) → (n == 0) ≡ false → (0 < s
 has_more true n s any p f g = (λ h. refl, λ h. grind (arith, nat_tests))
 has_more false n s any p f g = (λ h. f (omega arith), λ h. omega (arith, g h))
 
-pub under_cons : (q : Code) (x : Weight) (xs : List Weight) (b : Bool) → is_at_or_below q x.code ≡ b →
+pub under_cons : (q : Code) (x : Weight) (xs : List Weight) (b : Bool) → is_code_at_or_below q x.code ≡ b →
     weight_under q (x ∷ xs) ≡ cond b x.parts 0 + weight_under q xs
-under_cons q x xs true e = rw e (sum_by-append (λ w. w.parts) (x ∷ []) (filter (λ w. is_at_or_below q w.code) xs)
+under_cons q x xs true e = rw e (sum_by-append (λ w. w.parts) (x ∷ []) (filter (λ w. is_code_at_or_below q w.code) xs)
     ∙ omega arith)
 under_cons q x xs false e = rw e (omega arith)
 
-pub weighs : (q : Code) (ws : List Weight) → has_zero ws ≡ false → (0 < weight_under q ws → is_node ws q ≡ true)
+pub weighs : (q : Code) (ws : List Weight) → has_zero_weight ws ≡ false → (0 < weight_under q ws → is_node ws q ≡ true)
     × (is_node ws q ≡ true → 0 < weight_under q ws)
 weighs q [] z = (λ h. absurd (omega arith), λ h. cc)
 weighs q (x ∷ xs) z =
-    let rest = weighs q xs (or_second (x.parts == 0) (has_zero xs) z) in
-    let here = has_more (is_at_or_below q x.code) x.parts (weight_under q xs) (is_node xs q)
-    (or_first (x.parts == 0) (has_zero xs) z) rest.0 rest.1 in
-    let sum = under_cons q x xs (is_at_or_below q x.code) refl in
+    let rest = weighs q xs (or_second (x.parts == 0) (has_zero_weight xs) z) in
+    let here = has_more (is_code_at_or_below q x.code) x.parts (weight_under q xs) (is_node xs q)
+    (or_first (x.parts == 0) (has_zero_weight xs) z) rest.0 rest.1 in
+    let sum = under_cons q x xs (is_code_at_or_below q x.code) refl in
     (λ h. here.0 (omega (arith, sum, h)), λ h. omega (arith, sum, here.1 h)) where
       or_first : (a b : Bool) → (a || b) ≡ false → a ≡ false
       or_first false b h = refl
@@ -122,14 +123,14 @@ weighs q (x ∷ xs) z =
       or_second true b h = cc
 
 -- no code has more than all
-pub under_total : (q : Code) (ws : List Weight) → weight_under q ws ≤ total ws
+pub under_total : (q : Code) (ws : List Weight) → weight_under q ws ≤ total_weight ws
 under_total q [] = omega arith
 under_total q (x ∷ xs) = omega (
   arith,
   sum_by-append (λ w. w.parts) (x ∷ []) xs,
   one true x,
-  under_cons q x xs (is_at_or_below q x.code) refl,
-  amount_fits (is_at_or_below q x.code) x.parts x.parts
+  under_cons q x xs (is_code_at_or_below q x.code) refl,
+  amount_fits (is_code_at_or_below q x.code) x.parts x.parts
       (omega arith),
   under_total q xs,
 )

@@ -1,7 +1,7 @@
 -- Whether two plans are one: the titles of nodes and the reference month count, in what order rows were sent doesn't.
 use Rattle.std.specs.Prelude.{ℕ, Bool, true, false, ◌&&◌, ◌==◌, Option, Some, None}
 use Rattle.std.specs.Cmp.Lexicographic.{pointwise}
-use Rattle.cpi_codes.specs.CodeOrder.{is_same}
+use Rattle.cpi_codes.specs.CodeOrder.{is_same_code}
 use Rattle.cpi_codes.specs.Text.{same_text}
 use Rattle.cpi_plan.specs.Plan.{Plan}
 use Rattle.cpi_plan.specs.declared.plan_rows.Weight.{Weight}
@@ -9,13 +9,13 @@ use Rattle.cpi_plan.specs.declared.plan_rows.Place.{Place}
 use Rattle.cpi_plan.specs.declared.plan_rows.Node.{Node}
 
 abbrev pub same_node : Node → Node → Bool
-same_node a b = is_same a.code b.code && same_text a.title b.title && a.weight == b.weight
+same_node a b = is_same_code a.code b.code && same_text a.title b.title && a.weight == b.weight
 
 abbrev pub same_weight : Weight → Weight → Bool
-same_weight a b = is_same a.code b.code && a.parts == b.parts
+same_weight a b = is_same_code a.code b.code && a.parts == b.parts
 
 abbrev pub same_place : Place → Place → Bool
-same_place a b = a.item == b.item && is_same a.aggregate b.aggregate
+same_place a b = a.item == b.item && is_same_code a.aggregate b.aggregate
 
 abbrev pub same_reference : Option ℕ → Option ℕ → Bool
 same_reference None None = true

@@ -1,15 +1,15 @@
 //! The tests that a plan has to pass, and the nodes that are made of it.
 ghost use Rattle.std.specs.Prelude.{◌≡◌, ◌^◌, ◌<◌, not, ◌&&◌, nat_lt, IfOk, MatchOption, MatchResult, true, false};
 ghost use Rattle.std.specs.List.{list_all, list_any};
-ghost use Rattle.cpi_codes.specs.CodeOrder.{code_cmp, is_elementary, is_same};
+ghost use Rattle.cpi_codes.specs.CodeOrder.{code_cmp, is_code_elementary, is_same_code};
 ghost use Rattle.cpi_codes.specs.declared.codes.Code.{Code};
-ghost use Rattle.cpi_rows.specs.Keyed.{IsInOrder, at};
+ghost use Rattle.cpi_rows.specs.Keyed.{IsInOrder, row_by_number};
 ghost use Rattle.cpi_plan.specs.Sums.{sum_at, weight_under};
-ghost use Rattle.cpi_plan.specs.Steps.{is_without, IsFirst, nodes_with};
-ghost use Rattle.cpi_plan.specs.Plan.{are_elementary as are_all_elementary, has_zero as has_zero_weight};
-ghost use Rattle.cpi_plan.specs.Plan.{total as total_weight, has_unknown as has_unknown_item};
-ghost use Rattle.cpi_plan.specs.Plan.{is_unknown as is_unknown_item, has_unplaced as has_unplaced_item};
-ghost use Rattle.cpi_plan.specs.Plan.{may_refer as may_refer_to, has_fit_reference, reference_in};
+ghost use Rattle.cpi_plan.specs.Steps.{is_without, IsFirstCode, nodes_with};
+ghost use Rattle.cpi_plan.specs.Plan.{are_all_elementary, has_zero_weight};
+ghost use Rattle.cpi_plan.specs.Plan.{total_weight, has_unknown_item};
+ghost use Rattle.cpi_plan.specs.Plan.{is_unknown_item, has_unplaced_item};
+ghost use Rattle.cpi_plan.specs.Plan.{may_refer_to, has_fit_reference, reference_in};
 ghost use Rattle.cpi_plan.specs.declared.plan_faults.PlanFault.TheVariants.{Reference};
 
 use crate::items::Item;
@@ -22,13 +22,13 @@ use std::alloc::{AllocError, Global};
 use std::collections::BTreeMap;
 
 fn are_weights_elementary(weights: &[Weight]) -> bool
-    ensures { result ≡ list_all (λ w. is_elementary w.code) weights.now }
+    ensures { result ≡ list_all (λ w. is_code_elementary w.code) weights.now }
 {
     weights.iter().all(|weight| weight.code.is_elementary())
 }
 
 fn are_places_elementary(places: &[Place]) -> bool
-    ensures { result ≡ list_all (λ p. is_elementary p.aggregate) places.now }
+    ensures { result ≡ list_all (λ p. is_code_elementary p.aggregate) places.now }
 {
     places.iter().all(|place| place.aggregate.is_elementary())
 }
@@ -60,7 +60,7 @@ pub(crate) fn weight_sums(
     alloc: Global,
     weights: &[Weight],
 ) -> Result<BTreeMap<Code, u128>, AllocError>
-    requires { list_all (λ w. is_elementary w.code) weights.now ≡ true }
+    requires { list_all (λ w. is_code_elementary w.code) weights.now ≡ true }
     ensures { IfOk result (λ sums. (q : Code) → sum_at sums q ≡ weight_under q weights.now) }
 {
     let mut sums = BTreeMap::new(alloc);
@@ -72,7 +72,7 @@ pub(crate) fn weight_sums(
 
 fn lacks_title(titles: &[Title], code: &Code, weight: u128) -> bool
     requires { IsInOrder code_cmp (λ t. t.code) titles.now }
-    ensures { result ≡ (nat_lt 0 weight && not (list_any (λ t. is_same t.code code.now) titles.now)) }
+    ensures { result ≡ (nat_lt 0 weight && not (list_any (λ t. is_same_code t.code code.now) titles.now)) }
 {
     weight > 0 && find_row(titles, code).is_none()
 }
@@ -82,7 +82,7 @@ pub(crate) fn first_untitled(sums: &BTreeMap<Code, u128>, titles: &[Title]) -> O
     requires { IsInOrder code_cmp (λ t. t.code) titles.now }
     ensures { MatchOption result
         ((q : Code) → is_without sums.now titles.now q ≡ false)
-        (λ code. IsFirst (is_without sums.now titles.now) code) }
+        (λ code. IsFirstCode (is_without sums.now titles.now) code) }
 {
     for (code, weight) in sums.iter() {
         if lacks_title(titles, code, *weight) {
@@ -107,7 +107,7 @@ pub(crate) fn has_unknown(known: &RowsByKey<Item>, places: &[Place]) -> bool
 
 fn is_unplaced(weights: &[Weight], place: &Place) -> bool
     requires { IsInOrder code_cmp (λ w. w.code) weights.now }
-    ensures { result ≡ not (list_any (λ w. is_same w.code place.now.aggregate) weights.now) }
+    ensures { result ≡ not (list_any (λ w. is_same_code w.code place.now.aggregate) weights.now) }
 {
     find_row(weights, &place.aggregate).is_none()
 }

@@ -4,8 +4,8 @@ ghost use Rattle.std.specs.Option.{option_copied};
 ghost use Rattle.std.specs.Ordering.{nat_cmp};
 ghost use Rattle.cpi_codes.specs.CodeOrder.{code_cmp};
 ghost use Rattle.cpi_rows.specs.Keyed.{row_at, IsInOrder};
-ghost use Rattle.cpi_plan.specs.Plan.{Body, Plan, IsBuilt, IsOneFault, IsOnePlan, IsPlan, sent};
-ghost use Rattle.cpi_plan.specs.Planned.{planned};
+ghost use Rattle.cpi_plan.specs.Plan.{Body, Plan, IsBuilt, IsOneFault, IsOnePlan, IsPlan, plan_body_of};
+ghost use Rattle.cpi_plan.specs.Planned.{plan_or_fault};
 ghost use Rattle.cpi_plan.specs.SamePlan.{same_plan};
 ghost use Rattle.cpi_plan.specs.Sums.{weight_under, is_node};
 ghost use Rattle.cpi_plan.specs.declared.plan_faults.PlanFault.TheVariants.{NoMemory};
@@ -54,7 +54,8 @@ fn of_ordered(
     requires year_in_calendar { (2000 ≤ year) × (year ≤ 2199) }
     requires titles_in_order { IsInOrder code_cmp (λ t. t.code) titles.items }
     requires weights_in_order { IsInOrder code_cmp (λ w. w.code) weights.items }
-    ensures { IsBuilt year (sent known_items.now titles.items weights.items places.items references.items) result }
+    ensures { IsBuilt year (plan_body_of known_items.now titles.items weights.items places.items
+        references.items) result }
 {
     let sums = weighed(alloc, &titles, &weights, &places)?;
     if has_unknown(known_items, &places) {
@@ -118,9 +119,10 @@ impl YearPlan {
     ) -> Result<YearPlan, PlanFault>
         requires { (2000 ≤ year) × (year ≤ 2199) }
         ensures built { IsBuilt year
-            (sent known_items.now titles.items weights.items places.items references.items) result }
-        ensures planned { result ≢ Err NoMemory →
-            result ≡ planned year (sent known_items.now titles.items weights.items places.items references.items) }
+            (plan_body_of known_items.now titles.items weights.items places.items references.items) result }
+        ensures plan_or_fault { result ≢ Err NoMemory →
+            result ≡ plan_or_fault year (plan_body_of known_items.now titles.items weights.items places.items
+            references.items) }
     {
         let titles_once = put_in_order(&mut titles).map_err(|_| PlanFault::NoMemory)?;
         let weights_once = put_in_order(&mut weights).map_err(|_| PlanFault::NoMemory)?;
@@ -248,6 +250,6 @@ pub fn has_one_fault()
 
 /// A law: a plan that is made of what was sent has its nodes in the order of codes.
 pub fn nodes_are_in_order()
-    ensures { (year : ℕ) (b : Body) (plan : Plan) → planned year b ≡ Ok plan →
+    ensures { (year : ℕ) (b : Body) (plan : Plan) → plan_or_fault year b ≡ Ok plan →
         IsInOrder code_cmp (λ n. n.code) plan.nodes }
 {}

@@ -1,7 +1,7 @@
 //! Plans by the rows of a store.
 ghost use Rattle.std.specs.Prelude.{◌≡◌, ◌≤◌, IfOk, IfSome, IsTrue, map};
 ghost use Rattle.cpi_plan.specs.Plan.{reference_in};
-ghost use Rattle.cpi_plan.specs.Stored.{plan_from, weights_of as weights_in};
+ghost use Rattle.cpi_plan.specs.Stored.{plan_from, weights_in};
 
 use crate::items::Item;
 use crate::plan_rows::{Node, Place, Title, Weight};

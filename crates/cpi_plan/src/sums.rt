@@ -1,7 +1,7 @@
 //! Sums of weights, kept for each code.
 ghost use Rattle.std.specs.Prelude.{◌≡◌, ℕ, ◌+◌, ◌^◌, ◌<◌, ◌*◌, IsSome, OnOk, if◌then◌else◌};
-ghost use Rattle.cpi_codes.specs.CodeText.{is_at_or_below};
-ghost use Rattle.cpi_codes.specs.CodeOrder.{is_same};
+ghost use Rattle.cpi_codes.specs.CodeText.{is_code_at_or_below};
+ghost use Rattle.cpi_codes.specs.CodeOrder.{is_same_code};
 ghost use Rattle.cpi_codes.specs.declared.codes.Code.{Code};
 ghost use Rattle.cpi_plan.specs.Sums.{sum_at};
 
@@ -13,7 +13,7 @@ use std::collections::BTreeMap;
 fn add(sums: &mut BTreeMap<Code, u128>, node: Code, amount: u128) -> Result<(), AllocError>
     requires { sum_at sums.old node + amount < 2 ^ 128 }
     ensures { OnOk result ((q : Code) →
-        sum_at sums.new q ≡ sum_at sums.old q + (if is_same node q then amount else 0)) }
+        sum_at sums.new q ≡ sum_at sums.old q + (if is_same_code node q then amount else 0)) }
 {
     let had = sums.get(&node).copied().unwrap_or(0);
     sums.insert(node, had + amount)?;
@@ -26,7 +26,7 @@ pub fn add_path(sums: &mut BTreeMap<Code, u128>, code: Code, amount: u128) -> Re
     requires elementary { IsSome code.aggregate }
     requires fits { (q : Code) → sum_at sums.old q + 6 * amount < 2 ^ 128 }
     ensures { OnOk result ((q : Code) →
-        sum_at sums.new q ≡ sum_at sums.old q + (if is_at_or_below q code then amount else 0)) }
+        sum_at sums.new q ≡ sum_at sums.old q + (if is_code_at_or_below q code then amount else 0)) }
 {
     let mut node = code;
     add(sums, node, amount)?;

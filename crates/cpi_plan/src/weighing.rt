@@ -2,7 +2,7 @@
 ghost use Rattle.std.specs.Prelude.{ℕ, List};
 ghost use Rattle.cpi_codes.specs.CodeOrder.{code_cmp};
 ghost use Rattle.cpi_rows.specs.Keyed.{IsInOrder};
-ghost use Rattle.cpi_plan.specs.Plan.{sent};
+ghost use Rattle.cpi_plan.specs.Plan.{plan_body_of};
 ghost use Rattle.cpi_plan.specs.Weighing.{IsWeighed};
 ghost use Rattle.cpi_plan.specs.declared.items.Item.{Item};
 
@@ -25,7 +25,7 @@ pub(crate) fn weighed(
     requires titles_in_order { IsInOrder code_cmp (λ t. t.code) titles.now }
     requires weights_in_order { IsInOrder code_cmp (λ w. w.code) weights.now }
     ensures { (year : ℕ) (known : List Item) (references : List ℕ) →
-        IsWeighed year (sent known titles.now weights.now places.now references) result }
+        IsWeighed year (plan_body_of known titles.now weights.now places.now references) result }
 {
     if !are_elementary(weights, places) {
         return Err(PlanFault::NotElementary);

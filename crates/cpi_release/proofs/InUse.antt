@@ -5,7 +5,7 @@ use Rattle.std.specs.Prelude.{is_some, option_and_then}
 use Rattle.std.specs.Ordering.{is_eq}
 use Rattle.std.proofs.lemmas.List.{map-append}
 use Rattle.std.proofs.lemmas.Cmp.{tied_itself}
-use Rattle.cpi_codes.specs.CodeOrder.{is_same}
+use Rattle.cpi_codes.specs.CodeOrder.{is_same_code}
 use Rattle.cpi_codes.specs.declared.codes.Code.{Code}
 use Rattle.cpi_codes.specs.contracts.codes.CodeOrd.TheImpl.Laws.{total-law}
 use Rattle.cpi_plan.specs.Plan.{Plan}
@@ -13,10 +13,10 @@ use Rattle.cpi_plan.specs.declared.plan_rows.Weight.{Weight}
 use Rattle.cpi_plan.proofs.FaultLemmas.{equal_is}
 use Rattle.cpi_plan.proofs.UnderLemmas.{and_first, and_second}
 use Rattle.cpi_index.specs.Month.{is_listed}
-use Rattle.cpi_index.specs.Weights.{moved_weights, moving_fault, with_levels, are_weights_of}
+use Rattle.cpi_index.specs.Weights.{moved_weights, moving_fault, with_levels, are_weights_in}
 use Rattle.cpi_index.specs.declared.weight_levels.WeightLevels.{WeightLevels}
 use Rattle.cpi_release.specs.Asking.{AreListed}
-use Rattle.cpi_release.specs.Releases.{level_at, link_month, plan_in_use, weights_fault_in}
+use Rattle.cpi_release.specs.Releases.{level_at_month, link_month, plan_in_use, weights_fault_in}
 use Rattle.cpi_release.specs.declared.release.Release.{Release}
 use Rattle.cpi_release.proofs.PassedLemmas.{take_push}
 
@@ -32,26 +32,26 @@ kept_step ws i w done done' row h is pushed e before =
     ∙ sym (take_push ws i w h is)
 
 -- moved weights stand in the place of the weights they are moved from
-are_of_rows : (rows : List WeightLevels) → are_weights_of (map (λ r. r.weight) rows) (moved_weights rows) ≡ true
+are_of_rows : (rows : List WeightLevels) → are_weights_in (map (λ r. r.weight) rows) (moved_weights rows) ≡ true
 are_of_rows [] = refl
 are_of_rows (r ∷ rows) = rw (ap is_eq (tied_itself total-law r.weight.code)) (are_of_rows rows)
 
 pub are_of : (own : List Weight) (rows : List WeightLevels) (ws : List Weight) → map (λ r. r.weight) rows ≡ own →
-    ws ≡ moved_weights rows → are_weights_of own ws ≡ true
-are_of own rows ws e is = ap (λ z. are_weights_of z ws) (sym e) ∙ ap (are_weights_of (map (λ r. r.weight) rows)) is
+    ws ≡ moved_weights rows → are_weights_in own ws ≡ true
+are_of own rows ws e is = ap (λ z. are_weights_in z ws) (sym e) ∙ ap (are_weights_in (map (λ r. r.weight) rows)) is
     ∙ are_of_rows rows
 
 -- marks of the plan's weights are those of the weights in use
-code_at : (own ws : List Weight) → are_weights_of own ws ≡ true → (k : ℕ) (d : Weight) → k < length ws →
+code_at : (own ws : List Weight) → are_weights_in own ws ≡ true → (k : ℕ) (d : Weight) → k < length ws →
     (get_or own k d).code ≡ (get_or ws k d).code
 code_at own [] same k d h = absurd (omega (arith, h))
 code_at [] (x ∷ xs) same k d h = cc
 code_at (w ∷ ws) (x ∷ xs) same zero d h = equal_is w.code x.code
-    (and_first (is_same w.code x.code) (are_weights_of ws xs) same)
+    (and_first (is_same_code w.code x.code) (are_weights_in ws xs) same)
 code_at (w ∷ ws) (x ∷ xs) same (suc k) d h = code_at ws xs
-    (and_second (is_same w.code x.code) (are_weights_of ws xs) same) k d (omega (arith, h))
+    (and_second (is_same_code w.code x.code) (are_weights_in ws xs) same) k d (omega (arith, h))
 
-pub listed_kept : (own ws : List Weight) (carry : List Code) (unchanged : List Bool) → are_weights_of own ws ≡ true →
+pub listed_kept : (own ws : List Weight) (carry : List Code) (unchanged : List Bool) → are_weights_in own ws ≡ true →
     length own ≡ length ws → AreListed own carry unchanged → AreListed ws carry unchanged
 listed_kept own ws carry unchanged same count each k d h = each k d (omega (arith, h, count))
     ∙ ap (is_listed carry) (code_at own ws same k d h)
@@ -60,10 +60,11 @@ listed_kept own ws carry unchanged same count each k d h = each k d (omega (arit
 module _ (plan : Plan) (releases : List Release) (month reference link : ℕ) (e : plan.reference ≡ Some reference)
     (l : link ≡ link_month month) where
   abbrev levelled : List WeightLevels
-  levelled = map (with_levels (level_at releases link) (level_at releases reference)) plan.weights
+  levelled = map (with_levels (level_at_month releases link) (level_at_month releases reference)) plan.weights
 
   abbrev rows_by : Option ℕ → ℕ → List WeightLevels
-  rows_by o k = map (with_levels (level_at releases k) (λ node. option_and_then (λ m. level_at releases m node) o))
+  rows_by o k = map (with_levels (level_at_month releases k)
+      (λ node. option_and_then (λ m. level_at_month releases m node) o))
       plan.weights
 
   pub fault_moved : (rows : List WeightLevels) → rows ≡ levelled →

@@ -3,7 +3,7 @@ use Rattle.std.proofs.Common.{◌≡◌, ℕ, ◌+◌, ◌*◌, ◌≤◌, ◌<�
 use Rattle.std.proofs.Common.{Some, length, get_or, drop, map, refl, sym, ap, ◌∙◌, arith, option_map, append_assoc}
 use Rattle.std.specs.Prelude.{find, nat_lt}
 use Rattle.std.proofs.lemmas.List.{drop_more}
-use Rattle.cpi_codes.specs.Rounding.{rounded}
+use Rattle.cpi_codes.specs.Rounding.{rounded_quotient}
 use Rattle.cpi_plan.specs.Plan.{Plan, IsPlan}
 use Rattle.cpi_plan.specs.Sums.{sum_at, weight_under, is_node}
 use Rattle.cpi_plan.specs.declared.plan_rows.Node.{Node}
@@ -14,11 +14,11 @@ use Rattle.cpi_index.specs.Level.{IsLevel, is_level}
 use Rattle.cpi_index.specs.Row.{Row}
 use Rattle.cpi_index.specs.declared.fault.IndexFault.TheVariants.{OutOfRange}
 use Rattle.cpi_index.specs.Means.{weighted_under}
-use Rattle.cpi_index.specs.Weights.{IsNodeWeight, are_weights_of}
+use Rattle.cpi_index.specs.Weights.{IsNodeWeight, are_weights_in}
 use Rattle.cpi_index.proofs.MeanLemmas.{mean_within}
 use Rattle.cpi_index.proofs.WeightLemmas.{nodes_kept, node_is}
 use Rattle.cpi_release.specs.Releases.{link_of, month_before, year_before}
-use Rattle.cpi_release.specs.MonthTable.{elementary_index, within_year, chained_level, is_imputed_under, level_with}
+use Rattle.cpi_release.specs.MonthTable.{aggregate_index, within_year, node_level, is_imputed_under, level_with}
 use Rattle.cpi_release.specs.MonthTable.{level_row}
 use Rattle.cpi_release.specs.Summed.{IsSummed}
 use Rattle.cpi_release.specs.declared.pass.Pass.{Pass}
@@ -55,18 +55,18 @@ first_out p nodes all i n h is same passes before =
 module _ (plan : Plan) (releases : List Release) (month : ℕ) (rows : List Row) (pass : Pass)
     (s : IsSummed plan rows pass) (n : Node) (weight : ℕ) (w : weight ≡ weight_under n.code plan.weights) where
   pub limit_is : (sum : ℕ) → sum ≡ sum_at pass.sums n.code → 0 < weight → sum ≤ 10000000000000 * weight →
-      IsIndex (rounded sum weight)
+      IsIndex (rounded_quotient sum weight)
   limit_is sum e some most = mean_within sum weight some (omega (arith, w, e, s.least n.code)) most
 
-  pub within_is : (sum within : ℕ) → sum ≡ sum_at pass.sums n.code → within ≡ rounded sum weight →
+  pub within_is : (sum within : ℕ) → sum ≡ sum_at pass.sums n.code → within ≡ rounded_quotient sum weight →
       within ≡ within_year plan rows n.code
-  within_is sum within e m = m ∙ ap (λ z. rounded z weight) (e ∙ s.sums n.code)
-      ∙ ap (λ z. rounded (weighted_under (elementary_index plan rows) n.code plan.weights) z) w
+  within_is sum within e m = m ∙ ap (λ z. rounded_quotient z weight) (e ∙ s.sums n.code)
+      ∙ ap (λ z. rounded_quotient (weighted_under (aggregate_index plan rows) n.code plan.weights) z) w
 
   pub level_is : (within link : ℕ) → within ≡ within_year plan rows n.code → link ≡ link_of releases month n.code →
-      rounded (link * within) 100000000 ≡ chained_level plan releases month rows n.code
-  level_is within link e l = ap (λ z. rounded (z * within) 100000000) l
-      ∙ ap (λ z. rounded (link_of releases month n.code * z) 100000000) e
+      rounded_quotient (link * within) 100000000 ≡ node_level plan releases month rows n.code
+  level_is within link e l = ap (λ z. rounded_quotient (z * within) 100000000) l
+      ∙ ap (λ z. rounded_quotient (link_of releases month n.code * z) 100000000) e
 
   pub row_is : (within link last flagged : ℕ) (year : Option ℕ) (imputed : Bool) →
       within ≡ within_year plan rows n.code → link ≡ link_of releases month n.code →
@@ -78,7 +78,7 @@ module _ (plan : Plan) (releases : List Release) (month : ℕ) (rows : List Row)
       rw (w, e, l, m, y, flag) (refl {a = level_row plan releases month rows n})
 
 -- a node's sum of weights in the place of the plan's is within its limits
-pub sum_within : (plan : Plan) → IsPlan plan → (ws : List Weight) → are_weights_of plan.weights ws ≡ true →
+pub sum_within : (plan : Plan) → IsPlan plan → (ws : List Weight) → are_weights_in plan.weights ws ≡ true →
     (i : ℕ) (n : Node) → i < length plan.nodes → n ≡ get_or plan.nodes i n → (sum : ℕ) →
     (is_node ws n.code ≡ true → 1 ≤ sum) → sum ≤ 1000000000000000 → IsNodeWeight sum
 sum_within plan kept ws same i n l is sum least most =

@@ -5,17 +5,19 @@ use Rattle.cpi_codes.specs.Month.{year_of}
 use Rattle.cpi_codes.specs.declared.codes.Code.{Code}
 use Rattle.std.specs.List.Sorted.{IsStrictlySortedBy}
 use Rattle.cpi_codes.specs.CodeOrder.{code_cmp}
-use Rattle.cpi_rows.specs.Keyed.{at, IsInOrder}
+use Rattle.cpi_rows.specs.Keyed.{row_by_number, IsInOrder}
 use Rattle.cpi_plan.specs.Plan.{Plan}
 use Rattle.cpi_index.specs.Frozen.{Frozen}
 use Rattle.cpi_index.specs.Row.{Row}
-use Rattle.cpi_index.specs.Series.{is_by_series, carried_serial, frozen_serial, row_serial}
-use Rattle.cpi_index.specs.Month.{sample_rows, carry_month}
+use Rattle.cpi_index.specs.Series.{are_by_series, carried_serial, frozen_serial, row_serial}
+use Rattle.cpi_index.specs.Month.{sample_rows, carried_in_month}
 use Rattle.cpi_index.proofs.Kept.{bases_rise}
 use Rattle.cpi_index.proofs.CarryRise.{carry_rises, sample_rises}
-use Rattle.cpi_release.specs.Releases.{release_of, carried_of, frozen_of, levels_of, link_month, bases_in, before_in}
-use Rattle.cpi_release.specs.Releases.{rows_in}
-use Rattle.cpi_release.specs.Releasing.{Freeze, AreInOrder, IsOrdered, has_earlier, plan_of, released, table_in}
+use Rattle.cpi_release.specs.Releases.{latest_release, carried_of, frozen_of, levels_of, link_month, bases_in}
+use Rattle.cpi_release.specs.Releases.{before_in}
+use Rattle.cpi_release.specs.Releases.{rows_of_bases}
+use Rattle.cpi_release.specs.Releasing.{Freeze, AreInOrder, IsOrdered, has_an_earlier, plan_in, release_of_month}
+use Rattle.cpi_release.specs.Releasing.{table_in}
 use Rattle.cpi_release.specs.declared.level.Level.{Level}
 use Rattle.cpi_index.specs.Carried.{Carried}
 use Rattle.cpi_release.specs.GroupCalls.{Sources, group_of, IsAfterFrozen}
@@ -23,82 +25,83 @@ use Rattle.cpi_release.specs.Asking.{CanAsk}
 use Rattle.cpi_release.specs.declared.release.Release.{Release}
 
 -- ---- over releases whose lists are in their order
-module _ (releases : List Release) (ordered : (month : ℕ) (r : Release) → release_of releases month ≡ Some r →
+module _ (releases : List Release) (ordered : (month : ℕ) (r : Release) → latest_release releases month ≡ Some r →
     IsOrdered r) where
-  carried_in_order : (month : ℕ) → is_by_series carried_serial (carried_of releases month) ≡ true
-  carried_in_order month = by (release_of releases month) refl
+  carried_in_order : (month : ℕ) → are_by_series carried_serial (carried_of releases month) ≡ true
+  carried_in_order month = by (latest_release releases month) refl
     where
-      by : (o : Option Release) → release_of releases month ≡ o →
-          is_by_series carried_serial (option_map_or (λ r. r.carried) o []) ≡ true
+      by : (o : Option Release) → latest_release releases month ≡ o →
+          are_by_series carried_serial (option_map_or (λ r. r.carried) o []) ≡ true
       by None e = refl
       by (Some r) e = (ordered month r e).carried
 
-  frozen_in_order : (month : ℕ) → is_by_series frozen_serial (frozen_of releases month) ≡ true
-  frozen_in_order month = by (release_of releases month) refl
+  frozen_in_order : (month : ℕ) → are_by_series frozen_serial (frozen_of releases month) ≡ true
+  frozen_in_order month = by (latest_release releases month) refl
     where
-      by : (o : Option Release) → release_of releases month ≡ o →
-          is_by_series frozen_serial (option_map_or (λ r. r.frozen) o []) ≡ true
+      by : (o : Option Release) → latest_release releases month ≡ o →
+          are_by_series frozen_serial (option_map_or (λ r. r.frozen) o []) ≡ true
       by None e = refl
       by (Some r) e = (ordered month r e).frozen
 
-  bases_in_order : (plan : Plan) (month : ℕ) → is_by_series carried_serial (bases_in plan releases month) ≡ true
+  bases_in_order : (plan : Plan) (month : ℕ) → are_by_series carried_serial (bases_in plan releases month) ≡ true
   bases_in_order plan month = bases_rise plan (carried_of releases (link_month month))
       (frozen_of releases (link_month month)) (carried_in_order (link_month month)) (frozen_in_order (link_month month))
 
   pub carry_in_order : (plan : Plan) (month : ℕ) (frozen : List Frozen) →
-      is_by_series carried_serial (carry_month plan (rows_in plan releases month frozen)) ≡ true
+      are_by_series carried_serial (carried_in_month plan (rows_of_bases plan releases month frozen)) ≡ true
   carry_in_order plan month frozen = carry_rises plan (bases_in plan releases month)
       (before_in plan releases month) frozen (bases_in_order plan month)
 
 module _ (releases : List Release) (order : AreInOrder releases) where
-  pub carried_ordered : (month : ℕ) → is_by_series carried_serial (carried_of releases month) ≡ true
+  pub carried_ordered : (month : ℕ) → are_by_series carried_serial (carried_of releases month) ≡ true
   carried_ordered month = carried_in_order releases order.ordered month
 
-  pub frozen_ordered : (month : ℕ) → is_by_series frozen_serial (frozen_of releases month) ≡ true
+  pub frozen_ordered : (month : ℕ) → are_by_series frozen_serial (frozen_of releases month) ≡ true
   frozen_ordered month = frozen_in_order releases order.ordered month
 
   pub levels_ordered : (month : ℕ) → IsInOrder code_cmp (λ l. l.code) (levels_of releases month)
   unfolding IsStrictlySortedBy
-  levels_ordered month = by (release_of releases month) refl
+  levels_ordered month = by (latest_release releases month) refl
     where
-      by : (o : Option Release) → release_of releases month ≡ o →
+      by : (o : Option Release) → latest_release releases month ≡ o →
           IsInOrder code_cmp (λ l. l.code) (option_map_or (λ r. r.levels) o [])
       by None e = tt
       by (Some r) e = (order.ordered month r e).levels
 
   pub carry_ordered : (plan : Plan) (month : ℕ) (frozen : List Frozen) →
-      is_by_series carried_serial (carry_month plan (rows_in plan releases month frozen)) ≡ true
+      are_by_series carried_serial (carried_in_month plan (rows_of_bases plan releases month frozen)) ≡ true
   carry_ordered plan month frozen = carry_in_order releases order.ordered plan month frozen
 
   pub rows_ordered : (plan : Plan) (month : ℕ) (frozen : List Frozen) (code : Code) →
-      is_by_series row_serial (sample_rows plan code (rows_in plan releases month frozen)) ≡ true
+      are_by_series row_serial (sample_rows plan code (rows_of_bases plan releases month frozen)) ≡ true
   rows_ordered plan month frozen code = sample_rises plan code (bases_in plan releases month)
       (before_in plan releases month) frozen (bases_in_order releases order.ordered plan month)
 
 -- the plan of a month after the first release is that of its year
 pub year_plan : (plans : List Plan) (releases : List Release) (month : ℕ) (p : Plan) →
-    Some p ≡ plan_of plans releases month → at (λ p. p.year) (year_of month) plans ≡ Some p
-year_plan plans releases month p e = by (has_earlier releases month) refl
+    Some p ≡ plan_in plans releases month → row_by_number (λ p. p.year) (year_of month) plans ≡ Some p
+year_plan plans releases month p e = by (has_an_earlier releases month) refl
   where
-    by : (b : Bool) → has_earlier releases month ≡ b → at (λ p. p.year) (year_of month) plans ≡ Some p
-    by true h = sym (ap (λ b. cond b (at (λ p. p.year) (year_of month) plans) None) h) ∙ sym e
-    by false h = let no : Some p ≡ None = e ∙ ap (λ b. cond b (at (λ p. p.year) (year_of month) plans) None) h in cc
+    by : (b : Bool) → has_an_earlier releases month ≡ b → row_by_number (λ p. p.year) (year_of month) plans ≡ Some p
+    by true h = sym (ap (λ b. cond b (row_by_number (λ p. p.year) (year_of month) plans) None) h) ∙ sym e
+    by false h = let no : Some p ≡ None = e ∙ ap (λ b. cond b (row_by_number (λ p. p.year) (year_of month) plans)
+        None) h in cc
 
 -- the groups that are read are the samples of the month
 pub group_is : (s : Sources) (month : ℕ) (p : Plan) (frozen : List Frozen) →
-    at (λ p. p.year) (year_of month) s.plans ≡ Some p → s.quotes month ≡ frozen → (code : Code) →
-    group_of s month code ≡ sample_rows p code (rows_in p s.releases month frozen)
+    row_by_number (λ p. p.year) (year_of month) s.plans ≡ Some p → s.quotes month ≡ frozen → (code : Code) →
+    group_of s month code ≡ sample_rows p code (rows_of_bases p s.releases month frozen)
 group_is s month p frozen e q code =
     let read : Option Plan → List Frozen → List Row =
-    λ o f. elim o [ None ↦ [] | Some p ↦ sample_rows p code (rows_in p s.releases month f) ] in
+    λ o f. elim o [ None ↦ [] | Some p ↦ sample_rows p code (rows_of_bases p s.releases month f) ] in
     ap (λ o. read o (s.quotes month)) e ∙ ap (λ f. read (Some p) f) q
 
 pub can_ask : (s : Sources) (month : ℕ) (p : Plan) (frozen : List Frozen) → AreInOrder s.releases →
     IsAfterFrozen s month → ((code : Code) → group_of s month code ≡ sample_rows p code
-    (rows_in p s.releases month frozen)) → CanAsk s month
+    (rows_of_bases p s.releases month frozen)) → CanAsk s month
 can_ask s month p frozen order after h = record {
   after = after;
-  ordered = λ code. ap (is_by_series row_serial) (h code) ∙ rows_ordered s.releases order p month frozen code;
+  ordered = λ code. ap (are_by_series row_serial) (h code) ∙ rows_ordered s.releases order p month frozen code;
 }
 
 abbrev release_with : Freeze → List Carried → List Level → Release
@@ -116,7 +119,8 @@ release_with x carried levels = record {
 
 pub is_released : (p : Plan) (releases : List Release) (x : Freeze) (carried : List Carried) (levels : List Level)
     (r : Release) → r ≡ release_with x carried levels →
-    carried ≡ carry_month p (rows_in p releases x.month x.frozen) →
-    levels ≡ table_in p releases x.month (rows_in p releases x.month x.frozen) → r ≡ released (Some p) releases x
+    carried ≡ carried_in_month p (rows_of_bases p releases x.month x.frozen) →
+    levels ≡ table_in p releases x.month (rows_of_bases p releases x.month x.frozen) → r ≡ release_of_month (Some p)
+    releases x
 is_released p releases x carried levels r e c l = e ∙ ap (λ z. release_with x z levels) c
-    ∙ ap (release_with x (carry_month p (rows_in p releases x.month x.frozen))) l
+    ∙ ap (release_with x (carried_in_month p (rows_of_bases p releases x.month x.frozen))) l

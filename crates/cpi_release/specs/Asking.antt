@@ -4,10 +4,10 @@ use Rattle.cpi_codes.specs.declared.codes.Code.{Code}
 use Rattle.cpi_plan.specs.Plan.{Plan}
 use Rattle.cpi_plan.specs.declared.plan_rows.Weight.{Weight}
 use Rattle.cpi_index.specs.Month.{is_listed}
-use Rattle.cpi_index.specs.Series.{is_by_series, row_serial}
+use Rattle.cpi_index.specs.Series.{are_by_series, row_serial}
 use Rattle.cpi_index.specs.declared.fault.IndexFault.TheVariants.{NoMemory}
 use Rattle.cpi_release.specs.GroupCalls.{Sources, group_of, IsAfterFrozen}
-use Rattle.cpi_release.specs.Releasing.{Freeze, plan_of}
+use Rattle.cpi_release.specs.Releasing.{Freeze, plan_in}
 use Rattle.cpi_release.specs.declared.freeze_fault.FreezeFault.{FreezeFault}
 use Rattle.cpi_release.specs.declared.freeze_fault.FreezeFault.TheVariants.{Index, Group}
 
@@ -19,7 +19,7 @@ AreListed weights carry unchanged = (k : ℕ) (d : Weight) → k < length weight
 -- the month's groups can be asked for, and each is by series
 pub record CanAsk (s : Sources) (month : ℕ) : Type 0 where
   pub after : IsAfterFrozen s month
-  pub ordered : (code : Code) → is_by_series row_serial (group_of s month code) ≡ true
+  pub ordered : (code : Code) → are_by_series row_serial (group_of s month code) ≡ true
 
 -- want of memory, or a read that failed
 abbrev pub IsReadFault : ℕ → ℕ → FreezeFault → Type 0
@@ -29,7 +29,7 @@ IsReadFault old new (Index f) = f ≡ NoMemory
 -- what the caller of a freeze owes: the plan of the year, and none at the first release alone; the quotes as they
 -- stand;
 -- and, where there is a plan, that the month before was frozen
-pub record IsAsked (s : Sources) (plan : Option Plan) (x : Freeze) : Type 0 where
-  pub plan_is : plan ≡ plan_of s.plans s.releases x.month
+pub record MayFreeze (s : Sources) (plan : Option Plan) (x : Freeze) : Type 0 where
+  pub plan_is : plan ≡ plan_in s.plans s.releases x.month
   pub quotes : s.quotes x.month ≡ x.frozen
   pub after : IsSome plan → IsAfterFrozen s x.month

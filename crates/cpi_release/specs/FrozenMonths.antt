@@ -5,7 +5,7 @@ use Rattle.std.specs.List.{list_any}
 use Rattle.std.specs.declared.cmp.Ordering.{Ordering}
 use Rattle.std.specs.Ordering.{nat_cmp, ordering_then}
 use Rattle.cpi_codes.specs.Month.{year_of}
-use Rattle.cpi_rows.specs.Keyed.{at}
+use Rattle.cpi_rows.specs.Keyed.{row_by_number}
 use Rattle.cpi_plan.specs.Plan.{Plan}
 use Rattle.cpi_release.specs.declared.release.Release.{Release}
 use Rattle.cpi_release.specs.declared.frozen_month.FrozenMonth.{FrozenMonth}
@@ -26,20 +26,20 @@ frozen_month r = record { month = r.month; revision = r.revision; publishes = r.
 abbrev pub frozen_months : List Release → List FrozenMonth
 frozen_months releases = map frozen_month releases
 
-abbrev pub is_frozen : ℕ → List FrozenMonth → Bool
-is_frozen month frozen = list_any (λ f. f.month == month) frozen
+abbrev pub is_month_frozen : ℕ → List FrozenMonth → Bool
+is_month_frozen month frozen = list_any (λ f. f.month == month) frozen
 
 -- whether a month of the year was frozen
-abbrev pub is_year_frozen : ℕ → List FrozenMonth → Bool
-is_year_frozen year frozen = list_any (λ f. year_of f.month == year) frozen
+abbrev pub has_year_frozen : ℕ → List FrozenMonth → Bool
+has_year_frozen year frozen = list_any (λ f. year_of f.month == year) frozen
 
 -- whether an earlier month is among those of a list: only the first release has none
 abbrev pub is_after_any : {X : Type 0} → (X → ℕ) → List X → ℕ → Bool
 is_after_any month_of xs month = list_any (λ x. nat_lt (month_of x) month) xs
 
 -- whether an earlier month was frozen
-abbrev pub is_after_first : ℕ → List FrozenMonth → Bool
-is_after_first month frozen = is_after_any (λ f. f.month) frozen month
+abbrev pub is_past_first_month : ℕ → List FrozenMonth → Bool
+is_past_first_month month frozen = is_after_any (λ f. f.month) frozen month
 
 -- the last frozen month, in its latest revision
 abbrev pub last_frozen : List FrozenMonth → Option FrozenMonth
@@ -53,36 +53,38 @@ abbrev pub follows : ℕ → Option FrozenMonth → Bool
 follows month None = month % 12 == 11
 follows month (Some last) = last.month == month || month == last.month + 1
 
-abbrev pub is_next : ℕ → List FrozenMonth → Bool
-is_next month frozen = follows month (last_frozen frozen)
+abbrev pub is_next_month : ℕ → List FrozenMonth → Bool
+is_next_month month frozen = follows month (last_frozen frozen)
 
 -- the revision in which such a month is frozen: one more than the last one has, if it is that one, else the first
 abbrev pub revision_after : ℕ → Option FrozenMonth → ℕ
 revision_after month None = 1
 revision_after month (Some last) = if last.month == month then last.revision + 1 else 1
 
-abbrev pub next_revision : ℕ → List FrozenMonth → ℕ
-next_revision month frozen = revision_after month (last_frozen frozen)
+abbrev pub revision_to_give : ℕ → List FrozenMonth → ℕ
+revision_to_give month frozen = revision_after month (last_frozen frozen)
 
 -- ---- what may be frozen again
 -- the last one, with a table that is published later than that of its latest revision, of which it has fewer than nine
-abbrev pub is_reopened : ℕ → Option ℕ → Option FrozenMonth → Bool
-is_reopened month publishes None = false
-is_reopened month None (Some last) = false
-is_reopened month (Some publishes) (Some last) =
+abbrev pub is_month_reopened : ℕ → Option ℕ → Option FrozenMonth → Bool
+is_month_reopened month publishes None = false
+is_month_reopened month None (Some last) = false
+is_month_reopened month (Some publishes) (Some last) =
     last.month == month && nat_lt last.revision 9 && nat_lt last.publishes publishes
 
-abbrev pub stays_frozen : ℕ → Option ℕ → List FrozenMonth → Bool
-stays_frozen month publishes frozen = is_frozen month frozen && not (is_reopened month publishes (last_frozen frozen))
+abbrev pub keeps_frozen : ℕ → Option ℕ → List FrozenMonth → Bool
+keeps_frozen month publishes frozen = is_month_frozen month frozen && not
+    (is_month_reopened month publishes (last_frozen frozen))
 
 -- ---- plans
 -- the plan by which a month is released: that of its year, and none for the first release
 abbrev pub plan_by : {X : Type 0} → (X → ℕ) → List Plan → List X → ℕ → Option Plan
 plan_by month_of plans xs month =
-    if is_after_any month_of xs month then at (λ y. y.year) (year_of month) plans else None
+    if is_after_any month_of xs month then row_by_number (λ y. y.year) (year_of month) plans else None
 
 abbrev pub plan_for : List Plan → List FrozenMonth → ℕ → Option Plan
 plan_for plans frozen month = plan_by (λ f. f.month) plans frozen month
 
 abbrev pub lacks_plan : List Plan → List FrozenMonth → ℕ → Bool
-lacks_plan plans frozen month = is_after_first month frozen && is_none (at (λ y. y.year) (year_of month) plans)
+lacks_plan plans frozen month = is_past_first_month month frozen && is_none
+    (row_by_number (λ y. y.year) (year_of month) plans)

@@ -12,7 +12,7 @@ use Rattle.cpi_index.specs.Frozen.{Frozen}
 use Rattle.cpi_index.specs.Examples.{all_items, rice, flour, quote}
 use Rattle.cpi_index.specs.declared.fault.IndexFault.{IndexFault}
 use Rattle.cpi_index.specs.declared.fault.IndexFault.TheVariants.{NoReference, NoSample, NoMatch, OutOfRange}
-use Rattle.cpi_release.specs.Releasing.{Freeze, plan_of, released, fault_of, all_released}
+use Rattle.cpi_release.specs.Releasing.{Freeze, plan_in, release_of_month, fault_of, all_released}
 use Rattle.cpi_release.specs.Releases.{levels_of}
 use Rattle.cpi_release.specs.CsvTable.{csv_table}
 use Rattle.cpi_release.specs.declared.level.Level.{Level}
@@ -75,10 +75,10 @@ table_at month releases = map line (levels_of releases month)
 
 -- the table of a month, and its fault, after these releases
 abbrev pub table_after : List Plan → List Release → Freeze → List Line
-table_after plans before x = map line (released (plan_of plans before x.month) before x).levels
+table_after plans before x = map line (release_of_month (plan_in plans before x.month) before x).levels
 
 abbrev pub fault_after : List Plan → List Release → Freeze → Option IndexFault
-fault_after plans before x = fault_of (plan_of plans before x.month) before x
+fault_after plans before x = fault_of (plan_in plans before x.month) before x
 
 -- a month's release as it stands
 abbrev pub standing : ℕ → List Frozen → List Carried → List Level → Release
@@ -280,7 +280,7 @@ abbrev pub start_of_2026 : Freeze
 start_of_2026 = rice_and_flour_at 312 (Price 102) (Price 101)
 
 abbrev pub weights_after : List Plan → List Release → Freeze → List ℕ
-weights_after plans before x = map (λ l. l.weight) (released (plan_of plans before x.month) before x).levels
+weights_after plans before x = map (λ l. l.weight) (release_of_month (plan_in plans before x.month) before x).levels
 
 -- December's levels are 105 and 98 where November's are 100
 abbrev pub by_december : List Release → List Release

@@ -3,6 +3,7 @@ use Rattle.std.specs.Prelude.{ℕ, ◌==◌, List, [], ◌∷◌, Option, Some, 
 use Rattle.std.specs.Option.{option_or}
 
 -- the last row of the month
-abbrev pub latest : {X : Type 0} → (X → ℕ) → ℕ → List X → Option X
-latest month_of month [] = None
-latest month_of month (x ∷ xs) = option_or (latest month_of month xs) (if month_of x == month then Some x else None)
+abbrev pub latest_row : {X : Type 0} → (X → ℕ) → ℕ → List X → Option X
+latest_row month_of month [] = None
+latest_row month_of month (x ∷ xs) = option_or (latest_row month_of month xs)
+    (if month_of x == month then Some x else None)

@@ -8,7 +8,7 @@ pub mod GroupCalls
 pub mod Passing
 pub mod Asking
 pub mod Summed
-pub mod KeptSamples
+pub mod CachedSamples
 pub mod Figures
 pub mod TextTable
 pub mod Texts

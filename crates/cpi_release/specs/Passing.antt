@@ -3,7 +3,7 @@ use Rattle.std.specs.Prelude.{◌≡◌, ℕ, ◌+◌, ◌*◌, Bool, true, fals
 use Rattle.std.specs.Prelude.{filter, sum_by, if◌then◌else◌}
 use Rattle.std.specs.Option.{option_or}
 use Rattle.std.specs.List.{list_all, flat_map}
-use Rattle.cpi_codes.specs.CodeText.{is_at_or_below}
+use Rattle.cpi_codes.specs.CodeText.{is_code_at_or_below}
 use Rattle.cpi_codes.specs.declared.codes.Code.{Code}
 use Rattle.cpi_plan.specs.Sums.{sum_at}
 use Rattle.cpi_plan.specs.declared.plan_rows.Weight.{Weight}
@@ -23,24 +23,26 @@ abbrev pub index_in : Bool → List Row → ℕ
 index_in unchanged rows = if is_none (lack_of unchanged rows) then group_index rows else 0
 
 -- 1 where a price was imputed, else 0
-abbrev pub flag_in : Bool → List Row → ℕ
-flag_in unchanged rows = if is_none (lack_of unchanged rows) then (if has_imputed rows then 1 else 0) else 0
+abbrev pub imputed_flag : Bool → List Row → ℕ
+imputed_flag unchanged rows = if is_none (lack_of unchanged rows) then (if has_imputed rows then 1 else 0) else 0
 
 -- the faults with what one aggregate lacks: the first of each kind stays
-abbrev pub noted : Option GroupLack → Code → Faults → Faults
-noted None code f = f
-noted (Some NoSample) code f = record f { no_sample = option_or f.no_sample (Some code) }
-noted (Some NoMatch) code f = record f { no_match = option_or f.no_match (Some code) }
-noted (Some PriceOutOfRange) code f = record f { price = option_or f.price (Some code) }
-noted (Some IndexOutOfRange) code f = record f { index = option_or f.index (Some code) }
+abbrev pub faults_with : Option GroupLack → Code → Faults → Faults
+faults_with None code f = f
+faults_with (Some NoSample) code f = record f { no_sample = option_or f.no_sample (Some code) }
+faults_with (Some NoMatch) code f = record f { no_match = option_or f.no_match (Some code) }
+faults_with (Some PriceOutOfRange) code f = record f { price = option_or f.price (Some code) }
+faults_with (Some IndexOutOfRange) code f = record f { index = option_or f.index (Some code) }
 
 -- what one more aggregate does to a pass
-pub record IsStep (unchanged : Bool) (rows : List Row) (w : Weight) (old new : Pass) : Type 0 where
-  pub faults : new.faults ≡ noted (lack_of unchanged rows) w.code old.faults
+pub record IsPassingStep (unchanged : Bool) (rows : List Row) (w : Weight) (old new : Pass) : Type 0 where
+  pub faults : new.faults ≡ faults_with (lack_of unchanged rows) w.code old.faults
   pub sums : (q : Code) →
-      sum_at new.sums q ≡ sum_at old.sums q + (if is_at_or_below q w.code then w.parts * index_in unchanged rows else 0)
+      sum_at new.sums q ≡ sum_at old.sums q + (if is_code_at_or_below q w.code then w.parts * index_in unchanged
+      rows else 0)
   pub flags : (q : Code) →
-      sum_at new.imputed q ≡ sum_at old.imputed q + (if is_at_or_below q w.code then flag_in unchanged rows else 0)
+      sum_at new.imputed q ≡ sum_at old.imputed q +
+      (if is_code_at_or_below q w.code then imputed_flag unchanged rows else 0)
   pub carried : lack_of unchanged rows ≡ None → new.carried.items ≡ old.carried.items ++ carried_rows rows
 
 -- ---- all aggregates, of which `own` gives the rows and `listed` whether they may be carried unchanged
@@ -72,5 +74,5 @@ module _ (own : Code → List Row) (listed : Code → Bool) where
     pub sums : (q : Code) → sum_at pass.sums q ≡ weighted_under (λ e. index_in (listed e) (own e)) q ws
     pub flags : (q : Code) →
         sum_at pass.imputed q
-        ≡ sum_by (λ w. flag_in (listed w.code) (own w.code)) (filter (λ w. is_at_or_below q w.code) ws)
+        ≡ sum_by (λ w. imputed_flag (listed w.code) (own w.code)) (filter (λ w. is_code_at_or_below q w.code) ws)
     pub carried : are_whole ws ≡ true → pass.carried.items ≡ flat_map (λ w. carried_rows (own w.code)) ws

@@ -2,7 +2,7 @@
 use Rattle.std.specs.Prelude.{ℕ, ◌==◌, nat_le, Bool, true, List, Option, None, Some, map, filter}
 use Rattle.cpi_release.specs.TextTable.{text_table}
 use Rattle.cpi_release.specs.CsvTable.{csv_table}
-use Rattle.cpi_release.specs.Latest.{latest}
+use Rattle.cpi_release.specs.Latest.{latest_row}
 use Rattle.cpi_release.specs.FrozenMonths.{ReleaseKey}
 use Rattle.cpi_release.specs.declared.level.Level.{Level}
 use Rattle.cpi_release.specs.declared.release.Release.{Release}
@@ -41,7 +41,7 @@ is_asked None revision = true
 is_asked (Some asked) revision = revision == asked
 
 abbrev pub asked_table : ℕ → Option ℕ → List PublishedTable → Option PublishedTable
-asked_table month revision tables = latest (λ t. t.month) month (filter (λ t. is_asked revision t.revision) tables)
+asked_table month revision tables = latest_row (λ t. t.month) month (filter (λ t. is_asked revision t.revision) tables)
 
 abbrev pub printed_bytes : Form → ℕ → ℕ → List Level → List ℕ
 printed_bytes Text month revision levels = text_table month revision levels

@@ -2,8 +2,8 @@
 ghost use Rattle.std.specs.Prelude.{◌≡◌, ◌≢◌, ◌≤◌, ◌<◌, List, None, true, Err, IfErr, MatchResult};
 ghost use Rattle.cpi_codes.specs.declared.codes.Code.{Code};
 ghost use Rattle.cpi_index.specs.Row.{Row};
-ghost use Rattle.cpi_index.specs.Series.{is_by_series, carried_serial};
-ghost use Rattle.cpi_index.specs.Month.{carry_month, sample_rows};
+ghost use Rattle.cpi_index.specs.Series.{are_by_series, carried_serial};
+ghost use Rattle.cpi_index.specs.Month.{carried_in_month, sample_rows};
 ghost use Rattle.cpi_release.specs.State.{Keeps, StaysClean};
 ghost use Rattle.cpi_release.specs.GroupCalls.{group_of};
 ghost use Rattle.cpi_release.specs.Asking.{CanAsk};
@@ -53,11 +53,11 @@ pub(crate) fn make<G: Groups>(
         CanAsk (G.sources (G.holds groups.old).held) month →
         (rows : List Row) →
         ((code : Code) → group_of (G.sources (G.holds groups.old).held) month code ≡ sample_rows plan.now code rows) →
-        is_by_series carried_serial (carry_month plan.now rows) ≡ true →
+        are_by_series carried_serial (carried_in_month plan.now rows) ≡ true →
         let releases = (G.sources (G.holds groups.old).held).releases in
         let fault = fault_in plan.now releases month carry.now rows in
         MatchResult result
-        (λ m. (fault ≡ None) × (m.carried.items ≡ carry_month plan.now rows)
+        (λ m. (fault ≡ None) × (m.carried.items ≡ carried_in_month plan.now rows)
         × (m.levels.items ≡ table_in plan.now releases month rows))
         (IsFreezeFault fault) }
 {

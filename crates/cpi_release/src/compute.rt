@@ -2,8 +2,8 @@
 ghost use Rattle.std.specs.Prelude.{◌≡◌, ◌≢◌, ◌<◌, ◌≤◌, None, Some, IfOk, Err, IfErr, MatchResult};
 ghost use Rattle.std.specs.Option.{option_copied};
 ghost use Rattle.cpi_release.specs.State.{Keeps, StaysClean};
-ghost use Rattle.cpi_release.specs.Asking.{IsAsked};
-ghost use Rattle.cpi_release.specs.Releasing.{Freeze, fault_of, released};
+ghost use Rattle.cpi_release.specs.Asking.{MayFreeze};
+ghost use Rattle.cpi_release.specs.Releasing.{Freeze, fault_of, release_of_month};
 ghost use Rattle.cpi_release.specs.Summed.{IsFreezeFault};
 ghost use Rattle.cpi_release.specs.declared.freeze_fault.FreezeFault.TheVariants.{Group};
 
@@ -82,9 +82,9 @@ impl Release {
               frozen = frozen.items;
               carry = carry.items;
             } in
-            IsAsked s (option_copied plan.entry) x → let fault = fault_of (option_copied plan.entry) s.releases x in
+            MayFreeze s (option_copied plan.entry) x → let fault = fault_of (option_copied plan.entry) s.releases x in
             MatchResult result
-            (λ r. (fault ≡ None) × (r ≡ released (option_copied plan.entry) s.releases x))
+            (λ r. (fault ≡ None) × (r ≡ release_of_month (option_copied plan.entry) s.releases x))
             (IsFreezeFault fault) }
     {
         let Some(plan) = plan else {

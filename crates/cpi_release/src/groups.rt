@@ -10,7 +10,7 @@ use cpi_index::{ChainedLevel, GroupRow};
 /// clean as the call ends, and sound.
 pub trait Groups {
     ghost use Rattle.cpi_codes.specs.Month.{year_of};
-    ghost use Rattle.cpi_release.specs.Releases.{level_at};
+    ghost use Rattle.cpi_release.specs.Releases.{level_at_month};
     ghost use Rattle.cpi_release.specs.Releasing.{AreInOrder};
     ghost use Rattle.cpi_release.specs.State.{State, Reads};
     ghost use Rattle.cpi_release.specs.GroupCalls.{Sources, group_of, IsAfterFrozen};
@@ -38,7 +38,7 @@ pub trait Groups {
     /// The chained level of a code in the table of a month, if it has a row there.
     fn chained(&mut self, month: Month, code: Code) -> Result<Option<ChainedLevel>, GroupFault>
         ensures { let h = (holds self.old).held in Reads (holds self.old) (holds self.new) result (λ level.
-            is_sound h → level ≡ level_at (sources h).releases month code) };
+            is_sound h → level ≡ level_at_month (sources h).releases month code) };
 
     // what is sound has releases in their order
     ghost has_sound: { (h : Held) → is_sound h → AreInOrder (sources h).releases };

@@ -1,13 +1,13 @@
 //! Groups read from a history that is handed in.
 ghost use Rattle.std.specs.Prelude.{◌≡◌, ◌≤◌, IfOk};
 ghost use Rattle.cpi_release.specs.GroupCalls.{group_of};
-ghost use Rattle.cpi_release.specs.KeptSamples.{sources_in, IsFit};
+ghost use Rattle.cpi_release.specs.CachedSamples.{sources_in, IsFit};
 
+use crate::cached_groups::month_groups;
+use crate::cached_samples::CachedSamples;
 use crate::failures::Failures;
 use crate::group_fault::GroupFault;
 use crate::groups::Groups;
-use crate::kept_groups::month_groups;
-use crate::kept_samples::KeptSamples;
 use crate::month_rows::{level_in, plan_of};
 use crate::release::History;
 use cpi_codes::{Code, Month};
@@ -21,15 +21,15 @@ use std::marker::Model;
 pub struct HistoryGroups<'a> {
     history: &'a History,
     frozen: &'a [FrozenQuote],
-    samples: KeptSamples,
+    samples: CachedSamples,
     failed: Failures,
     alloc: Global,
 }
 
 impl<'a> Model for HistoryGroups<'a> {
-    ghost use Rattle.cpi_release.specs.KeptSamples.{KeptGroups, AreKept, sources_of};
+    ghost use Rattle.cpi_release.specs.CachedSamples.{CachedGroups, AreSamplesCached, sources_of};
 
-    ghost Value = { KeptGroups };
+    ghost Value = { CachedGroups };
 
     ghost view = { λ h. record {
       plans = h.history.now.plans;
@@ -38,7 +38,8 @@ impl<'a> Model for HistoryGroups<'a> {
       failures = h.failed.count;
     } };
 
-    ghost invariant = { λ h. AreKept (sources_of h.history.now.plans h.history.now.releases h.frozen.now) h.samples };
+    ghost invariant = { λ h. AreSamplesCached (sources_of h.history.now.plans h.history.now.releases h.frozen.now)
+        h.samples };
 }
 
 impl<'a> HistoryGroups<'a> {
@@ -55,7 +56,7 @@ impl<'a> HistoryGroups<'a> {
         HistoryGroups {
             history,
             frozen,
-            samples: KeptSamples::none(),
+            samples: CachedSamples::none(),
             failed: Failures::none(),
             alloc,
         }
@@ -83,7 +84,7 @@ impl<'a> HistoryGroups<'a> {
 impl<'a> Groups for HistoryGroups<'a> {
     ghost use Rattle.std.specs.Prelude.{⊤};
     ghost use Rattle.cpi_release.specs.GroupCalls.{Sources};
-    ghost use Rattle.cpi_release.specs.KeptSamples.{sources_of, IsFit};
+    ghost use Rattle.cpi_release.specs.CachedSamples.{sources_of, IsFit};
 
     ghost Held = { Sources };
 

@@ -3,7 +3,7 @@ ghost use Rattle.std.specs.Prelude.{◌≡◌, ◌≢◌, ◌*◌, ◌≤◌, �
 ghost use Rattle.cpi_codes.specs.declared.codes.Code.{Code};
 ghost use Rattle.cpi_plan.specs.Sums.{sum_at, weight_under};
 ghost use Rattle.cpi_index.specs.Level.{IsLevel, chained_from};
-ghost use Rattle.cpi_index.specs.Weights.{IsNodeWeight, are_weights_of, with_weights};
+ghost use Rattle.cpi_index.specs.Weights.{IsNodeWeight, are_weights_in, with_weights};
 ghost use Rattle.cpi_index.specs.Row.{Row};
 ghost use Rattle.cpi_release.specs.State.{Keeps, StaysClean};
 ghost use Rattle.cpi_release.specs.MonthTable.{level_with, level_fault, table_of};
@@ -72,7 +72,7 @@ pub(crate) fn levels_of<G: Groups>(
     month: Month,
     pass: &Pass,
 ) -> Result<Vec<Level>, FreezeFault>
-    requires codes { are_weights_of plan.now.weights weights.now ≡ true }
+    requires codes { are_weights_in plan.now.weights weights.now ≡ true }
     requires most { (q : Code) → sum_at pass.now.sums q ≤ 10000000000000 * weight_under q weights.now }
     ensures keeps { Keeps (G.holds groups.old) (G.holds groups.new) }
     ensures stays { result ≢ Err Group → StaysClean (G.holds groups.old) (G.holds groups.new) }

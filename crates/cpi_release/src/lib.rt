@@ -4,6 +4,8 @@
 
 mod before;
 mod by_group;
+mod cached_groups;
+mod cached_samples;
 mod changes;
 mod compute;
 mod csv_table;
@@ -18,8 +20,6 @@ mod frozen_month;
 mod group_fault;
 mod groups;
 mod history_groups;
-mod kept_groups;
-mod kept_samples;
 mod level;
 mod levels;
 mod month_rows;
@@ -32,6 +32,8 @@ mod text_table;
 mod weights;
 mod whole;
 
+pub use cached_groups::{groups_after, month_groups};
+pub use cached_samples::CachedSamples;
 pub use changes::change;
 pub use csv_table::table_csv;
 pub use examples::{worked_histories, worked_tables};
@@ -43,8 +45,6 @@ pub use frozen_month::FrozenMonth;
 pub use group_fault::GroupFault;
 pub use groups::Groups;
 pub use history_groups::HistoryGroups;
-pub use kept_groups::{groups_after, month_groups};
-pub use kept_samples::KeptSamples;
 pub use level::Level;
 pub use month_rows::level_in;
 pub use printed_table::{PrintedTable, printed};

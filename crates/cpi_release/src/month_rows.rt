@@ -3,14 +3,14 @@ ghost use Rattle.std.specs.Prelude.{◌≡◌, List, true, option_map, IfOk, if�
 ghost use Rattle.std.specs.Option.{option_copied};
 ghost use Rattle.cpi_codes.specs.CodeOrder.{code_cmp};
 ghost use Rattle.cpi_codes.specs.Month.{year_of};
-ghost use Rattle.cpi_rows.specs.Keyed.{IsInOrder, at, row_at};
+ghost use Rattle.cpi_rows.specs.Keyed.{IsInOrder, row_by_number, row_at};
 ghost use Rattle.cpi_index.specs.Row.{Row};
-ghost use Rattle.cpi_index.specs.Series.{is_by_series, carried_serial, frozen_serial};
-ghost use Rattle.cpi_index.specs.Sample.{bases_of_year};
-ghost use Rattle.cpi_index.specs.Month.{rows_of, sample_rows};
+ghost use Rattle.cpi_index.specs.Series.{are_by_series, carried_serial, frozen_serial};
+ghost use Rattle.cpi_index.specs.Sample.{bases_in_year};
+ghost use Rattle.cpi_index.specs.Month.{rows_of_month, sample_rows};
 ghost use Rattle.cpi_index.specs.MonthGroups.{AreGroups};
-ghost use Rattle.cpi_release.specs.Releases.{release_of as release_in, carried_of, frozen_of, levels_of};
-ghost use Rattle.cpi_release.specs.Releases.{is_january, level_at as level_at_in};
+ghost use Rattle.cpi_release.specs.Releases.{latest_release, carried_of, frozen_of, levels_of};
+ghost use Rattle.cpi_release.specs.Releases.{is_january, level_at_month};
 
 use crate::level::Level;
 use crate::release::{History, Release};
@@ -26,7 +26,7 @@ const JANUARY: u8 = 1;
 
 // The latest release of a month.
 fn release_of(releases: &[Release], month: Month) -> Option<&Release>
-    ensures { option_copied result ≡ release_in releases.now month }
+    ensures { option_copied result ≡ latest_release releases.now month }
 {
     let mut found = None;
     for release in releases {
@@ -68,11 +68,11 @@ pub(crate) fn groups_from(
     month: Month,
     frozen: &[FrozenQuote],
 ) -> Result<Vec<Vec<GroupRow>>, AllocError>
-    ensures { is_by_series carried_serial prev.now ≡ true → is_by_series frozen_serial link.now ≡ true →
-        is_by_series carried_serial before.now ≡ true → is_by_series frozen_serial frozen.now ≡ true →
-        let bases = bases_of_year plan.now prev.now link.now in
+    ensures { are_by_series carried_serial prev.now ≡ true → are_by_series frozen_serial link.now ≡ true →
+        are_by_series carried_serial before.now ≡ true → are_by_series frozen_serial frozen.now ≡ true →
+        let bases = bases_in_year plan.now prev.now link.now in
         let last = if is_january month then bases else before.now in
-        IfOk result (λ v. AreGroups plan.now (rows_of bases last frozen.now) v.items) }
+        IfOk result (λ v. AreGroups plan.now (rows_of_month bases last frozen.now) v.items) }
 {
     if month.month() == JANUARY {
         return groups_of_january(alloc, plan, prev, link, frozen);
@@ -104,7 +104,7 @@ pub(crate) fn group_at(
 
 // The plan of a month's year.
 pub(crate) fn plan_of(history: &History, month: Month) -> Option<&YearPlan>
-    ensures { option_copied result ≡ at (λ p. p.year) (year_of month) history.now.plans }
+    ensures { option_copied result ≡ row_by_number (λ p. p.year) (year_of month) history.now.plans }
 {
     let plans = history.plans.as_slice();
     let year = month.year();
@@ -130,7 +130,7 @@ fn row_in(levels: &[Level], code: Code) -> Option<ChainedLevel>
 /// The chained level of a code in the table of a month; nothing is said of a table that isn't in code order.
 pub fn level_in(releases: &[Release], month: Month, code: Code) -> Option<ChainedLevel>
     ensures { IsInOrder code_cmp (λ l. l.code) (levels_of releases.now month) →
-        result ≡ level_at_in releases.now month code }
+        result ≡ level_at_month releases.now month code }
 {
     let release = release_of(releases, month)?;
     row_in(release.levels.as_slice(), code)

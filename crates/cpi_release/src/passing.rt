@@ -2,16 +2,16 @@
 ghost use Rattle.std.specs.Prelude.{◌≡◌, ◌≢◌, ◌+◌, ◌*◌, ◌≤◌, ◌<◌, ◌^◌, ℕ, [], List, Some, None, true, length};
 ghost use Rattle.std.specs.Prelude.{IsSome, IfOk, Err, IfErr, OnOk, option_map, if◌then◌else◌};
 ghost use Rattle.std.specs.List.{list_all};
-ghost use Rattle.cpi_codes.specs.CodeOrder.{is_elementary};
+ghost use Rattle.cpi_codes.specs.CodeOrder.{is_code_elementary};
 ghost use Rattle.std.specs.Option.{option_or};
-ghost use Rattle.cpi_codes.specs.CodeText.{is_at_or_below};
+ghost use Rattle.cpi_codes.specs.CodeText.{is_code_at_or_below};
 ghost use Rattle.cpi_codes.specs.declared.codes.Code.{Code};
 ghost use Rattle.cpi_plan.specs.Sums.{sum_at, weight_under};
 ghost use Rattle.cpi_index.specs.Month.{is_listed};
-ghost use Rattle.cpi_index.specs.Series.{is_by_series, row_serial};
+ghost use Rattle.cpi_index.specs.Series.{are_by_series, row_serial};
 ghost use Rattle.cpi_index.specs.declared.fault.IndexFault.TheVariants.{NoSample, NoMatch, OutOfRange};
 ghost use Rattle.cpi_release.specs.declared.freeze_fault.FreezeFault.TheVariants.{Group};
-ghost use Rattle.cpi_release.specs.Passing.{noted, IsStep, IsPassed};
+ghost use Rattle.cpi_release.specs.Passing.{faults_with, IsPassingStep, IsPassed};
 ghost use Rattle.cpi_release.specs.State.{Keeps, StaysClean};
 ghost use Rattle.cpi_release.specs.GroupCalls.{group_of};
 ghost use Rattle.cpi_release.specs.Asking.{AreListed, CanAsk, IsReadFault};
@@ -28,7 +28,7 @@ use std::collections::BTreeMap;
 
 // Notes what an aggregate lacks, where it is the first to lack that.
 fn note(faults: &mut Faults, lack: GroupLack, code: Code)
-    ensures { faults.new ≡ noted (Some lack) code faults.old }
+    ensures { faults.new ≡ faults_with (Some lack) code faults.old }
 {
     match lack {
         GroupLack::NoSample => faults.no_sample = faults.no_sample.or(Some(code)),
@@ -91,12 +91,12 @@ pub(crate) fn add(
     requires sums { (q : Code) → sum_at pass.old.sums q ≤ 10000000000000000000000000000 }
     requires imputed { (q : Code) → sum_at pass.old.imputed q < 2 ^ 64 }
     ensures most { OnOk result ((q : Code) → sum_at pass.new.sums q ≤ sum_at pass.old.sums q
-        + (if is_at_or_below q weight.code then 10000000000000 * weight.parts else 0)) }
+        + (if is_code_at_or_below q weight.code then 10000000000000 * weight.parts else 0)) }
     ensures within { OnOk result ((q : Code) →
         sum_at pass.new.sums q ≤ sum_at pass.old.sums q + 10000000000000000000000) }
     ensures few { OnOk result ((q : Code) → sum_at pass.new.imputed q ≤ sum_at pass.old.imputed q + 1) }
-    ensures step { OnOk result (is_by_series row_serial rows.now ≡ true →
-        IsStep unchanged rows.now weight pass.old pass.new) }
+    ensures step { OnOk result (are_by_series row_serial rows.now ≡ true →
+        IsPassingStep unchanged rows.now weight pass.old pass.new) }
 {
     let code = weight.code();
     match carry_group(rows, unchanged, &mut pass.carried)? {
@@ -119,7 +119,7 @@ pub(crate) fn pass_over<G: Groups>(
     month: Month,
     unchanged: &[bool],
 ) -> Result<Pass, FreezeFault>
-    requires elementary { list_all (λ w. is_elementary w.code) weights.now ≡ true }
+    requires elementary { list_all (λ w. is_code_elementary w.code) weights.now ≡ true }
     requires few { length weights.now ≤ 1000000 }
     requires each { length unchanged.now ≡ length weights.now }
     ensures keeps { Keeps (G.holds groups.old) (G.holds groups.new) }

@@ -1,6 +1,6 @@
 //! Revisions of a month.
 ghost use Rattle.std.specs.Prelude.{◌≡◌, ◌≤◌, ◌+◌, ◌==◌, SomeIff};
-ghost use Rattle.cpi_codes.specs.Number.{number_of as number_in};
+ghost use Rattle.cpi_codes.specs.Number.{number_in};
 
 use cpi_codes::number_of;
 use std::marker::Model;

@@ -1,8 +1,8 @@
 //! The weights in use of a month.
 ghost use Rattle.std.specs.Prelude.{◌≡◌, ◌≢◌, ◌≤◌, ◌<◌, true, None, map, IfOk, Err, IfErr, MatchResult};
-ghost use Rattle.cpi_index.specs.Weights.{with_levels, are_weights_of};
+ghost use Rattle.cpi_index.specs.Weights.{with_levels, are_weights_in};
 ghost use Rattle.cpi_release.specs.State.{Keeps, StaysClean, Reads};
-ghost use Rattle.cpi_release.specs.Releases.{level_at, plan_in_use, weights_fault_in};
+ghost use Rattle.cpi_release.specs.Releases.{level_at_month, plan_in_use, weights_fault_in};
 ghost use Rattle.cpi_release.specs.Asking.{IsReadFault};
 ghost use Rattle.cpi_release.specs.Summed.{IsFreezeFault};
 ghost use Rattle.cpi_release.specs.declared.freeze_fault.FreezeFault.TheVariants.{Group};
@@ -25,7 +25,7 @@ fn levels_by<G: Groups>(
     ensures reads { Reads (G.holds groups.old) (G.holds groups.new) result (λ levels.
         G.is_sound (G.holds groups.old).held →
         let releases = (G.sources (G.holds groups.old).held).releases in
-        levels ≡ with_levels (level_at releases link) (level_at releases reference) weight) }
+        levels ≡ with_levels (level_at_month releases link) (level_at_month releases reference) weight) }
     ensures weight { IfOk result (λ levels. levels.weight ≡ weight) }
 {
     let link = groups.chained(link, weight.code)?;
@@ -51,7 +51,7 @@ fn weight_levels<G: Groups>(
     ensures exact { (G.holds groups.new).is_clean → G.is_sound (G.holds groups.old).held →
         let releases = (G.sources (G.holds groups.old).held).releases in
         IfOk result (λ v. v.items
-        ≡ map (with_levels (level_at releases link) (level_at releases reference)) plan.now.weights) }
+        ≡ map (with_levels (level_at_month releases link) (level_at_month releases reference)) plan.now.weights) }
     ensures weights { IfOk result (λ v. map (λ l. l.weight) v.items ≡ plan.now.weights) }
     ensures fault { IfErr result (λ f. IsReadFault (G.holds groups.old).failures (G.holds groups.new).failures f) }
 {
@@ -84,7 +84,7 @@ pub(crate) fn weights_of<G: Groups>(
         let fault = weights_fault_in plan.now releases month in MatchResult result
         (λ v. (fault ≡ None) × (v.items ≡ (plan_in_use plan.now releases month).weights))
         (IsFreezeFault fault) }
-    ensures codes { IfOk result (λ v. are_weights_of plan.now.weights v.items ≡ true) }
+    ensures codes { IfOk result (λ v. are_weights_in plan.now.weights v.items ≡ true) }
 {
     let (Some(reference), Some(link)) = (plan.reference(), month.link()) else {
         let Ok(weights) = own_weights(alloc, plan) else {

@@ -2,14 +2,14 @@
 ghost use Rattle.std.specs.Prelude.{◌≡◌, ◌≢◌, Option, None, Some, true, nat_lt, IsSome, MatchResult};
 ghost use Rattle.std.specs.List.{list_any};
 ghost use Rattle.std.specs.Option.{option_copied};
-ghost use Rattle.cpi_index.specs.Series.{is_by_series, frozen_serial};
+ghost use Rattle.cpi_index.specs.Series.{are_by_series, frozen_serial};
 ghost use Rattle.cpi_index.specs.declared.fault.IndexFault.{IndexFault};
 ghost use Rattle.cpi_index.specs.declared.fault.IndexFault.TheVariants.{NoMemory};
 ghost use Rattle.cpi_release.specs.Summed.{IsFreezeFault};
-ghost use Rattle.cpi_release.specs.KeptSamples.{sources_of};
+ghost use Rattle.cpi_release.specs.CachedSamples.{sources_of};
 ghost use Rattle.cpi_release.specs.GroupCalls.{IsAfterFrozen};
-ghost use Rattle.cpi_release.specs.Releasing.{Freeze, AreInOrder, has_earlier as has_an_earlier};
-ghost use Rattle.cpi_release.specs.Releasing.{plan_of as plan_in, fault_of, released};
+ghost use Rattle.cpi_release.specs.Releasing.{Freeze, AreInOrder, has_an_earlier};
+ghost use Rattle.cpi_release.specs.Releasing.{plan_in, fault_of, release_of_month};
 
 use crate::freeze_fault::FreezeFault;
 use crate::history_groups::HistoryGroups;
@@ -71,10 +71,10 @@ fn over(
           frozen = frozen.items;
           carry = carry.items;
         } in
-        lent.now ≡ frozen.items → AreInOrder releases → is_by_series frozen_serial frozen.items ≡ true →
+        lent.now ≡ frozen.items → AreInOrder releases → are_by_series frozen_serial frozen.items ≡ true →
         (IsSome plan → IsAfterFrozen (sources_of plans releases frozen.items) month) →
         let fault = fault_of plan releases x in
-        MatchResult result (λ r. (fault ≡ None) × (r ≡ released plan releases x)) (IsFreezeFault fault) }
+        MatchResult result (λ r. (fault ≡ None) × (r ≡ release_of_month plan releases x)) (IsFreezeFault fault) }
 {
     let mut groups = HistoryGroups::new(alloc, history, lent);
     let plan = releasing_plan(history, month);
@@ -115,11 +115,11 @@ impl Release {
               frozen = frozen.items;
               carry = carry.items;
             } in
-            AreInOrder releases → is_by_series frozen_serial frozen.items ≡ true →
+            AreInOrder releases → are_by_series frozen_serial frozen.items ≡ true →
             (IsSome plan → IsAfterFrozen (sources_of plans releases frozen.items) month) →
             let fault = fault_of plan releases x in
             MatchResult result
-            (λ r. (fault ≡ None) × (r ≡ released plan releases x))
+            (λ r. (fault ≡ None) × (r ≡ release_of_month plan releases x))
             (λ f. f ≢ NoMemory → fault ≡ Some f) }
     {
         let Ok(lent) = Vec::from_slice(alloc, &frozen) else {

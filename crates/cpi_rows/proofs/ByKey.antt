@@ -11,7 +11,7 @@ use Rattle.std.specs.BTreeMap.{insert_entry, is_at}
 use Rattle.std.proofs.lemmas.Bool.{false≢true}
 use Rattle.std.proofs.lemmas.Cmp.{tied_itself}
 use Rattle.std.proofs.lemmas.Map.Keys.{sorted_tail, Less-from_sorted}
-use Rattle.cpi_rows.specs.Keyed.{put, row_at, IsInOrder}
+use Rattle.cpi_rows.specs.Keyed.{with_row, row_at, IsInOrder}
 use Rattle.cpi_rows.specs.ByKey.{AreUnderKeys}
 use Rattle.cpi_rows.proofs.Places.{put_at_gap, put_at_row}
 
@@ -72,13 +72,13 @@ module _ {X K : Type 0} {R : K → K → Ordering} (o : IsTotalOrder R) (key : X
         o.antisymm far (key row) ∙ ap ordering_reverse (o.trans (key row) (key x) far below next)
 
     pub insert_puts : (es : List (K × X)) → AreUnderKeys R key es → IsInOrder R key (values_of es) →
-        values_of (insert_entry R es (key row) row) ≡ put R key row (values_of es)
+        values_of (insert_entry R es (key row) row) ≡ with_row R key row (values_of es)
     insert_puts [] under sorted = refl
     insert_puts (e ∷ es) under sorted =
         by (R (key e.1) (key row)) refl (insert_puts es under.1 (sorted_tail c e.1 (values_of es) sorted))
       where
         Puts : List (K × X) → Type 0
-        Puts es = values_of (insert_entry R es (key row) row) ≡ put R key row (values_of es)
+        Puts es = values_of (insert_entry R es (key row) row) ≡ with_row R key row (values_of es)
 
         by : (s : Ordering) → R (key e.1) (key row) ≡ s → Puts es → Puts (e ∷ es)
         by Less p rest = rw (turned (key row) e under.0, p) (ap (λ xs. e.1 ∷ xs) rest)

@@ -5,7 +5,7 @@ use Rattle.std.specs.declared.cmp.Ordering.{Ordering}
 use Rattle.std.specs.declared.cmp.Ordering.TheVariants.{Less, Equal, Greater}
 use Rattle.std.specs.Ordering.{nat_cmp, is_eq}
 use Rattle.std.proofs.lemmas.Map.Lookups.{exact_unsigned}
-use Rattle.cpi_rows.specs.Keyed.{row_at, at}
+use Rattle.cpi_rows.specs.Keyed.{row_at, row_by_number}
 
 -- what is found has the key
 pub row_key : {X K : Type 0} (cmp : K → K → Ordering) (key : X → K) (k : K) (x : X) (rows : List X) →
@@ -22,16 +22,16 @@ row_key cmp key k x (r ∷ rows) found = by (cmp (key r) k) refl (row_key cmp ke
         let is : r ≡ x = cc in
         subst (λ x. cmp (key x) k ≡ Equal) is e
 
-pub at_key : {X : Type 0} (key : X → ℕ) (n : ℕ) (x : X) (rows : List X) → at key n rows ≡ Some x → key x ≡ n
+pub at_key : {X : Type 0} (key : X → ℕ) (n : ℕ) (x : X) (rows : List X) → row_by_number key n rows ≡ Some x → key x ≡ n
 at_key key n x rows found = exact_unsigned (key x) n (row_key nat_cmp key n x rows found)
 
 pub at-map : {X Y : Type 0} (f : X → Y) (key : Y → ℕ) (n : ℕ) (rows : List X) →
-    at key n (map f rows) ≡ option_map f (at (λ x. key (f x)) n rows)
+    row_by_number key n (map f rows) ≡ option_map f (row_by_number (λ x. key (f x)) n rows)
 at-map f key n [] = refl
 at-map f key n (r ∷ rows) = by (is_eq (nat_cmp (key (f r)) n)) refl (at-map f key n rows)
   where
     by : (s : Bool) → is_eq (nat_cmp (key (f r)) n) ≡ s →
-        at key n (map f rows) ≡ option_map f (at (λ x. key (f x)) n rows) →
-        at key n (map f (r ∷ rows)) ≡ option_map f (at (λ x. key (f x)) n (r ∷ rows))
+        row_by_number key n (map f rows) ≡ option_map f (row_by_number (λ x. key (f x)) n rows) →
+        row_by_number key n (map f (r ∷ rows)) ≡ option_map f (row_by_number (λ x. key (f x)) n (r ∷ rows))
     by true e rest = rw e refl
     by false e rest = rw e rest

@@ -12,9 +12,9 @@ use Rattle.std.proofs.lemmas.Cmp.{tied_itself, nat_cmp_total, ranked}
 use Rattle.std.proofs.lemmas.List.Elements.{filter-append}
 use Rattle.std.proofs.lemmas.List.{map-append, append-nil}
 use Rattle.std.proofs.lemmas.Map.Keys.{sorted_head, sorted_tail, Less-from_sorted}
-use Rattle.cpi_rows.specs.Keyed.{put, row_at, IsInOrder}
+use Rattle.cpi_rows.specs.Keyed.{with_row, row_at, IsInOrder}
 use Rattle.cpi_rows.specs.Held.{held_cmp, held_key, held_by}
-use Rattle.cpi_rows.specs.Gathered.{gathered, rows_in}
+use Rattle.cpi_rows.specs.Gathered.{rows_with_holders, rows_in}
 use Rattle.cpi_rows.proofs.Held.{held_append}
 
 -- a key below all the others stands in none of them
@@ -50,17 +50,18 @@ module _ {G X K : Type 0} (cmp : K → K → Ordering) (key : X → K) (number :
   abbrev named : G → List (ℕ × X)
   named g = map (λ x. (number g, x)) (rows g)
 
-  pub held_gathered : (c : ℕ) (gs : List G) → Sorted gs → held_by c (gathered number rows gs) ≡ rows_in rows
+  pub held_gathered : (c : ℕ) (gs : List G) → Sorted gs → held_by c (rows_with_holders number rows gs) ≡ rows_in rows
       (row_at nat_cmp number c gs)
   held_gathered c [] sorted = refl
   held_gathered c (g ∷ gs) sorted =
-      held_append cmp key c (named g) (gathered number rows gs)
+      held_append cmp key c (named g) (rows_with_holders number rows gs)
       ∙ by (eqb_tells (number g) c) (held_gathered c gs (sorted_tail _ g gs sorted)) (sorted_head _ g gs sorted)
     where
       by : ((eqb (number g) c ≡ true) × (number g ≡ c)) ⊎ ((eqb (number g) c ≡ false) × (number g ≢ c)) →
-          held_by c (gathered number rows gs) ≡ rows_in rows (row_at nat_cmp number c gs) →
+          held_by c (rows_with_holders number rows gs) ≡ rows_in rows (row_at nat_cmp number c gs) →
           AllByRecursion (λ h. nat_cmp (number g) (number h) ≡ Less) gs →
-          held_by c (named g) ++ held_by c (gathered number rows gs) ≡ rows_in rows (row_at nat_cmp number c (g ∷ gs))
+          held_by c (named g) ++ held_by c (rows_with_holders number rows gs) ≡ rows_in rows
+          (row_at nat_cmp number c (g ∷ gs))
       by (inl same) rest above =
           let none : row_at nat_cmp number c gs ≡ None = missing_above number c gs (rw (sym same.1) above) in
           let here : nat_cmp (number g) c ≡ Equal = rw same.1 (tied_itself nat_cmp_total c) in
@@ -100,27 +101,27 @@ module _ {G X K : Type 0} (cmp : K → K → Ordering) (key : X → K) (number :
   module _ (c : ℕ) (k : K) where
     -- all rows of later holders are greater
     later_none : (gs : List G) → AllByRecursion (λ g. nat_cmp c (number g) ≡ Less) gs →
-        passed is_lt c c k (gathered number rows gs) ≡ []
+        passed is_lt c c k (rows_with_holders number rows gs) ≡ []
     later_none [] all = refl
     later_none (g ∷ gs) all =
         let above : nat_cmp (number g) c ≡ Greater = nat_cmp_total.antisymm (number g) c ∙ ap ordering_reverse all.0 in
-        filter-append _ (named g) (gathered number rows gs)
+        filter-append _ (named g) (rows_with_holders number rows gs)
         ∙ rw (drops is_lt (number g) c k Greater above (λ _. refl) refl (rows g)) (later_none gs all.1)
 
     later_all : (gs : List G) → AllByRecursion (λ g. nat_cmp c (number g) ≡ Less) gs →
-        passed is_gt c c k (gathered number rows gs) ≡ gathered number rows gs
+        passed is_gt c c k (rows_with_holders number rows gs) ≡ rows_with_holders number rows gs
     later_all [] all = refl
     later_all (g ∷ gs) all =
         let above : nat_cmp (number g) c ≡ Greater = nat_cmp_total.antisymm (number g) c ∙ ap ordering_reverse all.0 in
-        filter-append _ (named g) (gathered number rows gs)
+        filter-append _ (named g) (rows_with_holders number rows gs)
         ∙ rw (keeps is_gt (number g) c k Greater above (λ _. refl) refl (rows g))
         (ap (λ ys. named g ++ ys) (later_all gs all.1))
 
   -- a row that is put among its holder's rows is put among everybody's
   pub put_gathered : (x : X) (h : G) (gs : List G) (i : ℕ) (d : G) → Sorted gs → i < length gs →
-      number h ≡ number (get_or gs i d) → rows h ≡ put cmp key x (rows (get_or gs i d)) →
-      gathered number rows (set gs i h) ≡ put (held_cmp cmp) (held_key key) (number (get_or gs i d), x)
-      (gathered number rows gs)
+      number h ≡ number (get_or gs i d) → rows h ≡ with_row cmp key x (rows (get_or gs i d)) →
+      rows_with_holders number rows (set gs i h) ≡ with_row (held_cmp cmp) (held_key key) (number (get_or gs i d), x)
+      (rows_with_holders number rows gs)
   put_gathered x h [] i d sorted in_range same after = absurd (omega arith)
   put_gathered x h (g ∷ gs) zero d sorted in_range same after =
       let c = number g in
@@ -128,9 +129,9 @@ module _ {G X K : Type 0} (cmp : K → K → Ordering) (key : X → K) (number :
       let e : nat_cmp c c ≡ Equal = tied_itself nat_cmp_total c in
       let above = sorted_head _ g gs sorted in
       let front = filter-append (λ r. is_lt (held_cmp cmp (held_key key r) (c, k))) (named g)
-      (gathered number rows gs) in
+      (rows_with_holders number rows gs) in
       let back = filter-append (λ r. is_gt (held_cmp cmp (held_key key r) (c, k))) (named g)
-      (gathered number rows gs) in
+      (rows_with_holders number rows gs) in
       rw (
         front,
         back,
@@ -139,7 +140,7 @@ module _ {G X K : Type 0} (cmp : K → K → Ordering) (key : X → K) (number :
         later_none c k gs above,
         later_all c k gs above,
       )
-      (let R : List (ℕ × X) = gathered number rows gs in
+      (let R : List (ℕ × X) = rows_with_holders number rows gs in
       let f : X → ℕ × X = λ y. (number g, y) in
       let P = filter (λ y. is_lt (cmp (key y) k)) (rows g) in
       let Q = filter (λ y. is_gt (cmp (key y) k)) (rows g) in
@@ -152,9 +153,9 @@ module _ {G X K : Type 0} (cmp : K → K → Ordering) (key : X → K) (number :
       let k = key x in
       let less : nat_cmp (number g) c ≡ Less = Less-from_sorted _ (g ∷ gs) 0 (suc i) d sorted (omega arith) in_range in
       let front = filter-append (λ r. is_lt (held_cmp cmp (held_key key r) (c, k))) (named g)
-      (gathered number rows gs) in
+      (rows_with_holders number rows gs) in
       let back = filter-append (λ r. is_gt (held_cmp cmp (held_key key r) (c, k))) (named g)
-      (gathered number rows gs) in
+      (rows_with_holders number rows gs) in
       rw (
         front,
         back,
@@ -162,5 +163,5 @@ module _ {G X K : Type 0} (cmp : K → K → Ordering) (key : X → K) (number :
         drops is_gt (number g) c k Less less (λ _. refl) refl (rows g),
         put_gathered x h gs i d (sorted_tail _ g gs sorted) (omega arith) same after,
       )
-      (sym (append_assoc (named g) (passed is_lt c c k (gathered number rows gs))
-      ((c, x) ∷ passed is_gt c c k (gathered number rows gs))))
+      (sym (append_assoc (named g) (passed is_lt c c k (rows_with_holders number rows gs))
+      ((c, x) ∷ passed is_gt c c k (rows_with_holders number rows gs))))

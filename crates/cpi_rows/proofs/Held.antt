@@ -10,7 +10,7 @@ use Rattle.std.proofs.lemmas.Bool.Decides.{eqb_tells}
 use Rattle.std.proofs.lemmas.Cmp.{tied_itself, nat_cmp_total, ranked}
 use Rattle.std.proofs.lemmas.List.Elements.{filter-append}
 use Rattle.std.proofs.lemmas.List.{map-append, append-nil}
-use Rattle.cpi_rows.specs.Keyed.{put}
+use Rattle.cpi_rows.specs.Keyed.{with_row}
 use Rattle.cpi_rows.specs.Held.{held_cmp, held_key, held_by}
 
 module _ {X K : Type 0} (cmp : K → K → Ordering) (key : X → K) where
@@ -49,7 +49,7 @@ module _ {X K : Type 0} (cmp : K → K → Ordering) (key : X → K) where
   held_head c x rows = rw (eq-eqb c c refl) refl
 
   pub puts_own : (c : ℕ) (row : X) (rows : List (ℕ × X)) →
-      held_by c (put (held_cmp cmp) (held_key key) (c, row) rows) ≡ put cmp key row (held_by c rows)
+      held_by c (with_row (held_cmp cmp) (held_key key) (c, row) rows) ≡ with_row cmp key row (held_by c rows)
   puts_own c row rows =
       held_append c (filter (λ r. is_lt (held_cmp cmp (held_key key r) (c, key row))) rows)
       ((c, row) ∷ filter (λ r. is_gt (held_cmp cmp (held_key key r) (c, key row))) rows)
@@ -109,7 +109,7 @@ module _ {X K : Type 0} (cmp : K → K → Ordering) (key : X → K) where
 
   -- another holder's row changes nothing for this one
   pub puts_other : (c n : ℕ) (row : X) (rows : List (ℕ × X)) → c ≢ n →
-      held_by c (put (held_cmp cmp) (held_key key) (n, row) rows) ≡ held_by c rows
+      held_by c (with_row (held_cmp cmp) (held_key key) (n, row) rows) ≡ held_by c rows
   puts_other c n row rows differ =
       held_append c (filter (λ r. is_lt (held_cmp cmp (held_key key r) (n, key row))) rows)
       ((n, row) ∷ filter (λ r. is_gt (held_cmp cmp (held_key key r) (n, key row))) rows)

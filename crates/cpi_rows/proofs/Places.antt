@@ -12,7 +12,7 @@ use Rattle.std.proofs.lemmas.Cmp.{alike_right, upto}
 use Rattle.std.proofs.lemmas.Bool.{cases_lt}
 use Rattle.std.proofs.lemmas.Map.Keys.{sorted_head, sorted_tail, Less-from_sorted}
 use Rattle.std.proofs.lemmas.List.Kept.{IsStrictlySortedBy-filter}
-use Rattle.cpi_rows.specs.Keyed.{put, row_at, IsInOrder, IsPlace}
+use Rattle.cpi_rows.specs.Keyed.{with_row, row_at, IsInOrder, IsPlace}
 
 module _ {X K : Type 0} {R : K → K → Ordering} (o : IsTotalOrder R) (key : X → K) where
   abbrev c : X → X → Ordering
@@ -101,7 +101,7 @@ set_parts (x ∷ xs) (suc i) y lt = ap (λ ys. x ∷ ys) (set_parts xs i y (omeg
 module _ {X K : Type 0} {R : K → K → Ordering} (o : IsTotalOrder R) (key : X → K) where
   -- an insert at the gap for the key puts the row in its place
   pub put_at_gap : (rows : List X) (row : X) (i : ℕ) → IsPlace R key (key row) rows (Err i) →
-      insert rows i row ≡ put R key row rows
+      insert rows i row ≡ with_row R key row rows
   put_at_gap rows row i place =
       let front = filter_front (λ r. is_lt (R (key r) (key row))) rows i place.0 (λ j d lt. ap is_lt (place.1 j d lt))
       (λ j d ge lt. ap is_lt (place.2 j d ge lt)) in
@@ -117,7 +117,7 @@ module _ {X K : Type 0} {R : K → K → Ordering} (o : IsTotalOrder R) (key : X
 
   -- a write over the row with the key puts the row in its place
   pub put_at_row : (rows : List X) → IsInOrder R key rows → (row : X) (i : ℕ) → IsPlace R key (key row) rows (Ok i) →
-      set rows i row ≡ put R key row rows
+      set rows i row ≡ with_row R key row rows
   put_at_row rows sorted row i place =
       let k = key row in
       let below : (j : ℕ) (d : X) → j < i → R (key (get_or rows j d)) k ≡ Less =
@@ -182,7 +182,7 @@ module _ {X K : Type 0} {R : K → K → Ordering} (o : IsTotalOrder R) (key : X
   )
 
   -- rows stay in order
-  pub put_in_order : (rows : List X) (row : X) → IsInOrder R key rows → IsInOrder R key (put R key row rows)
+  pub put_in_order : (rows : List X) (row : X) → IsInOrder R key rows → IsInOrder R key (with_row R key row rows)
   put_in_order rows row sorted =
       joined _ row _ (IsStrictlySortedBy-filter _ _ rows sorted) (IsStrictlySortedBy-filter _ _ rows sorted)
       (lower (key row) rows) (higher (key row) rows)
@@ -224,7 +224,7 @@ module _ {X K : Type 0} {R : K → K → Ordering} (o : IsTotalOrder R) (key : X
 
   same_more : (x y : X) (ys : List X) → (s : Ordering) → R (key y) (key x) ≡ s →
       AllByRecursion (λ z. R (key y) (key z) ≡ Less) ys → row_at R key (key x) (y ∷ ys) ≡ Some x →
-      (row_at R key (key x) ys ≡ Some x → put R key x ys ≡ ys) → put R key x (y ∷ ys) ≡ y ∷ ys
+      (row_at R key (key x) ys ≡ Some x → with_row R key x ys ≡ ys) → with_row R key x (y ∷ ys) ≡ y ∷ ys
   same_more x y ys Less e all found rest = rw (ap is_lt e, ap is_gt e)
       (ap (λ zs. y ∷ zs) (rest (rw (ap is_eq e) at found)))
   same_more x y ys Equal e all found rest =
@@ -238,7 +238,7 @@ module _ {X K : Type 0} {R : K → K → Ordering} (o : IsTotalOrder R) (key : X
 
   -- to put a row that stands already changes nothing
   pub put_same : (rows : List X) → IsInOrder R key rows → (x : X) → row_at R key (key x) rows ≡ Some x →
-      put R key x rows ≡ rows
+      with_row R key x rows ≡ rows
   put_same [] sorted x found = let wrong : None ≡ Some x = found in cc
   put_same (y ∷ ys) sorted x found = same_more x y ys (R (key y) (key x)) refl (sorted_head _ y ys sorted) found
       (λ f. put_same ys (sorted_tail _ y ys sorted) x f)

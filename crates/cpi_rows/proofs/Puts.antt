@@ -12,7 +12,7 @@ use Rattle.std.proofs.lemmas.Cmp.{alike_right, nat_cmp_total, ranked, tied_itsel
 use Rattle.std.proofs.lemmas.List.Elements.{filter-append}
 use Rattle.std.proofs.lemmas.List.{map-append}
 use Rattle.std.proofs.lemmas.Map.Keys.{sorted_head, sorted_tail}
-use Rattle.cpi_rows.specs.Keyed.{put, row_at, IsInOrder, at, put_by}
+use Rattle.cpi_rows.specs.Keyed.{with_row, row_at, IsInOrder, row_by_number, put_by}
 
 -- two filters in either order
 filter-filter : {X : Type 0} (p q : X → Bool) (xs : List X) → filter p (filter q xs) ≡ filter q (filter p xs)
@@ -51,7 +51,7 @@ module _ {X K : Type 0} (cmp : K → K → Ordering) (key : X → K) (p : X → 
   above r = is_gt (cmp (key r) (key row))
 
   -- a row that passes a filter is put among the rows that pass
-  pub filter-put : p row ≡ true → filter p (put cmp key row rows) ≡ put cmp key row (filter p rows)
+  pub filter-put : p row ≡ true → filter p (with_row cmp key row rows) ≡ with_row cmp key row (filter p rows)
   filter-put e =
       filter-append p (filter below rows) (row ∷ filter above rows)
       ∙ ap (λ ys. filter p (filter below rows) ++ ys) (filter-head p row (filter above rows) e)
@@ -60,7 +60,7 @@ module _ {X K : Type 0} (cmp : K → K → Ordering) (key : X → K) (p : X → 
 
 -- a map that keeps the keys
 pub map-put : {X Y K : Type 0} (cmp : K → K → Ordering) (key : Y → K) (f : X → Y) (row : X) (rows : List X) →
-    map f (put cmp (λ x. key (f x)) row rows) ≡ put cmp key (f row) (map f rows)
+    map f (with_row cmp (λ x. key (f x)) row rows) ≡ with_row cmp key (f row) (map f rows)
 map-put cmp key f row rows =
     map-append f (filter (λ r. is_lt (cmp (key (f r)) (key (f row)))) rows)
     (row ∷ filter (λ r. is_gt (cmp (key (f r)) (key (f row)))) rows)
@@ -122,14 +122,16 @@ module _ {X K : Type 0} {R : K → K → Ordering} (o : IsTotalOrder R) (key : X
 
   -- a row that stands is put in place of itself
   pub put_standing : (row : X) (rows : List X) → IsInOrder R key rows → row_at R key (key row) rows ≡ Some row →
-      put R key row rows ≡ rows
+      with_row R key row rows ≡ rows
   put_standing row [] sorted there = let no : None ≡ Some row = there in cc
   put_standing row (r ∷ rows) sorted there = by (R (key r) (key row)) refl there
       (put_standing row rows (sorted_tail c r rows sorted))
     where
       by : (s : Ordering) → R (key r) (key row) ≡ s → row_at R key (key row) (r ∷ rows) ≡ Some row →
-          (row_at R key (key row) rows ≡ Some row → put R key row rows ≡ rows) → put R key row (r ∷ rows) ≡ r ∷ rows
-      by Less e there rest = rw (ap is_lt e, ap is_gt e) (ap (λ ys. r ∷ ys) (rest (rw (ap is_eq e) at there)))
+          (row_at R key (key row) rows ≡ Some row → with_row R key row rows ≡ rows) → with_row R key row (r ∷ rows)
+          ≡ r ∷ rows
+      by Less e there rest = rw (ap is_lt e, ap is_gt e)
+          (ap (λ ys. r ∷ ys) (rest (rw (ap is_eq e) at there)))
       by Equal e there rest =
           let all = are_above (key row) rows (above_level (key row) r rows e (sorted_head c r rows sorted)) in
           let same : Some r ≡ Some row = rw (ap is_eq e) at there in
@@ -141,7 +143,7 @@ module _ {X K : Type 0} {R : K → K → Ordering} (o : IsTotalOrder R) (key : X
 
   -- a new row that does not pass a filter
   pub filter-put_out : (p : X → Bool) (row : X) (rows : List X) → IsInOrder R key rows →
-      row_at R key (key row) rows ≡ None → p row ≡ false → filter p (put R key row rows) ≡ filter p rows
+      row_at R key (key row) rows ≡ None → p row ≡ false → filter p (with_row R key row rows) ≡ filter p rows
   filter-put_out p row rows sorted none e =
       let below : X → Bool = λ r. is_lt (R (key r) (key row)) in
       let above : X → Bool = λ r. is_gt (R (key r) (key row)) in
@@ -175,7 +177,7 @@ module _ {X K : Type 0} {R : K → K → Ordering} (o : IsTotalOrder R) (key : X
   -- a new row leaves each other key's row
   pub row_at-put_other : (k : K) (row : X) (rows : List X) → IsInOrder R key rows →
       row_at R key (key row) rows ≡ None → is_eq (R (key row) k) ≡ false →
-      row_at R key k (put R key row rows) ≡ row_at R key k rows
+      row_at R key k (with_row R key row rows) ≡ row_at R key k rows
   row_at-put_other k row rows sorted none e =
       passed_over k row _ _ e ∙ ap (row_at R key k) (parted (key row) rows sorted none)
 
@@ -211,12 +213,12 @@ module _ {X K : Type 0} {R : K → K → Ordering} (o : IsTotalOrder R) (key : X
           rw (ap is_lt e, ap is_gt e, all.none_below, all.all_above) refl
 
   pub row_at-put_apart : (k : K) (row : X) (rows : List X) → IsInOrder R key rows → is_eq (R (key row) k) ≡ false →
-      row_at R key k (put R key row rows) ≡ row_at R key k rows
+      row_at R key k (with_row R key row rows) ≡ row_at R key k rows
   row_at-put_apart k row rows sorted e = passed_over k row _ _ e ∙ others_kept k (key row) rows sorted e
 
   -- a row above all is put at the end
   pub put_last : (row : X) (rows : List X) → AllByRecursion (λ r. R (key r) (key row) ≡ Less) rows →
-      put R key row rows ≡ rows ++ row ∷ []
+      with_row R key row rows ≡ rows ++ row ∷ []
   put_last row [] all = refl
   put_last row (r ∷ rows) all = rw (ap is_lt all.0, ap is_gt all.0) (ap (λ ys. r ∷ ys) (put_last row rows all.1))
 
@@ -231,7 +233,7 @@ module _ {X K : Type 0} {R : K → K → Ordering} (o : IsTotalOrder R) (key : X
       by Equal f rest = rw (ap is_lt f) rest
       by Greater f rest = rw (ap is_lt f) rest
 
-  pub row_at-put_same : (row : X) (rows : List X) → row_at R key (key row) (put R key row rows) ≡ Some row
+  pub row_at-put_same : (row : X) (rows : List X) → row_at R key (key row) (with_row R key row rows) ≡ Some row
   row_at-put_same row rows = found_after (key row) row rows _ (ap is_eq (tied_itself o (key row)))
 
 -- ---- what is found is still found
@@ -250,21 +252,22 @@ row_at_level {R = R} o key k k' (r ∷ rows) e =
 
 module _ {X K : Type 0} {R : K → K → Ordering} (o : IsTotalOrder R) (key : X → K) (row : X) (rows : List X)
     (sorted : IsInOrder R key rows) (none : row_at R key (key row) rows ≡ None) where
-  pub row_at-put_found : (k : K) (x : X) → row_at R key k rows ≡ Some x → row_at R key k (put R key row rows) ≡ Some x
+  pub row_at-put_found : (k : K) (x : X) → row_at R key k rows ≡ Some x → row_at R key k
+      (with_row R key row rows) ≡ Some x
   row_at-put_found k x found = by (R (key row) k) refl
     where
-      apart : is_eq (R (key row) k) ≡ false → row_at R key k (put R key row rows) ≡ Some x
+      apart : is_eq (R (key row) k) ≡ false → row_at R key k (with_row R key row rows) ≡ Some x
       apart e = row_at-put_other o key k row rows sorted none e ∙ found
 
-      by : (s : Ordering) → R (key row) k ≡ s → row_at R key k (put R key row rows) ≡ Some x
+      by : (s : Ordering) → R (key row) k ≡ s → row_at R key k (with_row R key row rows) ≡ Some x
       by Less e = apart (ap is_eq e)
       by Equal e = let nothing : None ≡ Some x = sym none ∙ row_at_level o key (key row) k rows e ∙ found in cc
       by Greater e = apart (ap is_eq e)
 
-  pub row_at-put_some : (k : K) → IsSome (row_at R key k rows) → IsSome (row_at R key k (put R key row rows))
+  pub row_at-put_some : (k : K) → IsSome (row_at R key k rows) → IsSome (row_at R key k (with_row R key row rows))
   row_at-put_some k some = by (row_at R key k rows) refl some
     where
-      by : (s : Option X) → row_at R key k rows ≡ s → IsSome s → IsSome (row_at R key k (put R key row rows))
+      by : (s : Option X) → row_at R key k rows ≡ s → IsSome s → IsSome (row_at R key k (with_row R key row rows))
       by None e some = absurd (false≢true some)
       by (Some x) e some = subst IsSome (sym (row_at-put_found k x e)) some
 
@@ -279,12 +282,13 @@ different m n h = by (nat_cmp m n) refl
     by Greater e = ap is_eq e
 
 module _ {X : Type 0} (key : X → ℕ) (row : X) (rows : List X) (sorted : IsInOrder nat_cmp key rows)
-    (none : at key (key row) rows ≡ None) where
-  pub at-put_other : (n : ℕ) → key row ≢ n → at key n (put_by key row rows) ≡ at key n rows
+    (none : row_by_number key (key row) rows ≡ None) where
+  pub at-put_other : (n : ℕ) → key row ≢ n → row_by_number key n (put_by key row rows) ≡ row_by_number key n rows
   at-put_other n h = row_at-put_other nat_cmp_total key n row rows sorted none (different (key row) n h)
 
-  pub at-put_found : (n : ℕ) (x : X) → at key n rows ≡ Some x → at key n (put_by key row rows) ≡ Some x
+  pub at-put_found : (n : ℕ) (x : X) → row_by_number key n rows ≡ Some x → row_by_number key n
+      (put_by key row rows) ≡ Some x
   at-put_found = row_at-put_found nat_cmp_total key row rows sorted none
 
-  pub at-put_some : (n : ℕ) → IsSome (at key n rows) → IsSome (at key n (put_by key row rows))
+  pub at-put_some : (n : ℕ) → IsSome (row_by_number key n rows) → IsSome (row_by_number key n (put_by key row rows))
   at-put_some = row_at-put_some nat_cmp_total key row rows sorted none

@@ -2,7 +2,7 @@
 ghost use Rattle.std.specs.Prelude.{◌≡◌, [], None, OnOk, OnErr, IsOk, IsSome, IsTrue};
 ghost use Rattle.std.specs.Option.{option_copied};
 ghost use Rattle.std.specs.Map.Iter.{ShowsInOrder, deref};
-ghost use Rattle.cpi_rows.specs.Keyed.{put, row_at, IsInOrder};
+ghost use Rattle.cpi_rows.specs.Keyed.{with_row, row_at, IsInOrder};
 
 use crate::keyed_row::Keyed;
 use std::alloc::{AllocError, Global};
@@ -70,7 +70,7 @@ impl<T: Keyed> RowsByKey<T> {
     pub fn put(&mut self, row: T) -> Result<(), AllocError>
     where
         T: Drop,
-        ensures ok { OnOk result (self.new ≡ put T.Key.cmp T.key row self.old) }
+        ensures ok { OnOk result (self.new ≡ with_row T.Key.cmp T.key row self.old) }
         ensures err { OnErr result (self.new ≡ self.old) }
         ensures order { IsInOrder T.Key.cmp T.key self.new }
         ensures replaced { IsSome (row_at T.Key.cmp T.key (T.key row) self.old) → IsOk result }

@@ -1,6 +1,6 @@
 //! A row is put in its place.
 ghost use Rattle.std.specs.Prelude.{◌≡◌, OnErr, OnOk, IsSome, IsOk};
-ghost use Rattle.cpi_rows.specs.Keyed.{put, row_at, IsInOrder};
+ghost use Rattle.cpi_rows.specs.Keyed.{with_row, row_at, IsInOrder};
 
 use crate::keyed_row::Keyed;
 use crate::lookup::place_of;
@@ -13,7 +13,7 @@ use std::alloc::AllocError;
 /// Without memory for one more row the rows stay as they are.
 pub fn put_row<T: Keyed + Drop>(rows: &mut Vec<T>, row: T) -> Result<(), AllocError>
     requires { IsInOrder T.Key.cmp T.key rows.old.items }
-    ensures ok { OnOk result (rows.new.items ≡ put T.Key.cmp T.key row rows.old.items) }
+    ensures ok { OnOk result (rows.new.items ≡ with_row T.Key.cmp T.key row rows.old.items) }
     ensures err { OnErr result (rows.new.items ≡ rows.old.items) }
     ensures order { IsInOrder T.Key.cmp T.key rows.new.items }
     ensures replaced { IsSome (row_at T.Key.cmp T.key (T.key row) rows.old.items) → IsOk result }

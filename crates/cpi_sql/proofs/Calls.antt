@@ -7,7 +7,7 @@ use Rattle.sqlite.specs.Effect.{Database}
 use Rattle.sqlite.specs.State.{State, HasCleanDisk}
 use Rattle.cpi_release.specs.State.{State as BookState, Keeps, Reads}
 use Rattle.cpi_release.proofs.PassLemmas.{keeps_more, stays_more}
-use Rattle.cpi_store.specs.Office.{Change, Office, changed}
+use Rattle.cpi_store.specs.Office.{Change, Office, office_with}
 use Rattle.cpi_store.specs.Calls.{Writes}
 use Rattle.cpi_sql_rows.specs.Finding.{IsSettled}
 use Rattle.cpi_sql_rows.specs.Lists.{office_in}
@@ -56,7 +56,7 @@ module _ {change : Change} {fits : Office → Type 0} {A E : Type 0} (old new : 
   left : (r : Result A E) → Written change fits old new r → (IsCleanBook old → HasTables old)
       → (IsCleanBook old → fits (office_in old.now.trees)) → IsCleanBook old → HasCleanDisk new → (o : Office)
       → (office_state new n).may_leave o
-      → (office_state old n).may_leave o ⊎ (o ≡ changed change (office_in old.now.trees))
+      → (office_state old n).may_leave o ⊎ (o ≡ office_with change (office_in old.now.trees))
   left r written tables owed was disk o may = elim (written.crash.crash disk may.0 may.1) [
     | inl before ↦ inl (may.0, before, may.2)
     | inr made ↦ let it = made (tables was) (owed was) in inr (may.2 it.0 ∙ it.1.office)
@@ -68,7 +68,7 @@ module _ {change : Change} {fits : Office → Type 0} {A E : Type 0} (old new : 
         → (HasCleanDisk new → old.in_transaction ≡ false → OnOk put (IsTrue new.is_open))
         → (IsTrue new.is_open → new.in_transaction ≡ false → IsSettled new)
         → Writes (office_state old n) (office_state new m) {T = A} {F = F} (Ok u)
-        (changed change (office_in old.now.trees))
+        (office_with change (office_in old.now.trees))
     puts counted opens settled =
         let done : IsCleanBook new → IsDone change old new = λ clean. let was = written.clean clean in
         on_ok put counted (written.done clean (tables was) (owed was)) in
@@ -88,7 +88,7 @@ module _ {change : Change} {fits : Office → Type 0} {A E : Type 0} (old new : 
         }
 
     pub put_fails : {T G : Type 0} {f : F} (r : Result T G) → IsErr r → IsCounted put (Err f) n m
-        → Writes (office_state old n) (office_state new m) r (changed change (office_in old.now.trees))
+        → Writes (office_state old n) (office_state new m) r (office_with change (office_in old.now.trees))
     put_fails (Ok x) is_err counted = absurd (let no = is_err in cc)
     put_fails (Err e) is_err counted = record {
       was_kept = λ disk. omega (arith, disk, written.crash.clean);

@@ -7,15 +7,16 @@ use Rattle.sqlite.specs.State.{State}
 use Rattle.sqlite.specs.Tree.{Trees}
 use Rattle.sqlite.specs.Effect.{Database}
 use Rattle.cpi_sql_rows.specs.declared.release_rows.Header.{Header}
-use Rattle.cpi_rows.specs.Keyed.{put, row_at}
+use Rattle.cpi_rows.specs.Keyed.{with_row, row_at}
 use Rattle.cpi_rows.proofs.Puts.{row_at-put_found, row_at-put_same}
 use Rattle.cpi_release.specs.FrozenMonths.{ReleaseKey, release_cmp, release_key}
 use Rattle.cpi_release.specs.declared.release.Release.{Release}
-use Rattle.cpi_store.specs.Office.{Office, Change, Freezes, changed}
+use Rattle.cpi_store.specs.Office.{Office, Change, Freezes, office_with}
 use Rattle.cpi_store.proofs.Released.{release_total}
-use Rattle.cpi_sql_rows.specs.HeldTables.{HeldTable, beside, carried_table, frozen_table, level_table, release_in}
+use Rattle.cpi_sql_rows.specs.HeldTables.{HeldTable, row_with_holder, carried_table, frozen_table, level_table}
+use Rattle.cpi_sql_rows.specs.HeldTables.{release_in}
 use Rattle.cpi_sql_rows.specs.Texts.{is_release}
-use Rattle.cpi_sql_writes.specs.ReleaseSteps.{IsNew, ListsStand}
+use Rattle.cpi_sql_writes.specs.ReleaseSteps.{IsNewRevision, ListsStand}
 use Rattle.cpi_sql_rows.specs.Lists.{office_in, releases_in, release_number}
 use Rattle.cpi_sql_rows.specs.Making.{IsOfficeDatabase}
 use Rattle.cpi_sql_rows.specs.Shelf.{AllStand, AllStandFor, AreTaken, HasTables, IsCleanBook, IsDone}
@@ -23,19 +24,19 @@ use Rattle.cpi_sql_rows.specs.Shelf.{IsLook, IsPlanTaken, Takes, WritesTaken, su
 use Rattle.cpi_sql_rows.proofs.Kept.{kept_tables}
 use Rattle.cpi_sql_writes.specs.Written.{Written}
 use Rattle.cpi_sql_reads.specs.Headers.{AreHeadersOf}
-use Rattle.cpi_sql_reads.specs.KeptLists.{AreKept, IsThere}
+use Rattle.cpi_sql_reads.specs.CachedLists.{AreListsCached, IsThere}
 use Rattle.cpi_sql_reads.specs.ReleaseLists.{AreListsOf, IsListOf, ReleaseList}
-use Rattle.cpi_sql_reads.specs.declared.kept_lists.KeptLists.{KeptLists}
+use Rattle.cpi_sql_reads.specs.declared.cached_lists.CachedLists.{CachedLists}
 use Rattle.cpi_sql_reads.proofs.HeaderLists.{header_of, headers_told, releases_ordered}
-use Rattle.cpi_sql.specs.Caches.{AreOf, Caches, IsSound, Stands}
+use Rattle.cpi_sql.specs.Caches.{AreOf, Caches, AreCachesSound, Stands}
 use Rattle.cpi_sql.specs.Calls.{IsCounted}
 use Rattle.cpi_sql.proofs.Counted.{on_err, on_ok}
 
 -- ---- looks
 
 -- a look leaves what is kept as sound as before, where what it read are the tables' rows
-pub look_sound : (old new : State) (c after : Caches) → IsLook old new → IsSound old c
-    → (IsCleanBook new → Stands old c → AreOf old.now.trees after) → IsSound new after
+pub look_sound : (old new : State) (c after : Caches) → IsLook old new → AreCachesSound old c
+    → (IsCleanBook new → Stands old c → AreOf old.now.trees after) → AreCachesSound new after
 look_sound old new c after look sound read = λ clean.
     let before = sound (look.clean clean) in
     let kept = look.kept clean before.tables in
@@ -45,8 +46,9 @@ look_sound old new c after look sound read = λ clean.
     }
 
 -- the same, of a look that reads lists of releases
-pub lists_sound : (old new : State) (c : Caches) (lists : KeptLists) → IsLook old new → IsSound old c
-    → (IsCleanBook new → Stands old c → AreKept old.now.trees lists) → IsSound new (record c { lists = lists })
+pub lists_sound : (old new : State) (c : Caches) (lists : CachedLists) → IsLook old new → AreCachesSound old c
+    → (IsCleanBook new → Stands old c → AreListsCached old.now.trees lists) → AreCachesSound new
+    (record c { lists = lists })
 lists_sound old new c lists look sound read = look_sound old new c _ look sound (λ clean st. record {
   survey = st.kept.survey;
   headers = st.kept.headers;
@@ -54,18 +56,18 @@ lists_sound old new c lists look sound read = look_sound old new c _ look sound 
   samples = st.kept.samples;
 })
 
-pub tables_of : (s : State) (c : Caches) → IsSound s c → IsCleanBook s → HasTables s
+pub tables_of : (s : State) (c : Caches) → AreCachesSound s c → IsCleanBook s → HasTables s
 tables_of s c sound clean = (sound clean).tables
 
 -- ---- writes
 
 -- a write that failed left the rows as they were
-pub kept_sound : {change : Change} {fits : Office → Type 0} {A E F : Type 0} {f : F} {n m : ℕ} {put : Result A E}
-    → (old new : State) (c : Caches) → Written change fits old new put → IsCounted {F = F} put (Err f) n m
-    → IsSound old c → IsSound new c
-kept_sound {put = put} old new c written counted sound = λ clean.
+pub kept_sound : {change : Change} {fits : Office → Type 0} {A E F : Type 0} {f : F} {n m : ℕ} {with_row : Result A E}
+    → (old new : State) (c : Caches) → Written change fits old new with_row → IsCounted {F = F} with_row (Err f) n m
+    → AreCachesSound old c → AreCachesSound new c
+kept_sound {put = with_row} old new c written counted sound = λ clean.
     let before = sound (written.clean clean) in
-    let same = on_err put counted (written.kept clean before.tables) in
+    let same = on_err with_row counted (written.kept clean before.tables) in
     record {
       tables = kept_tables old new same before.tables;
       kept = subst (λ (d : Database). AreOf d.trees c) (sym same.now) before.kept;
@@ -112,7 +114,7 @@ StillThere old new = (key : ReleaseKey) (r : Release) → row_at release_cmp rel
 
 module _ (old new : Trees) (rows : WritesTaken old new) (still : StillThere old new) where
   module _ {X : Type 0} (table : HeldTable X is_release) (listed_by : Release → List X)
-      (takes : Takes (beside release_in table.after) (old table.tree) (new table.tree)) where
+      (takes : Takes (row_with_holder release_in table.after) (old table.tree) (new table.tree)) where
     list_stands : (l : ReleaseList X) → IsListOf table listed_by old l → IsListOf table listed_by new l
     list_stands l was = record {
       release = was.release;
@@ -126,7 +128,7 @@ module _ (old new : Trees) (rows : WritesTaken old new) (still : StillThere old 
     each_stands [] all = tt
     each_stands (l ∷ lists) all = (list_stands l all.0, each_stands lists all.1)
 
-  lists_stand : (lists : KeptLists) → AreKept old lists → AreKept new lists
+  lists_stand : (lists : CachedLists) → AreListsCached old lists → AreListsCached new lists
   lists_stand lists was = record {
     frozen = each_stands frozen_table (λ (r : Release). r.frozen) rows.frozen lists.frozen.items was.frozen;
     carried = each_stands carried_table (λ (r : Release). r.carried) rows.carried lists.carried.items was.carried;
@@ -134,8 +136,8 @@ module _ (old new : Trees) (rows : WritesTaken old new) (still : StillThere old 
   }
 
 -- a release that was put is there, and leaves those as they are that were
-module _ (old new : Trees) (r : Release) (none : IsNew r (office_in old))
-    (put_in : releases_in new ≡ put release_cmp release_key r (releases_in old)) where
+module _ (old new : Trees) (r : Release) (none : IsNewRevision r (office_in old))
+    (put_in : releases_in new ≡ with_row release_cmp release_key r (releases_in old)) where
   put_still : StillThere old new
   put_still key s there = ap (row_at release_cmp release_key key) put_in
       ∙ row_at-put_found release_total release_key r (releases_in old) (releases_ordered old) none key s there
@@ -149,20 +151,20 @@ module _ (old new : Trees) (r : Release) (none : IsNew r (office_in old))
     levels = stand.levels;
   }
 
-module _ {change : Change} {fits : Office → Type 0} {A E F : Type 0} {u : A} {n m : ℕ} {put : Result A E}
-    (old new : State) (c : Caches) (written : Written change fits old new put)
-    (counted : IsCounted {F = F} put (Ok u) n m) (owed : IsCleanBook old → fits (office_in old.now.trees))
-    (sound : IsSound old c) where
+module _ {change : Change} {fits : Office → Type 0} {A E F : Type 0} {u : A} {n m : ℕ} {with_row : Result A E}
+    (old new : State) (c : Caches) (written : Written change fits old new with_row)
+    (counted : IsCounted {F = F} with_row (Ok u) n m) (owed : IsCleanBook old → fits (office_in old.now.trees))
+    (sound : AreCachesSound old c) where
   -- a write of the survey: what is kept of it has the row too, or counts as not read; the samples are dropped
   pub survey_sound : (is_read : Bool) (survey : Office)
-      → ((o : Office) → survey_of (changed change o) ≡ changed change (survey_of o))
-      → ((o : Office) → (changed change o).releases ≡ o.releases)
-      → (IsTrue is_read → IsTrue c.is_read × (survey ≡ changed change c.survey))
-      → IsSound new (record c { is_read = is_read; survey = survey; samples = None })
+      → ((o : Office) → survey_of (office_with change o) ≡ office_with change (survey_of o))
+      → ((o : Office) → (office_with change o).releases ≡ o.releases)
+      → (IsTrue is_read → IsTrue c.is_read × (survey ≡ office_with change c.survey))
+      → AreCachesSound new (record c { is_read = is_read; survey = survey; samples = None })
   survey_sound is_read survey passes still follows = λ clean.
       let was = written.clean clean in
       let st = sound was in
-      let done : IsDone change old new = on_ok put counted (written.done clean st.tables (owed was)) in
+      let done : IsDone change old new = on_ok with_row counted (written.done clean st.tables (owed was)) in
       let same : releases_in new.now.trees ≡ releases_in old.now.trees =
       ap (λ (o : Office). o.releases) done.made.office ∙ still (office_in old.now.trees) in
       record {
@@ -172,7 +174,7 @@ module _ {change : Change} {fits : Office → Type 0} {A E F : Type 0} {u : A} {
               let it = follows t in
               let before = st.kept.survey it.0 in
               record {
-                read = it.1 ∙ ap (changed change) before.read ∙ sym (passes (office_in old.now.trees))
+                read = it.1 ∙ ap (office_with change) before.read ∙ sym (passes (office_in old.now.trees))
                     ∙ sym (ap survey_of done.made.office);
                 taken = survey_taken old.now.trees new.now.trees done.tables.office done.made.rows before.taken;
               };
@@ -184,19 +186,21 @@ module _ {change : Change} {fits : Office → Type 0} {A E F : Type 0} {u : A} {
       }
 
 -- a release: the headers are read again when they are asked for, and its lists are kept
-pub release_sound : {A E F : Type 0} {u : A} {n m : ℕ} {put : Result A E} (r : Release) (old new : State) (c : Caches)
-    → Written (Freezes r) (IsNew r) old new put → IsCounted {F = F} put (Ok u) n m
-    → (IsCleanBook old → IsNew r (office_in old.now.trees))
-    → (IsCleanBook new → HasTables old → IsNew r (office_in old.now.trees) → OnOk put (ListsStand r new.now.trees))
-    → IsSound old c → (headers : List Header) (lists : KeptLists)
-    → ((trees : Trees) → AreKept trees c.lists → IsThere trees r → AreKept trees lists)
-    → IsSound new (record c { has_headers = false; headers = headers; lists = lists; samples = None })
-release_sound {put = put} r old new c written counted owed stands sound headers lists follows = λ clean.
+pub release_sound : {A E F : Type 0} {u : A} {n m : ℕ} {with_row : Result A E} (r : Release) (old new : State)
+    (c : Caches)
+    → Written (Freezes r) (IsNewRevision r) old new with_row → IsCounted {F = F} with_row (Ok u) n m
+    → (IsCleanBook old → IsNewRevision r (office_in old.now.trees))
+    → (IsCleanBook new → HasTables old → IsNewRevision r (office_in old.now.trees) → OnOk with_row
+    (ListsStand r new.now.trees))
+    → AreCachesSound old c → (headers : List Header) (lists : CachedLists)
+    → ((trees : Trees) → AreListsCached trees c.lists → IsThere trees r → AreListsCached trees lists)
+    → AreCachesSound new (record c { has_headers = false; headers = headers; lists = lists; samples = None })
+release_sound {put = with_row} r old new c written counted owed stands sound headers lists follows = λ clean.
     let was = written.clean clean in
     let st = sound was in
     let none = owed was in
-    let done : IsDone (Freezes r) old new = on_ok put counted (written.done clean st.tables none) in
-    let stand : ListsStand r new.now.trees = on_ok put counted (stands clean st.tables none) in
+    let done : IsDone (Freezes r) old new = on_ok with_row counted (written.done clean st.tables none) in
+    let stand : ListsStand r new.now.trees = on_ok with_row counted (stands clean st.tables none) in
     let put_in = ap (λ (o : Office). o.releases) done.made.office in
     let still = put_still old.now.trees new.now.trees r none put_in in
     let there = put_there old.now.trees new.now.trees r none put_in stand in record {

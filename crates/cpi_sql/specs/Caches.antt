@@ -2,14 +2,14 @@
 use Rattle.std.specs.Prelude.{Bool, List, Option, IsTrue}
 use Rattle.sqlite.specs.State.{State}
 use Rattle.sqlite.specs.Tree.{Trees}
-use Rattle.cpi_release.specs.KeptSamples.{Samples}
+use Rattle.cpi_release.specs.CachedSamples.{Samples}
 use Rattle.cpi_store.specs.Office.{Office}
 use Rattle.cpi_sql_rows.specs.declared.release_rows.Header.{Header}
 use Rattle.cpi_sql_rows.specs.Shelf.{HasTables, IsCleanBook, IsSurveyOf}
 use Rattle.cpi_sql_reads.specs.Headers.{AreHeadersOf}
-use Rattle.cpi_sql_reads.specs.KeptLists.{AreKept}
+use Rattle.cpi_sql_reads.specs.CachedLists.{AreListsCached}
 use Rattle.cpi_sql_reads.specs.Samples.{AreSamplesOf}
-use Rattle.cpi_sql_reads.specs.declared.kept_lists.KeptLists.{KeptLists}
+use Rattle.cpi_sql_reads.specs.declared.cached_lists.CachedLists.{CachedLists}
 
 -- the survey and the headers of the releases, where they were read; lists of releases; and the samples of the month
 -- that is being frozen
@@ -18,14 +18,14 @@ pub record Caches : Type 0 where
   pub survey : Office
   pub has_headers : Bool
   pub headers : List Header
-  pub lists : KeptLists
+  pub lists : CachedLists
   pub samples : Option Samples
 
 -- they are what the tables hold
 pub record AreOf (trees : Trees) (c : Caches) : Type 0 where
   pub survey : IsTrue c.is_read → IsSurveyOf trees c.survey
   pub headers : IsTrue c.has_headers → AreHeadersOf trees c.headers
-  pub lists : AreKept trees c.lists
+  pub lists : AreListsCached trees c.lists
   pub samples : AreSamplesOf trees c.samples
 
 -- the tables are the office's, and what is kept is what they hold
@@ -34,5 +34,5 @@ pub record Stands (s : State) (c : Caches) : Type 0 where
   pub kept : AreOf s.now.trees c
 
 -- where the store is clean, what is kept is what the tables hold
-abbrev pub IsSound : State → Caches → Type 0
-IsSound s c = IsCleanBook s → Stands s c
+abbrev pub AreCachesSound : State → Caches → Type 0
+AreCachesSound s c = IsCleanBook s → Stands s c

@@ -6,10 +6,10 @@ use Rattle.sqlite.specs.Tree.{Trees}
 use Rattle.sqlite_trees.specs.declared.store.Store.{Ghosts}
 use Rattle.cpi_release.specs.State.{Reads}
 use Rattle.cpi_store.specs.Office.{Office}
-use Rattle.cpi_sql_reads.specs.Headers.{is_there}
-use Rattle.cpi_sql_rows.specs.Lists.{header_in, headers_in, level_in, release_number}
+use Rattle.cpi_sql_reads.specs.Headers.{is_header_there}
+use Rattle.cpi_sql_rows.specs.Lists.{header_in, headers_in, level_in_row, release_number}
 use Rattle.cpi_sql_rows.specs.Shelf.{AllStand, AllStandOf, IsCleanBook, Shelf, book_state}
-use Rattle.cpi_sql_rows.specs.Tables.{level_2, release_2}
+use Rattle.cpi_sql_rows.specs.Tables.{table_of_levels_2, table_of_releases_2}
 
 -- what was found is answered; or a fault is, and one more failure is counted
 pub record IsCounted {T E F : Type 0} (found : Result T E) (result : Result T F) (before after : ℕ) : Type 0 where
@@ -20,13 +20,13 @@ pub record IsCounted {T E F : Type 0} (found : Result T E) (result : Result T F)
 
 -- the types take each header of a release
 abbrev pub HeadersTaken : Trees → Type 0
-HeadersTaken trees = AllStand header_in (trees release_2.tree)
+HeadersTaken trees = AllStand header_in (trees table_of_releases_2.tree)
 
 -- the types take each header of a release, and each row of the table, if it is published by the moment
 pub record IsTableTaken (month revision until : ℕ) (trees : Trees) : Type 0 where
   pub headers : HeadersTaken trees
-  pub rows : is_there month revision until (headers_in (trees release_2.tree)) ≡ true
-      → AllStandOf level_in (release_number month revision) (trees level_2.tree)
+  pub rows : is_header_there month revision until (headers_in (trees table_of_releases_2.tree)) ≡ true
+      → AllStandOf level_in_row (release_number month revision) (trees table_of_levels_2.tree)
 
 module _ {S : Type 0} (store : Ghosts S) (old new : Shelf S) where
   -- where the book is clean, the rows are as they were

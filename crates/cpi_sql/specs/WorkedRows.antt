@@ -10,14 +10,14 @@ use Rattle.cpi_survey.specs.declared.mark.Reason.TheVariants.{Stock}
 use Rattle.cpi_store.specs.declared.given.Given.{Given}
 use Rattle.cpi_index.specs.Carried.{Carried}
 use Rattle.cpi_release.specs.declared.level.Level.{Level}
-use Rattle.cpi_sql_rows.specs.Lists.{item_in, calendar_in, assignment_in, quote_in, node_in, header_in}
-use Rattle.cpi_sql_rows.specs.Lists.{frozen_in, carried_in, level_in}
+use Rattle.cpi_sql_rows.specs.Lists.{item_in, calendar_in, assignment_in_row, quote_in, node_in, header_in}
+use Rattle.cpi_sql_rows.specs.Lists.{frozen_in, carried_in_row, level_in_row}
 
 -- ---- values. A row is its rowid, and then its columns; where the key is the rowid, its column is NULL
 
 -- a number as a value
-abbrev pub number : ℕ → Value
-number n = Int (pos n)
+abbrev pub worked_number : ℕ → Value
+worked_number n = Int (pos n)
 
 -- a text as a value
 abbrev pub word : List ℕ → Value
@@ -44,7 +44,8 @@ flours = record { division = 1; group = Some 1; class = Some 1; subclass = Some 
 -- a row of an item with these tolerances
 abbrev pub item_row : ℕ → ℕ → Row
 item_row low high =
-    number 1 ∷ word (codes "RICE") ∷ word (codes "Rice, white") ∷ word (codes "1 kg") ∷ number low ∷ number high ∷ []
+    worked_number 1 ∷ word (codes "RICE") ∷ word (codes "Rice, white") ∷ word (codes "1 kg") ∷ worked_number low ∷
+    worked_number high ∷ []
 
 -- which rows are items
 abbrev pub Items : Type 0
@@ -62,29 +63,30 @@ Items =
 -- ---- calendar: January 2026 is month 312
 
 -- a row of the calendar with these moments
-abbrev pub calendar_row : ℕ → ℕ → ℕ → ℕ → Row
-calendar_row month opens closes publishes =
-    number month ∷ Null ∷ number opens ∷ number closes ∷ number publishes ∷ []
+abbrev pub worked_calendar_row : ℕ → ℕ → ℕ → ℕ → Row
+worked_calendar_row month opens closes publishes =
+    worked_number month ∷ Null ∷ worked_number opens ∷ worked_number closes ∷ worked_number publishes ∷ []
 
 -- which rows are of the calendar
 abbrev pub Calendar : Type 0
 Calendar =
-    (calendar_in (calendar_row 202601 1000 2000 3000) ≡ Some (record {
+    (calendar_in (worked_calendar_row 202601 1000 2000 3000) ≡ Some (record {
       month = 312;
       opens = 1000;
       closes = 2000;
       publishes = 3000;
     }))
-    × (calendar_in (calendar_row 202613 1000 2000 3000) ≡ None)
-    × (calendar_in (calendar_row 202600 1000 2000 3000) ≡ None)
-    × (calendar_in (calendar_row 202601 2000 2000 3000) ≡ None)
+    × (calendar_in (worked_calendar_row 202613 1000 2000 3000) ≡ None)
+    × (calendar_in (worked_calendar_row 202600 1000 2000 3000) ≡ None)
+    × (calendar_in (worked_calendar_row 202601 2000 2000 3000) ≡ None)
 
 -- ---- quotes of collector 7: December 2025 is month 311
 
 -- a row of a quote with this mark, value and receipt
 abbrev pub quote_with : List ℕ → ℕ → ℕ → Row
 quote_with mark value receipt =
-    number 5 ∷ number 7 ∷ number 4 ∷ number 202512 ∷ word mark ∷ number value ∷ number receipt ∷ []
+    worked_number 5 ∷ worked_number 7 ∷ worked_number 4 ∷ worked_number 202512 ∷ word mark ∷ worked_number value ∷
+    worked_number receipt ∷ []
 
 -- a row of a quote with this mark and value
 abbrev pub quote_row : List ℕ → ℕ → Row
@@ -117,8 +119,9 @@ Receipts =
 -- a row of an assignment with this series and copied price
 abbrev pub assignment_row : ℕ → ℕ → ℕ → Value → Row
 assignment_row slot series_collector series_slot copied =
-    number 5 ∷ number 7 ∷ number slot ∷ number 10 ∷ word (codes "RICE") ∷ number 202512 ∷ number 202612
-    ∷ number series_collector ∷ number series_slot ∷ copied ∷ []
+    worked_number 5 ∷ worked_number 7 ∷ worked_number slot ∷ worked_number 10 ∷ word (codes "RICE") ∷ worked_number
+    202512 ∷ worked_number 202612
+    ∷ worked_number series_collector ∷ worked_number series_slot ∷ copied ∷ []
 
 -- what a slot was given with this series and copied price
 abbrev pub given_with : SeriesId → Option ℕ → Given
@@ -137,23 +140,24 @@ given_with series copied = record {
 -- a slot with its own series, and one that took over slot 2 of collector 9 with and without a price
 abbrev pub Assignments : Type 0
 Assignments =
-    (assignment_in (assignment_row 400 7 400 Null)
+    (assignment_in_row (assignment_row 400 7 400 Null)
     ≡ Some (7, given_with (record { collector = 7; slot = 400 }) None))
-    × (assignment_in (assignment_row 400 9 2 Null) ≡ Some (7, given_with (record { collector = 9; slot = 2 }) None))
-    × (assignment_in (assignment_row 400 9 2 (number 1250))
+    × (assignment_in_row (assignment_row 400 9 2 Null) ≡ Some (7, given_with (record { collector = 9; slot = 2 }) None))
+    × (assignment_in_row (assignment_row 400 9 2 (worked_number 1250))
     ≡ Some (7, given_with (record { collector = 9; slot = 2 }) (Some 1250)))
-    × (assignment_in (assignment_row 401 7 401 Null) ≡ None)
-    × (assignment_in (assignment_row 400 10000 2 Null) ≡ None)
-    × (assignment_in (assignment_row 400 9 401 Null) ≡ None)
-    × (assignment_in (assignment_row 400 9 2 (number 0)) ≡ None)
-    × (assignment_in (assignment_row 400 9 2 (number 100000001)) ≡ None)
-    × (assignment_in (assignment_row 400 9 2 (word (codes "1250"))) ≡ None)
+    × (assignment_in_row (assignment_row 401 7 401 Null) ≡ None)
+    × (assignment_in_row (assignment_row 400 10000 2 Null) ≡ None)
+    × (assignment_in_row (assignment_row 400 9 401 Null) ≡ None)
+    × (assignment_in_row (assignment_row 400 9 2 (worked_number 0)) ≡ None)
+    × (assignment_in_row (assignment_row 400 9 2 (worked_number 100000001)) ≡ None)
+    × (assignment_in_row (assignment_row 400 9 2 (word (codes "1250"))) ≡ None)
 
 -- ---- nodes
 
 -- a row of a node with this code
 abbrev pub node_row : List ℕ → Row
-node_row code = number 5 ∷ number 2026 ∷ word code ∷ word (codes "Rice, packed") ∷ number 600000 ∷ []
+node_row code = worked_number 5 ∷ worked_number 2026 ∷ word code ∷ word (codes "Rice, packed") ∷ worked_number
+    600000 ∷ []
 
 -- which rows are nodes
 abbrev pub Nodes : Type 0
@@ -166,7 +170,8 @@ Nodes =
 
 -- a row of a header with these aggregates that may be carried
 abbrev pub header_row : List ℕ → Row
-header_row carry = number 5 ∷ number 202601 ∷ number 2 ∷ number 2000 ∷ number 3000 ∷ word carry ∷ []
+header_row carry = worked_number 5 ∷ worked_number 202601 ∷ worked_number 2 ∷ worked_number 2000 ∷ worked_number 3000 ∷
+    word carry ∷ []
 
 -- which rows are headers
 abbrev pub Headers : Type 0
@@ -184,15 +189,16 @@ Headers =
     × (header_in (header_row (codes "01.1.1.1-01  01.1.1.2-01")) ≡ None)
 
 -- a row of a frozen quote with this revision
-abbrev pub frozen_row : ℕ → Row
-frozen_row last =
-    number 5 ∷ number 202601 ∷ number 2 ∷ number 7 ∷ number 1 ∷ word (codes "RICE") ∷ number last ∷ word (codes "price")
-    ∷ number 210 ∷ []
+abbrev pub worked_frozen_row : ℕ → Row
+worked_frozen_row last =
+    worked_number 5 ∷ worked_number 202601 ∷ worked_number 2 ∷ worked_number 7 ∷ worked_number 1 ∷ word (codes "RICE") ∷
+    worked_number last ∷ word (codes "price")
+    ∷ worked_number 210 ∷ []
 
 -- which rows are frozen quotes
 abbrev pub FrozenQuotes : Type 0
 FrozenQuotes =
-    (frozen_in (frozen_row 202612) ≡ Some (
+    (frozen_in (worked_frozen_row 202612) ≡ Some (
       3122,
       record {
         series = record { collector = 7; slot = 1 };
@@ -201,17 +207,18 @@ FrozenQuotes =
         mark = Price 210;
       },
     ))
-    × (frozen_in (frozen_row 202613) ≡ None)
+    × (frozen_in (worked_frozen_row 202613) ≡ None)
 
 -- observed as a replacement, at 3,040,000 ticks for 400
-abbrev pub carried_row : ℕ → Row
-carried_row imputed =
-    number 5 ∷ number 202603 ∷ number 1 ∷ number 7 ∷ number 2 ∷ word (codes "RICE") ∷ number 202612 ∷ number 3040000
-    ∷ number 3040000 ∷ number 400 ∷ number 1 ∷ number imputed ∷ []
+abbrev pub worked_carried_row : ℕ → Row
+worked_carried_row imputed =
+    worked_number 5 ∷ worked_number 202603 ∷ worked_number 1 ∷ worked_number 7 ∷ worked_number 2 ∷ word (codes "RICE") ∷
+    worked_number 202612 ∷ worked_number 3040000
+    ∷ worked_number 3040000 ∷ worked_number 400 ∷ worked_number 1 ∷ worked_number imputed ∷ []
 
 -- the carried price of the row
-abbrev pub carried_price : Carried
-carried_price = record {
+abbrev pub worked_carried_price : Carried
+worked_carried_price = record {
   series = record { collector = 7; slot = 2 };
   item = rice_code;
   last_month = 323;
@@ -225,20 +232,21 @@ carried_price = record {
 -- which rows are carried prices
 abbrev pub CarriedPrices : Type 0
 CarriedPrices =
-    (carried_in (carried_row 0) ≡ Some (3141, carried_price))
-    × (carried_in (carried_row 1) ≡ Some (3141, record carried_price { imputed = true }))
-    × (carried_in (carried_row 2) ≡ None)
+    (carried_in_row (worked_carried_row 0) ≡ Some (3141, worked_carried_price))
+    × (carried_in_row (worked_carried_row 1) ≡ Some (3141, record worked_carried_price { imputed = true }))
+    × (carried_in_row (worked_carried_row 2) ≡ None)
 
 -- a row of a table with this code, weight in use and annual change: 98 points, which is 2.0 percent less than the
 -- month before
-abbrev pub row_of : List ℕ → ℕ → Value → ℕ → Row
-row_of code weight year_change imputed =
-    number 5 ∷ number 202601 ∷ number 2 ∷ word code ∷ word (codes "Flour, wheat") ∷ number weight
-    ∷ number 98000000 ∷ number 98000000 ∷ Int (negsuc 19) ∷ year_change ∷ number imputed ∷ []
+abbrev pub worked_row : List ℕ → ℕ → Value → ℕ → Row
+worked_row code weight year_change imputed =
+    worked_number 5 ∷ worked_number 202601 ∷ worked_number 2 ∷ word code ∷ word (codes "Flour, wheat") ∷
+    worked_number weight
+    ∷ worked_number 98000000 ∷ worked_number 98000000 ∷ Int (negsuc 19) ∷ year_change ∷ worked_number imputed ∷ []
 
 -- the row of the elementary aggregate of flour
-abbrev pub level_row : ℕ → Value → ℕ → Row
-level_row = row_of (codes "01.1.1.2-01")
+abbrev pub worked_level_row : ℕ → Value → ℕ → Row
+worked_level_row = worked_row (codes "01.1.1.2-01")
 
 -- the row of a table with this code, weight and annual change
 abbrev pub level_of : Code → ℕ → Option ℤ → Level
@@ -254,29 +262,29 @@ level_of code weight year_change = record {
 }
 
 -- the same of the elementary aggregate of flour
-abbrev pub level_with : ℕ → Option ℤ → Level
-level_with = level_of flour
+abbrev pub worked_level : ℕ → Option ℤ → Level
+worked_level = level_of flour
 
 -- which rows are rows of a table
 abbrev pub Levels : Type 0
 Levels =
-    (level_in (level_row 400000 Null 0) ≡ Some (3122, level_with 400000 None))
-    × (level_in (level_row 400000 (number 35) 0) ≡ Some (3122, level_with 400000 (Some (pos 35))))
-    × (level_in (level_row 400000 (Int (negsuc 19)) 0) ≡ Some (3122, level_with 400000 (Some (negsuc 19))))
-    × (level_in (level_row 400000 (word (codes "0")) 0) ≡ None)
-    × (level_in (level_row 400000 Null 2) ≡ None)
+    (level_in_row (worked_level_row 400000 Null 0) ≡ Some (3122, worked_level 400000 None))
+    × (level_in_row (worked_level_row 400000 (worked_number 35) 0) ≡ Some (3122, worked_level 400000 (Some (pos 35))))
+    × (level_in_row (worked_level_row 400000 (Int (negsuc 19)) 0) ≡ Some (3122, worked_level 400000 (Some (negsuc 19))))
+    × (level_in_row (worked_level_row 400000 (word (codes "0")) 0) ≡ None)
+    × (level_in_row (worked_level_row 400000 Null 2) ≡ None)
 
 -- the weights in use of an elementary aggregate: 1 to 10^9
 abbrev pub Weights : Type 0
 Weights =
-    (level_in (level_row 1 Null 0) ≡ Some (3122, level_with 1 None))
-    × (level_in (level_row 1000000000 Null 0) ≡ Some (3122, level_with 1000000000 None))
-    × (level_in (level_row 0 Null 0) ≡ None)
-    × (level_in (level_row 1000000001 Null 0) ≡ None)
+    (level_in_row (worked_level_row 1 Null 0) ≡ Some (3122, worked_level 1 None))
+    × (level_in_row (worked_level_row 1000000000 Null 0) ≡ Some (3122, worked_level 1000000000 None))
+    × (level_in_row (worked_level_row 0 Null 0) ≡ None)
+    × (level_in_row (worked_level_row 1000000001 Null 0) ≡ None)
 
 -- the row of the node above that of flour, its subclass
 abbrev pub above_row : ℕ → Row
-above_row weight = row_of (codes "01.1.1.2") weight Null 0
+above_row weight = worked_row (codes "01.1.1.2") weight Null 0
 
 -- what stands in it
 abbrev pub above_with : ℕ → Level
@@ -285,8 +293,8 @@ above_with weight = level_of flours weight None
 -- the sums of weights in use: 1 to 10^15
 abbrev pub SumsOfWeights : Type 0
 SumsOfWeights =
-    (level_in (above_row 1) ≡ Some (3122, above_with 1))
-    × (level_in (above_row 1000000001) ≡ Some (3122, above_with 1000000001))
-    × (level_in (above_row 1000000000000000) ≡ Some (3122, above_with 1000000000000000))
-    × (level_in (above_row 0) ≡ None)
-    × (level_in (above_row 1000000000000001) ≡ None)
+    (level_in_row (above_row 1) ≡ Some (3122, above_with 1))
+    × (level_in_row (above_row 1000000001) ≡ Some (3122, above_with 1000000001))
+    × (level_in_row (above_row 1000000000000000) ≡ Some (3122, above_with 1000000000000000))
+    × (level_in_row (above_row 0) ≡ None)
+    × (level_in_row (above_row 1000000000000001) ≡ None)

@@ -3,22 +3,22 @@ ghost use Rattle.std.specs.Borrow.{sem};
 ghost use Rattle.std.specs.Option.{option_copied};
 ghost use Rattle.std.specs.Prelude.{◌≡◌, MatchResult};
 ghost use Rattle.cpi_codes.specs.Month.{year_of};
-ghost use Rattle.cpi_index.specs.Series.{frozen_serial, is_by_series};
+ghost use Rattle.cpi_index.specs.Series.{frozen_serial, are_by_series};
 ghost use Rattle.cpi_release.specs.FrozenMonths.{frozen_months};
 ghost use Rattle.cpi_release.specs.GroupCalls.{IsAfterFrozen, group_of};
-ghost use Rattle.cpi_release.specs.KeptSamples.{IsFit};
+ghost use Rattle.cpi_release.specs.CachedSamples.{IsFit};
 ghost use Rattle.cpi_release.specs.PublishedTables.{frozen_month_of, published_until};
-ghost use Rattle.cpi_release.specs.Releases.{level_at};
+ghost use Rattle.cpi_release.specs.Releases.{level_at_month};
 ghost use Rattle.cpi_store.specs.Calls.{EndsAs};
-ghost use Rattle.cpi_store.specs.Bearer.{bearer_of, collector_key, collector_of};
-ghost use Rattle.cpi_store.specs.Office.{Office, month_rows as rows_of_month, own_part, public_part};
+ghost use Rattle.cpi_store.specs.Registration.{registration_of, collector_key, collector_of};
+ghost use Rattle.cpi_store.specs.Office.{Office, quotes_of_month, own_part, public_part};
 ghost use Rattle.cpi_store.specs.Sources.{office_sources};
 ghost use Rattle.cpi_store.specs.Tables.{table_until};
-ghost use Rattle.cpi_sql_rows.specs.Common.{⊤, AreTaken, IsTrue, None, OnErr, OnOk, at, book_state, false};
+ghost use Rattle.cpi_sql_rows.specs.Common.{⊤, AreTaken, IsTrue, None, OnErr, OnOk, row_by_number, book_state, false};
 ghost use Rattle.cpi_sql_rows.specs.Common.{held_by, map, option_map, refl, state, true, Some};
 ghost use Rattle.cpi_sql_rows.specs.Finding.{IsSettled};
-ghost use Rattle.cpi_sql_rows.specs.Lists.{level_in};
-ghost use Rattle.cpi_sql_rows.specs.Tables.{level_2};
+ghost use Rattle.cpi_sql_rows.specs.Lists.{level_in_row};
+ghost use Rattle.cpi_sql_rows.specs.Tables.{table_of_levels_2};
 ghost use Rattle.cpi_sql_reads.specs.Headers.{LatestStands};
 ghost use Rattle.cpi_sql_reads.specs.Samples.{SamplesTaken};
 ghost use Rattle.cpi_sql.specs.Calls.{Finds, HeadersTaken, IsCounted, IsTableTaken, KeepsRows, ReadsOffice, RestsOn};
@@ -29,12 +29,12 @@ use cpi_codes::{Code, CollectorId, Key, Moment, Month, OutletId, Slot};
 use cpi_index::{ChainedLevel, FrozenQuote, GroupRow};
 use cpi_plan::{CalendarRow, Item, YearPlan};
 use cpi_release::{
-    Failures, FrozenMonth, GroupFault, Groups, KeptSamples, Level, Release, Revision,
+    CachedSamples, Failures, FrozenMonth, GroupFault, Groups, Level, Release, Revision,
 };
 use cpi_rows::Rows;
 use cpi_sql_open::open_office;
 use cpi_sql_reads::{
-    KeptLists, chained_level, follow_assignment, follow_calendar, follow_collector,
+    CachedLists, chained_level, follow_assignment, follow_calendar, follow_collector,
     follow_handover, follow_item, follow_outlet, follow_plan, follow_quote, follow_release,
     frozen_months, is_there, published_months, read_headers, read_survey, ready_table,
     revision_published, sample_of,
@@ -44,7 +44,9 @@ use cpi_sql_writes::{
     put_assignment, put_calendar, put_collector, put_handover, put_item, put_outlet, put_plan,
     put_quote, put_release,
 };
-use cpi_store::{Bearer, Book, Given, OpenFault, Outlet, Parts, SeriesMove, StoreFault, Survey};
+use cpi_store::{
+    Book, Given, OpenFault, Outlet, Parts, Registration, SeriesMove, StoreFault, Survey,
+};
 use cpi_survey::{Assigned, Own, Public, Quote};
 use sqlite::{Alter, Connection};
 use std::alloc::Global;
@@ -65,9 +67,9 @@ pub struct SqlBook<S: Alter> {
     headers: Vec<Header>,
     has_headers: bool,
     // of earlier releases: what a freeze read or put, and the tables that were asked for
-    lists: KeptLists,
+    lists: CachedLists,
     // the samples of the month that is being frozen; none once anything is written
-    samples: KeptSamples,
+    samples: CachedSamples,
     failed: Failures,
     alloc: Global,
 }
@@ -75,7 +77,7 @@ pub struct SqlBook<S: Alter> {
 impl<S: Alter> Model for SqlBook<S> {
     ghost use Rattle.sqlite.specs.Held.{state};
     ghost use Rattle.cpi_sql_rows.specs.Shelf.{Shelf, shelf_code};
-    ghost use Rattle.cpi_sql.specs.Caches.{IsSound};
+    ghost use Rattle.cpi_sql.specs.Caches.{AreCachesSound};
 
     ghost Value = { Shelf S };
 
@@ -88,7 +90,7 @@ impl<S: Alter> Model for SqlBook<S> {
       failures = b.failed.count;
     } };
 
-    ghost invariant = { λ b. IsSound (state S.Store b.conn) (record {
+    ghost invariant = { λ b. AreCachesSound (state S.Store b.conn) (record {
       is_read = b.is_read;
       survey = b.survey;
       has_headers = b.has_headers;
@@ -128,8 +130,8 @@ impl<S: Alter + Drop> SqlBook<S> {
                 is_read: false,
                 headers: Vec::new(alloc),
                 has_headers: false,
-                lists: KeptLists::none(alloc),
-                samples: KeptSamples::none(),
+                lists: CachedLists::none(alloc),
+                samples: CachedSamples::none(),
                 failed: Failures::none(),
                 alloc,
             }),
@@ -163,7 +165,7 @@ fn counted<T, E: Drop, F: Drop>(
 fn stored<S: Alter>(
     put: Result<(), Unread>,
     conn: &Connection<S>,
-    samples: &mut KeptSamples,
+    samples: &mut CachedSamples,
     failed: &mut Failures,
 ) -> Result<(), StoreFault>
     ensures counted { IsCounted put result failed.old.count failed.new.count }
@@ -258,9 +260,10 @@ impl<S: Alter> Groups for SqlBook<S> {
 
     fn chained(&mut self, month: Month, code: Code) -> Result<Option<ChainedLevel>, GroupFault>
         ensures reads { ReadsOffice S.Store self.old self.new result (λ office level.
-            IsFit (office_sources office) → level ≡ level_at (office_sources office).releases month code) }
+            IsFit (office_sources office) → level ≡ level_at_month (office_sources office).releases month code) }
         ensures headers { RestsOn S.Store self.old self.new result HeadersTaken }
-        ensures rows { RestsOn S.Store self.old self.new result (LatestStands level_in level_2.tree month) }
+        ensures rows { RestsOn S.Store self.old self.new result
+            (LatestStands level_in_row table_of_levels_2.tree month) }
     {
         self.ready_headers().map_err(|_| GroupFault)?;
         let found = chained_level(
@@ -288,20 +291,21 @@ impl<S: Alter> Book for SqlBook<S> {
 
     ghost sound_is = { λ b s. s };
 
-    fn bearer_of(&mut self, key: Key) -> Result<Option<Bearer>, StoreFault>
-        ensures reads { Finds S.Store self.old self.new result (λ office. bearer_of key office.collectors) }
+    fn registration_of(&mut self, key: Key) -> Result<Option<Registration>, StoreFault>
+        ensures reads { Finds S.Store self.old self.new result (λ office. registration_of key office.collectors) }
         ensures taken { RestsOn S.Store self.old self.new result AreTaken }
     {
         self.ready_survey()?;
-        Ok(self.survey.bearer_of(key))
+        Ok(self.survey.registration_of(key))
     }
 
-    fn bearer_at(&mut self, number: CollectorId) -> Result<Option<Bearer>, StoreFault>
-        ensures reads { Finds S.Store self.old self.new result (λ office. at (λ b. b.number) number office.collectors) }
+    fn registration_at(&mut self, number: CollectorId) -> Result<Option<Registration>, StoreFault>
+        ensures reads { Finds S.Store self.old self.new result
+            (λ office. row_by_number (λ b. b.number) number office.collectors) }
         ensures taken { RestsOn S.Store self.old self.new result AreTaken }
     {
         self.ready_survey()?;
-        Ok(self.survey.bearer_at(number))
+        Ok(self.survey.registration_at(number))
     }
 
     fn collector_of(&mut self, key: Key) -> Result<Option<CollectorId>, StoreFault>
@@ -309,7 +313,11 @@ impl<S: Alter> Book for SqlBook<S> {
         ensures taken { RestsOn S.Store self.old self.new result AreTaken }
     {
         self.ready_survey()?;
-        Ok(self.survey.bearer_of(key).map(|bearer| bearer.number))
+        Ok(
+            self.survey
+                .registration_of(key)
+                .map(|registration| registration.number),
+        )
     }
 
     fn collector_key(&mut self, number: CollectorId) -> Result<Option<Key>, StoreFault>
@@ -317,13 +325,17 @@ impl<S: Alter> Book for SqlBook<S> {
         ensures taken { RestsOn S.Store self.old self.new result AreTaken }
     {
         self.ready_survey()?;
-        Ok(self.survey.bearer_at(number).map(|bearer| bearer.key))
+        Ok(
+            self.survey
+                .registration_at(number)
+                .map(|registration| registration.key),
+        )
     }
 
     fn outlet(&mut self, number: OutletId) -> Result<Option<&Outlet>, StoreFault>
         ensures* reads { sem 𝓛 (EndsAs (the_row S.row S.Store) self.entry (λ book.
             ReadsOffice S.Store self.old book result (λ office found.
-            option_copied found ≡ at (λ u. u.number) number office.outlets)
+            option_copied found ≡ row_by_number (λ u. u.number) number office.outlets)
             × RestsOn S.Store self.old book result AreTaken)) }
     {
         self.ready_survey()?;
@@ -360,7 +372,7 @@ impl<S: Alter> Book for SqlBook<S> {
 
     fn given(&mut self, collector: CollectorId, slot: Slot) -> Result<Option<Given>, StoreFault>
         ensures reads { Finds S.Store self.old self.new result (λ office.
-            at (λ g. g.assignment.slot) slot (held_by collector office.assignments)) }
+            row_by_number (λ g. g.assignment.slot) slot (held_by collector office.assignments)) }
         ensures taken { RestsOn S.Store self.old self.new result AreTaken }
     {
         self.ready_survey()?;
@@ -379,7 +391,8 @@ impl<S: Alter> Book for SqlBook<S> {
 
     fn month_rows(&mut self, month: Month) -> Result<Vec<FrozenQuote>, StoreFault>
         ensures reads { ReadsOffice S.Store self.old self.new result (λ office found.
-            is_by_series frozen_serial (rows_of_month month office) ≡ true → found.items ≡ rows_of_month month office) }
+            are_by_series frozen_serial (quotes_of_month month office) ≡ true → found.items ≡ quotes_of_month month
+            office) }
         ensures taken { RestsOn S.Store self.old self.new result AreTaken }
     {
         self.ready_survey()?;
@@ -458,9 +471,9 @@ impl<S: Alter> Book for SqlBook<S> {
         Ok(())
     }
 
-    fn put_collector(&mut self, bearer: Bearer) -> Result<(), StoreFault> {
-        let holder = bearer;
-        let put = put_collector(&mut self.conn, self.alloc, bearer);
+    fn put_collector(&mut self, registration: Registration) -> Result<(), StoreFault> {
+        let holder = registration;
+        let put = put_collector(&mut self.conn, self.alloc, registration);
         stored(put, &self.conn, &mut self.samples, &mut self.failed)?;
         follow_collector(&mut self.survey, &mut self.is_read, holder);
         Ok(())
@@ -473,9 +486,13 @@ impl<S: Alter> Book for SqlBook<S> {
         Ok(())
     }
 
-    fn put_assignment(&mut self, bearer: Bearer, assigned: Assigned) -> Result<(), StoreFault> {
-        let holder = bearer;
-        let put = put_assignment(&mut self.conn, self.alloc, bearer, &assigned);
+    fn put_assignment(
+        &mut self,
+        registration: Registration,
+        assigned: Assigned,
+    ) -> Result<(), StoreFault> {
+        let holder = registration;
+        let put = put_assignment(&mut self.conn, self.alloc, registration, &assigned);
         stored(put, &self.conn, &mut self.samples, &mut self.failed)?;
         follow_assignment(&mut self.survey, &mut self.is_read, holder, assigned);
         Ok(())
@@ -488,9 +505,9 @@ impl<S: Alter> Book for SqlBook<S> {
         Ok(())
     }
 
-    fn put_quote(&mut self, bearer: Bearer, quote: Quote) -> Result<(), StoreFault> {
-        let holder = bearer;
-        let put = put_quote(&mut self.conn, bearer, quote);
+    fn put_quote(&mut self, registration: Registration, quote: Quote) -> Result<(), StoreFault> {
+        let holder = registration;
+        let put = put_quote(&mut self.conn, registration, quote);
         stored(put, &self.conn, &mut self.samples, &mut self.failed)?;
         follow_quote(&mut self.survey, &mut self.is_read, holder, quote);
         Ok(())

@@ -12,7 +12,8 @@ use Rattle.sqlite_trees.specs.View.{is_int}
 use Rattle.sqlite_rules.specs.Lists.{Has}
 use Rattle.sqlite_rules.proofs.ProbeLemmas.{has_mapped, mapped_has}
 use Rattle.cpi_sql_rows.specs.Copies.{AreCopies, contents}
-use Rattle.cpi_sql_rows.specs.Lists.{listed, assignment_in, quote_in, header_in, frozen_in, carried_in, level_in}
+use Rattle.cpi_sql_rows.specs.Lists.{rows_in_key_order, assignment_in_row, quote_in, header_in, frozen_in}
+use Rattle.cpi_sql_rows.specs.Lists.{carried_in_row, level_in_row}
 use Rattle.cpi_sql_rows.specs.Shelf.{IsKeyed}
 use Rattle.cpi_sql_rows.proofs.Listed.{listed_is, listed_in_order, listed_stands, stands_listed}
 use Rattle.cpi_sql_rows.proofs.Reading.{has_permuted}
@@ -51,7 +52,7 @@ levels_fit r id s = s.0 ▸ cast_int (pos 1) ▸ s.1
 abbrev IsOfContents : {X : Type 0} → (Row → Option X) → Type 0
 IsOfContents entry = (r : Row) → entry r ≡ entry (Null ∷ drop 1 r)
 
-pub assignment_contents : IsOfContents assignment_in
+pub assignment_contents : IsOfContents assignment_in_row
 assignment_contents [] = refl
 assignment_contents (v ∷ r) = refl
 
@@ -67,11 +68,11 @@ pub frozen_contents : IsOfContents frozen_in
 frozen_contents [] = refl
 frozen_contents (v ∷ r) = refl
 
-pub carried_contents : IsOfContents carried_in
+pub carried_contents : IsOfContents carried_in_row
 carried_contents [] = refl
 carried_contents (v ∷ r) = refl
 
-pub level_contents : IsOfContents level_in
+pub level_contents : IsOfContents level_in_row
 level_contents [] = refl
 level_contents (v ∷ r) = refl
 
@@ -106,8 +107,9 @@ module _ {X K : Type 0} {R : K → K → Ordering} (o : IsTotalOrder R) (key : X
       keyed a.0 b.0 x y a.1 b.1 (a.2 ∙ er) (b.2 ∙ eq) same
 
   -- the new rows make the list that the old ones did
-  pub copied_list : listed R key entry new ≡ listed R key first old
-  copied_list = sym (listed_is o key entry new (listed R key first old) keyed (listed_in_order o key first old)
+  pub copied_list : rows_in_key_order R key entry new ≡ rows_in_key_order R key first old
+  copied_list = sym (listed_is o key entry new (rows_in_key_order R key first old) keyed
+      (listed_in_order o key first old)
       (λ x h. let it = listed_stands o key first old x h in
       let there = complete it.0 it.1 in (there.0, there.1, there.2 ∙ it.2))
       (λ r x h e. let it = sound r h in stands_listed o key first old x it.0 first_keyed it.1 (sym it.2 ∙ e)))

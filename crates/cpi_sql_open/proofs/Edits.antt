@@ -23,12 +23,12 @@ use Rattle.sqlite_schema.specs.declared.schema.Keys.TheVariants.{Enforced}
 use Rattle.sqlite_rules.specs.Action.{works}
 use Rattle.sqlite_rules.specs.Calls.{ids_of}
 use Rattle.sqlite_rules.proofs.ActionLemmas.{no_works}
-use Rattle.cpi_sql_rows.specs.Tables.{office_schema, version}
+use Rattle.cpi_sql_rows.specs.Tables.{office_schema, table_of_version}
 use Rattle.cpi_sql_rows.proofs.Reading.{Members, members}
 use Rattle.cpi_sql_rows.proofs.Texts.{Makes}
 use Rattle.cpi_sql_rows.proofs.Unchanged.{others_same}
 use Rattle.cpi_sql_rows.proofs.Writing.{as_plain, went, same_value}
-use Rattle.cpi_sql_open.specs.Stages.{Ran, Stage, usual}
+use Rattle.cpi_sql_open.specs.Stages.{RanAtStage, Stage, usual}
 use Rattle.cpi_sql_open.proofs.Frames.{IsLeft}
 use Rattle.cpi_sql_open.proofs.Looks.{overlay_none}
 use Rattle.cpi_sql_open.proofs.Moves.{clears, command, table_at}
@@ -38,8 +38,8 @@ stands : (at : ℕ) → at < length office_schema.tables
     → slice_get office_schema.tables at ≡ Some (as_plain (table_at at))
 stands at less =
     let same : table_at at ≡ as_plain (table_at at) =
-    get_or-map as_plain office_schema.tables at version version less in
-    slice_get-get_or office_schema.tables at version less ∙ ap Some same
+    get_or-map as_plain office_schema.tables at table_of_version table_of_version less in
+    slice_get-get_or office_schema.tables at table_of_version less ∙ ap Some same
 
 -- the statement made the edit, and no other
 pub record Wrote (edit : Edit) (old new : Stage) : Type 0 where
@@ -88,7 +88,7 @@ module _ (at : ℕ) (less : at < length office_schema.tables) (text : List ℕ) 
       }
 
   -- rows are put, each with a rowid that is chosen where it has none
-  pub inserted : (from : Source) → Makes text (Insert at from) → Ran text old new
+  pub inserted : (from : Source) → Makes text (Insert at from) → RanAtStage text old new
       → (rows : List Row) × IsSource (record { schema = office_schema; trees = db }) [] from rows
       × Wrote (edit_of db (as_plain (table_at at)) [] Chosen 0 rows) old new
   inserted from is ran =
@@ -108,7 +108,7 @@ module _ (at : ℕ) (less : at < length office_schema.tables) (text : List ℕ) 
       )
 
   -- each row is taken out
-  pub deleted : Makes text (command (clears at)) → Ran text old new
+  pub deleted : Makes text (command (clears at)) → RanAtStage text old new
       → (found : List Row) × Members [] (col 1 0 ∷ []) (db (table_at at).tree) [] found
       × Wrote (edit_of db (as_plain (table_at at)) (ids_of found) Given 0 []) old new
   deleted is ran =

@@ -13,11 +13,12 @@ use Rattle.sqlite.specs.Tree.{Trees}
 use Rattle.sqlite.proofs.StateLemmas.{survives_then, survives_weaker}
 use Rattle.cpi_sql_rows.specs.Finding.{AreOfYears, ArePlanRows, AreWhole, AsksRowids, AsksYears, HaveFirstRowids}
 use Rattle.cpi_sql_rows.specs.Finding.{HavePlanRowids, HavePlanYears, HaveRowids, IsOfOffice, LooksOver}
-use Rattle.cpi_sql_rows.specs.Read.{Asked}
+use Rattle.cpi_sql_rows.specs.Read.{QueryLeaves}
 use Rattle.cpi_sql_rows.specs.Shelf.{HasRowids, IsCleanBook, StaysOpen}
 use Rattle.cpi_sql_rows.specs.Making.{second_tables}
 use Rattle.cpi_sql_rows.specs.Numbered.{IsVersion}
-use Rattle.cpi_sql_rows.specs.Tables.{first_schema, node, office_schema, plan_item, version}
+use Rattle.cpi_sql_rows.specs.Tables.{first_schema, table_of_nodes, office_schema, table_of_plan_items}
+use Rattle.cpi_sql_rows.specs.Tables.{table_of_version}
 use Rattle.cpi_sql_rows.proofs.FoundTables.{assignment_rowids, calendar_rowids, node_years, plan_item_years}
 use Rattle.cpi_sql_rows.proofs.FoundTables.{quote_rowids, reference_years, release_rowids, schema_after}
 use Rattle.cpi_sql_rows.proofs.FoundTables.{frozen_rowids, carried_rowids, level_rowids, first_assignment_rowids}
@@ -53,12 +54,12 @@ looks_on Fits a b c one opened two = record {
 }
 
 -- a text that asks for years was asked
-pub dated : (text : List ℕ) (a b : State) → Asked text [] a b → (plan : ℕ × ℕ)
+pub dated : (text : List ℕ) (a b : State) → QueryLeaves text [] a b → (plan : ℕ × ℕ)
     → LooksOver (λ s. AsksYears s text plan.0 plan.1) a b
 dated text a b asked plan = looked_over (λ s. AsksYears s text plan.0 plan.1) text a b [] (λ asks. asks.plain) asked
 
 -- a text that asks for rowids was asked
-pub scanned : (text : List ℕ) (a b : State) → Asked text [] a b → (tree : ℕ)
+pub scanned : (text : List ℕ) (a b : State) → QueryLeaves text [] a b → (tree : ℕ)
     → LooksOver (λ s. AsksRowids s text tree) a b
 scanned text a b asked tree = looked_over (λ s. AsksRowids s text tree) text a b [] (λ asks. asks.plain) asked
 
@@ -292,7 +293,7 @@ second_found a b alone test finds = record {
   tables = λ clean number. kept_tables a b (test.kept clean) (found_tables a alone finds.is (test.clean clean).is_open
       finds.live (finds.whole clean) (second_years a.now.trees (finds.years clean))
       (second_rise a.now.trees (finds.rise clean) (finds.years clean))
-      (subst (λ (d : Database). IsVersion 2 (d.trees version.tree)) (test.kept clean).now number));
+      (subst (λ (d : Database). IsVersion 2 (d.trees table_of_version.tree)) (test.kept clean).now number));
   whole = λ clean. subst (λ (d : Database). AreWhole d.trees) (sym (test.kept clean).now) (finds.whole clean);
   years = λ clean. subst (λ (d : Database). HavePlanYears d.trees) (sym (test.kept clean).now)
       (second_years a.now.trees (finds.years clean));
@@ -305,8 +306,8 @@ pub record IsFound (db : Database) : Type 0 where
   pub whole : AreWhole db.trees
   pub plans : HavePlanRowids db.trees
   pub rowids : HaveFirstRowids db.trees
-  pub nodes : AreOfYears 1 (db.trees node.tree)
-  pub places : AreOfYears 1 (db.trees plan_item.tree)
+  pub nodes : AreOfYears 1 (db.trees table_of_nodes.tree)
+  pub places : AreOfYears 1 (db.trees table_of_plan_items.tree)
 
 pub first_found : (a b : State) → IsTest a b → Finds first_wanted a b → IsCleanBook b → IsFound b.now
 first_found a b test finds clean =

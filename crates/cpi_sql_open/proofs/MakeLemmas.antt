@@ -9,7 +9,7 @@ use Rattle.sqlite.specs.State.{State, Survives, HasCleanDisk}
 use Rattle.sqlite.proofs.StateLemmas.{survives_then}
 use Rattle.cpi_sql_rows.specs.Steps.{is_beside}
 use Rattle.cpi_sql_rows.specs.Tables.{first_tables, first_schema, office_schema}
-use Rattle.cpi_sql_rows.specs.Making.{HoldsNothing, IsBlank, IsNew, IsOfficeDatabase, no_schema, second_tables}
+use Rattle.cpi_sql_rows.specs.Making.{HoldsNothing, IsBlank, IsNewDatabase, IsOfficeDatabase, no_schema, second_tables}
 use Rattle.cpi_sql_rows.specs.Lists.{plans_of, years, releases_in}
 use Rattle.cpi_sql_rows.specs.Lists.{collector_in, outlet_in, item_in, calendar_in}
 use Rattle.cpi_sql_rows.specs.Finding.{AreWhole, HavePlanYears}
@@ -17,7 +17,7 @@ use Rattle.cpi_sql_rows.specs.Shelf.{AllStand, HasRowids, HasTables, IsKeyed, Is
 use Rattle.cpi_sql_rows.specs.Texts.{put_version_text}
 use Rattle.cpi_sql_rows.proofs.Found.{none_whole}
 use Rattle.cpi_sql_open.specs.Making.{MakeEach}
-use Rattle.cpi_sql_open.specs.Stages.{Ran, RanEach, Stage, stage_of}
+use Rattle.cpi_sql_open.specs.Stages.{RanAtStage, RanEach, Stage, stage_of}
 use Rattle.cpi_sql_open.proofs.CopiedRows.{no_rowids}
 use Rattle.cpi_sql_open.proofs.Frames.{at_tree}
 use Rattle.cpi_sql_open.proofs.Numbered.{all_there, version_put}
@@ -27,7 +27,7 @@ use Rattle.cpi_sql_open.proofs.Making.{first_texts, second_texts}
 -- ---- the tables of an office are made, and their number is put
 
 blank_made : (a b : Stage) (new : State) → Made no_schema office_schema office_schema.tables a b
-    → Ran put_version_text b (stage_of new) → IsBlank new
+    → RanAtStage put_version_text b (stage_of new) → IsBlank new
 blank_made a b new m ran =
     let empty = at_tree (λ n. b.now.trees n ≡ []) office_schema.tables m.empty in
     let put = version_put b (stage_of new) ran m.inside m.schema (empty 0 refl) in
@@ -60,7 +60,7 @@ all_blank a b c new first second last inside none =
     let two = made_each second_texts second_tables first_schema office_schema b c second_make second one.inside
     one.schema in
     let all = made_then no_schema first_schema office_schema first_tables second_tables a b c refl one two in
-    blank_made a c new all (subst (Ran put_version_text c) last.2 last.1)
+    blank_made a c new all (subst (RanAtStage put_version_text c) last.2 last.1)
 
 -- those of schema 1, and those behind them
 pub some_made : (more : List (List ℕ)) (tables : List Table) (to : Schema) (a b c : Stage) → RanEach first_texts a b
@@ -152,13 +152,13 @@ blank_office s b = rw (
 
 -- what a crash may leave of a making
 pub made_survives : (a b c : State) → Survives a b (λ _. ⊥) → (HasCleanDisk b → a.now.schema ≡ no_schema → IsBlank b)
-    → Survives b c (λ db. db ≡ b.now.trees) → Survives a c (λ db. a.now.schema ≡ no_schema → IsNew db)
+    → Survives b c (λ db. db ≡ b.now.trees) → Survives a c (λ db. a.now.schema ≡ no_schema → IsNewDatabase db)
 made_survives a b c one made two =
     survives_then a b c _ _ _ (λ _ db no. absurd no)
     (λ clean db is none. let disk : HasCleanDisk b = omega (arith, two.clean) in
     let blank = made disk none in
-    subst IsNew (sym is) (record { database = blank_database b blank; office = blank_office b blank })) one two
+    subst IsNewDatabase (sym is) (record { database = blank_database b blank; office = blank_office b blank })) one two
 
 pub unmade_survives : (a b c : State) → Survives a b (λ _. ⊥) → Survives b c (λ _. ⊥)
-    → Survives a c (λ db. a.now.schema ≡ no_schema → IsNew db)
+    → Survives a c (λ db. a.now.schema ≡ no_schema → IsNewDatabase db)
 unmade_survives a b c one two = survives_then a b c _ _ _ (λ _ db no. absurd no) (λ _ db no. absurd no) one two

@@ -15,7 +15,7 @@ use Rattle.cpi_sql_rows.specs.Making.{no_schema, second_tables}
 use Rattle.cpi_sql_rows.specs.Tables.{first_tables, first_schema, office_schema}
 use Rattle.cpi_sql_rows.proofs.Writing.{went, same_value}
 use Rattle.cpi_sql_open.specs.Making.{MakeEach, MakesTable}
-use Rattle.cpi_sql_open.specs.Stages.{Ran, RanEach, Stage, usual}
+use Rattle.cpi_sql_open.specs.Stages.{RanAtStage, RanEach, Stage, usual}
 use Rattle.cpi_sql_open.proofs.Texts.{◌▸◌}
 use Rattle.cpi_sql_open.specs.declared.make.TheConstants.{FIRST_TABLES, SECOND_TABLES}
 
@@ -81,7 +81,7 @@ made_then from mid to ts us a b c is one two =
     }
 
 table_made : (schema : Schema) (text : List ℕ) (table : Table) (old new : Stage) → MakesTable schema text table
-    → Ran text old new → IsTrue old.in_transaction → old.now.schema ≡ schema
+    → RanAtStage text old new → IsTrue old.in_transaction → old.now.schema ≡ schema
     → Made schema (created schema table) (table ∷ []) old new
 table_made schema text table old new m ran inside has =
     let d = ran schema CreateTable refl m.command m.plain inside has in

@@ -16,7 +16,7 @@ use Rattle.cpi_store.specs.declared.given.Given.{Given}
 use Rattle.cpi_survey.specs.Quote.{quote_key}
 use Rattle.cpi_sql_rows.specs.Steps.{is_beside}
 use Rattle.cpi_sql_rows.specs.Tables.{first_schema, first_tables, office_schema}
-use Rattle.cpi_sql_rows.specs.Lists.{assignment_in, carried_in, frozen_in, header_in, header_key, level_in}
+use Rattle.cpi_sql_rows.specs.Lists.{assignment_in_row, carried_in_row, frozen_in, header_in, header_key, level_in_row}
 use Rattle.cpi_sql_rows.specs.Lists.{office_in, quote_in, releases_in}
 use Rattle.cpi_sql_rows.specs.Copies.{HasCopies, assignment_copy, carried_copy, frozen_copy, header_copy, level_copy}
 use Rattle.cpi_sql_rows.specs.Copies.{quote_copy}
@@ -117,9 +117,9 @@ module _ (a b : Stage) (m : Made first_schema office_schema second_tables a b) w
           (headers_keyed new n.sound rowids.headers),
       copied_list (held_total nat_cmp_total) (held_key frozen_serial) frozen_in frozen_contents frozen_copy (old 16)
           (new 28) copied.frozen (frozen_keyed new n.sound rowids.frozen),
-      copied_list (held_total nat_cmp_total) (held_key carried_serial) carried_in carried_contents carried_copy
+      copied_list (held_total nat_cmp_total) (held_key carried_serial) carried_in_row carried_contents carried_copy
           (old 18) (new 30) copied.carried (carried_keyed new n.sound rowids.carried),
-      copied_list (held_total total-law) (held_key (λ (l : Level). l.code)) level_in level_contents level_copy
+      copied_list (held_total total-law) (held_key (λ (l : Level). l.code)) level_in_row level_contents level_copy
           (old 20) (new 32) copied.levels (levels_keyed new n.sound rowids.levels),
     ) refl
 
@@ -132,7 +132,7 @@ module _ (a b : Stage) (m : Made first_schema office_schema second_tables a b) w
       same 8 refl refl,
       same 10 refl refl,
       references,
-      copied_list (held_total nat_cmp_total) (held_key (λ (g : Given). g.assignment.slot)) assignment_in
+      copied_list (held_total nat_cmp_total) (held_key (λ (g : Given). g.assignment.slot)) assignment_in_row
           assignment_contents assignment_copy (old 11) (new 22) copied.assignments
           (assignments_keyed new n.sound survey.assignments),
       copied_list (held_total quote_total) (held_key quote_key) quote_in quote_contents quote_copy (old 13) (new 24)

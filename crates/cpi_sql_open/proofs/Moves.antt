@@ -13,7 +13,7 @@ use Rattle.sqlite.specs.Command.{Command}
 use Rattle.sqlite.specs.Command.TheVariants.{Insert, Delete}
 use Rattle.sqlite.specs.Listing.{understood}
 use Rattle.sqlite_tied.specs.Compute.{everything}
-use Rattle.cpi_sql_rows.specs.Tables.{office_schema, version}
+use Rattle.cpi_sql_rows.specs.Tables.{office_schema, table_of_version}
 use Rattle.cpi_sql_rows.specs.Texts.{put_version_command, whole_query, columns}
 use Rattle.cpi_sql_rows.proofs.Texts.{Makes}
 use Rattle.cpi_sql_open.proofs.Texts.{◌▸◌}
@@ -21,7 +21,7 @@ use Rattle.cpi_sql_open.specs.declared.migrate.TheConstants.{CLEARS, COPIES, NUM
 
 -- the table at this place of the schema
 abbrev pub table_at : ℕ → Table
-table_at at = get_or office_schema.tables at version
+table_at at = get_or office_schema.tables at table_of_version
 
 -- a table of schema 1 whose rows schema 2 has anew, six places behind, and the columns of their copies
 pub record Move : Type 0 where

@@ -6,7 +6,7 @@ use Rattle.sqlite.specs.Does.{Does}
 use Rattle.sqlite.specs.Listing.{understood}
 use Rattle.sqlite.specs.State.{State, Executes, Runs, Writes}
 use Rattle.sqlite.proofs.Callers.{runs_as, statement_of}
-use Rattle.cpi_sql_open.specs.Stages.{Ran, RanEach, Stage, is_write, stage_of, usual}
+use Rattle.cpi_sql_open.specs.Stages.{RanAtStage, RanEach, Stage, is_write, stage_of, usual}
 
 writes : (old new : State) (command : Command) (text : List ℕ) (count : ℕ) → IsTrue (is_write command)
     → Runs old new None command text [] count → Writes old new None command text [] count
@@ -17,7 +17,7 @@ writes old new _ text count write w = absurd cc
 
 -- what was executed within a transaction ran there
 pub executed : (text : List ℕ) (old new : State) (count : ℕ)
-    → (IsTrue old.in_transaction → Executes text [] old new (Ok count)) → Ran text (stage_of old) (stage_of new)
+    → (IsTrue old.in_transaction → Executes text [] old new (Ok count)) → RanAtStage text (stage_of old) (stage_of new)
 executed text old new count ran schema command write is plain inside has =
     let s = statement_of text (understood schema text) in
     let w = writes old new command s count write

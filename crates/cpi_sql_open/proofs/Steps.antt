@@ -24,12 +24,12 @@ use Rattle.sqlite_rules.proofs.RuleLemmas.{keeps_at}
 use Rattle.sqlite_rules.proofs.TableLemmas.{int_is}
 use Rattle.sqlite_value.proofs.OrderLemmas.{value_cmp_total}
 use Rattle.cpi_sql_rows.specs.Steps.{SameBut, is_beside}
-use Rattle.cpi_sql_rows.specs.Tables.{office_schema, version}
+use Rattle.cpi_sql_rows.specs.Tables.{office_schema, table_of_version}
 use Rattle.cpi_sql_rows.specs.Shelf.{HasRowids}
 use Rattle.cpi_sql_rows.specs.Texts.{whole_query}
 use Rattle.cpi_sql_rows.proofs.Distinct.{shown_all}
 use Rattle.cpi_sql_rows.proofs.Reading.{Members, left_has}
-use Rattle.cpi_sql_open.specs.Stages.{Ran, RanEach, Stage}
+use Rattle.cpi_sql_open.specs.Stages.{RanAtStage, RanEach, Stage}
 use Rattle.cpi_sql_open.proofs.CopiedRows.{Copied, cells_of, copies_of, is_office_column, row_settled}
 use Rattle.cpi_sql_open.proofs.Edits.{deleted, inserted}
 use Rattle.cpi_sql_open.proofs.Frames.{IsLeft, left_then}
@@ -106,7 +106,8 @@ abbrev pub After : Step → List Row → List Row → Type 0
 After (copies m) old new = Copied m old new
 After (clears at) old new = HaveNumbers old → new ≡ []
 
-pub step_taken : (text : List ℕ) (s : Step) → IsStep text s → is_good s ≡ true → (old new : Stage) → Ran text old new
+pub step_taken : (text : List ℕ) (s : Step) → IsStep text s → is_good s ≡ true → (old new : Stage) → RanAtStage
+    text old new
     → IsTrue old.in_transaction → old.now.schema ≡ office_schema → Before s (old.now.trees (tree_of s))
     → IsLeft (tree_of s ∷ []) old new × After s (old.now.trees (source_of s)) (new.now.trees (tree_of s))
 step_taken text (copies m) is good old new ran inside has empty =
@@ -116,7 +117,7 @@ step_taken text (copies m) is good old new ran inside has empty =
     let it = inserted (m.at + 6) less text old new inside has (copy_source m) is ran in
     let from = source_of (copies m) in
     let old_table = table_at m.at in
-    let there : Has office_schema.tables old_table = has_at office_schema.tables m.at version early in
+    let there : Has office_schema.tables old_table = has_at office_schema.tables m.at table_of_version early in
     let kept : new.now.trees from ≡ old.now.trees from = it.2.left.others from parts.1 in
     let news = subst (λ l. (new.now.trees (tree_of (copies m)) ≡ put_all l (copies_of m l it.0))
     × (have_rowids (copies_of m l it.0) ≡ true) × (are_fresh l (copies_of m l it.0) ≡ true)) empty

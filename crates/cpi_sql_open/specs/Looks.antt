@@ -7,7 +7,7 @@ use Rattle.sqlite.specs.Table.{Table}
 use Rattle.cpi_sql_rows.specs.Finding.{ArePlanRows, AreWhole, AsksRowids, AsksYears, HavePlanYears, IsOfOffice}
 use Rattle.cpi_sql_rows.specs.Shelf.{HasRowids, HasTables, IsCleanBook, IsKept}
 use Rattle.cpi_sql_rows.specs.Numbered.{IsVersion}
-use Rattle.cpi_sql_rows.specs.Tables.{first_schema, office_schema, version}
+use Rattle.cpi_sql_rows.specs.Tables.{first_schema, office_schema, table_of_version}
 use Rattle.cpi_sql_open.specs.Making.{MakeEach}
 
 -- under the schema, each of the texts asks for the rowids of its tree
@@ -69,7 +69,7 @@ pub record Finds (wanted : Wanted) (old new : State) : Type 0 where
 -- the tables are those of an office, if their number is
 pub record FindsOffice (old new : State) : Type 0 where
   pub schema : old.now.schema ≡ office_schema
-  pub tables : IsCleanBook new → IsVersion 2 (new.now.trees version.tree) → HasTables new
+  pub tables : IsCleanBook new → IsVersion 2 (new.now.trees table_of_version.tree) → HasTables new
   pub whole : IsCleanBook new → AreWhole new.now.trees
   pub years : IsCleanBook new → HavePlanYears new.now.trees
   pub is_open : HasCleanDisk new → IsTrue new.is_open

@@ -8,7 +8,7 @@ use Rattle.sqlite.specs.Listing.{understood}
 use Rattle.sqlite.specs.Schema.{Schema}
 use Rattle.sqlite.specs.Table.{Table}
 use Rattle.sqlite.proofs.Callers.{IsPlain, command_of, statement_of}
-use Rattle.cpi_sql_rows.specs.Making.{placed}
+use Rattle.cpi_sql_rows.specs.Making.{table_behind}
 
 -- under the schema the text makes this table, behind those that are there
 pub record MakesTable (schema : Schema) (text : List ℕ) (table : Table) : Type 0 where
@@ -17,7 +17,7 @@ pub record MakesTable (schema : Schema) (text : List ℕ) (table : Table) : Type
   pub whole : statement_of text (understood schema text) ≡ text
   pub defined : table_defined_by text ≡ Ok (record table { tree = 0 })
   pub counted : lacks_sequence (created schema table) ≡ false
-  pub place : placed schema table ≡ table
+  pub place : table_behind schema table ≡ table
 
 -- the texts make these tables in turn, from the one schema to the other
 abbrev pub MakeEach : List (List ℕ) → List Table → Schema → Schema → Type 0

@@ -6,7 +6,7 @@ use Rattle.cpi_sql_open.specs.declared.version.Version.TheVariants.{First, Secon
 use Rattle.cpi_sql_rows.specs.Numbered.{IsVersion}
 
 -- the rows of `version` say this number, or another
-abbrev pub Says : Version → List Row → Type 0
-Says First rows = IsVersion 1 rows
-Says Second rows = IsVersion 2 rows
-Says Other rows = (IsVersion 1 rows → ⊥) × (IsVersion 2 rows → ⊥)
+abbrev pub SaysVersion : Version → List Row → Type 0
+SaysVersion First rows = IsVersion 1 rows
+SaysVersion Second rows = IsVersion 2 rows
+SaysVersion Other rows = (IsVersion 1 rows → ⊥) × (IsVersion 2 rows → ⊥)

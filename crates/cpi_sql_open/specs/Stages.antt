@@ -43,12 +43,12 @@ pub record Did (schema : Schema) (text : List ℕ) (command : Command) (old new 
   pub mode : new.in_transaction ≡ old.in_transaction
 
 -- within a transaction, the text was run as the statement that it is under the schema
-abbrev pub Ran : List ℕ → Stage → Stage → Type 0
-Ran text old new = (schema : Schema) (command : Command) → IsTrue (is_write command)
+abbrev pub RanAtStage : List ℕ → Stage → Stage → Type 0
+RanAtStage text old new = (schema : Schema) (command : Command) → IsTrue (is_write command)
     → command_of (understood schema text) ≡ command → IsPlain (understood schema text) → IsTrue old.in_transaction
     → old.now.schema ≡ schema → Did schema text command old new
 
 -- one after the other
 abbrev pub RanEach : List (List ℕ) → Stage → Stage → Type 0
 RanEach [] old new = old ≡ new
-RanEach (text ∷ texts) old new = (mid : Stage) × Ran text old mid × RanEach texts mid new
+RanEach (text ∷ texts) old new = (mid : Stage) × RanAtStage text old mid × RanEach texts mid new

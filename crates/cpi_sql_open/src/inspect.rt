@@ -13,7 +13,7 @@ use crate::make::{SECOND_TABLES, make_unnumbered};
 use crate::same::Same;
 use cpi_plan::{CalendarRow, Item};
 use cpi_sql_rows::{Unread, read_all, scan, scan_plans};
-use cpi_store::{Bearer, Outlet};
+use cpi_store::{Outlet, Registration};
 use sqlite::{Alter, Connection, Error};
 use sqlite_trees::memory::MemStore;
 use std::alloc::Global;
@@ -118,7 +118,7 @@ fn read_all_small<S: Alter>(conn: &mut Connection<S>, alloc: Global) -> Result<(
         → IsOfOffice (state S.Store conn.old).now.schema → OnOk result (AreWhole (state S.Store conn.old).now.trees) }
     ensures open { HasCleanDisk (state S.Store conn.new) → OnOk result (IsTrue (state S.Store conn.new).is_open) }
 {
-    let _bearers = read_all::<S, Bearer>(conn, alloc)?;
+    let _registrations = read_all::<S, Registration>(conn, alloc)?;
     let _outlets = read_all::<S, Outlet>(conn, alloc)?;
     let _items = read_all::<S, Item>(conn, alloc)?;
     let _calendar = read_all::<S, CalendarRow>(conn, alloc)?;

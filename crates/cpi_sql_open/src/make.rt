@@ -2,7 +2,7 @@
 ghost use Rattle.std.specs.Prelude.{◌≡◌};
 ghost use Rattle.cpi_sql_rows.specs.Common.{HasCleanDisk, IsTrue, KeepsCommit, OnErr, OnOk, Survives, false};
 ghost use Rattle.cpi_sql_rows.specs.Common.{first_schema, map, state};
-ghost use Rattle.cpi_sql_rows.specs.Making.{IsBlank, IsNew, no_schema};
+ghost use Rattle.cpi_sql_rows.specs.Making.{IsBlank, IsNewDatabase, no_schema};
 ghost use Rattle.cpi_sql_open.specs.Making.{MakeEach};
 
 use crate::perform::perform_each;
@@ -96,7 +96,7 @@ pub fn make_tables<S: Alter>(conn: &mut Connection<S>) -> Result<(), Error>
     ensures undone { HasCleanDisk (state S.Store conn.new) → IsTrue (state S.Store conn.new).is_open
         → OnErr result ((state S.Store conn.new).now ≡ (state S.Store conn.old).now) }
     ensures crash { Survives (state S.Store conn.old) (state S.Store conn.new)
-        (λ db. (state S.Store conn.old).now.schema ≡ no_schema → IsNew db) }
+        (λ db. (state S.Store conn.old).now.schema ≡ no_schema → IsNewDatabase db) }
 {
     settle(conn);
     let mut tx = conn.transaction();

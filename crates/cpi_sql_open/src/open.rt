@@ -1,6 +1,7 @@
 //! An open: the tables are made where there is nothing, and else tested; those of schema 1 are migrated.
 ghost use Rattle.std.specs.Prelude.{◌≡◌};
-ghost use Rattle.cpi_sql_rows.specs.Common.{AreWhole, Err, HasCleanDisk, HasTables, IsCleanBook, IsKept, IsLive, IsTrue};
+ghost use Rattle.cpi_sql_rows.specs.Common.{AreWhole, Err, HasCleanDisk, HasTables, IsCleanBook, IsKept, IsLive};
+ghost use Rattle.cpi_sql_rows.specs.Common.{IsTrue};
 ghost use Rattle.cpi_sql_rows.specs.Common.{OnErr, OnOk, StaysOpen, Survives, false, first_schema, state};
 ghost use Rattle.cpi_sql_rows.specs.Finding.{HavePlanYears, IsMigrated, IsOpened, MayBeMade};
 ghost use Rattle.cpi_sql_rows.specs.Making.{IsOfficeDatabase};

@@ -3,9 +3,9 @@ ghost use Rattle.std.specs.Prelude.{◌≡◌};
 ghost use Rattle.cpi_sql_rows.specs.Common.{[], HasCleanDisk, IfOk, IsCleanBook, IsTrue, KeepsCommit, Shown};
 ghost use Rattle.cpi_sql_rows.specs.Common.{Survives, false, office_schema, state};
 ghost use Rattle.cpi_sql_rows.specs.Numbered.{IsVersion, ShowsOther, version_text};
-ghost use Rattle.cpi_sql_rows.specs.Tables.{version};
+ghost use Rattle.cpi_sql_rows.specs.Tables.{table_of_version};
 ghost use Rattle.cpi_sql_open.specs.declared.version.Version.TheVariants.{Second, Other};
-ghost use Rattle.cpi_sql_open.specs.Said.{Says};
+ghost use Rattle.cpi_sql_open.specs.Said.{SaysVersion};
 
 use cpi_sql_rows::settle;
 use sqlite::{Alter, Connection, Error, Row, Transaction};
@@ -25,7 +25,7 @@ pub enum Version {
 const VERSION: &str = "SELECT number FROM version";
 
 fn said(rows: &[Row]) -> Version
-    ensures { Says result rows.now }
+    ensures { SaysVersion result rows.now }
 {
     let [row] = rows else {
         return Version::Other;
@@ -41,7 +41,8 @@ fn said(rows: &[Row]) -> Version
 pub fn look<S: Alter>(tx: &mut Transaction<'_, S>) -> Result<Version, Error>
     ensures same_reference { tx.new.conn.ghost_name ≡ tx.old.conn.ghost_name }
     ensures shown { HasCleanDisk (state S.Store tx.new.conn.now) → IfOk result (λ v. (rows : _) ×
-        Shown version_text [] (state S.Store tx.old.conn.now) (state S.Store tx.new.conn.now) rows × Says v rows) }
+        Shown version_text [] (state S.Store tx.old.conn.now) (state S.Store tx.new.conn.now) rows × SaysVersion
+        v rows) }
     ensures kept { HasCleanDisk (state S.Store tx.new.conn.now) →
         IsTrue (state S.Store tx.old.conn.now).in_transaction →
         KeepsCommit (state S.Store tx.old.conn.now) (state S.Store tx.new.conn.now) }
@@ -60,7 +61,7 @@ pub fn read_version<S: Alter>(conn: &mut Connection<S>) -> Result<Version, Error
         (state S.Store conn.new).now ≡ (state S.Store conn.old).now }
     ensures second { HasCleanDisk (state S.Store conn.new) → IfOk result (λ v. v ≡ Second →
         (state S.Store conn.old).now.schema ≡ office_schema →
-        IsVersion 2 ((state S.Store conn.old).now.trees version.tree)) }
+        IsVersion 2 ((state S.Store conn.old).now.trees table_of_version.tree)) }
     ensures other { HasCleanDisk (state S.Store conn.new) →
         IfOk result (λ v. v ≡ Other → ShowsOther S.Store conn.old) }
     ensures survives { Survives (state S.Store conn.old) (state S.Store conn.new) (λ _. ⊥) }

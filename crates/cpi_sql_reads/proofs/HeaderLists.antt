@@ -22,27 +22,28 @@ use Rattle.cpi_rows.specs.Keyed.{IsInOrder, row_at}
 use Rattle.cpi_rows.specs.Held.{held_by, held_cmp, held_key}
 use Rattle.cpi_rows.proofs.Found.{row_key}
 use Rattle.cpi_release.specs.FrozenMonths.{ReleaseKey, frozen_month, frozen_months, release_cmp, release_key}
-use Rattle.cpi_release.specs.Latest.{latest}
+use Rattle.cpi_release.specs.Latest.{latest_row}
 use Rattle.cpi_release.specs.PublishedTables.{PublishedTable, asked_table, is_asked, published_table, published_until}
 use Rattle.cpi_release.specs.PublishedTables.{frozen_month_of}
-use Rattle.cpi_release.specs.Releases.{release_of, levels_of}
+use Rattle.cpi_release.specs.Releases.{latest_release, levels_of}
 use Rattle.cpi_release.specs.declared.level.Level.{Level}
 use Rattle.cpi_release.specs.declared.release.Release.{Release}
 use Rattle.cpi_release.proofs.LatestRows.{latest_all}
 use Rattle.cpi_store.proofs.Released.{release_total}
 use Rattle.cpi_store.specs.Tables.{table_until}
-use Rattle.cpi_sql_rows.specs.HeldTables.{HeldTable, OfReleases, beside, level_table, release_in}
+use Rattle.cpi_sql_rows.specs.HeldTables.{HeldTable, OfReleases, row_with_holder, level_table, release_in}
 use Rattle.cpi_sql_rows.specs.Lists.{header_in, header_key, headers_in, frozens_in, carrieds_in, levels_in}
-use Rattle.cpi_sql_rows.specs.Lists.{listed, release_from, release_number, releases_in}
+use Rattle.cpi_sql_rows.specs.Lists.{rows_in_key_order, release_from, release_number, releases_in}
 use Rattle.cpi_sql_rows.specs.Shelf.{AllStandOf}
 use Rattle.cpi_sql_rows.specs.Texts.{is_release}
 use Rattle.cpi_sql_rows.specs.declared.release_rows.Header.{Header}
 use Rattle.cpi_sql_rows.proofs.Listed.{listed_in_order}
 use Rattle.cpi_sql_rows.proofs.Lists.{some_is}
 use Rattle.cpi_sql_rows.proofs.Members.{has_row, row_of}
-use Rattle.cpi_sql_reads.specs.Headers.{has_release, headers_until, is_there, latest_header, months_of, months_until}
-use Rattle.cpi_sql_reads.specs.Headers.{revision_published}
-use Rattle.cpi_sql_reads.specs.ReleaseLists.{AreListsOf, IsAsked, IsLatest, IsListOf, ReleaseList, list_key}
+use Rattle.cpi_sql_reads.specs.Headers.{holds_release, headers_until, is_header_there, latest_header, months_of}
+use Rattle.cpi_sql_reads.specs.Headers.{months_until}
+use Rattle.cpi_sql_reads.specs.Headers.{latest_revision}
+use Rattle.cpi_sql_reads.specs.ReleaseLists.{AreListsOf, IsListOfRelease, IsLatest, IsListOf, ReleaseList, list_key}
 
 -- what a release says beside its lists
 abbrev pub header_of : Release → Header
@@ -62,12 +63,12 @@ levels_at releases key = option_map_or (λ r. r.levels) (row_at release_cmp rele
 
 -- in lists that are made of one another
 latest_mapped : {X Y : Type 0} (part : X → Y) (month_of : Y → ℕ) (month : ℕ) (xs : List X)
-    → latest month_of month (map part xs) ≡ option_map part (latest (λ x. month_of (part x)) month xs)
+    → latest_row month_of month (map part xs) ≡ option_map part (latest_row (λ x. month_of (part x)) month xs)
 latest_mapped part month_of month [] = refl
 latest_mapped {X} {Y} part month_of month (x ∷ xs) =
     ap (λ o. option_or o (if month_of (part x) == month then Some (part x) else None))
     (latest_mapped part month_of month xs)
-    ∙ at (latest (λ z. month_of (part z)) month xs) (month_of (part x) == month)
+    ∙ at (latest_row (λ z. month_of (part z)) month xs) (month_of (part x) == month)
   where
     at : (o : Option X) (b : Bool) → option_or (option_map part o) (if b then Some (part x) else None)
         ≡ option_map part (option_or o (if b then Some x else None))
@@ -81,13 +82,13 @@ or_parts (Some x) p e = absurd (let no : Some x ≡ None = e in cc)
 
 -- a month that one of them is of has a latest
 latest_is : {X : Type 0} (month_of : X → ℕ) (month : ℕ) (xs : List X) (x : X) → Has xs x → month_of x ≡ month
-    → latest month_of month xs ≢ None
+    → latest_row month_of month xs ≢ None
 latest_is month_of month [] x h same e = h
 latest_is month_of month (y ∷ ys) x (inl is) same e =
-    let none = (or_parts (latest month_of month ys) _ e).1 in
+    let none = (or_parts (latest_row month_of month ys) _ e).1 in
     let no : Some y ≡ None = rw (eq-eqb (month_of y) month (ap month_of (sym is) ∙ same)) at none in cc
 latest_is month_of month (y ∷ ys) x (inr h) same e =
-    latest_is month_of month ys x h same (or_parts (latest month_of month ys) _ e).0
+    latest_is month_of month ys x h same (or_parts (latest_row month_of month ys) _ e).0
 
 -- the latest header is one of them, and of the month
 latest_has : (month : ℕ) (headers : List Header) (h : Header) → latest_header month headers ≡ Some h
@@ -103,14 +104,14 @@ key_is a b c d tie = exact_pairs nat_cmp nat_cmp exact_unsigned exact_unsigned (
 
 -- a header that is among them is that of a release that there is
 has_there : (month revision : ℕ) (headers : List Header) (h : Header) → Has headers h
-    → ◌≡◌ {A = ReleaseKey} (header_key h) (month, revision) → has_release month revision headers ≡ true
+    → ◌≡◌ {A = ReleaseKey} (header_key h) (month, revision) → holds_release month revision headers ≡ true
 has_there month revision headers h has key = some_from _ headers h has
     (and_from _ _ (eq-eqb h.month month (ap (λ (k : ReleaseKey). k.0) key))
     (eq-eqb h.revision revision (ap (λ (k : ReleaseKey). k.1) key)))
 
 -- so is the latest of a month
 pub latest_there : (month : ℕ) (headers : List Header) (h : Header) → latest_header month headers ≡ Some h
-    → has_release month h.revision headers ≡ true
+    → holds_release month h.revision headers ≡ true
 latest_there month headers h e =
     let it = latest_has month headers h e in has_there month h.revision headers h it.0 (λ n. (it.1 n, h.revision))
 
@@ -171,13 +172,13 @@ module _ (trees : Trees) where
       ≡ option_map shown (latest_header month (asked_headers revision until headers))
   table_made month revision until =
       ap (asked_table month revision) (tables_made until)
-      ∙ ap (latest (λ (t : PublishedTable). t.month) month)
+      ∙ ap (latest_row (λ (t : PublishedTable). t.month) month)
       (filter_mapped (λ (t : PublishedTable). is_asked revision t.revision) shown (headers_until until headers))
       ∙ latest_mapped shown (λ (t : PublishedTable). t.month) month (asked_headers revision until headers)
 
   pub revision_is : (month until : ℕ)
       → option_map (λ (t : PublishedTable). t.revision) (table_until month None until (releases_in trees))
-      ≡ revision_published month until headers
+      ≡ latest_revision month until headers
   revision_is month until =
       ap (option_map (λ (t : PublishedTable). t.revision)) (table_made month None until)
       ∙ by (latest_header month (asked_headers None until headers))
@@ -220,14 +221,15 @@ module _ (trees : Trees) where
 
   pub table_is : (month revision until : ℕ)
       → option_map (λ (t : PublishedTable). t.levels) (table_until month (Some revision) until (releases_in trees))
-      ≡ (if is_there month revision until headers then Some (levels_at (releases_in trees) (month, revision)) else None)
+      ≡ (if is_header_there month revision until headers then Some (levels_at (releases_in trees) (month, revision))
+      else None)
   table_is month revision until =
       ap (option_map (λ (t : PublishedTable). t.levels)) (table_made month (Some revision) until)
       ∙ by (latest_header month (asked_headers (Some revision) until headers)) refl
-      (is_there month revision until headers) refl
+      (is_header_there month revision until headers) refl
     where
       by : (o : Option Header) → latest_header month (asked_headers (Some revision) until headers) ≡ o
-          → (b : Bool) → is_there month revision until headers ≡ b
+          → (b : Bool) → is_header_there month revision until headers ≡ b
           → option_map (λ (t : PublishedTable). t.levels) (option_map shown o)
           ≡ (if b then Some (levels_at (releases_in trees) (month, revision)) else None)
       by None e false is = refl
@@ -242,7 +244,7 @@ module _ (trees : Trees) where
           let found = latest_has month (asked_headers (Some revision) until headers) h e in
           let asked = has_filtered _ (headers_until until headers) h found.0 in
           let due = has_filtered _ headers h asked.0 in
-          let there : is_there month revision until headers ≡ true = some_from _ headers h due.0
+          let there : is_header_there month revision until headers ≡ true = some_from _ headers h due.0
           (and_from _ _ (eq-eqb h.month month found.1) (and_from _ _ asked.1 due.1)) in
           ap Some (sym (levels_own h due.0)
           ∙ (λ n. levels_at (releases_in trees) (found.1 n, eqb-true h.revision revision asked.1 n)))
@@ -253,7 +255,7 @@ module _ (trees : Trees) where
   -- what it lists
   list_made : {X : Type 0} (list : Release → List X) (month : ℕ) (o : Option Header)
       → latest_header month headers ≡ o
-      → option_map_or list (release_of (releases_in trees) month) [] ≡ option_map_or list (option_map one o) []
+      → option_map_or list (latest_release (releases_in trees) month) [] ≡ option_map_or list (option_map one o) []
   unfolding releases_in
   list_made list month o e =
       ap (λ r. option_map_or list r []) (latest_mapped one (λ (r : Release). r.month) month headers
@@ -264,10 +266,10 @@ module _ (trees : Trees) where
   module _ {X : Type 0} (t : HeldTable X is_release) (list : Release → List X) where
     -- what was read of the rows of a release that there is
     pub list_read : {K : Type 0} {R : K → K → Ordering} {key : X → K} {stands : Row → Option X}
-        → OfReleases R key stands t list → (month revision : ℕ) → has_release month revision headers ≡ true
+        → OfReleases R key stands t list → (month revision : ℕ) → holds_release month revision headers ≡ true
         → (rows : List X) → rows ≡ held_by (release_number month revision)
-        (listed (held_cmp R) (held_key key) (beside release_in t.after) (trees t.tree))
-        → AllStandOf (beside release_in t.after) (release_number month revision) (trees t.tree)
+        (rows_in_key_order (held_cmp R) (held_key key) (row_with_holder release_in t.after) (trees t.tree))
+        → AllStandOf (row_with_holder release_in t.after) (release_number month revision) (trees t.tree)
         → IsListOf t list trees (record { month = month; revision = revision; rows = rows })
     list_read {R = R} {key = key} law month revision e rows is stand =
         let it = some_has _ headers e in
@@ -279,7 +281,8 @@ module _ (trees : Trees) where
               (release_own it.0 it.1);
           rows = is ∙ sym (law.lists trees it.0
               ∙ ap (λ (k : ReleaseKey). held_by (release_number k.0 k.1)
-              (listed (held_cmp R) (held_key key) (beside release_in t.after) (trees t.tree))) same);
+              (rows_in_key_order (held_cmp R) (held_key key) (row_with_holder release_in t.after)
+              (trees t.tree))) same);
           stand = stand;
         }
 
@@ -296,14 +299,14 @@ module _ (trees : Trees) where
           list = is;
           stand = λ g latest.
               let this : h ≡ g = cc in
-              subst (λ (x : Header). AllStandOf (beside release_in t.after) (release_number month x.revision)
-              (trees t.tree)) this (subst (λ (k : ReleaseKey). AllStandOf (beside release_in t.after)
+              subst (λ (x : Header). AllStandOf (row_with_holder release_in t.after) (release_number month x.revision)
+              (trees t.tree)) this (subst (λ (k : ReleaseKey). AllStandOf (row_with_holder release_in t.after)
               (release_number k.0 k.1) (trees t.tree)) key is.stand);
         }
 
     -- it is what was asked for by that header
     pub latest_found : (month : ℕ) (h : Header) → latest_header month headers ≡ Some h
-        → (found : Option (ReleaseList X)) → IsAsked (month, h.revision) headers found
+        → (found : Option (ReleaseList X)) → IsListOfRelease (month, h.revision) headers found
         → IfSome found (IsListOf t list trees) → IsLatest t list trees month found
     latest_found month h e (Some l) key is = latest_list month h e l key is
     latest_found month h e None gone is = absurd (true≢false (sym (latest_there month headers h e) ∙ gone))
@@ -330,7 +333,7 @@ kept_is t list trees lists month revision l all found = (
 
 -- the table that is kept is lent where it is published
 pub table_shown : (trees : Trees) (month revision until : ℕ) (tables : List (ReleaseList Level)) (is : Bool)
-    → is ≡ is_there month revision until (headers_in (trees 26))
+    → is ≡ is_header_there month revision until (headers_in (trees 26))
     → AreListsOf level_table (λ (r : Release). r.levels) trees tables
     → (IsTrue is → IsSome (row_at release_cmp list_key (month, revision) tables))
     → (if is then option_map (λ (l : ReleaseList Level). l.rows)
@@ -352,8 +355,8 @@ table_shown trees month revision until tables is told stand there =
         ∙ ap (levels_at (releases_in trees)) it.1)
 
 -- a table that is published is that of a release
-pub there_has : (month revision until : ℕ) (headers : List Header) → is_there month revision until headers ≡ true
-    → has_release month revision headers ≡ true
+pub there_has : (month revision until : ℕ) (headers : List Header) → is_header_there month revision until headers ≡ true
+    → holds_release month revision headers ≡ true
 there_has month revision until headers is =
     let it = some_has _ headers is in
     let both = and_parts (it.0.month == month) _ it.2 in

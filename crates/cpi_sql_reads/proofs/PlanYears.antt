@@ -2,9 +2,9 @@
 use Rattle.std.proofs.Common.{◌≡◌, ℕ, ◌+◌, ◌-◌, ◌<◌, List, Option, Some, arith, subst}
 use Rattle.sqlite.specs.Order.{Row, column}
 use Rattle.sqlite.specs.Tree.{Trees}
-use Rattle.cpi_sql_rows.specs.Lists.{node_in, place_in, reference_row}
+use Rattle.cpi_sql_rows.specs.Lists.{node_in, place_in_row, reference_month_in_row}
 use Rattle.cpi_sql_rows.specs.Shelf.{AllStandFor, ArePlansTaken, IsPlanTaken, year_in}
-use Rattle.cpi_sql_rows.specs.Tables.{node, plan_item, plan_ref}
+use Rattle.cpi_sql_rows.specs.Tables.{table_of_nodes, table_of_plan_items, table_of_plan_refs}
 use Rattle.cpi_sql_rows.proofs.ReleaseRows.{within_limits}
 
 -- a row of a year that an office can have is one of those years
@@ -21,7 +21,7 @@ each_year place entry rows all year r has is =
 
 pub all_years : (trees : Trees) → ((k : ℕ) → k < 200 → IsPlanTaken (2000 + k) trees) → ArePlansTaken trees
 all_years trees all year = record {
-  nodes = each_year 1 node_in (trees node.tree) (λ k h. (all k h).nodes) year;
-  places = each_year 1 place_in (trees plan_item.tree) (λ k h. (all k h).places) year;
-  references = each_year 0 reference_row (trees plan_ref.tree) (λ k h. (all k h).references) year;
+  nodes = each_year 1 node_in (trees table_of_nodes.tree) (λ k h. (all k h).nodes) year;
+  places = each_year 1 place_in_row (trees table_of_plan_items.tree) (λ k h. (all k h).places) year;
+  references = each_year 0 reference_month_in_row (trees table_of_plan_refs.tree) (λ k h. (all k h).references) year;
 }

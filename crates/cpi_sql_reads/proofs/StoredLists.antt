@@ -3,7 +3,7 @@ use Rattle.std.proofs.Common.{refl}
 use Rattle.sqlite.specs.Tree.{Trees}
 use Rattle.cpi_release.specs.declared.release.Release.{Release}
 use Rattle.cpi_sql_rows.specs.HeldTables.{carried_table, frozen_table, level_table}
-use Rattle.cpi_sql_reads.specs.KeptLists.{IsThere}
+use Rattle.cpi_sql_reads.specs.CachedLists.{IsThere}
 use Rattle.cpi_sql_reads.specs.ReleaseLists.{IsListOf}
 
 module _ (trees : Trees) (r : Release) (it : IsThere trees r) where

@@ -8,8 +8,8 @@ use Rattle.cpi_sql_reads.specs.ReleaseLists.{IsLatest, IsListOf, ReleaseList}
 use Rattle.cpi_sql_reads.specs.declared.groups.EarlierLists.{EarlierLists}
 
 -- the rows of a list, if there is one
-abbrev pub carried_rows : Option (ReleaseList Carried) → List Carried
-carried_rows found = option_map_or (λ l. l.rows) found []
+abbrev pub rows_of_list : Option (ReleaseList Carried) → List Carried
+rows_of_list found = option_map_or (λ l. l.rows) found []
 
 -- the carried prices of the month before, where that isn't the link month
 pub record IsBefore (trees : Trees) (link last : ℕ) (found : Option (ReleaseList Carried)) : Type 0 where

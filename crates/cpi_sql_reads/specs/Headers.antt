@@ -3,17 +3,17 @@ use Rattle.std.specs.Prelude.{◌≡◌, ℕ, ◌==◌, ◌&&◌, nat_le, Bool, 
 use Rattle.std.specs.List.{list_any}
 use Rattle.sqlite.specs.Order.{Row}
 use Rattle.sqlite.specs.Tree.{Trees}
-use Rattle.cpi_release.specs.Latest.{latest}
+use Rattle.cpi_release.specs.Latest.{latest_row}
 use Rattle.cpi_release.specs.declared.frozen_month.FrozenMonth.{FrozenMonth}
 use Rattle.cpi_sql_rows.specs.declared.release_rows.Header.{Header}
 use Rattle.cpi_sql_rows.specs.Lists.{header_in, headers_in, release_number}
 use Rattle.cpi_sql_rows.specs.Shelf.{AllStand, AllStandOf}
-use Rattle.cpi_sql_rows.specs.Tables.{release_2}
+use Rattle.cpi_sql_rows.specs.Tables.{table_of_releases_2}
 
 -- what the rows of the releases say beside their lists, each of which the types take
 pub record AreHeadersOf (trees : Trees) (headers : List Header) : Type 0 where
-  pub read : headers ≡ headers_in (trees release_2.tree)
-  pub taken : AllStand header_in (trees release_2.tree)
+  pub read : headers ≡ headers_in (trees table_of_releases_2.tree)
+  pub taken : AllStand header_in (trees table_of_releases_2.tree)
 
 -- the frozen month of a header
 abbrev pub header_month : Header → FrozenMonth
@@ -33,23 +33,24 @@ months_until until headers = months_of (headers_until until headers)
 
 -- the header of the latest release of a month
 abbrev pub latest_header : ℕ → List Header → Option Header
-latest_header month headers = latest (λ h. h.month) month headers
+latest_header month headers = latest_row (λ h. h.month) month headers
 
 -- each row of the month's latest release stands for something, in the table with that tree
 abbrev pub LatestStands : {X : Type 0} → (Row → Option X) → ℕ → ℕ → Trees → Type 0
-LatestStands entry tree month trees = (h : Header) → latest_header month (headers_in (trees release_2.tree)) ≡ Some h →
+LatestStands entry tree month trees = (h : Header) → latest_header month (headers_in (trees table_of_releases_2.tree))
+    ≡ Some h →
     AllStandOf entry (release_number month h.revision) (trees tree)
 
 -- the latest revision whose moment of publishing has come
-abbrev pub revision_published : ℕ → ℕ → List Header → Option ℕ
-revision_published month until headers = option_map (λ h. h.revision)
+abbrev pub latest_revision : ℕ → ℕ → List Header → Option ℕ
+latest_revision month until headers = option_map (λ h. h.revision)
     (latest_header month (headers_until until headers))
 
 -- whether there is that release
-abbrev pub has_release : ℕ → ℕ → List Header → Bool
-has_release month revision headers = list_any (λ h. (h.month == month) && (h.revision == revision)) headers
+abbrev pub holds_release : ℕ → ℕ → List Header → Bool
+holds_release month revision headers = list_any (λ h. (h.month == month) && (h.revision == revision)) headers
 
 -- whether the month's table is published in that revision
-abbrev pub is_there : ℕ → ℕ → ℕ → List Header → Bool
-is_there month revision until headers =
+abbrev pub is_header_there : ℕ → ℕ → ℕ → List Header → Bool
+is_header_there month revision until headers =
     list_any (λ h. (h.month == month) && ((h.revision == revision) && nat_le h.publishes until)) headers

@@ -1,7 +1,7 @@
 pub mod Earlier
 pub mod Following
 pub mod Headers
-pub mod KeptLists
+pub mod CachedLists
 pub mod ReleaseLists
 pub mod Samples
 pub mod Tells

@@ -5,14 +5,14 @@ use Rattle.std.specs.Option.{option_map_or}
 use Rattle.sqlite.specs.Tree.{Trees}
 use Rattle.cpi_rows.specs.Keyed.{row_at}
 use Rattle.cpi_release.specs.FrozenMonths.{ReleaseKey, release_cmp, release_key}
-use Rattle.cpi_release.specs.Releases.{release_of}
+use Rattle.cpi_release.specs.Releases.{latest_release}
 use Rattle.cpi_release.specs.declared.release.Release.{Release}
-use Rattle.cpi_sql_rows.specs.HeldTables.{HeldTable, beside, release_in}
+use Rattle.cpi_sql_rows.specs.HeldTables.{HeldTable, row_with_holder, release_in}
 use Rattle.cpi_sql_rows.specs.Lists.{release_number, releases_in}
 use Rattle.cpi_sql_rows.specs.Shelf.{AllStandOf}
 use Rattle.cpi_sql_rows.specs.Texts.{is_release}
 use Rattle.cpi_sql_rows.specs.declared.release_rows.Header.{Header}
-use Rattle.cpi_sql_reads.specs.Headers.{LatestStands, has_release}
+use Rattle.cpi_sql_reads.specs.Headers.{LatestStands, holds_release}
 
 -- the rows of a list of a release
 pub record ReleaseList (X : Type 0) : Type 0 where
@@ -25,9 +25,9 @@ abbrev pub list_key : {X : Type 0} → ReleaseList X → ReleaseKey
 list_key l = (l.month, l.revision)
 
 -- it is that of the release, or there is no such release
-abbrev pub IsAsked : {X : Type 0} → ReleaseKey → List Header → Option (ReleaseList X) → Type 0
-IsAsked key headers (Some l) = list_key l ≡ key
-IsAsked key headers None = has_release key.0 key.1 headers ≡ false
+abbrev pub IsListOfRelease : {X : Type 0} → ReleaseKey → List Header → Option (ReleaseList X) → Type 0
+IsListOfRelease key headers (Some l) = list_key l ≡ key
+IsListOfRelease key headers None = holds_release key.0 key.1 headers ≡ false
 
 -- a table, and what a release lists of its rows
 module _ {X : Type 0} (table : HeldTable X is_release) (listed_by : Release → List X) (trees : Trees) where
@@ -36,7 +36,8 @@ module _ {X : Type 0} (table : HeldTable X is_release) (listed_by : Release → 
     pub release : Release
     pub there : row_at release_cmp release_key (list_key l) (releases_in trees) ≡ Some release
     pub rows : l.rows ≡ listed_by release
-    pub stand : AllStandOf (beside release_in table.after) (release_number l.month l.revision) (trees table.tree)
+    pub stand : AllStandOf (row_with_holder release_in table.after) (release_number l.month l.revision)
+        (trees table.tree)
 
   -- each is so
   abbrev pub AreListsOf : List (ReleaseList X) → Type 0
@@ -44,6 +45,7 @@ module _ {X : Type 0} (table : HeldTable X is_release) (listed_by : Release → 
 
   -- it is the list of the month's latest release, each of whose rows the types take; none where it has no release
   pub record IsLatest (month : ℕ) (found : Option (ReleaseList X)) : Type 0 where
-    pub rows : option_map_or (λ l. l.rows) found [] ≡ option_map_or listed_by (release_of (releases_in trees) month) []
+    pub rows : option_map_or (λ l. l.rows) found [] ≡ option_map_or listed_by
+        (latest_release (releases_in trees) month) []
     pub list : IfSome found IsListOf
-    pub stand : LatestStands (beside release_in table.after) table.tree month trees
+    pub stand : LatestStands (row_with_holder release_in table.after) table.tree month trees

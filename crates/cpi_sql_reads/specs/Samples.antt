@@ -2,25 +2,25 @@
 use Rattle.std.specs.Prelude.{◌≤◌, ◌-◌, ⊤, ℕ, IsSome, Option, Some, None}
 use Rattle.sqlite.specs.Tree.{Trees}
 use Rattle.cpi_codes.specs.Month.{year_of}
-use Rattle.cpi_rows.specs.Keyed.{at}
-use Rattle.cpi_release.specs.KeptSamples.{AreGroupsOf, Samples}
+use Rattle.cpi_rows.specs.Keyed.{row_by_number}
+use Rattle.cpi_release.specs.CachedSamples.{AreGroupsOf, Samples}
 use Rattle.cpi_release.specs.Releases.{link_month}
 use Rattle.cpi_store.specs.Sources.{office_sources}
-use Rattle.cpi_sql_rows.specs.Lists.{carried_in, frozen_in, office_in}
-use Rattle.cpi_sql_rows.specs.Tables.{carried_2, frozen_2}
+use Rattle.cpi_sql_rows.specs.Lists.{carried_in_row, frozen_in, office_in}
+use Rattle.cpi_sql_rows.specs.Tables.{table_of_carried_2, table_of_frozen_2}
 use Rattle.cpi_sql_reads.specs.Headers.{LatestStands}
 
 -- each row that the samples of a month are made from stands for something: the carried prices and the frozen quotes of
 -- its link month, and the carried prices of the month before
 pub record SamplesStand (month : ℕ) (trees : Trees) : Type 0 where
-  pub link_carried : LatestStands carried_in carried_2.tree (link_month month) trees
-  pub link_frozen : LatestStands frozen_in frozen_2.tree (link_month month) trees
-  pub last_carried : LatestStands carried_in carried_2.tree (month - 1) trees
+  pub link_carried : LatestStands carried_in_row table_of_carried_2.tree (link_month month) trees
+  pub link_frozen : LatestStands frozen_in table_of_frozen_2.tree (link_month month) trees
+  pub last_carried : LatestStands carried_in_row table_of_carried_2.tree (month - 1) trees
 
 -- they do where the month has samples: it is not of the first year, and its year has a plan
 abbrev pub SamplesTaken : ℕ → Trees → Type 0
 SamplesTaken month trees =
-    12 ≤ month → IsSome (at (λ p. p.year) (year_of month) (office_in trees).plans) → SamplesStand month trees
+    12 ≤ month → IsSome (row_by_number (λ p. p.year) (year_of month) (office_in trees).plans) → SamplesStand month trees
 
 -- the samples that are kept, if any are, are those of the tables, whose rows the types take
 abbrev pub AreSamplesOf : Trees → Option Samples → Type 0

@@ -5,7 +5,7 @@ use Rattle.sqlite.specs.Store.{Ghosts}
 use Rattle.sqlite.specs.Tree.{Trees}
 use Rattle.cpi_sql_rows.specs.Lists.{headers_in}
 use Rattle.cpi_sql_rows.specs.Shelf.{HasTables, IsCleanBook}
-use Rattle.cpi_sql_rows.specs.Tables.{release_2}
+use Rattle.cpi_sql_rows.specs.Tables.{table_of_releases_2}
 use Rattle.cpi_sql_rows.specs.declared.release_rows.Header.{Header}
 
 -- what is known of them
@@ -20,7 +20,7 @@ Tells store old new result Told = Knows store old new (λ trees. IfOk result (To
 -- the same by the headers of all releases
 abbrev pub KnowsBy : {S : Type 0} → List Header → Ghosts S → Held S → Held S → (Trees → Type 0) → Type 0
 KnowsBy headers store old new Told =
-    Knows store old new (λ trees. headers ≡ headers_in (trees release_2.tree) → Told trees)
+    Knows store old new (λ trees. headers ≡ headers_in (trees table_of_releases_2.tree) → Told trees)
 
 abbrev pub TellsBy : {S A E : Type 0} → List Header → Ghosts S → Held S → Held S → Result A E
     → (Trees → A → Type 0) → Type 0

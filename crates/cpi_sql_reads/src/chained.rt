@@ -1,18 +1,18 @@
 //! The chained levels of earlier months, read a table at a time.
 ghost use Rattle.std.specs.Prelude.{◌≡◌};
 ghost use Rattle.cpi_release.specs.FrozenMonths.{release_cmp};
-ghost use Rattle.cpi_release.specs.Releases.{level_at};
+ghost use Rattle.cpi_release.specs.Releases.{level_at_month};
 ghost use Rattle.cpi_sql_rows.specs.Common.{row_at, state, IfOk, IsSome, IsTrue, Looks, OnOk};
-ghost use Rattle.cpi_sql_rows.specs.Lists.{level_in, releases_in};
-ghost use Rattle.cpi_sql_rows.specs.Tables.{level_2};
-ghost use Rattle.cpi_sql_reads.specs.Headers.{LatestStands, has_release};
-ghost use Rattle.cpi_sql_reads.specs.KeptLists.{AreKept};
+ghost use Rattle.cpi_sql_rows.specs.Lists.{level_in_row, releases_in};
+ghost use Rattle.cpi_sql_rows.specs.Tables.{table_of_levels_2};
+ghost use Rattle.cpi_sql_reads.specs.Headers.{LatestStands, holds_release};
+ghost use Rattle.cpi_sql_reads.specs.CachedLists.{AreListsCached};
 ghost use Rattle.cpi_sql_reads.specs.ReleaseLists.{list_key};
 ghost use Rattle.cpi_sql_reads.specs.Tells.{KnowsBy};
 
+use crate::cached_list::{keep_found, rows_in};
+use crate::cached_lists::{CachedLists, MOST_TABLES};
 use crate::earlier::{latest_list, list_at};
-use crate::kept_list::{keep_found, rows_in};
-use crate::kept_lists::{KeptLists, MOST_TABLES};
 use cpi_codes::{Code, Month};
 use cpi_index::ChainedLevel;
 use cpi_release::Revision;
@@ -26,14 +26,14 @@ pub fn ready_table<S: Alter>(
     conn: &mut Connection<S>,
     alloc: Global,
     headers: &[Header],
-    lists: &mut KeptLists,
+    lists: &mut CachedLists,
     month: Month,
     revision: Revision,
 ) -> Result<(), Unread>
     ensures look { Looks (state S.Store conn.old) (state S.Store conn.new) result }
     ensures kept { KnowsBy headers.now S.Store conn.old conn.new (λ trees.
-        AreKept trees lists.old → AreKept trees lists.new) }
-    ensures ready { OnOk result (IsTrue (has_release month revision headers.now) →
+        AreListsCached trees lists.old → AreListsCached trees lists.new) }
+    ensures ready { OnOk result (IsTrue (holds_release month revision headers.now) →
         IsSome (row_at release_cmp list_key (month, revision) lists.new.levels.items)) }
 {
     let found = list_at(conn, alloc, headers, &mut lists.levels, month, revision)?;
@@ -46,17 +46,17 @@ pub fn chained_level<S: Alter>(
     conn: &mut Connection<S>,
     alloc: Global,
     headers: &[Header],
-    lists: &mut KeptLists,
+    lists: &mut CachedLists,
     month: Month,
     code: Code,
 ) -> Result<Option<ChainedLevel>, Unread>
     ensures look { Looks (state S.Store conn.old) (state S.Store conn.new) result }
     ensures kept { KnowsBy headers.now S.Store conn.old conn.new (λ trees.
-        AreKept trees lists.old → AreKept trees lists.new) }
-    ensures read { KnowsBy headers.now S.Store conn.old conn.new (λ trees. AreKept trees lists.old →
-        IfOk result (λ level. level ≡ level_at (releases_in trees) month code)) }
-    ensures taken { KnowsBy headers.now S.Store conn.old conn.new (λ trees. AreKept trees lists.old →
-        OnOk result (LatestStands level_in level_2.tree month trees)) }
+        AreListsCached trees lists.old → AreListsCached trees lists.new) }
+    ensures read { KnowsBy headers.now S.Store conn.old conn.new (λ trees. AreListsCached trees lists.old →
+        IfOk result (λ level. level ≡ level_at_month (releases_in trees) month code)) }
+    ensures taken { KnowsBy headers.now S.Store conn.old conn.new (λ trees. AreListsCached trees lists.old →
+        OnOk result (LatestStands level_in_row table_of_levels_2.tree month trees)) }
 {
     let found = latest_list(conn, alloc, headers, &mut lists.levels, month)?;
     let level = find_row(rows_in(&found), &code).map(|level| level.chained);

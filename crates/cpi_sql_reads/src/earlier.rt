@@ -1,11 +1,11 @@
 //! What a month reads of the latest release of an earlier month.
 ghost use Rattle.std.specs.Prelude.{◌≡◌};
 ghost use Rattle.cpi_sql_rows.specs.Common.{state, IfOk, IfSome, Looks, OnOk};
-ghost use Rattle.cpi_sql_reads.specs.ReleaseLists.{AreListsOf, IsAsked, IsLatest, IsListOf};
+ghost use Rattle.cpi_sql_reads.specs.ReleaseLists.{AreListsOf, IsListOfRelease, IsLatest, IsListOf};
 ghost use Rattle.cpi_sql_reads.specs.Tells.{KnowsBy};
 
+use crate::cached_list::{CachedList, take_list};
 use crate::headers::{has_release, header_of};
-use crate::kept_list::{KeptList, take_list};
 use crate::releases::{ReleaseRow, rows_of_release};
 use cpi_codes::Month;
 use cpi_release::Revision;
@@ -20,12 +20,12 @@ pub fn list_at<S: Alter, T: ReleaseRow>(
     conn: &mut Connection<S>,
     alloc: Global,
     headers: &[Header],
-    lists: &mut Vec<KeptList<T>>,
+    lists: &mut Vec<CachedList<T>>,
     month: Month,
     revision: Revision,
-) -> Result<Option<KeptList<T>>, Unread>
+) -> Result<Option<CachedList<T>>, Unread>
     ensures look { Looks (state S.Store conn.old) (state S.Store conn.new) result }
-    ensures asked { IfOk result (IsAsked (month, revision) headers.now) }
+    ensures asked { IfOk result (IsListOfRelease (month, revision) headers.now) }
     ensures left { (trees : _) → AreListsOf T.table T.listed_by trees lists.old.items →
         AreListsOf T.table T.listed_by trees lists.new.items }
     ensures read { KnowsBy headers.now S.Store conn.old conn.new (λ trees.
@@ -39,7 +39,7 @@ pub fn list_at<S: Alter, T: ReleaseRow>(
         return Ok(None);
     }
     let rows = rows_of_release(conn, alloc, month, revision)?;
-    Ok(Some(KeptList::new(month, revision, Rows::of(rows))))
+    Ok(Some(CachedList::new(month, revision, Rows::of(rows))))
 }
 
 /// The list of the month's latest release, taken out of those that are kept, or read; none where it has none. Rows of a
@@ -48,9 +48,9 @@ pub fn latest_list<S: Alter, T: ReleaseRow>(
     conn: &mut Connection<S>,
     alloc: Global,
     headers: &[Header],
-    lists: &mut Vec<KeptList<T>>,
+    lists: &mut Vec<CachedList<T>>,
     month: Month,
-) -> Result<Option<KeptList<T>>, Unread>
+) -> Result<Option<CachedList<T>>, Unread>
     ensures look { Looks (state S.Store conn.old) (state S.Store conn.new) result }
     ensures left { (trees : _) → AreListsOf T.table T.listed_by trees lists.old.items →
         AreListsOf T.table T.listed_by trees lists.new.items }

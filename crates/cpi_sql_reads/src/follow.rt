@@ -3,11 +3,11 @@
 ghost use Rattle.std.specs.Prelude.{IsTrue};
 ghost use Rattle.cpi_store.specs.Office.{Assigns, HandsOver, PutsCalendar, PutsItem, PutsOutlet, PutsPlan, Quotes};
 ghost use Rattle.cpi_store.specs.Office.{Registers};
-ghost use Rattle.cpi_sql_reads.specs.Following.{CanPass, CanTake, Follows, HasOutlet};
+ghost use Rattle.cpi_sql_reads.specs.Following.{CanPass, CanTake, Follows, HasNamedOutlet};
 
 use cpi_codes::CollectorId;
 use cpi_plan::{CalendarRow, Item, YearPlan};
-use cpi_store::{Bearer, Outlet, SeriesMove, Survey};
+use cpi_store::{Outlet, Registration, SeriesMove, Survey};
 use cpi_survey::{Assigned, Quote};
 
 /// Puts an item.
@@ -32,12 +32,12 @@ pub fn follow_calendar(survey: &mut Survey, is_read: &mut bool, row: CalendarRow
 }
 
 /// Puts a collector.
-pub fn follow_collector(survey: &mut Survey, is_read: &mut bool, bearer: Bearer)
-    ensures { Follows (Registers bearer) survey.old survey.new is_read.old is_read.new }
+pub fn follow_collector(survey: &mut Survey, is_read: &mut bool, registration: Registration)
+    ensures { Follows (Registers registration) survey.old survey.new is_read.old is_read.new }
 {
-    *is_read = survey.bearer_at(bearer.number).is_none()
-        && survey.bearer_of(bearer.key).is_none()
-        && survey.put_collector(bearer).is_ok()
+    *is_read = survey.registration_at(registration.number).is_none()
+        && survey.registration_of(registration.key).is_none()
+        && survey.put_collector(registration).is_ok()
         && *is_read;
 }
 
@@ -52,7 +52,7 @@ pub fn follow_outlet(survey: &mut Survey, is_read: &mut bool, outlet: Outlet)
 
 // Whether the outlet is there, and the name is its own.
 fn has_outlet(survey: &Survey, assigned: &Assigned) -> bool
-    ensures { IsTrue result → HasOutlet survey.now assigned.now }
+    ensures { IsTrue result → HasNamedOutlet survey.now assigned.now }
 {
     match survey.outlet(assigned.assignment.outlet) {
         Some(outlet) => outlet.name.is_same(&assigned.outlet_name),
@@ -64,7 +64,7 @@ fn has_outlet(survey: &Survey, assigned: &Assigned) -> bool
 fn can_take(survey: &Survey, collector: CollectorId, assigned: &Assigned) -> bool
     ensures { IsTrue result → CanTake survey.now collector assigned.now }
 {
-    survey.bearer_at(collector).is_some()
+    survey.registration_at(collector).is_some()
         && survey.given(collector, assigned.assignment.slot).is_none()
         && has_outlet(survey, assigned)
 }
@@ -73,13 +73,13 @@ fn can_take(survey: &Survey, collector: CollectorId, assigned: &Assigned) -> boo
 pub fn follow_assignment(
     survey: &mut Survey,
     is_read: &mut bool,
-    bearer: Bearer,
+    registration: Registration,
     assigned: Assigned,
 )
-    ensures { Follows (Assigns bearer assigned) survey.old survey.new is_read.old is_read.new }
+    ensures { Follows (Assigns registration assigned) survey.old survey.new is_read.old is_read.new }
 {
-    *is_read = can_take(survey, bearer.number, &assigned)
-        && survey.put_assignment(bearer, assigned).is_ok()
+    *is_read = can_take(survey, registration.number, &assigned)
+        && survey.put_assignment(registration, assigned).is_ok()
         && *is_read;
 }
 
@@ -99,11 +99,16 @@ pub fn follow_handover(survey: &mut Survey, is_read: &mut bool, handover: Series
 }
 
 /// Puts a quote of a collector.
-pub fn follow_quote(survey: &mut Survey, is_read: &mut bool, bearer: Bearer, quote: Quote)
-    ensures { Follows (Quotes bearer quote) survey.old survey.new is_read.old is_read.new }
+pub fn follow_quote(
+    survey: &mut Survey,
+    is_read: &mut bool,
+    registration: Registration,
+    quote: Quote,
+)
+    ensures { Follows (Quotes registration quote) survey.old survey.new is_read.old is_read.new }
 {
-    *is_read = survey.bearer_at(bearer.number).is_some()
-        && survey.own(bearer.number).greatest_receipt() < quote.receipt
-        && survey.put_quote(bearer, quote).is_ok()
+    *is_read = survey.registration_at(registration.number).is_some()
+        && survey.own(registration.number).greatest_receipt() < quote.receipt
+        && survey.put_quote(registration, quote).is_ok()
         && *is_read;
 }

@@ -2,23 +2,23 @@
 ghost use Rattle.std.specs.Prelude.{◌≡◌, ◌≤◌, ◌-◌, ◌==◌, if◌then◌else◌};
 ghost use Rattle.cpi_codes.specs.Month.{year_of};
 ghost use Rattle.cpi_release.specs.GroupCalls.{group_of};
-ghost use Rattle.cpi_release.specs.KeptSamples.{AreGroupsOf, IsFit};
+ghost use Rattle.cpi_release.specs.CachedSamples.{AreGroupsOf, IsFit};
 ghost use Rattle.cpi_release.specs.Releases.{link_month};
 ghost use Rattle.cpi_store.specs.Sources.{office_sources};
-ghost use Rattle.cpi_sql_rows.specs.Common.{at, state, survey_of, IfOk, Looks, OnOk, Some};
+ghost use Rattle.cpi_sql_rows.specs.Common.{row_by_number, state, survey_of, IfOk, Looks, OnOk, Some};
 ghost use Rattle.cpi_sql_rows.specs.Lists.{office_in};
-ghost use Rattle.cpi_sql_reads.specs.Earlier.{AreEarlier, IsBefore, carried_rows};
-ghost use Rattle.cpi_sql_reads.specs.KeptLists.{AreKept};
+ghost use Rattle.cpi_sql_reads.specs.Earlier.{AreEarlier, IsBefore, rows_of_list};
+ghost use Rattle.cpi_sql_reads.specs.CachedLists.{AreListsCached};
 ghost use Rattle.cpi_sql_reads.specs.Samples.{AreSamplesOf, SamplesStand, SamplesTaken};
 ghost use Rattle.cpi_sql_reads.specs.Tells.{KnowsBy};
 
+use crate::cached_list::{CachedList, keep_found, rows_in};
+use crate::cached_lists::{CachedLists, MOST_LISTS};
 use crate::earlier::latest_list;
-use crate::kept_list::{KeptList, keep_found, rows_in};
-use crate::kept_lists::{KeptLists, MOST_LISTS};
 use cpi_codes::{Code, Month};
 use cpi_index::{CarriedPrice, FrozenQuote, GroupRow};
 use cpi_plan::YearPlan;
-use cpi_release::{KeptSamples, groups_after};
+use cpi_release::{CachedSamples, groups_after};
 use cpi_sql_rows::{Header, Unread};
 use cpi_store::Survey;
 use sqlite::{Alter, Connection};
@@ -27,10 +27,10 @@ use std::alloc::Global;
 /// The lists of earlier months that a month's samples are made from.
 #[derive(Drop)]
 pub struct EarlierLists {
-    link_carried: Option<KeptList<CarriedPrice>>,
-    link_frozen: Option<KeptList<FrozenQuote>>,
+    link_carried: Option<CachedList<CarriedPrice>>,
+    link_frozen: Option<CachedList<FrozenQuote>>,
     // none where that month is the link month
-    last_carried: Option<KeptList<CarriedPrice>>,
+    last_carried: Option<CachedList<CarriedPrice>>,
 }
 
 // The carried prices of the month before, where that isn't the link month.
@@ -38,13 +38,13 @@ fn carried_before<S: Alter>(
     conn: &mut Connection<S>,
     alloc: Global,
     headers: &[Header],
-    lists: &mut KeptLists,
+    lists: &mut CachedLists,
     link: Month,
     last: Month,
-) -> Result<Option<KeptList<CarriedPrice>>, Unread>
+) -> Result<Option<CachedList<CarriedPrice>>, Unread>
     ensures look { Looks (state S.Store conn.old) (state S.Store conn.new) result }
-    ensures left { (trees : _) → AreKept trees lists.old → AreKept trees lists.new }
-    ensures read { KnowsBy headers.now S.Store conn.old conn.new (λ trees. AreKept trees lists.old →
+    ensures left { (trees : _) → AreListsCached trees lists.old → AreListsCached trees lists.new }
+    ensures read { KnowsBy headers.now S.Store conn.old conn.new (λ trees. AreListsCached trees lists.old →
         IfOk result (IsBefore trees link last)) }
 {
     if last != link {
@@ -58,13 +58,13 @@ fn earlier_lists<S: Alter>(
     conn: &mut Connection<S>,
     alloc: Global,
     headers: &[Header],
-    lists: &mut KeptLists,
+    lists: &mut CachedLists,
     link: Month,
     last: Month,
 ) -> Result<EarlierLists, Unread>
     ensures look { Looks (state S.Store conn.old) (state S.Store conn.new) result }
-    ensures left { (trees : _) → AreKept trees lists.old → AreKept trees lists.new }
-    ensures read { KnowsBy headers.now S.Store conn.old conn.new (λ trees. AreKept trees lists.old →
+    ensures left { (trees : _) → AreListsCached trees lists.old → AreListsCached trees lists.new }
+    ensures read { KnowsBy headers.now S.Store conn.old conn.new (λ trees. AreListsCached trees lists.old →
         IfOk result (AreEarlier trees link last)) }
 {
     let last_carried = carried_before(conn, alloc, headers, lists, link, last)?;
@@ -78,9 +78,9 @@ fn earlier_lists<S: Alter>(
 }
 
 // Keeps the lists, those of the link month behind those of the month before.
-fn keep_earlier(lists: &mut KeptLists, earlier: EarlierLists) -> Result<(), Unread>
-    ensures { (trees link last : _) → AreKept trees lists.old → AreEarlier trees link last earlier →
-        AreKept trees lists.new }
+fn keep_earlier(lists: &mut CachedLists, earlier: EarlierLists) -> Result<(), Unread>
+    ensures { (trees link last : _) → AreListsCached trees lists.old → AreEarlier trees link last earlier →
+        AreListsCached trees lists.new }
 {
     keep_found(&mut lists.carried, earlier.last_carried, MOST_LISTS)?;
     keep_found(&mut lists.carried, earlier.link_carried, MOST_LISTS)?;
@@ -89,7 +89,7 @@ fn keep_earlier(lists: &mut KeptLists, earlier: EarlierLists) -> Result<(), Unre
 
 // The carried prices of the month before.
 fn rows_before(earlier: &EarlierLists, link: Month, last: Month) -> &[CarriedPrice]
-    ensures { result.now ≡ carried_rows (if last == link then earlier.now.link_carried
+    ensures { result.now ≡ rows_of_list (if last == link then earlier.now.link_carried
         else earlier.now.last_carried) }
 {
     if last == link {
@@ -105,7 +105,7 @@ fn samples<S: Alter>(
     conn: &mut Connection<S>,
     alloc: Global,
     headers: &[Header],
-    lists: &mut KeptLists,
+    lists: &mut CachedLists,
     plan: &YearPlan,
     link: Month,
     last: Month,
@@ -114,12 +114,13 @@ fn samples<S: Alter>(
 ) -> Result<Vec<Vec<GroupRow>>, Unread>
     ensures look { Looks (state S.Store conn.old) (state S.Store conn.new) result }
     ensures kept { KnowsBy headers.now S.Store conn.old conn.new (λ trees.
-        AreKept trees lists.old → AreKept trees lists.new) }
-    ensures read { KnowsBy headers.now S.Store conn.old conn.new (λ trees. AreKept trees lists.old →
+        AreListsCached trees lists.old → AreListsCached trees lists.new) }
+    ensures read { KnowsBy headers.now S.Store conn.old conn.new (λ trees. AreListsCached trees lists.old →
         let sources = office_sources (office_in trees) in
-        at (λ p. p.year) (year_of month) sources.plans ≡ Some plan.now → link ≡ link_month month → last ≡ month - 1 →
+        row_by_number (λ p. p.year) (year_of month) sources.plans ≡ Some plan.now → link ≡ link_month month → last ≡
+        month - 1 →
         (IsFit sources → quotes.now ≡ sources.quotes month) → IfOk result (λ v. AreGroupsOf sources month v.items)) }
-    ensures stand { KnowsBy headers.now S.Store conn.old conn.new (λ trees. AreKept trees lists.old →
+    ensures stand { KnowsBy headers.now S.Store conn.old conn.new (λ trees. AreListsCached trees lists.old →
         link ≡ link_month month → last ≡ month - 1 → OnOk result (SamplesStand month trees)) }
 {
     let earlier = earlier_lists(conn, alloc, headers, lists, link, last)?;
@@ -141,17 +142,17 @@ fn month_samples<S: Alter>(
     conn: &mut Connection<S>,
     alloc: Global,
     headers: &[Header],
-    lists: &mut KeptLists,
+    lists: &mut CachedLists,
     survey: &Survey,
     month: Month,
 ) -> Result<Vec<Vec<GroupRow>>, Unread>
     ensures look { Looks (state S.Store conn.old) (state S.Store conn.new) result }
     ensures kept { KnowsBy headers.now S.Store conn.old conn.new (λ trees.
-        AreKept trees lists.old → AreKept trees lists.new) }
-    ensures read { KnowsBy headers.now S.Store conn.old conn.new (λ trees. AreKept trees lists.old →
+        AreListsCached trees lists.old → AreListsCached trees lists.new) }
+    ensures read { KnowsBy headers.now S.Store conn.old conn.new (λ trees. AreListsCached trees lists.old →
         survey.now ≡ survey_of (office_in trees) →
         IfOk result (λ v. AreGroupsOf (office_sources (office_in trees)) month v.items)) }
-    ensures taken { KnowsBy headers.now S.Store conn.old conn.new (λ trees. AreKept trees lists.old →
+    ensures taken { KnowsBy headers.now S.Store conn.old conn.new (λ trees. AreListsCached trees lists.old →
         survey.now ≡ survey_of (office_in trees) → OnOk result (SamplesTaken month trees)) }
 {
     let (Some(plan), Some(link), Some(last)) = (survey.plan_of(month), month.link(), month.prev())
@@ -171,22 +172,22 @@ pub fn sample_of<S: Alter>(
     conn: &mut Connection<S>,
     alloc: Global,
     headers: &[Header],
-    lists: &mut KeptLists,
+    lists: &mut CachedLists,
     survey: &Survey,
-    samples: &mut KeptSamples,
+    samples: &mut CachedSamples,
     month: Month,
     code: Code,
 ) -> Result<Vec<GroupRow>, Unread>
     ensures look { Looks (state S.Store conn.old) (state S.Store conn.new) result }
     ensures lists { KnowsBy headers.now S.Store conn.old conn.new (λ trees.
-        AreKept trees lists.old → AreKept trees lists.new) }
-    ensures kept { KnowsBy headers.now S.Store conn.old conn.new (λ trees. AreKept trees lists.old →
+        AreListsCached trees lists.old → AreListsCached trees lists.new) }
+    ensures kept { KnowsBy headers.now S.Store conn.old conn.new (λ trees. AreListsCached trees lists.old →
         survey.now ≡ survey_of (office_in trees) → AreSamplesOf trees samples.old → AreSamplesOf trees samples.new) }
-    ensures read { KnowsBy headers.now S.Store conn.old conn.new (λ trees. AreKept trees lists.old →
+    ensures read { KnowsBy headers.now S.Store conn.old conn.new (λ trees. AreListsCached trees lists.old →
         let sources = office_sources (office_in trees) in
         survey.now ≡ survey_of (office_in trees) → AreSamplesOf trees samples.old → IsFit sources → 12 ≤ month →
         IfOk result (λ v. v.items ≡ group_of sources month code)) }
-    ensures taken { KnowsBy headers.now S.Store conn.old conn.new (λ trees. AreKept trees lists.old →
+    ensures taken { KnowsBy headers.now S.Store conn.old conn.new (λ trees. AreListsCached trees lists.old →
         survey.now ≡ survey_of (office_in trees) → AreSamplesOf trees samples.old →
         OnOk result (SamplesTaken month trees)) }
 {

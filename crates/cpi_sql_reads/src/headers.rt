@@ -2,8 +2,8 @@
 ghost use Rattle.std.specs.Prelude.{◌≡◌, ◌==◌, ◌&&◌};
 ghost use Rattle.std.specs.Option.{option_copied};
 ghost use Rattle.cpi_sql_rows.specs.Common.{nat_le, IfOk};
-ghost use Rattle.cpi_sql_reads.specs.Headers.{has_release as release_in, header_month, is_there as there_in};
-ghost use Rattle.cpi_sql_reads.specs.Headers.{latest_header, months_of, months_until, revision_published as latest_in};
+ghost use Rattle.cpi_sql_reads.specs.Headers.{holds_release, header_month, is_header_there};
+ghost use Rattle.cpi_sql_reads.specs.Headers.{latest_header, months_of, months_until, latest_revision};
 
 use cpi_codes::{Moment, Month};
 use cpi_release::{FrozenMonth, Revision};
@@ -49,14 +49,14 @@ pub fn header_of(headers: &[Header], month: Month) -> Option<&Header>
 
 /// Whether there is that release.
 pub fn has_release(headers: &[Header], month: Month, revision: Revision) -> bool
-    ensures { result ≡ release_in month revision headers.now }
+    ensures { result ≡ holds_release month revision headers.now }
 {
     headers.iter().any(|header| header.month == month && header.revision == revision)
 }
 
 /// The latest revision of the month whose table is published by the moment.
 pub fn revision_published(headers: &[Header], month: Month, until: Moment) -> Option<Revision>
-    ensures { result ≡ latest_in month until headers.now }
+    ensures { result ≡ latest_revision month until headers.now }
 {
     let is_due = |header: &&Header| header.publishes <= until && header.month == month;
     let latest = headers.iter().rev().find(is_due);
@@ -65,7 +65,7 @@ pub fn revision_published(headers: &[Header], month: Month, until: Moment) -> Op
 
 /// Whether the month's table in the revision is published by the moment.
 pub fn is_there(headers: &[Header], month: Month, revision: Revision, until: Moment) -> bool
-    ensures { result ≡ there_in month revision until headers.now }
+    ensures { result ≡ is_header_there month revision until headers.now }
 {
     headers.iter().any(|header| {
         header.month == month && header.revision == revision && header.publishes <= until

@@ -1,17 +1,18 @@
 //! What is read of the tables of an office, and what is kept of them in memory.
 #![tactic(auto)]
 
+mod cached_list;
+mod cached_lists;
 mod chained;
 mod earlier;
 mod follow;
 mod groups;
 mod headers;
-mod kept_list;
-mod kept_lists;
 mod releases;
 mod survey;
 mod years;
 
+pub use cached_lists::{CachedLists, follow_release};
 pub use chained::{chained_level, ready_table};
 pub use follow::{
     follow_assignment, follow_calendar, follow_collector, follow_handover, follow_item,
@@ -19,6 +20,5 @@ pub use follow::{
 };
 pub use groups::sample_of;
 pub use headers::{frozen_months, is_there, published_months, revision_published};
-pub use kept_lists::{KeptLists, follow_release};
 pub use releases::read_headers;
 pub use survey::read_survey;

@@ -4,9 +4,9 @@ ghost use Rattle.cpi_release.specs.FrozenMonths.{release_cmp};
 ghost use Rattle.cpi_release.specs.declared.release.Release.{Release as Released};
 ghost use Rattle.cpi_sql_rows.specs.Common.{List, held_by, held_cmp, held_key, state, AllStandOf, HasCleanDisk};
 ghost use Rattle.cpi_sql_rows.specs.Common.{HasTables, IfOk, IsInOrder, IsTrue, Looks, OnOk, Survives, refl};
-ghost use Rattle.cpi_sql_rows.specs.HeldTables.{HeldTable, OfReleases, beside, release_in};
+ghost use Rattle.cpi_sql_rows.specs.HeldTables.{HeldTable, OfReleases, row_with_holder, release_in};
 ghost use Rattle.cpi_sql_rows.specs.HeldTables.{carried_table, frozen_table, level_table};
-ghost use Rattle.cpi_sql_rows.specs.Lists.{header_key, listed, release_number};
+ghost use Rattle.cpi_sql_rows.specs.Lists.{header_key, rows_in_key_order, release_number};
 ghost use Rattle.cpi_sql_rows.specs.Texts.{is_release};
 ghost use Rattle.cpi_sql_reads.specs.Headers.{AreHeadersOf};
 ghost use Rattle.cpi_sql_reads.specs.Tells.{Tells};
@@ -106,10 +106,10 @@ pub fn rows_of_release<S: Alter, T: ReleaseRow>(
 ) -> Result<Vec<T>, Unread>
     ensures look { Looks (state S.Store conn.old) (state S.Store conn.new) result }
     ensures read { Tells S.Store conn.old conn.new result (λ trees xs.
-        xs.items ≡ held_by (release_number month revision) (listed (held_cmp T.Key.cmp) (held_key T.key)
-        (beside release_in T.table.after) (trees T.table.tree))) }
+        xs.items ≡ held_by (release_number month revision) (rows_in_key_order (held_cmp T.Key.cmp) (held_key T.key)
+        (row_with_holder release_in T.table.after) (trees T.table.tree))) }
     ensures stand { Tells S.Store conn.old conn.new result (λ trees _.
-        AllStandOf (beside release_in T.table.after) (release_number month revision) (trees T.table.tree)) }
+        AllStandOf (row_with_holder release_in T.table.after) (release_number month revision) (trees T.table.tree)) }
     ensures order { IfOk result (λ xs. IsInOrder T.Key.cmp T.key xs.items) }
 {
     let month = month_number(month);

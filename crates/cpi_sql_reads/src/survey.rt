@@ -32,12 +32,12 @@ pub fn read_survey<S: Alter>(conn: &mut Connection<S>, alloc: Global) -> Result<
     ensures read { Tells S.Store conn.old conn.new result IsSurveyOf }
 {
     let public = read_public(conn, alloc)?;
-    let bearers = read_all(conn, alloc)?;
+    let registrations = read_all(conn, alloc)?;
     let read: Vec<Outlet> = read_all(conn, alloc)?;
     let outlets = by_key(alloc, read)?;
     let given = read_all(conn, alloc)?;
     let quotes = all_quotes(conn, alloc)?;
-    match Survey::from_rows(alloc, public, bearers, outlets, &given, &quotes) {
+    match Survey::from_rows(alloc, public, registrations, outlets, &given, &quotes) {
         Some(survey) => Ok(survey),
         None => Err(Unread),
     }

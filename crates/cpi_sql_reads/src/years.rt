@@ -6,11 +6,12 @@ ghost use Rattle.cpi_plan.specs.Stored.{plan_from};
 ghost use Rattle.cpi_sql_rows.specs.Common.{ℕ, held_by, held_cmp, held_key, nat_cmp, state, year_in};
 ghost use Rattle.cpi_sql_rows.specs.Common.{refl, AllStandFor, ArePlansTaken, IfOk, IsInOrder, IsPlanTaken, Looks};
 ghost use Rattle.cpi_sql_rows.specs.Common.{OnOk};
-ghost use Rattle.cpi_sql_rows.specs.HeldTables.{HeldTable, Holds, beside};
+ghost use Rattle.cpi_sql_rows.specs.HeldTables.{HeldTable, Holds, row_with_holder};
 ghost use Rattle.cpi_sql_rows.specs.HeldTables.{node_table, place_table, reference_table};
-ghost use Rattle.cpi_sql_rows.specs.Lists.{if_whole, listed, nodes_in, places_in, plan_at, plans_in, reference_of};
+ghost use Rattle.cpi_sql_rows.specs.Lists.{if_whole, rows_in_key_order, nodes_in, places_in, plan_at, plans_in};
+ghost use Rattle.cpi_sql_rows.specs.Lists.{reference_of};
 ghost use Rattle.cpi_sql_rows.specs.Lists.{references_in};
-ghost use Rattle.cpi_sql_rows.specs.Texts.{is_first};
+ghost use Rattle.cpi_sql_rows.specs.Texts.{is_first_parameter};
 ghost use Rattle.cpi_sql_reads.specs.Tells.{Tells};
 
 use cpi_plan::{Item, Node, Place, YearPlan};
@@ -25,7 +26,7 @@ pub trait YearRow: Stored {
     ghost place: { ℕ };
 
     /// The table, and the statement that asks for the rows of a year, by their keys.
-    ghost table: { HeldTable Self (is_first place) };
+    ghost table: { HeldTable Self (is_first_parameter place) };
 
     /// The statement.
     fn text() -> &'static str
@@ -79,10 +80,11 @@ fn rows_of_year<S: Alter, T: YearRow>(
 ) -> Result<Vec<T>, Unread>
     ensures look { Looks (state S.Store conn.old) (state S.Store conn.new) result }
     ensures read { Tells S.Store conn.old conn.new result (λ trees xs.
-        xs.items ≡ held_by year (listed (held_cmp T.Key.cmp) (held_key T.key) (beside (year_in T.place) T.table.after)
+        xs.items ≡ held_by year (rows_in_key_order (held_cmp T.Key.cmp) (held_key T.key)
+        (row_with_holder (year_in T.place) T.table.after)
         (trees T.table.tree))) }
     ensures stand { Tells S.Store conn.old conn.new result (λ trees _.
-        AllStandFor (year_in T.place) (beside (year_in T.place) T.table.after) year (trees T.table.tree)) }
+        AllStandFor (year_in T.place) (row_with_holder (year_in T.place) T.table.after) year (trees T.table.tree)) }
 {
     let number = u32::from(year);
     list(conn, alloc, T::text(), params![number])

@@ -14,9 +14,9 @@ use Rattle.cpi_rows.specs.Keyed.{IsInOrder}
 use Rattle.cpi_rows.specs.Held.{held_cmp, held_key}
 use Rattle.cpi_store.specs.declared.given.Given.{Given}
 use Rattle.cpi_survey.specs.Quote.{quote_cmp, quote_key}
-use Rattle.cpi_sql_rows.specs.Tables.{office_schema, assignment_2, quote_2}
+use Rattle.cpi_sql_rows.specs.Tables.{office_schema, table_of_assignments_2, table_of_quotes_2}
 use Rattle.cpi_sql_rows.specs.Read.{AreRead}
-use Rattle.cpi_sql_rows.specs.Lists.{assignment_in, quote_in}
+use Rattle.cpi_sql_rows.specs.Lists.{assignment_in_row, quote_in}
 use Rattle.cpi_sql_rows.specs.Shelf.{IsKeyed, IsWhole, AllStand, HasRowids}
 use Rattle.cpi_sql_rows.proofs.Listed.{head_in}
 use Rattle.cpi_sql_rows.proofs.Lists.{Shows, has_read, stands_read}
@@ -70,10 +70,12 @@ none_whole R key entry = record { keyed = λ r s x y hr hs er es tie. absurd hr;
 
 module _ (db : Trees) (sound : IsSound office_schema db) where
   pub assignments_keyed : HasRowids (db 22) → IsKeyed (held_cmp nat_cmp)
-      (held_key (λ g. g.assignment.slot)) assignment_in (db 22)
-  assignments_keyed = keyed (held_cmp nat_cmp) (held_key (λ (g : Given). g.assignment.slot)) assignment_in slot_places
-      slot_tells assignment_2 slots_unique db (sound.obeys.rules Unique)
+      (held_key (λ g. g.assignment.slot)) assignment_in_row (db 22)
+  assignments_keyed = keyed (held_cmp nat_cmp) (held_key (λ (g : Given). g.assignment.slot)) assignment_in_row
+      slot_places
+      slot_tells table_of_assignments_2 slots_unique db (sound.obeys.rules Unique)
 
   pub quotes_keyed : HasRowids (db 24) → IsKeyed (held_cmp quote_cmp) (held_key quote_key) quote_in (db 24)
-  quotes_keyed = keyed (held_cmp quote_cmp) (held_key quote_key) quote_in quote_places quote_tells quote_2 quotes_unique
+  quotes_keyed = keyed (held_cmp quote_cmp) (held_key quote_key) quote_in quote_places quote_tells table_of_quotes_2
+      quotes_unique
       db (sound.obeys.rules Unique)

@@ -12,9 +12,9 @@ use Rattle.sqlite.specs.Order.{Row, column}
 use Rattle.sqlite.specs.Tree.{Trees}
 use Rattle.sqlite_catalog.specs.Listing.{IsSound}
 use Rattle.sqlite_schema.specs.declared.schema.Constraint.TheVariants.{Unique}
-use Rattle.cpi_codes.specs.CodeOf.{code_in, code_of}
+use Rattle.cpi_codes.specs.CodeOf.{code_in, spelled_code}
 use Rattle.cpi_codes.specs.CodeOrder.{code_cmp}
-use Rattle.cpi_codes.specs.CodeText.{text}
+use Rattle.cpi_codes.specs.CodeText.{code_text}
 use Rattle.cpi_codes.specs.Following.{◌>>=◌}
 use Rattle.cpi_codes.specs.ItemCode.{item_code_of}
 use Rattle.cpi_codes.specs.declared.codes.Code.{Code}
@@ -23,9 +23,9 @@ use Rattle.cpi_codes.proofs.ItemOrder.{codes-are-one}
 use Rattle.cpi_rows.specs.Held.{held_cmp, held_key}
 use Rattle.cpi_plan.specs.declared.plan_rows.Node.{Node}
 use Rattle.cpi_plan.specs.declared.plan_rows.Place.{Place}
-use Rattle.cpi_sql_rows.specs.Tables.{office_schema, node, plan_item}
-use Rattle.cpi_sql_rows.specs.Lists.{ranged, text_in, number_in, name_from, code_from, item_from}
-use Rattle.cpi_sql_rows.specs.Lists.{node_from, place_from, node_in, place_in, reference_row}
+use Rattle.cpi_sql_rows.specs.Tables.{office_schema, table_of_nodes, table_of_plan_items}
+use Rattle.cpi_sql_rows.specs.Lists.{number_within, text_in, number_in_value, name_from, code_from, item_from}
+use Rattle.cpi_sql_rows.specs.Lists.{node_from, place_from, node_in, place_in_row, reference_month_in_row}
 use Rattle.cpi_sql_rows.specs.Shelf.{IsKeyed, HasRowids}
 use Rattle.cpi_sql_rows.proofs.KeyColumns.{Tells, keyed}
 use Rattle.cpi_sql_rows.proofs.Lists.{bound_is, first_tied, held_tied, number_tied, ranged_is, second_tied, some_is}
@@ -61,45 +61,45 @@ after : (P : Code → Type 0) (o : Option Code) (f : Code → Option Code) → (
 after P None f h = tt
 after P (Some c) f h = h c
 
-written : (bytes : List ℕ) → IfSome (code_of bytes) (λ c. text c ≡ bytes)
-unfolding code_of
+written : (bytes : List ℕ) → IfSome (spelled_code bytes) (λ c. code_text c ≡ bytes)
+unfolding spelled_code
 written bytes =
-    after (λ c. text c ≡ bytes) (code_in bytes) (λ c. if bytes_eq (text c) bytes then Some c else None)
-    (λ c. by c (bytes_eq (text c) bytes) (bytes_eq-Decides (text c) bytes))
+    after (λ c. code_text c ≡ bytes) (code_in bytes) (λ c. if bytes_eq (code_text c) bytes then Some c else None)
+    (λ c. by c (bytes_eq (code_text c) bytes) (bytes_eq-Decides (code_text c) bytes))
   where
-    by : (c : Code) (same : Bool) → Decides same (text c ≡ bytes)
-        → IfSome (if same then Some c else None) (λ x. text x ≡ bytes)
+    by : (c : Code) (same : Bool) → Decides same (code_text c ≡ bytes)
+        → IfSome (if same then Some c else None) (λ x. code_text x ≡ bytes)
     by c true is = is.0 refl
     by c false is = tt
 
-code_written : (bytes : List ℕ) (c : Code) → code_of bytes ≡ Some c → text c ≡ bytes
-code_written bytes c e = subst (λ o. IfSome o (λ (x : Code). text x ≡ bytes)) e (written bytes)
+code_written : (bytes : List ℕ) (c : Code) → spelled_code bytes ≡ Some c → code_text c ≡ bytes
+code_written bytes c e = subst (λ o. IfSome o (λ (x : Code). code_text x ≡ bytes)) e (written bytes)
 
 -- the column has the code's text
-pub code_column : (v : Value) (c : Code) → code_from v ≡ Some c → v ≡ Text (text c)
+pub code_column : (v : Value) (c : Code) → code_from v ≡ Some c → v ≡ Text (code_text c)
 code_column v c e =
-    let it = bound_is (text_in v) code_of c e in
+    let it = bound_is (text_in v) spelled_code c e in
     text_is v it.0 it.1 ∙ ap Text (sym (code_written it.0 c it.2))
 
 -- ---- rows that are read
 
 record HasCode (r : Row) (year : ℕ) (n : Node) : Type 0 where
   pub year_is : column r 1 ≡ Int (pos year)
-  pub code_is : column r 2 ≡ Text (text n.code)
+  pub code_is : column r 2 ≡ Text (code_text n.code)
 
 node_parts : (r : Row) (year : ℕ) (n : Node) → node_in r ≡ Some (year, n) → HasCode r year n
 node_parts r year n e =
-    let one = bound_is (ranged 2000 2199 (column r 1)) _ _ e in
+    let one = bound_is (number_within 2000 2199 (column r 1)) _ _ e in
     let two = bound_is (node_from (column r 2) (column r 3) (column r 4)) _ _ one.2 in
     let pair : ◌≡◌ {A = ℕ × Node} (one.0, two.0) (year, n) = some_is two.2 in
     let three = bound_is (code_from (column r 2)) _ _ two.1 in
     let four = bound_is (name_from (column r 3)) _ _ three.2 in
-    let five = bound_is (number_in (column r 4)) _ _ four.2 in
+    let five = bound_is (number_in_value (column r 4)) _ _ four.2 in
     let made : record { code = three.0; title = four.0; weight = five.0 } ≡ two.0 = some_is five.2 in
     let code : three.0 ≡ n.code = ap (λ (w : Node). w.code) made ∙ ap (λ (p : ℕ × Node). p.1.code) pair in
     record {
       year_is = ranged_is 2000 2199 (column r 1) year (one.1 ∙ ap (λ (p : ℕ × Node). Some p.0) pair);
-      code_is = code_column (column r 2) three.0 three.1 ∙ ap (λ c. Text (text c)) code;
+      code_is = code_column (column r 2) three.0 three.1 ∙ ap (λ c. Text (code_text c)) code;
     }
 
 record HasItem (r : Row) (year : ℕ) (p : Place) : Type 0 where
@@ -108,9 +108,9 @@ record HasItem (r : Row) (year : ℕ) (p : Place) : Type 0 where
   pub item_is : column r 2 ≡ Text bytes
   pub item : item_code_of bytes ≡ Some p.item
 
-place_parts : (r : Row) (year : ℕ) (p : Place) → place_in r ≡ Some (year, p) → HasItem r year p
+place_parts : (r : Row) (year : ℕ) (p : Place) → place_in_row r ≡ Some (year, p) → HasItem r year p
 place_parts r year p e =
-    let one = bound_is (ranged 2000 2199 (column r 1)) _ _ e in
+    let one = bound_is (number_within 2000 2199 (column r 1)) _ _ e in
     let two = bound_is (place_from (column r 2) (column r 3)) _ _ one.2 in
     let pair : ◌≡◌ {A = ℕ × Place} (one.0, two.0) (year, p) = some_is two.2 in
     let three = bound_is (item_from (column r 2)) _ _ two.1 in
@@ -136,17 +136,17 @@ node_tells = record {
   told = λ r x e.
       let a = node_parts r x.0 x.1 e in
       record {
-        values = Int (pos x.0) ∷ Text (text x.1.code) ∷ [];
+        values = Int (pos x.0) ∷ Text (code_text x.1.code) ∷ [];
         are = rw (a.year_is, a.code_is) refl;
         exact = refl;
       };
   tied = λ r s x y e f tie.
       let same = held_tied code_cmp (x.0, x.1.code) (y.0, y.1.code) tie in
       let code = one_code x.1.code y.1.code same.1 in
-      λ i. Int (pos (same.0 i)) ∷ Text (text (code i)) ∷ [];
+      λ i. Int (pos (same.0 i)) ∷ Text (code_text (code i)) ∷ [];
 }
 
-place_tells : Tells (held_cmp nat_cmp) (held_key (λ (p : Place). p.item)) place_in year_places
+place_tells : Tells (held_cmp nat_cmp) (held_key (λ (p : Place). p.item)) place_in_row year_places
 place_tells = record {
   told = λ r x e.
       let a = place_parts r x.0 x.1 e in
@@ -166,15 +166,18 @@ place_tells = record {
 
 module _ (db : Trees) (sound : IsSound office_schema db) where
   pub nodes_keyed : HasRowids (db 6) → IsKeyed (held_cmp code_cmp) (held_key (λ n. n.code)) node_in (db 6)
-  nodes_keyed = keyed (held_cmp code_cmp) (held_key (λ (n : Node). n.code)) node_in year_places node_tells node
+  nodes_keyed = keyed (held_cmp code_cmp) (held_key (λ (n : Node). n.code)) node_in year_places node_tells
+      table_of_nodes
       (record { at = 4; stands = refl; rule = λ db row. refl }) db (sound.obeys.rules Unique)
 
-  pub places_keyed : HasRowids (db 8) → IsKeyed (held_cmp nat_cmp) (held_key (λ p. p.item)) place_in (db 8)
-  places_keyed = keyed (held_cmp nat_cmp) (held_key (λ (p : Place). p.item)) place_in year_places place_tells plan_item
+  pub places_keyed : HasRowids (db 8) → IsKeyed (held_cmp nat_cmp) (held_key (λ p. p.item)) place_in_row (db 8)
+  places_keyed = keyed (held_cmp nat_cmp) (held_key (λ (p : Place). p.item)) place_in_row year_places place_tells
+      table_of_plan_items
       (record { at = 5; stands = refl; rule = λ db row. refl }) db (sound.obeys.rules Unique)
 
 -- a year and a month are all that a row of a reference month says
-pub references_keyed : (rows : List Row) → IsKeyed (held_cmp nat_cmp) (held_key (λ m. m.month)) reference_row rows
+pub references_keyed : (rows : List Row) → IsKeyed (held_cmp nat_cmp) (held_key (λ m. m.month))
+    reference_month_in_row rows
 unfolding IsKeyed
 references_keyed rows r s x y hr hs er es tie =
     let same = held_tied nat_cmp (x.0, x.1.month) (y.0, y.1.month) tie in

@@ -8,7 +8,7 @@ use Rattle.sqlite.specs.Tree.{Trees}
 use Rattle.sqlite_catalog.specs.Listing.{IsSound}
 use Rattle.sqlite_schema.specs.declared.schema.Constraint.TheVariants.{Unique}
 use Rattle.cpi_codes.specs.CodeOrder.{code_cmp}
-use Rattle.cpi_codes.specs.CodeText.{text}
+use Rattle.cpi_codes.specs.CodeText.{code_text}
 use Rattle.cpi_codes.specs.declared.series.SeriesId.{SeriesId}
 use Rattle.cpi_rows.specs.Held.{held_cmp, held_key}
 use Rattle.cpi_index.specs.Frozen.{Frozen}
@@ -17,11 +17,13 @@ use Rattle.cpi_index.specs.Series.{serial, frozen_serial, carried_serial}
 use Rattle.cpi_release.specs.declared.level.Level.{Level}
 use Rattle.cpi_release.specs.FrozenMonths.{release_cmp}
 use Rattle.cpi_sql_rows.specs.declared.release_rows.Header.{Header}
-use Rattle.cpi_sql_rows.specs.Tables.{office_schema, release_2, frozen_2, carried_2, level_2}
-use Rattle.cpi_sql_rows.specs.Lists.{ranged, month_from, item_from, mark_in, name_from, revision_from, codes_from}
+use Rattle.cpi_sql_rows.specs.Tables.{office_schema, table_of_releases_2, table_of_frozen_2, table_of_carried_2}
+use Rattle.cpi_sql_rows.specs.Tables.{table_of_levels_2}
+use Rattle.cpi_sql_rows.specs.Lists.{number_within, month_from, item_from, mark_in, name_from, revision_from}
+use Rattle.cpi_sql_rows.specs.Lists.{codes_from}
 use Rattle.cpi_sql_rows.specs.Lists.{header_in, header_key}
-use Rattle.cpi_sql_rows.specs.Lists.{code_from, flag_in, change_in, weight_from, whole_or_none, priced_from}
-use Rattle.cpi_sql_rows.specs.Lists.{frozen_in, carried_in, level_in}
+use Rattle.cpi_sql_rows.specs.Lists.{code_from, flag_in_value, change_in, weight_from, whole_or_none, priced_from}
+use Rattle.cpi_sql_rows.specs.Lists.{frozen_in, carried_in_row, level_in_row}
 use Rattle.cpi_sql_rows.specs.ReleaseRows.{frozen_after, carried_after, level_after}
 use Rattle.cpi_sql_rows.specs.Shelf.{IsKeyed, HasRowids}
 use Rattle.cpi_sql_rows.proofs.KeyColumns.{Tells, keyed}
@@ -41,8 +43,8 @@ record HasSeries (r : Row) (s : SeriesId) : Type 0 where
   pub first : 1 ≤ s.slot
   pub last : s.slot ≤ 400
 
-series_of : (r : Row) (s : SeriesId) → ranged 1 9999 (column r 3) ≡ Some s.collector
-    → ranged 1 400 (column r 4) ≡ Some s.slot
+series_of : (r : Row) (s : SeriesId) → number_within 1 9999 (column r 3) ≡ Some s.collector
+    → number_within 1 400 (column r 4) ≡ Some s.slot
     → HasSeries r s
 series_of r s c t =
     let low = within_limits 1 9999 (column r 3) s.collector c in
@@ -108,8 +110,8 @@ beside_tells R key from places t = record {
 
 frozen_series : (r : Row) (q : Frozen) → frozen_after r ≡ Some q → HasSeries r q.series
 frozen_series r q e =
-    let one = bound_is (ranged 1 9999 (column r 3)) _ _ e in
-    let two = bound_is (ranged 1 400 (column r 4)) _ _ one.2 in
+    let one = bound_is (number_within 1 9999 (column r 3)) _ _ e in
+    let two = bound_is (number_within 1 400 (column r 4)) _ _ one.2 in
     let three = bound_is (item_from (column r 5)) _ _ two.2 in
     let four = bound_is (month_from (column r 6)) _ _ three.2 in
     let five = bound_is (mark_in (column r 7) (column r 8)) _ _ four.2 in
@@ -118,34 +120,34 @@ frozen_series r q e =
 
 carried_series : (r : Row) (c : Carried) → carried_after r ≡ Some c → HasSeries r c.series
 carried_series r c e =
-    let one = bound_is (ranged 1 9999 (column r 3)) _ _ e in
-    let two = bound_is (ranged 1 400 (column r 4)) _ _ one.2 in
+    let one = bound_is (number_within 1 9999 (column r 3)) _ _ e in
+    let two = bound_is (number_within 1 400 (column r 4)) _ _ one.2 in
     let three = bound_is (item_from (column r 5)) _ _ two.2 in
     let four = bound_is (month_from (column r 6)) _ _ three.2 in
     let five = bound_is (priced_from (column r 7) (column r 8) (column r 9)) _ _ four.2 in
-    let six = bound_is (flag_in (column r 10)) _ _ five.2 in
-    let seven = bound_is (flag_in (column r 11)) _ _ six.2 in
+    let six = bound_is (flag_in_value (column r 10)) _ _ five.2 in
+    let seven = bound_is (flag_in_value (column r 11)) _ _ six.2 in
     series_of r c.series (one.1 ∙ ap (λ (w : Carried). Some w.series.collector) (some_is seven.2))
     (two.1 ∙ ap (λ (w : Carried). Some w.series.slot) (some_is seven.2))
 
 -- ---- rows of tables by their codes
 
-level_code : (r : Row) (l : Level) → level_after r ≡ Some l → column r 3 ≡ Text (text l.code)
+level_code : (r : Row) (l : Level) → level_after r ≡ Some l → column r 3 ≡ Text (code_text l.code)
 level_code r l e =
     let one = bound_is (code_from (column r 3)) _ _ e in
     let two = bound_is (name_from (column r 4)) _ _ one.2 in
     let three = bound_is (weight_from one.0 (column r 5)) _ _ two.2 in
-    let four = bound_is (ranged 1 10000000000000 (column r 6)) _ _ three.2 in
-    let five = bound_is (ranged 1 1000000000000000 (column r 7)) _ _ four.2 in
+    let four = bound_is (number_within 1 10000000000000 (column r 6)) _ _ three.2 in
+    let five = bound_is (number_within 1 1000000000000000 (column r 7)) _ _ four.2 in
     let six = bound_is (change_in (column r 8)) _ _ five.2 in
     let seven = bound_is (whole_or_none (column r 9)) _ _ six.2 in
-    let eight = bound_is (flag_in (column r 10)) _ _ seven.2 in
+    let eight = bound_is (flag_in_value (column r 10)) _ _ seven.2 in
     code_column (column r 3) l.code (one.1 ∙ ap (λ (w : Level). Some w.code) (some_is eight.2))
 
 level_tells : Tells code_cmp (λ (l : Level). l.code) level_after (3 ∷ [])
 level_tells = record {
-  told = λ r l e. record { values = Text (text l.code) ∷ []; are = rw (level_code r l e) refl; exact = refl };
-  tied = λ r s l k e f tie. let code = one_code l.code k.code tie in λ i. Text (text (code i)) ∷ [];
+  told = λ r l e. record { values = Text (code_text l.code) ∷ []; are = rw (level_code r l e) refl; exact = refl };
+  tied = λ r s l k e f tie. let code = one_code l.code k.code tie in λ i. Text (code_text (code i)) ∷ [];
 }
 
 -- ---- headers
@@ -159,8 +161,8 @@ pub header_names : (r : Row) (h : Header) → header_in r ≡ Some h → NamesRe
 header_names r h e =
     let one = bound_is (month_from (column r 1)) _ _ e in
     let two = bound_is (revision_from (column r 2)) _ _ one.2 in
-    let three = bound_is (ranged 0 9999999999 (column r 3)) _ _ two.2 in
-    let four = bound_is (ranged 0 9999999999 (column r 4)) _ _ three.2 in
+    let three = bound_is (number_within 0 9999999999 (column r 3)) _ _ two.2 in
+    let four = bound_is (number_within 0 9999999999 (column r 4)) _ _ three.2 in
     let five = bound_is (codes_from (column r 5)) _ _ four.2 in
     record {
       month = month_of (column r 1) h.month (one.1 ∙ ap (λ (w : Header). Some w.month) (some_is five.2));
@@ -189,22 +191,22 @@ header_tells = record {
 
 module _ (db : Trees) (sound : IsSound office_schema db) where
   pub headers_keyed : HasRowids (db 26) → IsKeyed release_cmp header_key header_in (db 26)
-  headers_keyed = keyed release_cmp header_key header_in (1 ∷ 2 ∷ []) header_tells release_2
+  headers_keyed = keyed release_cmp header_key header_in (1 ∷ 2 ∷ []) header_tells table_of_releases_2
       (record { at = 15; stands = refl; rule = λ db row. refl }) db (sound.obeys.rules Unique)
 
   pub frozen_keyed : HasRowids (db 28) → IsKeyed (held_cmp nat_cmp) (held_key frozen_serial) frozen_in (db 28)
   frozen_keyed = keyed (held_cmp nat_cmp) (held_key frozen_serial) frozen_in (1 ∷ 2 ∷ 3 ∷ 4 ∷ [])
       (beside_tells nat_cmp frozen_serial frozen_after (3 ∷ 4 ∷ [])
-      (series_tells frozen_after (λ (q : Frozen). q.series) frozen_series)) frozen_2
+      (series_tells frozen_after (λ (q : Frozen). q.series) frozen_series)) table_of_frozen_2
       (record { at = 16; stands = refl; rule = λ db row. refl }) db (sound.obeys.rules Unique)
 
-  pub carried_keyed : HasRowids (db 30) → IsKeyed (held_cmp nat_cmp) (held_key carried_serial) carried_in (db 30)
-  carried_keyed = keyed (held_cmp nat_cmp) (held_key carried_serial) carried_in (1 ∷ 2 ∷ 3 ∷ 4 ∷ [])
+  pub carried_keyed : HasRowids (db 30) → IsKeyed (held_cmp nat_cmp) (held_key carried_serial) carried_in_row (db 30)
+  carried_keyed = keyed (held_cmp nat_cmp) (held_key carried_serial) carried_in_row (1 ∷ 2 ∷ 3 ∷ 4 ∷ [])
       (beside_tells nat_cmp carried_serial carried_after (3 ∷ 4 ∷ [])
-      (series_tells carried_after (λ (c : Carried). c.series) carried_series)) carried_2
+      (series_tells carried_after (λ (c : Carried). c.series) carried_series)) table_of_carried_2
       (record { at = 17; stands = refl; rule = λ db row. refl }) db (sound.obeys.rules Unique)
 
-  pub levels_keyed : HasRowids (db 32) → IsKeyed (held_cmp code_cmp) (held_key (λ l. l.code)) level_in (db 32)
-  levels_keyed = keyed (held_cmp code_cmp) (held_key (λ (l : Level). l.code)) level_in (1 ∷ 2 ∷ 3 ∷ [])
-      (beside_tells code_cmp (λ (l : Level). l.code) level_after (3 ∷ []) level_tells) level_2
+  pub levels_keyed : HasRowids (db 32) → IsKeyed (held_cmp code_cmp) (held_key (λ l. l.code)) level_in_row (db 32)
+  levels_keyed = keyed (held_cmp code_cmp) (held_key (λ (l : Level). l.code)) level_in_row (1 ∷ 2 ∷ 3 ∷ [])
+      (beside_tells code_cmp (λ (l : Level). l.code) level_after (3 ∷ []) level_tells) table_of_levels_2
       (record { at = 18; stands = refl; rule = λ db row. refl }) db (sound.obeys.rules Unique)

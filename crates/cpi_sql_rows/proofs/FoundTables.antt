@@ -15,13 +15,15 @@ use Rattle.sqlite_tied.specs.Compute.{everything}
 use Rattle.sqlite.specs.Schema.{Schema}
 use Rattle.cpi_sql_rows.specs.Making.{HasAllTables, IsOfficeDatabase}
 use Rattle.cpi_sql_rows.specs.Numbered.{IsVersion}
-use Rattle.cpi_sql_rows.specs.Tables.{first_schema, node, office_schema, plan_item, version}
-use Rattle.cpi_sql_rows.specs.Finding.{AreWhole, AsksRowids, AsksYears, HavePlanRowids, HaveRowids, IsFirst, IsOfOffice}
+use Rattle.cpi_sql_rows.specs.Tables.{first_schema, table_of_nodes, office_schema, table_of_plan_items}
+use Rattle.cpi_sql_rows.specs.Tables.{table_of_version}
+use Rattle.cpi_sql_rows.specs.Finding.{AreWhole, AsksRowids, AsksYears, HavePlanRowids, HaveRowids, IsFirstSchema}
+use Rattle.cpi_sql_rows.specs.Finding.{IsOfOffice}
 use Rattle.cpi_sql_rows.specs.Finding.{IsSecond}
 use Rattle.cpi_sql_rows.specs.Finding.{AreOfYears, HavePlanYears, IsMigrated, IsMoved, KeepsLists}
 use Rattle.cpi_sql_rows.specs.Texts.{select}
 use Rattle.cpi_sql_rows.specs.Shelf.{AllStand, HasTables, HasRowids, IsKept}
-use Rattle.cpi_sql_rows.specs.WholeTables.{either, second}
+use Rattle.cpi_sql_rows.specs.WholeTables.{under_either, second}
 use Rattle.cpi_sql_rows.proofs.Found.{assignments_keyed, quotes_keyed}
 use Rattle.cpi_sql_rows.proofs.FoundPlans.{nodes_keyed, places_keyed, references_keyed}
 use Rattle.cpi_sql_rows.proofs.FoundReleases.{headers_keyed, frozen_keyed, carried_keyed, levels_keyed}
@@ -86,32 +88,32 @@ level_rowids = under_one office_schema _ 32 (asked (codes "rowid") refl refl (re
 
 -- those of schema 1 alone
 
-pub first_assignment_rowids : (schema : Schema) → IsFirst schema
+pub first_assignment_rowids : (schema : Schema) → IsFirstSchema schema
     → AsksRowids schema (codes "SELECT rowid FROM assignment ORDER BY rowid") 11
 unfolding understood everything
 first_assignment_rowids = under_one first_schema _ 11 (asked (codes "rowid") refl refl (refl, refl))
 
-pub first_quote_rowids : (schema : Schema) → IsFirst schema
+pub first_quote_rowids : (schema : Schema) → IsFirstSchema schema
     → AsksRowids schema (codes "SELECT rowid FROM quote ORDER BY rowid") 13
 unfolding understood everything
 first_quote_rowids = under_one first_schema _ 13 (asked (codes "rowid") refl refl (refl, refl))
 
-pub first_release_rowids : (schema : Schema) → IsFirst schema
+pub first_release_rowids : (schema : Schema) → IsFirstSchema schema
     → AsksRowids schema (codes "SELECT rowid FROM release ORDER BY rowid") 15
 unfolding understood everything
 first_release_rowids = under_one first_schema _ 15 (asked (codes "month") refl refl (refl, refl))
 
-pub first_frozen_rowids : (schema : Schema) → IsFirst schema
+pub first_frozen_rowids : (schema : Schema) → IsFirstSchema schema
     → AsksRowids schema (codes "SELECT rowid FROM frozen ORDER BY rowid") 16
 unfolding understood everything
 first_frozen_rowids = under_one first_schema _ 16 (asked (codes "rowid") refl refl (refl, refl))
 
-pub first_carried_rowids : (schema : Schema) → IsFirst schema
+pub first_carried_rowids : (schema : Schema) → IsFirstSchema schema
     → AsksRowids schema (codes "SELECT rowid FROM carried ORDER BY rowid") 18
 unfolding understood everything
 first_carried_rowids = under_one first_schema _ 18 (asked (codes "rowid") refl refl (refl, refl))
 
-pub first_level_rowids : (schema : Schema) → IsFirst schema
+pub first_level_rowids : (schema : Schema) → IsFirstSchema schema
     → AsksRowids schema (codes "SELECT rowid FROM level ORDER BY rowid") 20
 unfolding understood everything
 first_level_rowids = under_one first_schema _ 20 (asked (codes "rowid") refl refl (refl, refl))
@@ -134,14 +136,14 @@ years_asked names command listing plain stored = record {
 pub node_years : (schema : Schema) → IsOfOffice schema
     → AsksYears schema (codes "SELECT rowid, year FROM node ORDER BY rowid") 6 1
 unfolding understood everything
-node_years = either (λ s. AsksYears s (codes "SELECT rowid, year FROM node ORDER BY rowid") 6 1)
+node_years = under_either (λ s. AsksYears s (codes "SELECT rowid, year FROM node ORDER BY rowid") 6 1)
     (years_asked (codes "rowid" ∷ codes "year" ∷ []) refl refl (refl, refl) (λ _. refl))
     (years_asked (codes "rowid" ∷ codes "year" ∷ []) refl refl (refl, refl) (λ _. refl))
 
 pub plan_item_years : (schema : Schema) → IsOfOffice schema
     → AsksYears schema (codes "SELECT rowid, year FROM plan_item ORDER BY rowid") 8 1
 unfolding understood everything
-plan_item_years = either (λ s. AsksYears s (codes "SELECT rowid, year FROM plan_item ORDER BY rowid") 8 1)
+plan_item_years = under_either (λ s. AsksYears s (codes "SELECT rowid, year FROM plan_item ORDER BY rowid") 8 1)
     (years_asked (codes "rowid" ∷ codes "year" ∷ []) refl refl (refl, refl) (λ _. refl))
     (years_asked (codes "rowid" ∷ codes "year" ∷ []) refl refl (refl, refl) (λ _. refl))
 
@@ -166,7 +168,7 @@ on_any (Err e) P h = tt
 
 pub found_tables : (s : State) → s.in_transaction ≡ false → s.now.schema ≡ office_schema → IsTrue s.is_open → IsLive s
     → AreWhole s.now.trees → HavePlanYears s.now.trees → HaveRowids s.now.trees
-    → IsVersion 2 (s.now.trees version.tree) → HasTables s
+    → IsVersion 2 (s.now.trees table_of_version.tree) → HasTables s
 unfolding HasAllTables
 found_tables s alone has is_open live whole years rise number =
     let sound : IsSound office_schema s.now.trees = subst (λ x. IsSound x s.now.trees) has (live is_open).0 in
@@ -216,7 +218,8 @@ moved_whole old new k h = record {
   calendar = rw k.calendar h.calendar;
 }
 
-pub moved_years : (old new : Trees) → AreOfYears 1 (old node.tree) → AreOfYears 1 (old plan_item.tree)
+pub moved_years : (old new : Trees) → AreOfYears 1 (old table_of_nodes.tree) → AreOfYears 1
+    (old table_of_plan_items.tree)
     → IsMigrated old new → HavePlanYears new
 unfolding AllStand
 moved_years old new nodes places m = record {
@@ -226,11 +229,12 @@ moved_years old new nodes places m = record {
 }
 
 -- a migration of tables that were found so makes the database of an office
-pub moved_database : (old new : Trees) → AreWhole old → AreOfYears 1 (old node.tree) → AreOfYears 1 (old plan_item.tree)
+pub moved_database : (old new : Trees) → AreWhole old → AreOfYears 1 (old table_of_nodes.tree) → AreOfYears 1
+    (old table_of_plan_items.tree)
     → IsMigrated old new → IsOfficeDatabase new
 moved_database old new whole nodes places m = record {
   tables = m.tables;
-  version = m.version;
+  table_of_version = m.version;
   whole = moved_whole old new m.lists whole;
   years = moved_years old new nodes places m;
 }
@@ -243,7 +247,8 @@ moved_rowids old new k h = record {
 }
 
 pub moved_tables : (old new : State) → new.in_transaction ≡ false → IsTrue new.is_open → IsLive new
-    → AreWhole old.now.trees → AreOfYears 1 (old.now.trees node.tree) → AreOfYears 1 (old.now.trees plan_item.tree)
+    → AreWhole old.now.trees → AreOfYears 1 (old.now.trees table_of_nodes.tree) → AreOfYears 1
+    (old.now.trees table_of_plan_items.tree)
     → HavePlanRowids old.now.trees → IsMoved old new → HasTables new
 moved_tables old new alone is_open live whole nodes places rise moved =
     found_tables new alone moved.schema is_open live

@@ -20,13 +20,15 @@ use Rattle.cpi_release.specs.FrozenMonths.{release_cmp}
 use Rattle.sqlite.specs.Effect.{Database, IsDatabase}
 use Rattle.sqlite_catalog.specs.Listing.{IsSound}
 use Rattle.cpi_store.specs.Office.{Change, PutsItem, PutsPlan, PutsCalendar, Registers, PutsOutlet, Assigns, HandsOver}
-use Rattle.cpi_store.specs.Office.{Quotes as PutsQuote, Freezes, changed}
-use Rattle.cpi_sql_rows.specs.Tables.{office_schema, version}
+use Rattle.cpi_store.specs.Office.{Quotes as PutsQuote, Freezes, office_with}
+use Rattle.cpi_sql_rows.specs.Tables.{office_schema, table_of_version}
 use Rattle.cpi_sql_rows.specs.Making.{HasAllTables}
 use Rattle.cpi_sql_rows.specs.Numbered.{IsVersion}
-use Rattle.cpi_sql_rows.specs.Lists.{office_in, collector_in, outlet_in, item_in, calendar_in, assignment_in, quote_in}
-use Rattle.cpi_sql_rows.specs.Lists.{node_in, place_in, reference_row, header_in, header_key, frozen_in, carried_in}
-use Rattle.cpi_sql_rows.specs.Lists.{and_then, level_in}
+use Rattle.cpi_sql_rows.specs.Lists.{office_in, collector_in, outlet_in, item_in, calendar_in, assignment_in_row}
+use Rattle.cpi_sql_rows.specs.Lists.{quote_in}
+use Rattle.cpi_sql_rows.specs.Lists.{node_in, place_in_row, reference_month_in_row, header_in, header_key, frozen_in}
+use Rattle.cpi_sql_rows.specs.Lists.{carried_in_row}
+use Rattle.cpi_sql_rows.specs.Lists.{and_then, level_in_row}
 use Rattle.cpi_sql_rows.specs.Shelf.{AllStand, HasRowids, HasTables, IsDone, IsKeyed, IsWhole, Takes, WritesTaken}
 use Rattle.cpi_sql_rows.specs.Frames.{SameBut, is_beside, written_by}
 use Rattle.cpi_sql_rows.specs.WholeRows.{AreOfYears, year_in}
@@ -81,15 +83,15 @@ Written Collectors = Writes nat_cmp (λ b. b.number) collector_in
 Written Outlets = Writes nat_cmp (λ u. u.number) outlet_in
 Written Items = Writes nat_cmp (λ i. i.code) item_in
 Written Nodes = WritesIds (held_cmp code_cmp) (held_key (λ n. n.code)) node_in
-Written Places = WritesIds (held_cmp nat_cmp) (held_key (λ p. p.item)) place_in
-Written References = WritesIds (held_cmp nat_cmp) (held_key (λ m. m.month)) reference_row
+Written Places = WritesIds (held_cmp nat_cmp) (held_key (λ p. p.item)) place_in_row
+Written References = WritesIds (held_cmp nat_cmp) (held_key (λ m. m.month)) reference_month_in_row
 Written Calendar = WritesIds nat_cmp (λ r. r.month) calendar_in
-Written Assignments = WritesIds (held_cmp nat_cmp) (held_key (λ g. g.assignment.slot)) assignment_in
+Written Assignments = WritesIds (held_cmp nat_cmp) (held_key (λ g. g.assignment.slot)) assignment_in_row
 Written Quotes = WritesIds (held_cmp quote_cmp) (held_key quote_key) quote_in
 Written Headers = Writes release_cmp header_key header_in
 Written Frozen = WritesIds (held_cmp nat_cmp) (held_key frozen_serial) frozen_in
-Written Carried = WritesIds (held_cmp nat_cmp) (held_key carried_serial) carried_in
-Written Levels = WritesIds (held_cmp code_cmp) (held_key (λ l. l.code)) level_in
+Written Carried = WritesIds (held_cmp nat_cmp) (held_key carried_serial) carried_in_row
+Written Levels = WritesIds (held_cmp code_cmp) (held_key (λ l. l.code)) level_in_row
 
 -- one row that is put
 pub row_written : {X K : Type 0} {R : K → K → Ordering} (o : IsTotalOrder R) (key : X → K) (entry : Row → Option X)
@@ -194,7 +196,7 @@ module _ (tables : List OfficeTable) (old new : Trees) (others : SameBut (map tr
   }
 
 -- no change writes the number of the schema
-spares_number : (change : Change) → is_beside (written_by change) version.tree ≡ true
+spares_number : (change : Change) → is_beside (written_by change) table_of_version.tree ≡ true
 spares_number (PutsItem i) = refl
 spares_number (PutsPlan p) = refl
 spares_number (PutsCalendar r) = refl
@@ -237,7 +239,7 @@ pub table_written : (tables : List OfficeTable) (change : Change) (old new : Sta
     → written_by change ≡ map tree_of tables → new.now.schema ≡ office_schema → new.in_transaction ≡ false
     → HasAllTables new.now.trees → SameBut (map tree_of tables) old.now.trees new.now.trees
     → AllByRecursion (λ t. Written t (old.now.trees (tree_of t)) (new.now.trees (tree_of t))) tables
-    → office_in new.now.trees ≡ changed change (office_in old.now.trees) → HasTables old → IsDone change old new
+    → office_in new.now.trees ≡ office_with change (office_in old.now.trees) → HasTables old → IsDone change old new
 table_written tables change old new writes schema alone all others written office has =
     let it = each tables old.now.trees new.now.trees others written in
     let spared : SameBut (written_by change) old.now.trees new.now.trees =
@@ -249,7 +251,8 @@ table_written tables change old new writes schema alone all others written offic
         alone = alone;
         office = record {
           tables = all;
-          version = subst (IsVersion 2) (sym (spared version.tree (spares_number change))) was.version;
+          table_of_version = subst (IsVersion 2) (sym (spared table_of_version.tree (spares_number change)))
+              was.version;
           whole = record {
             collectors = still_whole _ _ (it Collectors) was.whole.collectors;
             outlets = still_whole _ _ (it Outlets) was.whole.outlets;
@@ -258,8 +261,8 @@ table_written tables change old new writes schema alone all others written offic
           };
           years = record {
             nodes = still_years node_in 1 (λ r. has_first _ _) _ _ (it Nodes).rows.takes was.years.nodes;
-            places = still_years place_in 1 (λ r. has_first _ _) _ _ (it Places).rows.takes was.years.places;
-            references = still_years reference_row 0 (λ r. has_first _ _) _ _ (it References).rows.takes
+            places = still_years place_in_row 1 (λ r. has_first _ _) _ _ (it Places).rows.takes was.years.places;
+            references = still_years reference_month_in_row 0 (λ r. has_first _ _) _ _ (it References).rows.takes
                 was.years.references;
           };
         };

@@ -11,11 +11,11 @@ use Rattle.sqlite.specs.Order.{Row, column}
 use Rattle.cpi_rows.specs.Held.{held_cmp, held_key}
 use Rattle.cpi_survey.specs.declared.assignment.Assignment.{Assignment}
 use Rattle.cpi_store.specs.declared.given.Given.{Given}
-use Rattle.cpi_sql_rows.specs.Lists.{ranged, month_from, item_from, price_or_none, series_from, assignment_from}
-use Rattle.cpi_sql_rows.specs.Lists.{assignment_in, shown_given}
+use Rattle.cpi_sql_rows.specs.Lists.{number_within, month_from, item_from, price_or_none, series_from, assignment_from}
+use Rattle.cpi_sql_rows.specs.Lists.{assignment_in_row, shown_given}
 use Rattle.cpi_sql_rows.proofs.KeyColumns.{IsUnique, Tells}
 use Rattle.cpi_sql_rows.proofs.Lists.{bound_is, held_tied, held_total, number_tied, ranged_is, some_is}
-use Rattle.cpi_sql_rows.specs.Tables.{assignment_2}
+use Rattle.cpi_sql_rows.specs.Tables.{table_of_assignments_2}
 
 -- the nine columns of an assignment, as an answer shows them
 abbrev pub assignment_shape : Row → Row
@@ -33,8 +33,8 @@ pub record HasSlot (r : Row) (c : ℕ) (g : Given) : Type 0 where
 pub slot_is : (slot outlet item first last copied : Value) (a : Assignment)
     → assignment_from slot outlet item first last copied ≡ Some a → slot ≡ Int (pos a.slot)
 slot_is slot outlet item first last copied a e =
-    let one = bound_is (ranged 1 400 slot) _ _ e in
-    let two = bound_is (ranged 1 999999 outlet) _ _ one.2 in
+    let one = bound_is (number_within 1 400 slot) _ _ e in
+    let two = bound_is (number_within 1 999999 outlet) _ _ one.2 in
     let three = bound_is (item_from item) _ _ two.2 in
     let four = bound_is (month_from first) _ _ three.2 in
     let five = bound_is (month_from last) _ _ four.2 in
@@ -43,7 +43,7 @@ slot_is slot outlet item first last copied a e =
 
 pub slot_of : (r : Row) (c : ℕ) (g : Given) → shown_given (assignment_shape r) ≡ Some (c, g) → HasSlot r c g
 slot_of r c g e =
-    let one = bound_is (ranged 1 9999 (column r 1)) _ _ e in
+    let one = bound_is (number_within 1 9999 (column r 1)) _ _ e in
     let two = bound_is (assignment_from (column r 2) (column r 3) (column r 4) (column r 5) (column r 6) (column r 9))
     _ _ one.2 in
     let three = bound_is (series_from (column r 7) (column r 8)) _ _ two.2 in
@@ -55,7 +55,7 @@ slot_of r c g e =
       shown = e;
     }
 
-pub slot_in : (r : Row) (c : ℕ) (g : Given) → assignment_in r ≡ Some (c, g) → HasSlot r c g
+pub slot_in : (r : Row) (c : ℕ) (g : Given) → assignment_in_row r ≡ Some (c, g) → HasSlot r c g
 slot_in r c g e = slot_of r c g e
 
 -- ---- the key of a slot
@@ -64,7 +64,7 @@ slot_in r c g e = slot_of r c g e
 abbrev pub slot_places : List ℕ
 slot_places = 1 ∷ 2 ∷ []
 
-pub slots_unique : IsUnique assignment_2 slot_places
+pub slots_unique : IsUnique table_of_assignments_2 slot_places
 slots_unique = record { at = 13; stands = refl; rule = λ db row. refl }
 
 abbrev R : ℕ × ℕ → ℕ × ℕ → Ordering
@@ -73,7 +73,7 @@ R = held_cmp nat_cmp
 abbrev key : ℕ × Given → ℕ × ℕ
 key = held_key (λ (g : Given). g.assignment.slot)
 
-abbrev pub slot_tells : Tells R key assignment_in slot_places
+abbrev pub slot_tells : Tells R key assignment_in_row slot_places
 slot_tells = record {
   told = λ r x e.
       let a = slot_in r x.0 x.1 e in
@@ -89,7 +89,7 @@ slot_tells = record {
 }
 
 -- and rows with the same columns are of one slot
-pub same_slot : (r s : Row) (x y : ℕ × Given) (e : assignment_in r ≡ Some x) (f : assignment_in s ≡ Some y)
+pub same_slot : (r s : Row) (x y : ℕ × Given) (e : assignment_in_row r ≡ Some x) (f : assignment_in_row s ≡ Some y)
     → (slot_tells.told r x e).values ≡ (slot_tells.told s y f).values → R (key x) (key y) ≡ Equal
 same_slot r s x y e f same =
     let mine : x.0 ≡ y.0 = cc in

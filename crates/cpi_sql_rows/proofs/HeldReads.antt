@@ -13,12 +13,13 @@ use Rattle.sqlite.specs.Term.{Term, holds}
 use Rattle.cpi_rows.specs.Keyed.{IsInOrder}
 use Rattle.cpi_rows.specs.Held.{held_by, held_cmp, held_key}
 use Rattle.cpi_survey.specs.Quote.{QuoteRow, quote_cmp, quote_key}
-use Rattle.cpi_sql_rows.specs.HeldTables.{HeldTable, Holds, beside, release_in}
-use Rattle.cpi_sql_rows.specs.Lists.{and_then, listed, month_at, quote_in, quotes_in, release_number, shown_quote}
+use Rattle.cpi_sql_rows.specs.HeldTables.{HeldTable, Holds, row_with_holder, release_in}
+use Rattle.cpi_sql_rows.specs.Lists.{and_then, rows_in_key_order, month_at, quote_in, quotes_in, release_number}
+use Rattle.cpi_sql_rows.specs.Lists.{shown_quote}
 use Rattle.cpi_sql_rows.specs.Read.{AreRead}
 use Rattle.cpi_sql_rows.specs.Shelf.{HasTables, AllStand, AllStandFor, year_in}
-use Rattle.cpi_sql_rows.specs.Tables.{quote_2}
-use Rattle.cpi_sql_rows.specs.Texts.{all_quotes_text, is_first, is_release}
+use Rattle.cpi_sql_rows.specs.Tables.{table_of_quotes_2}
+use Rattle.cpi_sql_rows.specs.Texts.{all_quotes_text, is_first_parameter, is_release}
 use Rattle.cpi_sql_rows.specs.WholeTables.{all_quotes_asked}
 use Rattle.cpi_sql_rows.proofs.Listed.{listed_is}
 use Rattle.cpi_sql_rows.proofs.Lists.{Shows, bound_is, equal_number, has_read, held_read, held_total, quote_total}
@@ -39,14 +40,14 @@ module _ {X K : Type 0} {R : K → K → Ordering} (o : IsTotalOrder R) (key : X
     {terms : List Term} (stands : Row → Option X) (t : HeldTable X terms) (law : Holds holder R key stands t)
     (params : Row) (number : ℕ) (names : Names holder terms params number) where
   same : (r : Row) (x : X) → list_all (holds (params ∷ r ∷ [])) terms ≡ true
-      → stands (map (column r) t.shown) ≡ Some x → beside holder t.after r ≡ Some (number, x)
+      → stands (map (column r) t.shown) ≡ Some x → row_with_holder holder t.after r ≡ Some (number, x)
   same r x passes e =
       let it = bound_is (holder r) _ _ (sym (law.same r) ∙ e) in
       let is : holder r ≡ Some number = it.1 ∙ ap Some (names.own r it.0 passes it.1) in
       ap (λ n. and_then n (λ k. and_then (t.after r) (λ w. Some (k, w)))) is
       ∙ ap (λ a. and_then a (λ w. Some (number, w))) it.2
 
-  back : (r : Row) (x : X) → beside holder t.after r ≡ Some (number, x)
+  back : (r : Row) (x : X) → row_with_holder holder t.after r ≡ Some (number, x)
       → (list_all (holds (params ∷ r ∷ [])) terms ≡ true) × (stands (map (column r) t.shown) ≡ Some x)
   back r x e =
       let one = bound_is (holder r) _ _ e in
@@ -60,7 +61,7 @@ module _ {X K : Type 0} {R : K → K → Ordering} (o : IsTotalOrder R) (key : X
 
   -- a row of the holder stands for something, where what is read of it does
   some : (r : Row) → holder r ≡ Some number → IsSome (stands (map (column r) t.shown))
-      → IsSome (beside holder t.after r)
+      → IsSome (row_with_holder holder t.after r)
   some r e is =
       subst (λ n. IsSome {T = ℕ × X} (and_then n (λ k. and_then (t.after r) (λ x. Some (k, x))))) (sym e)
       (by (t.after r) (subst (λ n. IsSome (and_then n (λ _. t.after r))) e (subst (λ a. IsSome a) (law.same r) is)))
@@ -76,13 +77,14 @@ module _ {X K : Type 0} {R : K → K → Ordering} (o : IsTotalOrder R) (key : X
     seen = shows t.text t.tree terms t.shown old new params rows (rw has.schema t.asks) h
 
     pub list_is : IsInOrder R key xs
-        → xs ≡ held_by number (listed (held_cmp R) (held_key key) (beside holder t.after) (old.now.trees t.tree))
+        → xs ≡ held_by number (rows_in_key_order (held_cmp R) (held_key key) (row_with_holder holder t.after)
+        (old.now.trees t.tree))
     list_is order =
-        held_read o key (beside holder t.after) stands (λ r. map (column r) t.shown)
+        held_read o key (row_with_holder holder t.after) stands (λ r. map (column r) t.shown)
         (λ r. list_all (holds (params ∷ r ∷ [])) terms) number same back (old.now.trees t.tree) rows xs
         (law.keyed old.now.trees has.plans has.releases) seen read order
 
-    pub list_stands : AllStandFor holder (beside holder t.after) number (old.now.trees t.tree)
+    pub list_stands : AllStandFor holder (row_with_holder holder t.after) number (old.now.trees t.tree)
     unfolding AllStandFor
     list_stands r k e =
         some r e (stands_read stands rows xs (map (column r) t.shown) read (seen.complete r k (names.all r e)))
@@ -90,7 +92,7 @@ module _ {X K : Type 0} {R : K → K → Ordering} (o : IsTotalOrder R) (key : X
 -- ---- the parameters
 
 -- the number of a year
-pub names_year : (place c : ℕ) → Names (year_in place) (is_first place) (Int (pos c) ∷ []) c
+pub names_year : (place c : ℕ) → Names (year_in place) (is_first_parameter place) (Int (pos c) ∷ []) c
 names_year place c = record {
   own = λ r n passes e.
       same_number (column r place) n c (ranged_is 2000 2199 (column r place) n e)
@@ -112,15 +114,17 @@ names_release n m v is low high = record {
 
 module _ (old new : State) (rows : List Row) (read : List (ℕ × QuoteRow)) (has : HasTables old)
     (h : Shown all_quotes_text [] old new rows) (are : AreRead shown_quote rows read) where
-  quotes_show : Shows (λ r. true) (λ r. map (column r) (1 ∷ 2 ∷ 3 ∷ 4 ∷ 5 ∷ 6 ∷ [])) (old.now.trees quote_2.tree) rows
+  quotes_show : Shows (λ r. true) (λ r. map (column r) (1 ∷ 2 ∷ 3 ∷ 4 ∷ 5 ∷ 6 ∷ []))
+      (old.now.trees table_of_quotes_2.tree) rows
   quotes_show =
-      shows all_quotes_text quote_2.tree [] (1 ∷ 2 ∷ 3 ∷ 4 ∷ 5 ∷ 6 ∷ []) old new [] rows
+      shows all_quotes_text table_of_quotes_2.tree [] (1 ∷ 2 ∷ 3 ∷ 4 ∷ 5 ∷ 6 ∷ []) old new [] rows
       (all_quotes_asked old.now.schema has.schema) h
 
   pub all_quotes_read : (xs : List (ℕ × QuoteRow)) → IsPermutation read xs
-      → IsInOrder (held_cmp quote_cmp) (held_key quote_key) xs → xs ≡ quotes_in (old.now.trees quote_2.tree)
+      → IsInOrder (held_cmp quote_cmp) (held_key quote_key) xs → xs ≡ quotes_in (old.now.trees table_of_quotes_2.tree)
   all_quotes_read xs moved order =
-      listed_is (held_total quote_total) (held_key quote_key) quote_in (old.now.trees quote_2.tree) xs has.quotes order
+      listed_is (held_total quote_total) (held_key quote_key) quote_in (old.now.trees table_of_quotes_2.tree) xs
+      has.quotes order
       (λ x k.
       let s = read_has shown_quote rows read x are (has_permuted read xs x moved k) in
       let r = quotes_show.sound s.0 s.1 in
@@ -128,6 +132,6 @@ module _ (old new : State) (rows : List Row) (read : List (ℕ × QuoteRow)) (ha
       (λ r x k e. has_permuted xs read x (IsPermutation-sym read xs moved)
       (has_read shown_quote rows read _ x are (quotes_show.complete r k refl) e))
 
-  pub all_quotes_stand : AllStand quote_in (old.now.trees quote_2.tree)
+  pub all_quotes_stand : AllStand quote_in (old.now.trees table_of_quotes_2.tree)
   unfolding AllStand
   all_quotes_stand r k = stands_read shown_quote rows read _ are (quotes_show.complete r k refl)

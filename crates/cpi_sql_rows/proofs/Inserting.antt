@@ -11,7 +11,7 @@ use Rattle.sqlite.specs.Tree.{put_row}
 use Rattle.sqlite_rules.specs.Lists.{Has}
 use Rattle.sqlite_rules.proofs.TableLemmas.{has_put as has_put_row, put_has as put_row_has}
 use Rattle.cpi_rows.specs.Keyed.{row_at}
-use Rattle.cpi_sql_rows.specs.Lists.{listed}
+use Rattle.cpi_sql_rows.specs.Lists.{rows_in_key_order}
 use Rattle.cpi_sql_rows.specs.Shelf.{IsKeyed}
 use Rattle.cpi_sql_rows.proofs.Listed.{PutsRow, stands_listed, takes_one}
 
@@ -30,7 +30,8 @@ none_apart {X} R key k (y ∷ xs) x none h e = at (is_eq (R (key y) k)) refl non
 module _ {X K : Type 0} {R : K → K → Ordering} (o : IsTotalOrder R) (key : X → K) (entry : Row → Option X) where
   pub inserted : (x : X) (old new : List Row) (row : Row) → entry row ≡ Some x → new ≡ put_row row old
       → ((r : Row) → Has old r → Has new r) → IsKeyed R key entry old
-      → ((y : X) → Has (listed R key entry old) y → R (key y) (key x) ≢ Equal) → PutsRow o key entry x old new
+      → ((y : X) → Has (rows_in_key_order R key entry old) y → R (key y) (key x) ≢ Equal) → PutsRow o key entry
+      x old new
   inserted x old new row is rows keeps keyed apart = record {
     row = row;
     there = subst (λ l. Has l row) (sym rows) (has_put_row row old);

@@ -5,7 +5,7 @@ use Rattle.sqlite.specs.Effect.{Database}
 use Rattle.sqlite.specs.State.{State}
 use Rattle.cpi_rows.specs.Held.{held_cmp, held_key}
 use Rattle.cpi_survey.specs.Quote.{quote_cmp, quote_key}
-use Rattle.cpi_sql_rows.specs.Lists.{collector_in, outlet_in, item_in, calendar_in, assignment_in, quote_in}
+use Rattle.cpi_sql_rows.specs.Lists.{collector_in, outlet_in, item_in, calendar_in, assignment_in_row, quote_in}
 use Rattle.cpi_sql_rows.specs.Making.{IsOfficeDatabase}
 use Rattle.cpi_sql_rows.specs.Shelf.{HasTables, HasPlans, HasReleases, HasRowids, IsKeyed, IsKept}
 
@@ -22,7 +22,8 @@ kept_tables old new k h = record {
   outlets = subst (λ (d : Database). IsKeyed nat_cmp (λ u. u.number) outlet_in (d.trees 3)) (sym k.now) h.outlets;
   items = subst (λ (d : Database). IsKeyed nat_cmp (λ i. i.code) item_in (d.trees 4)) (sym k.now) h.items;
   calendar = subst (λ (d : Database). IsKeyed nat_cmp (λ r. r.month) calendar_in (d.trees 10)) (sym k.now) h.calendar;
-  assignments = subst (λ (d : Database). IsKeyed (held_cmp nat_cmp) (held_key (λ g. g.assignment.slot)) assignment_in
+  assignments = subst (λ (d : Database). IsKeyed (held_cmp nat_cmp) (held_key (λ g. g.assignment.slot))
+      assignment_in_row
       (d.trees 22)) (sym k.now) h.assignments;
   quotes = subst (λ (d : Database). IsKeyed (held_cmp quote_cmp) (held_key quote_key) quote_in (d.trees 24))
       (sym k.now) h.quotes;

@@ -5,7 +5,7 @@ use Rattle.std.specs.declared.cmp.Ordering.TheVariants.{Less}
 use Rattle.std.specs.Cmp.{IsTotalOrder}
 use Rattle.std.specs.List.{AllByRecursion}
 use Rattle.std.proofs.lemmas.Map.Keys.{sorted_head, sorted_tail}
-use Rattle.cpi_rows.specs.Keyed.{IsInOrder, put}
+use Rattle.cpi_rows.specs.Keyed.{IsInOrder, with_row}
 use Rattle.cpi_rows.proofs.Puts.{put_last}
 
 holds_at : {X : Type 0} (P : X → Type 0) (x : X) (xs ys : List X) → AllByRecursion P (xs ++ x ∷ ys) → P x
@@ -21,6 +21,6 @@ module _ {X K : Type 0} {R : K → K → Ordering} (o : IsTotalOrder R) (key : X
   )
 
   -- the next of rows in order comes after those before it
-  pub put_next : (x : X) (xs ys rows : List X) → xs ++ x ∷ ys ≡ rows → IsInOrder R key rows → put R key x xs ≡ xs
+  pub put_next : (x : X) (xs ys rows : List X) → xs ++ x ∷ ys ≡ rows → IsInOrder R key rows → with_row R key x xs ≡ xs
       ++ x ∷ []
   put_next x xs ys rows is sorted = put_last o key x xs (before x xs ys (subst (IsInOrder R key) (sym is) sorted))

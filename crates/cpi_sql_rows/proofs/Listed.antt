@@ -10,9 +10,9 @@ use Rattle.std.proofs.lemmas.Map.Keys.{sorted_head, sorted_tail}
 use Rattle.sqlite.specs.Order.{Row}
 use Rattle.sqlite_rules.specs.Lists.{Has}
 use Rattle.sqlite_rules.proofs.ListLemmas.{all_has, has_either, has_filtered, has_kept, has_left, has_right}
-use Rattle.cpi_rows.specs.Keyed.{put, IsInOrder}
+use Rattle.cpi_rows.specs.Keyed.{with_row, IsInOrder}
 use Rattle.cpi_rows.proofs.Places.{put_in_order, none_in_order}
-use Rattle.cpi_sql_rows.specs.Lists.{listed, put_entry}
+use Rattle.cpi_sql_rows.specs.Lists.{rows_in_key_order, put_entry}
 use Rattle.cpi_sql_rows.specs.Shelf.{IsKeyed, Takes}
 
 -- each row was there, or is the one that stands for what is put
@@ -60,7 +60,7 @@ module _ {X K : Type 0} {R : K → K → Ordering} (o : IsTotalOrder R) (key : X
           absurd (never_below x (o.trans (key x) (key y) (key x) (head_in x xs y sx k) (head_in y ys x sy h)))
 
   -- what is put, and the rows of other keys
-  pub put_has : (row : X) (xs : List X) (x : X) → Has (put R key row xs) x → (x ≡ row)
+  pub put_has : (row : X) (xs : List X) (x : X) → Has (with_row R key row xs) x → (x ≡ row)
       ⊎ (Has xs x × (R (key x) (key row) ≢ Equal))
   put_has row xs x h = elim (has_either (filter (λ r. is_lt (R (key r) (key row))) xs) (row ∷ filter
       (λ r. is_gt (R (key r) (key row))) xs) x h) [
@@ -75,11 +75,12 @@ module _ {X K : Type 0} {R : K → K → Ordering} (o : IsTotalOrder R) (key : X
         ]
       ]
 
-  pub has_put : (row : X) (xs : List X) → Has (put R key row xs) row
+  pub has_put : (row : X) (xs : List X) → Has (with_row R key row xs) row
   has_put row xs = has_right (filter (λ r. is_lt (R (key r) (key row))) xs) (row ∷ filter
       (λ r. is_gt (R (key r) (key row))) xs) row (inl refl)
 
-  pub put_keeps : (row : X) (xs : List X) (x : X) → Has xs x → R (key x) (key row) ≢ Equal → Has (put R key row xs) x
+  pub put_keeps : (row : X) (xs : List X) (x : X) → Has xs x → R (key x) (key row) ≢ Equal → Has
+      (with_row R key row xs) x
   put_keeps row xs x h apart = at (R (key x) (key row)) refl
     where
       low : List X
@@ -88,72 +89,75 @@ module _ {X K : Type 0} {R : K → K → Ordering} (o : IsTotalOrder R) (key : X
       high : List X
       high = filter (λ r. is_gt (R (key r) (key row))) xs
 
-      at : (s : Ordering) → R (key x) (key row) ≡ s → Has (put R key row xs) x
+      at : (s : Ordering) → R (key x) (key row) ≡ s → Has (with_row R key row xs) x
       at Less e = has_left low (row ∷ high) x (has_kept (λ r. is_lt (R (key r) (key row))) xs x h (ap is_lt e))
       at Equal e = absurd (apart e)
       at Greater e = has_right low (row ∷ high) x
           (inr (has_kept (λ r. is_gt (R (key r) (key row))) xs x h (ap is_gt e)))
 
   module _ (entry : Row → Option X) where
-    pub listed_in_order : (rows : List Row) → IsInOrder R key (listed R key entry rows)
+    pub listed_in_order : (rows : List Row) → IsInOrder R key (rows_in_key_order R key entry rows)
     listed_in_order [] = none_in_order R key
     listed_in_order (r ∷ rows) = at (entry r) (listed_in_order rows)
       where
-        at : (e : Option X) → IsInOrder R key (listed R key entry rows)
-            → IsInOrder R key (put_entry R key e (listed R key entry rows))
+        at : (e : Option X) → IsInOrder R key (rows_in_key_order R key entry rows)
+            → IsInOrder R key (put_entry R key e (rows_in_key_order R key entry rows))
         at None sorted = sorted
-        at (Some x) sorted = put_in_order o key (listed R key entry rows) x sorted
+        at (Some x) sorted = put_in_order o key (rows_in_key_order R key entry rows) x sorted
 
     abbrev pub StandsFor : List Row → X → Type 0
     StandsFor rows x = (r : Row) × Has rows r × (entry r ≡ Some x)
 
-    pub listed_stands : (rows : List Row) (x : X) → Has (listed R key entry rows) x → StandsFor rows x
+    pub listed_stands : (rows : List Row) (x : X) → Has (rows_in_key_order R key entry rows) x → StandsFor rows x
     listed_stands [] x h = absurd h
     listed_stands (r ∷ rows) x h = at (entry r) refl h (listed_stands rows x)
       where
         later : StandsFor rows x → StandsFor (r ∷ rows) x
         later it = (it.0, inr it.1, it.2)
 
-        at : (e : Option X) → entry r ≡ e → Has (put_entry R key e (listed R key entry rows)) x
-            → (Has (listed R key entry rows) x → StandsFor rows x) → StandsFor (r ∷ rows) x
+        at : (e : Option X) → entry r ≡ e → Has (put_entry R key e (rows_in_key_order R key entry rows)) x
+            → (Has (rows_in_key_order R key entry rows) x → StandsFor rows x) → StandsFor (r ∷ rows) x
         at None e h rest = later (rest h)
-        at (Some y) e h rest = elim (put_has y (listed R key entry rows) x h) [
+        at (Some y) e h rest = elim (put_has y (rows_in_key_order R key entry rows) x h) [
           | inl is ↦ (r, inl refl, e ∙ ap Some (sym is))
           | inr was ↦ later (rest was.0)
         ]
 
     pub stands_listed : (rows : List Row) (x : X) (s : Row) → IsKeyed R key entry rows → Has rows s → entry s ≡ Some x
-        → Has (listed R key entry rows) x
+        → Has (rows_in_key_order R key entry rows) x
     unfolding IsKeyed
     stands_listed [] x s keyed h e = absurd h
     stands_listed (r ∷ rows) x s keyed (inl is) e =
         let here : entry r ≡ Some x = ap entry (sym is) ∙ e in
-        subst (λ o. Has (put_entry R key o (listed R key entry rows)) x) (sym here)
-        (has_put x (listed R key entry rows))
+        subst (λ o. Has (put_entry R key o (rows_in_key_order R key entry rows)) x) (sym here)
+        (has_put x (rows_in_key_order R key entry rows))
     stands_listed (r ∷ rows) x s keyed (inr h) e =
         later (entry r) refl (stands_listed rows x s
         (λ a b y z ha hb ea eb same. keyed a b y z (inr ha) (inr hb) ea eb same) h e)
       where
-        at : (y : X) → entry r ≡ Some y → Has (listed R key entry rows) x → (t : Ordering) → R (key x) (key y) ≡ t
-            → Has (put R key y (listed R key entry rows)) x
-        at y g k Less f = put_keeps y (listed R key entry rows) x k (λ n. absurd (let m : Less ≡ Equal = sym f ∙ n in
+        at : (y : X) → entry r ≡ Some y → Has (rows_in_key_order R key entry rows) x → (t : Ordering) → R (key x)
+            (key y) ≡ t
+            → Has (with_row R key y (rows_in_key_order R key entry rows)) x
+        at y g k Less f = put_keeps y (rows_in_key_order R key entry rows) x k
+            (λ n. absurd (let m : Less ≡ Equal = sym f ∙ n in
             cc))
-        at y g k Equal f = subst (Has (put R key y (listed R key entry rows)))
-            (sym (keyed s r x y (inr h) (inl refl) e g f)) (has_put y (listed R key entry rows))
-        at y g k Greater f = put_keeps y (listed R key entry rows) x k (λ n. absurd (let m : Greater ≡ Equal = sym f
+        at y g k Equal f = subst (Has (with_row R key y (rows_in_key_order R key entry rows)))
+            (sym (keyed s r x y (inr h) (inl refl) e g f)) (has_put y (rows_in_key_order R key entry rows))
+        at y g k Greater f = put_keeps y (rows_in_key_order R key entry rows) x k
+            (λ n. absurd (let m : Greater ≡ Equal = sym f
             ∙ n in cc))
 
-        later : (o : Option X) → entry r ≡ o → Has (listed R key entry rows) x
-            → Has (put_entry R key o (listed R key entry rows)) x
+        later : (o : Option X) → entry r ≡ o → Has (rows_in_key_order R key entry rows) x
+            → Has (put_entry R key o (rows_in_key_order R key entry rows)) x
         later None g k = k
         later (Some y) g k = at y g k (R (key x) (key y)) refl
 
     -- rows in order that are what the rows stand for, are the list
     pub listed_is : (rows : List Row) (xs : List X) → IsKeyed R key entry rows → IsInOrder R key xs
         → ((x : X) → Has xs x → StandsFor rows x) → ((r : Row) (x : X) → Has rows r → entry r ≡ Some x → Has xs x)
-        → xs ≡ listed R key entry rows
+        → xs ≡ rows_in_key_order R key entry rows
     listed_is rows xs keyed sorted sound complete =
-        same_in_order xs (listed R key entry rows) sorted (listed_in_order rows)
+        same_in_order xs (rows_in_key_order R key entry rows) sorted (listed_in_order rows)
         (λ x h. let it = sound x h in stands_listed rows x it.0 keyed it.1 it.2)
         (λ x h. let it = listed_stands rows x h in complete it.0 x it.1 it.2)
 
@@ -189,22 +193,24 @@ module _ {X K : Type 0} {R : K → K → Ordering} (o : IsTotalOrder R) (key : X
 
     -- the list has the row in its place
     pub listed_put : (x : X) (old new : List Row) → IsKeyed R key entry old → PutsRow x old new
-        → listed R key entry new ≡ put R key x (listed R key entry old)
+        → rows_in_key_order R key entry new ≡ with_row R key x (rows_in_key_order R key entry old)
     listed_put x old new keyed p =
-        sym (listed_is new (put R key x (listed R key entry old)) (still_keyed x old new keyed p)
-        (put_in_order o key (listed R key entry old) x (listed_in_order old)) sound complete)
+        sym (listed_is new (with_row R key x (rows_in_key_order R key entry old)) (still_keyed x old new keyed p)
+        (put_in_order o key (rows_in_key_order R key entry old) x (listed_in_order old)) sound complete)
       where
-        sound : (y : X) → Has (put R key x (listed R key entry old)) y → StandsFor new y
-        sound y h = elim (put_has x (listed R key entry old) y h) [
+        sound : (y : X) → Has (with_row R key x (rows_in_key_order R key entry old)) y → StandsFor new y
+        sound y h = elim (put_has x (rows_in_key_order R key entry old) y h) [
           | inl is ↦ (p.row, p.there, p.is ∙ ap Some (sym is))
           | inr was ↦
               let it = listed_stands old y was.0 in
               (it.0, p.kept it.0 y it.1 it.2 was.1, it.2)
         ]
 
-        complete : (r : Row) (y : X) → Has new r → entry r ≡ Some y → Has (put R key x (listed R key entry old)) y
+        complete : (r : Row) (y : X) → Has new r → entry r ≡ Some y → Has
+            (with_row R key x (rows_in_key_order R key entry old)) y
         complete r y h e = elim (p.others r y h e) [
-          | inl is ↦ subst (Has (put R key x (listed R key entry old))) (sym (same_entry p.row y x (ap entry (sym is)
-              ∙ e) p.is)) (has_put x (listed R key entry old))
-          | inr was ↦ put_keeps x (listed R key entry old) y (stands_listed old y r keyed was.0 e) was.1
+          | inl is ↦ subst (Has (with_row R key x (rows_in_key_order R key entry old)))
+              (sym (same_entry p.row y x (ap entry (sym is)
+              ∙ e) p.is)) (has_put x (rows_in_key_order R key entry old))
+          | inr was ↦ put_keeps x (rows_in_key_order R key entry old) y (stands_listed old y r keyed was.0 e) was.1
         ]

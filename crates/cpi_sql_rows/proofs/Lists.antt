@@ -21,7 +21,7 @@ use Rattle.cpi_rows.specs.Keyed.{IsInOrder}
 use Rattle.cpi_rows.specs.Held.{held_by, held_cmp, held_key}
 use Rattle.cpi_survey.specs.Quote.{quote_cmp}
 use Rattle.cpi_sql_rows.specs.Read.{AreRead}
-use Rattle.cpi_sql_rows.specs.Lists.{listed, number_in, within, ranged, and_then}
+use Rattle.cpi_sql_rows.specs.Lists.{rows_in_key_order, number_in_value, if_within, number_within, and_then}
 use Rattle.cpi_sql_rows.specs.Shelf.{IsKeyed, equals}
 use Rattle.cpi_sql_rows.proofs.Listed.{same_in_order, listed_is, listed_in_order, listed_stands}
 use Rattle.cpi_sql_rows.proofs.Listed.{stands_listed, head_in}
@@ -96,7 +96,8 @@ pub record Shows (test : Row → Bool) (shape : Row → Row) (table rows : List 
 module _ {X K : Type 0} {R : K → K → Ordering} (o : IsTotalOrder R) (key : X → K) (entry stands : Row
     → Option X) (shape : Row → Row) (same : (r : Row) → stands (shape r) ≡ entry r) where
   pub list_read : (table rows : List Row) (xs : List X) → IsKeyed R key entry table
-      → Shows (λ r. true) shape table rows → AreRead stands rows xs → IsInOrder R key xs → xs ≡ listed R key entry table
+      → Shows (λ r. true) shape table rows → AreRead stands rows xs → IsInOrder R key xs → xs ≡ rows_in_key_order R key
+      entry table
   list_read table rows xs keyed shows read order =
       listed_is o key entry table xs keyed order
       (λ x h.
@@ -154,9 +155,9 @@ module _ {X K : Type 0} {R : K → K → Ordering} (o : IsTotalOrder R) (key : X
       (back : (r : Row) (x : X) → entry r ≡ Some (c, x) → (test r ≡ true) × (stands (shape r) ≡ Some x)) where
     pub held_read : (table rows : List Row) (xs : List X) → IsKeyed (held_cmp R) (held_key key) entry table
         → Shows test shape table rows → AreRead stands rows xs → IsInOrder R key xs
-        → xs ≡ held_by c (listed (held_cmp R) (held_key key) entry table)
+        → xs ≡ held_by c (rows_in_key_order (held_cmp R) (held_key key) entry table)
     held_read table rows xs keyed shows read order =
-        let all = listed (held_cmp R) (held_key key) entry table in
+        let all = rows_in_key_order (held_cmp R) (held_key key) entry table in
         same_in_order o key xs (held_by c all) order
         (held_in_order c all (listed_in_order (held_total o) (held_key key) entry table))
         (λ x h.
@@ -173,7 +174,7 @@ module _ {X K : Type 0} {R : K → K → Ordering} (o : IsTotalOrder R) (key : X
 
 -- ---- numbers in columns
 
-pub number_is : (v : Value) (n : ℕ) → number_in v ≡ Some n → v ≡ Int (pos n)
+pub number_is : (v : Value) (n : ℕ) → number_in_value v ≡ Some n → v ≡ Int (pos n)
 number_is (Int (pos k)) n e = let same : k ≡ n = cc in ap (λ x. Int (pos x)) same
 number_is (Int (negsuc k)) n e = cc
 number_is Null n e = cc
@@ -186,16 +187,16 @@ pub bound_is : {A B : Type 0} (a : Option A) (f : A → Option B) (b : B) → an
 bound_is None f b e = cc
 bound_is (Some a) f b e = (a, refl, e)
 
-within_is : (low high n m : ℕ) → within low high n ≡ Some m → n ≡ m
+within_is : (low high n m : ℕ) → if_within low high n ≡ Some m → n ≡ m
 within_is low high n m e = at (nat_le low n && nat_le n high) e
   where
     at : (b : Bool) → (if b then Some n else None) ≡ Some m → n ≡ m
     at true e = some_is e
     at false e = cc
 
-pub ranged_is : (low high : ℕ) (v : Value) (n : ℕ) → ranged low high v ≡ Some n → v ≡ Int (pos n)
+pub ranged_is : (low high : ℕ) (v : Value) (n : ℕ) → number_within low high v ≡ Some n → v ≡ Int (pos n)
 ranged_is low high v n e =
-    let it = bound_is (number_in v) (within low high) n e in
+    let it = bound_is (number_in_value v) (if_within low high) n e in
     number_is v it.0 it.1 ∙ ap (λ z. Int (pos z)) (within_is low high it.0 n it.2)
 
 pub equal_is : (o : Ordering) → is_eq o ≡ true → o ≡ Equal

@@ -64,7 +64,8 @@ ids_rise [] up = tt
 ids_rise (p ∷ read) up = (ids_above p.number read up.0, ids_rise read up.1)
 
 module _ (place : ℕ) (table rows : List Row) (read : List PlanRow)
-    (same : IsPermutation (map (λ r. column r 0 ∷ column r place ∷ []) table) rows) (is : AreRead plan_row_from rows read) where
+    (same : IsPermutation (map (λ r. column r 0 ∷ column r place ∷ []) table) rows)
+    (is : AreRead plan_row_from rows read) where
   abbrev shape : Row → Row
   shape r = column r 0 ∷ column r place ∷ []
 

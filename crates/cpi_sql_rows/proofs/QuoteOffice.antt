@@ -14,9 +14,9 @@ use Rattle.cpi_rows.specs.Held.{held_cmp, held_key}
 use Rattle.cpi_codes.specs.Month.{month_in, is_in_calendar}
 use Rattle.cpi_codes.specs.declared.months.MonthFault.TheVariants.{Range}
 use Rattle.cpi_survey.specs.Quote.{QuoteRow, quote_cmp, quote_key}
-use Rattle.cpi_store.specs.declared.bearer.Bearer.{Bearer}
-use Rattle.cpi_sql_rows.specs.Lists.{quote_in, quote_from, ranged, receipt_from, month_from, month_at, month_out}
-use Rattle.cpi_sql_rows.specs.Lists.{mark_in, number_in}
+use Rattle.cpi_store.specs.declared.registration.Registration.{Registration}
+use Rattle.cpi_sql_rows.specs.Lists.{quote_in, quote_from, number_within, receipt_from, month_from, month_at, month_out}
+use Rattle.cpi_sql_rows.specs.Lists.{mark_in, number_in_value}
 use Rattle.cpi_sql_rows.proofs.Listed.{PutsRow}
 use Rattle.cpi_sql_rows.proofs.Lists.{held_total, quote_total, bound_is, number_is, ranged_is, some_is}
 use Rattle.cpi_sql_rows.proofs.Lists.{first_tied, second_tied, number_tied, held_tied}
@@ -63,7 +63,7 @@ pub record HasMonth (v : Value) (m : ℕ) : Type 0 where
 
 pub month_of : (v : Value) (m : ℕ) → month_from v ≡ Some m → HasMonth v m
 month_of v m e =
-    let it = bound_is (number_in v) month_at m e in
+    let it = bound_is (number_in_value v) month_at m e in
     record { number = it.0; column = number_is v it.0 it.1; is = it.2 }
 
 -- the columns of a row that stands for a quote
@@ -74,10 +74,10 @@ pub record HasNumbers (r : Row) (c : ℕ) (q : QuoteRow) : Type 0 where
 
 pub numbers_of : (r : Row) (c : ℕ) (q : QuoteRow) → quote_in r ≡ Some (c, q) → HasNumbers r c q
 numbers_of r c q e =
-    let one = bound_is (ranged 1 9999 (column r 1)) _ _ e in
+    let one = bound_is (number_within 1 9999 (column r 1)) _ _ e in
     let two = bound_is (quote_from (column r 2) (column r 3) (column r 4) (column r 5) (column r 6)) _ _ one.2 in
     let pair : ◌≡◌ {A = ℕ × QuoteRow} (one.0, two.0) (c, q) = some_is two.2 in
-    let three = bound_is (ranged 1 400 (column r 2)) _ _ two.1 in
+    let three = bound_is (number_within 1 400 (column r 2)) _ _ two.1 in
     let four = bound_is (month_from (column r 3)) _ _ three.2 in
     let five = bound_is (mark_in (column r 4) (column r 5)) _ _ four.2 in
     let six = bound_is (receipt_from (column r 6)) _ _ five.2 in
@@ -127,7 +127,7 @@ same_key r s x y e f same =
     let month : x.1.month ≡ y.1.month = some_is (sym a.month.is ∙ ap month_at number ∙ b.month.is) in
     rw (mine, slot, month) (tied_itself (held_total quote_total) (key y))
 
-pub quote_puts : (b : Bearer) (q : QuoteRow) (columns : Row)
+pub quote_puts : (b : Registration) (q : QuoteRow) (columns : Row)
     → ((id : Value) → quote_in (id ∷ columns) ≡ Some (b.number, q))
     → (old new : List Row) → PutsOver quote_places Null columns old new
     → PutsRow (held_total quote_total) key quote_in (b.number, q) old new

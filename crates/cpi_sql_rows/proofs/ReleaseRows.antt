@@ -17,12 +17,13 @@ use Rattle.sqlite_sql.specs.declared.ops.CompareOp.TheVariants.{Eq}
 use Rattle.sqlite.specs.Ops.{binary, is_true}
 use Rattle.sqlite.specs.Order.{Row, column}
 use Rattle.sqlite_trees.proofs.ListLemmas.{all-append}
-use Rattle.cpi_codes.specs.CodeOf.{code_of}
-use Rattle.cpi_codes.specs.CodeParts.{two_digits, dotted, dashed}
-use Rattle.cpi_codes.specs.CodeText.{text}
+use Rattle.cpi_codes.specs.CodeOf.{spelled_code}
+use Rattle.cpi_codes.specs.CodeParts.{two_digits, dot_and_digit, dash_and_number}
+use Rattle.cpi_codes.specs.CodeText.{code_text}
 use Rattle.cpi_codes.specs.declared.codes.Code.{Code}
 use Rattle.cpi_codes.proofs.CodeOf.{there}
-use Rattle.cpi_sql_rows.specs.Lists.{and_then, number_in, within, ranged, month_at, month_from, each_of, codes_of}
+use Rattle.cpi_sql_rows.specs.Lists.{and_then, number_in_value, if_within, number_within, month_at, month_from, each_of}
+use Rattle.cpi_sql_rows.specs.Lists.{spelled_codes}
 use Rattle.cpi_sql_rows.specs.Lists.{revision_from, release_from_key, release_number}
 use Rattle.cpi_sql_rows.specs.ReleaseRows.{carry_text}
 use Rattle.cpi_sql_rows.specs.Shelf.{equals}
@@ -65,45 +66,45 @@ HasNoSpace bytes = AllByRecursion (λ x. is_space x ≡ false) bytes
 two_no_space : (n : ℕ) → HasNoSpace (two_digits n)
 two_no_space n = (above_space (n / 10), (above_space (n % 10), tt))
 
-dotted_no_space : (o : Option ℕ) → HasNoSpace (dotted o)
+dotted_no_space : (o : Option ℕ) → HasNoSpace (dot_and_digit o)
 dotted_no_space None = tt
 dotted_no_space (Some d) = (refl, (above_space d, tt))
 
-dashed_no_space : (o : Option ℕ) → HasNoSpace (dashed o)
+dashed_no_space : (o : Option ℕ) → HasNoSpace (dash_and_number o)
 dashed_no_space None = tt
 dashed_no_space (Some n) = (refl, two_no_space n)
 
-text_no_space : (c : Code) → All (λ x. is_space x ≡ false) (text c)
+text_no_space : (c : Code) → All (λ x. is_space x ≡ false) (code_text c)
 text_no_space c =
     let P = λ (x : ℕ). is_space x ≡ false in
-    let four = all-append P (dotted c.subclass) (dashed c.aggregate) (dotted_no_space c.subclass)
+    let four = all-append P (dot_and_digit c.subclass) (dash_and_number c.aggregate) (dotted_no_space c.subclass)
     (dashed_no_space c.aggregate) in
-    let three = all-append P (dotted c.class) _ (dotted_no_space c.class) four in
-    let two = all-append P (dotted c.group) _ (dotted_no_space c.group) three in
-    All-from_recursion P (text c) (all-append P (two_digits c.division) _ (two_no_space c.division) two)
+    let three = all-append P (dot_and_digit c.class) _ (dotted_no_space c.class) four in
+    let two = all-append P (dot_and_digit c.group) _ (dotted_no_space c.group) three in
+    All-from_recursion P (code_text c) (all-append P (two_digits c.division) _ (two_no_space c.division) two)
 
-parts_are : (c : Code) (cs : List Code) → slice_split is_space (carry_text (c ∷ cs)) ≡ map text (c ∷ cs)
-parts_are c [] = slice_split_none is_space (text c) (text_no_space c)
+parts_are : (c : Code) (cs : List Code) → slice_split is_space (carry_text (c ∷ cs)) ≡ map code_text (c ∷ cs)
+parts_are c [] = slice_split_none is_space (code_text c) (text_no_space c)
 parts_are c (d ∷ cs) =
-    slice_split_at is_space (text c) 32 (carry_text (d ∷ cs)) (text_no_space c) refl
-    ∙ ap (λ parts. text c ∷ parts) (parts_are d cs)
+    slice_split_at is_space (code_text c) 32 (carry_text (d ∷ cs)) (text_no_space c) refl
+    ∙ ap (λ parts. code_text c ∷ parts) (parts_are d cs)
 
-each_read : (cs : List Code) → each_of code_of (map text cs) ≡ Some cs
+each_read : (cs : List Code) → each_of spelled_code (map code_text cs) ≡ Some cs
 each_read [] = refl
-each_read (c ∷ cs) = rw (there (text c) c refl, each_read cs) refl
+each_read (c ∷ cs) = rw (there (code_text c) c refl, each_read cs) refl
 
 -- what a header is written with is what is read from it
-pub carry_read : (carry : List Code) → codes_of (carry_text carry) ≡ Some carry
+pub carry_read : (carry : List Code) → spelled_codes (carry_text carry) ≡ Some carry
 carry_read [] = refl
-carry_read (c ∷ []) = ap (each_of code_of) (parts_are c []) ∙ each_read (c ∷ [])
-carry_read (c ∷ d ∷ cs) = ap (each_of code_of) (parts_are c (d ∷ cs)) ∙ each_read (c ∷ d ∷ cs)
+carry_read (c ∷ []) = ap (each_of spelled_code) (parts_are c []) ∙ each_read (c ∷ [])
+carry_read (c ∷ d ∷ cs) = ap (each_of spelled_code) (parts_are c (d ∷ cs)) ∙ each_read (c ∷ d ∷ cs)
 
 -- ---- rows that begin with a release
 
 -- a number is within its limits
-pub within_limits : (low high : ℕ) (v : Value) (n : ℕ) → ranged low high v ≡ Some n → (low ≤ n) × (n ≤ high)
+pub within_limits : (low high : ℕ) (v : Value) (n : ℕ) → number_within low high v ≡ Some n → (low ≤ n) × (n ≤ high)
 within_limits low high v n e =
-    let it = bound_is (number_in v) (within low high) n e in
+    let it = bound_is (number_in_value v) (if_within low high) n e in
     at it.0 (nat_le low it.0 && nat_le it.0 high) refl it.2
   where
     at : (k : ℕ) (b : Bool) → (nat_le low k && nat_le k high) ≡ b → (if b then Some k else None) ≡ Some n → (low ≤ n)

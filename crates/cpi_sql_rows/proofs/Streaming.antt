@@ -20,7 +20,7 @@ use Rattle.sqlite_trees.specs.declared.store.Store.{Ghosts}
 use Rattle.sqlite_schema.specs.declared.command.Returning.{Returning}
 use Rattle.sqlite_resolve.specs.declared.compiled.Compiled.{Compiled}
 use Rattle.cpi_sql_rows.specs.Shelf.{IsKept}
-use Rattle.cpi_sql_rows.specs.Read.{AreRead, Asked}
+use Rattle.cpi_sql_rows.specs.Read.{AreRead, QueryLeaves}
 use Rattle.cpi_sql_rows.proofs.Asking.{asked_open}
 
 -- what was shown is shown still where nothing has changed since
@@ -130,7 +130,7 @@ module _ {S : Type 0} (g : Ghosts S) (sql : List ℕ) (params : Row) (old : Held
   module _ (mid : Held S) (survives : Survives (state g old) (state g mid) (CommitsShowing sql params (state g old)))
       (way : HasCleanDisk (state g mid) → (given : List Row) × IsUnderWay mid given) where
     -- what is left where some rows were read
-    pub way_asked : Asked sql params (state g old) (state g mid)
+    pub way_asked : QueryLeaves sql params (state g old) (state g mid)
     way_asked = record {
       clean = λ clean. let it = way clean.disk in record {
         disk = let d = clean.disk in omega (arith, survives.clean);
@@ -153,7 +153,7 @@ module _ {S : Type 0} (g : Ghosts S) (sql : List ℕ) (params : Row) (old : Held
 
       -- and then nothing was changed
       pub still_asked : (HasCleanDisk (state g new) → IsUnchanged (state g mid) (state g new))
-          → Asked sql params (state g old) (state g new)
+          → QueryLeaves sql params (state g old) (state g new)
       still_asked same = record {
         clean = λ clean. way_asked.clean (record {
           disk = before clean.disk;
@@ -171,7 +171,7 @@ module _ {S : Type 0} (g : Ghosts S) (sql : List ℕ) (params : Row) (old : Held
           → (state g old).now ≡ (state g old).committed)
           → (HasCleanDisk (state g new)
           → Fails (state g mid) (state g new) ⊥ e ⊎ IsUnchanged (state g mid) (state g new))
-          → Asked sql params (state g old) (state g new)
+          → QueryLeaves sql params (state g old) (state g new)
       failed_asked e settled ends = record {
         clean = λ clean. way_asked.clean (record {
           disk = before clean.disk;

@@ -18,8 +18,8 @@ use Rattle.sqlite_rules.specs.Lists.{Has}
 use Rattle.cpi_rows.specs.Keyed.{IsInOrder}
 use Rattle.cpi_sql_rows.specs.Asked.{AsksFor}
 use Rattle.cpi_sql_rows.specs.Finding.{IsQuietOver, LooksOver}
-use Rattle.cpi_sql_rows.specs.Lists.{listed}
-use Rattle.cpi_sql_rows.specs.Read.{AreRead, Asked}
+use Rattle.cpi_sql_rows.specs.Lists.{rows_in_key_order}
+use Rattle.cpi_sql_rows.specs.Read.{AreRead, QueryLeaves}
 use Rattle.cpi_sql_rows.specs.Shelf.{HasTables, IsWhole, Looked, Looks, StaysOpen}
 use Rattle.cpi_sql_rows.specs.Tables.{office_schema}
 use Rattle.cpi_sql_rows.specs.Texts.{select, columns, by_columns}
@@ -75,7 +75,7 @@ module _ {X K : Type 0} {R : K → K → Ordering} (o : IsTotalOrder R) (key : X
       whole_read o key entry stands (λ r. map (column r) shown) same (old.now.trees tree) rows xs
       (shows text tree [] shown old new [] rows is h) read order
 
-  pub table_read : xs ≡ listed R key entry (old.now.trees tree)
+  pub table_read : xs ≡ rows_in_key_order R key entry (old.now.trees tree)
   table_read =
       list_read o key entry stands (λ r. map (column r) shown) same (old.now.trees tree) rows xs table_whole.keyed
       (shows text tree [] shown old new [] rows is h) read order
@@ -84,7 +84,7 @@ module _ {X K : Type 0} {R : K → K → Ordering} (o : IsTotalOrder R) (key : X
 
 -- a statement that is no write, over a schema that fits
 pub looked_over : (Fits : Schema → Type 0) (text : List ℕ) (old new : State) (params : Row)
-    → (Fits old.now.schema → IsPlain (understood old.now.schema text)) → Asked text params old new
+    → (Fits old.now.schema → IsPlain (understood old.now.schema text)) → QueryLeaves text params old new
     → LooksOver Fits old new
 looked_over Fits text old new params plain asked = record {
   clean = asked.clean;
@@ -102,7 +102,7 @@ quiet_office Fits office old new h = survives_weaker old new _ _
 -- a statement over a table of the office is a look
 pub looked : {A E : Type 0} (r : Result A E) (Fits : Schema → Type 0) (text : List ℕ) (old new : State) (params : Row)
     → Fits office_schema → (Fits old.now.schema → IsPlain (understood old.now.schema text))
-    → Asked text params old new → (HasCleanDisk new → OnOk r (IsTrue new.is_open)) → Looks old new r
+    → QueryLeaves text params old new → (HasCleanDisk new → OnOk r (IsTrue new.is_open)) → Looks old new r
 looked {A = A} {E = E} r Fits text old new params office plain asked opens = record {
   still = record {
     clean = asked.clean;

@@ -12,10 +12,10 @@ pub use Rattle.sqlite.specs.State.{Survives}
 pub use Rattle.sqlite.specs.Schema.{Schema}
 pub use Rattle.sqlite.specs.Values.{bound}
 pub use Rattle.cpi_rows.specs.Held.{held_by, held_cmp, held_key}
-pub use Rattle.cpi_rows.specs.Keyed.{IsInOrder, at, row_at}
+pub use Rattle.cpi_rows.specs.Keyed.{IsInOrder, row_by_number, row_at}
 pub use Rattle.cpi_sql_rows.specs.Finding.{AreWhole, IsOfOffice, IsSecond, LooksOver}
-pub use Rattle.cpi_sql_rows.specs.Lists.{listed}
-pub use Rattle.cpi_sql_rows.specs.Read.{Asked, ShowsAll}
+pub use Rattle.cpi_sql_rows.specs.Lists.{rows_in_key_order}
+pub use Rattle.cpi_sql_rows.specs.Read.{QueryLeaves, ShowsAll}
 pub use Rattle.cpi_sql_rows.specs.Shelf.{AllStand, AllStandOf, AreTaken, HasRowids, HasTables, IsCleanBook, IsDone}
 pub use Rattle.cpi_sql_rows.specs.Shelf.{IsKept, IsSurveyOf, IsWhole, Looks, Shelf, StaysOpen, book_state, shelf_code}
 pub use Rattle.cpi_sql_rows.specs.Shelf.{AllStandFor, ArePlansTaken, IsPlanTaken, survey_of, year_in}

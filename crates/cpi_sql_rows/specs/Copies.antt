@@ -4,8 +4,10 @@ use Rattle.std.specs.List.Sorted.{IsPermutation}
 use Rattle.sqlite.specs.declared.types.Value.TheVariants.{Null, Int}
 use Rattle.sqlite.specs.Order.{Row, column}
 use Rattle.sqlite.specs.Tree.{Trees}
-use Rattle.cpi_sql_rows.specs.Tables.{assignment, assignment_2, carried, carried_2, frozen, frozen_2, level, level_2}
-use Rattle.cpi_sql_rows.specs.Tables.{quote, quote_2, release, release_2}
+use Rattle.cpi_sql_rows.specs.Tables.{table_of_assignments, table_of_assignments_2, table_of_carried}
+use Rattle.cpi_sql_rows.specs.Tables.{table_of_carried_2, table_of_frozen, table_of_frozen_2, table_of_levels}
+use Rattle.cpi_sql_rows.specs.Tables.{table_of_levels_2}
+use Rattle.cpi_sql_rows.specs.Tables.{table_of_quotes, table_of_quotes_2, table_of_releases, table_of_releases_2}
 
 -- ---- rows: each is its rowid, and then its columns
 
@@ -53,9 +55,9 @@ AreCopies copy old new = IsPermutation (map (λ r. contents (copy r)) old) (map 
 
 -- each table that schema 2 has anew holds the copies of the rows that its table of schema 1 held
 pub record HasCopies (old new : Trees) : Type 0 where
-  pub assignments : AreCopies assignment_copy (old assignment.tree) (new assignment_2.tree)
-  pub quotes : AreCopies quote_copy (old quote.tree) (new quote_2.tree)
-  pub headers : AreCopies header_copy (old release.tree) (new release_2.tree)
-  pub frozen : AreCopies frozen_copy (old frozen.tree) (new frozen_2.tree)
-  pub carried : AreCopies carried_copy (old carried.tree) (new carried_2.tree)
-  pub levels : AreCopies level_copy (old level.tree) (new level_2.tree)
+  pub assignments : AreCopies assignment_copy (old table_of_assignments.tree) (new table_of_assignments_2.tree)
+  pub quotes : AreCopies quote_copy (old table_of_quotes.tree) (new table_of_quotes_2.tree)
+  pub headers : AreCopies header_copy (old table_of_releases.tree) (new table_of_releases_2.tree)
+  pub table_of_frozen : AreCopies frozen_copy (old table_of_frozen.tree) (new table_of_frozen_2.tree)
+  pub table_of_carried : AreCopies carried_copy (old table_of_carried.tree) (new table_of_carried_2.tree)
+  pub levels : AreCopies level_copy (old table_of_levels.tree) (new table_of_levels_2.tree)

@@ -10,10 +10,13 @@ use Rattle.sqlite.proofs.Callers.{IsPlain, command_of}
 use Rattle.cpi_sql_rows.specs.declared.plan_rows.PlanRow.{PlanRow}
 use Rattle.cpi_sql_rows.specs.declared.rowids.Rowid.{Rowid}
 use Rattle.cpi_sql_rows.specs.Asked.{AsksFor}
-use Rattle.cpi_sql_rows.specs.Tables.{assignment, assignment_2, calendar, carried, carried_2, collector}
-use Rattle.cpi_sql_rows.specs.Tables.{first_schema, frozen, frozen_2, item, level, level_2, node}
-use Rattle.cpi_sql_rows.specs.Tables.{office_schema, outlet, plan_item, plan_ref, quote, quote_2, release}
-use Rattle.cpi_sql_rows.specs.Tables.{release_2, version}
+use Rattle.cpi_sql_rows.specs.Tables.{table_of_assignments, table_of_assignments_2, table_of_calendar, table_of_carried}
+use Rattle.cpi_sql_rows.specs.Tables.{table_of_carried_2, table_of_collectors}
+use Rattle.cpi_sql_rows.specs.Tables.{first_schema, table_of_frozen, table_of_frozen_2, table_of_items, table_of_levels}
+use Rattle.cpi_sql_rows.specs.Tables.{table_of_levels_2, table_of_nodes}
+use Rattle.cpi_sql_rows.specs.Tables.{office_schema, table_of_outlets, table_of_plan_items, table_of_plan_refs}
+use Rattle.cpi_sql_rows.specs.Tables.{table_of_quotes, table_of_quotes_2, table_of_releases}
+use Rattle.cpi_sql_rows.specs.Tables.{table_of_releases_2, table_of_version}
 use Rattle.cpi_sql_rows.specs.Texts.{select}
 use Rattle.sqlite.specs.State.{State, Survives}
 use Rattle.cpi_sql_rows.specs.Making.{no_schema, HasAllTables, HoldsNothing, IsOfficeDatabase}
@@ -64,34 +67,34 @@ pub record ArePlanRows (place : ℕ) (rows : List Row) : Type 0 where
 
 -- the rowids are numbers, and no two rows have one, in the tables whose keys rest on that
 pub record HavePlanRowids (trees : Trees) : Type 0 where
-  pub nodes : HasRowids (trees node.tree)
-  pub places : HasRowids (trees plan_item.tree)
-  pub calendar : HasRowids (trees calendar.tree)
+  pub nodes : HasRowids (trees table_of_nodes.tree)
+  pub places : HasRowids (trees table_of_plan_items.tree)
+  pub table_of_calendar : HasRowids (trees table_of_calendar.tree)
 
 -- the tables of the survey that have rowids of their own
 pub record HaveSurveyRowids (trees : Trees) : Type 0 where
-  pub assignments : HasRowids (trees assignment_2.tree)
-  pub quotes : HasRowids (trees quote_2.tree)
-  pub references : HasRowids (trees plan_ref.tree)
+  pub assignments : HasRowids (trees table_of_assignments_2.tree)
+  pub quotes : HasRowids (trees table_of_quotes_2.tree)
+  pub references : HasRowids (trees table_of_plan_refs.tree)
 
 -- the tables of the releases
 pub record HaveReleaseRowids (trees : Trees) : Type 0 where
-  pub headers : HasRowids (trees release_2.tree)
-  pub frozen : HasRowids (trees frozen_2.tree)
-  pub carried : HasRowids (trees carried_2.tree)
-  pub levels : HasRowids (trees level_2.tree)
+  pub headers : HasRowids (trees table_of_releases_2.tree)
+  pub table_of_frozen : HasRowids (trees table_of_frozen_2.tree)
+  pub table_of_carried : HasRowids (trees table_of_carried_2.tree)
+  pub levels : HasRowids (trees table_of_levels_2.tree)
 
 -- the same, in the tables of schema 1 whose rows schema 2 has anew
 pub record HaveFirstSurveyRowids (trees : Trees) : Type 0 where
-  pub assignments : HasRowids (trees assignment.tree)
-  pub quotes : HasRowids (trees quote.tree)
+  pub assignments : HasRowids (trees table_of_assignments.tree)
+  pub quotes : HasRowids (trees table_of_quotes.tree)
 
 -- the tables of the releases of schema 1
 pub record HaveFirstReleaseRowids (trees : Trees) : Type 0 where
-  pub headers : HasRowids (trees release.tree)
-  pub frozen : HasRowids (trees frozen.tree)
-  pub carried : HasRowids (trees carried.tree)
-  pub levels : HasRowids (trees level.tree)
+  pub headers : HasRowids (trees table_of_releases.tree)
+  pub table_of_frozen : HasRowids (trees table_of_frozen.tree)
+  pub table_of_carried : HasRowids (trees table_of_carried.tree)
+  pub levels : HasRowids (trees table_of_levels.tree)
 
 -- the tables of schema 1
 pub record HaveFirstRowids (trees : Trees) : Type 0 where
@@ -106,33 +109,33 @@ pub record HaveRowids (trees : Trees) : Type 0 where
 
 -- the tables of schema 1 whose rows schema 2 has anew hold nothing
 pub record AreCleared (trees : Trees) : Type 0 where
-  pub assignments : trees assignment.tree ≡ []
-  pub quotes : trees quote.tree ≡ []
-  pub headers : trees release.tree ≡ []
-  pub frozen : trees frozen.tree ≡ []
-  pub carried : trees carried.tree ≡ []
-  pub levels : trees level.tree ≡ []
+  pub assignments : trees table_of_assignments.tree ≡ []
+  pub quotes : trees table_of_quotes.tree ≡ []
+  pub headers : trees table_of_releases.tree ≡ []
+  pub table_of_frozen : trees table_of_frozen.tree ≡ []
+  pub table_of_carried : trees table_of_carried.tree ≡ []
+  pub levels : trees table_of_levels.tree ≡ []
 
 -- the tables that schema 2 took over are as they were
 pub record KeepsLists (old new : Trees) : Type 0 where
-  pub collectors : new collector.tree ≡ old collector.tree
-  pub outlets : new outlet.tree ≡ old outlet.tree
-  pub items : new item.tree ≡ old item.tree
-  pub nodes : new node.tree ≡ old node.tree
-  pub places : new plan_item.tree ≡ old plan_item.tree
-  pub calendar : new calendar.tree ≡ old calendar.tree
+  pub collectors : new table_of_collectors.tree ≡ old table_of_collectors.tree
+  pub outlets : new table_of_outlets.tree ≡ old table_of_outlets.tree
+  pub items : new table_of_items.tree ≡ old table_of_items.tree
+  pub nodes : new table_of_nodes.tree ≡ old table_of_nodes.tree
+  pub places : new table_of_plan_items.tree ≡ old table_of_plan_items.tree
+  pub table_of_calendar : new table_of_calendar.tree ≡ old table_of_calendar.tree
 
 -- the rows of schema 1, whose number was 1, are in the tables of schema 2, which are all there: each table that both
 -- schemas have is as it was, each that schema 2 has anew holds a copy of every row, and no year has a reference month;
 -- so the office is the one that they stood for. The old tables hold them no longer.
 pub record IsMigrated (old new : Trees) : Type 0 where
-  pub was : IsVersion 1 (old version.tree)
+  pub was : IsVersion 1 (old table_of_version.tree)
   pub tables : HasAllTables new
   pub lists : KeepsLists old new
   pub copied : HasCopies old new
-  pub references : new plan_ref.tree ≡ []
+  pub references : new table_of_plan_refs.tree ≡ []
   pub office : office_in new ≡ first_office_in old
-  pub version : IsVersion 2 (new version.tree)
+  pub table_of_version : IsVersion 2 (new table_of_version.tree)
   pub cleared : AreCleared new
 
 -- What an open leaves is the database of an office: a new one if there was no table, the tables of schema 2 as they
@@ -149,8 +152,8 @@ abbrev pub IsSettled : State → Type 0
 IsSettled s = (db : Trees) → s.may_leave db → db ≡ s.now.trees
 
 -- the schema is schema 1
-abbrev pub IsFirst : Schema → Type 0
-IsFirst schema = schema ≡ first_schema
+abbrev pub IsFirstSchema : Schema → Type 0
+IsFirstSchema schema = schema ≡ first_schema
 
 -- the schema is schema 2
 abbrev pub IsSecond : Schema → Type 0

@@ -9,9 +9,11 @@ use Rattle.sqlite.specs.Tree.{Trees}
 use Rattle.cpi_sql_rows.specs.Numbered.{IsVersion}
 use Rattle.cpi_store.specs.Office.{empty_office}
 use Rattle.cpi_sql_rows.specs.Lists.{office_in}
-use Rattle.cpi_sql_rows.specs.Tables.{assignment_2, calendar, carried_2, collector, frozen_2, item, level_2}
-use Rattle.cpi_sql_rows.specs.Tables.{node, office_schema, outlet, plan_item, plan_ref, quote_2, release_2}
-use Rattle.cpi_sql_rows.specs.Tables.{version}
+use Rattle.cpi_sql_rows.specs.Tables.{table_of_assignments_2, table_of_calendar, table_of_carried_2}
+use Rattle.cpi_sql_rows.specs.Tables.{table_of_collectors, table_of_frozen_2, table_of_items, table_of_levels_2}
+use Rattle.cpi_sql_rows.specs.Tables.{table_of_nodes, office_schema, table_of_outlets, table_of_plan_items}
+use Rattle.cpi_sql_rows.specs.Tables.{table_of_plan_refs, table_of_quotes_2, table_of_releases_2}
+use Rattle.cpi_sql_rows.specs.Tables.{table_of_version}
 use Rattle.cpi_sql_rows.specs.WholeRows.{AreWhole, HavePlanYears}
 
 -- the schema of an empty database
@@ -19,8 +21,8 @@ abbrev pub no_schema : Schema
 no_schema = record { tables = []; indexes = []; views = [] }
 
 -- as it stands behind the tables of the schema
-abbrev pub placed : Schema → Table → Table
-placed schema table = record table { tree = next_tree schema }
+abbrev pub table_behind : Schema → Table → Table
+table_behind schema table = record table { tree = next_tree schema }
 
 -- All twenty tables of the office are there: what a database lists of itself, in a tree of its own, is the office's
 -- schema, and its rows obey that.
@@ -31,7 +33,7 @@ HasAllTables trees = IsDatabase (record { schema = office_schema; trees = trees 
 -- and rows of plans that are of years which an office can have; an open of a file asks for these
 pub record IsOfficeDatabase (trees : Trees) : Type 0 where
   pub tables : HasAllTables trees
-  pub version : IsVersion 2 (trees version.tree)
+  pub table_of_version : IsVersion 2 (trees table_of_version.tree)
   pub whole : AreWhole trees
   pub years : HavePlanYears trees
 
@@ -39,30 +41,31 @@ pub record IsOfficeDatabase (trees : Trees) : Type 0 where
 pub record IsBlank (s : State) : Type 0 where
   pub schema : s.now.schema ≡ office_schema
   pub tables : HasAllTables s.now.trees
-  pub version : IsVersion 2 (s.now.trees version.tree)
-  pub collectors : s.now.trees collector.tree ≡ []
-  pub outlets : s.now.trees outlet.tree ≡ []
-  pub items : s.now.trees item.tree ≡ []
-  pub nodes : s.now.trees node.tree ≡ []
-  pub places : s.now.trees plan_item.tree ≡ []
-  pub calendar : s.now.trees calendar.tree ≡ []
-  pub assignments : s.now.trees assignment_2.tree ≡ []
-  pub quotes : s.now.trees quote_2.tree ≡ []
-  pub releases : s.now.trees release_2.tree ≡ []
-  pub frozen : s.now.trees frozen_2.tree ≡ []
-  pub carried : s.now.trees carried_2.tree ≡ []
-  pub levels : s.now.trees level_2.tree ≡ []
-  pub references : s.now.trees plan_ref.tree ≡ []
+  pub table_of_version : IsVersion 2 (s.now.trees table_of_version.tree)
+  pub collectors : s.now.trees table_of_collectors.tree ≡ []
+  pub outlets : s.now.trees table_of_outlets.tree ≡ []
+  pub items : s.now.trees table_of_items.tree ≡ []
+  pub nodes : s.now.trees table_of_nodes.tree ≡ []
+  pub places : s.now.trees table_of_plan_items.tree ≡ []
+  pub table_of_calendar : s.now.trees table_of_calendar.tree ≡ []
+  pub assignments : s.now.trees table_of_assignments_2.tree ≡ []
+  pub quotes : s.now.trees table_of_quotes_2.tree ≡ []
+  pub releases : s.now.trees table_of_releases_2.tree ≡ []
+  pub frozen : s.now.trees table_of_frozen_2.tree ≡ []
+  pub carried : s.now.trees table_of_carried_2.tree ≡ []
+  pub levels : s.now.trees table_of_levels_2.tree ≡ []
+  pub references : s.now.trees table_of_plan_refs.tree ≡ []
 
 -- the rows are those of an office that holds nothing
 unfoldable pub HoldsNothing : Trees → Type 0
 HoldsNothing trees = office_in trees ≡ empty_office
 
 -- the database of an office that holds nothing
-pub record IsNew (trees : Trees) : Type 0 where
+pub record IsNewDatabase (trees : Trees) : Type 0 where
   pub database : IsOfficeDatabase trees
   pub office : HoldsNothing trees
 
 -- what schema 2 adds
 abbrev pub second_tables : List Table
-second_tables = assignment_2 ∷ quote_2 ∷ release_2 ∷ frozen_2 ∷ carried_2 ∷ level_2 ∷ plan_ref ∷ []
+second_tables = table_of_assignments_2 ∷ table_of_quotes_2 ∷ table_of_releases_2 ∷ table_of_frozen_2 ∷
+    table_of_carried_2 ∷ table_of_levels_2 ∷ table_of_plan_refs ∷ []

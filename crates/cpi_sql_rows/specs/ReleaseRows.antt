@@ -4,7 +4,7 @@ use Rattle.std.specs.List.{join_with_byte}
 use Rattle.sqlite.specs.declared.types.Value.{Value}
 use Rattle.sqlite.specs.declared.types.Value.TheVariants.{Null, Int}
 use Rattle.sqlite.specs.Order.{Row, column}
-use Rattle.cpi_codes.specs.CodeText.{text}
+use Rattle.cpi_codes.specs.CodeText.{code_text}
 use Rattle.cpi_codes.specs.declared.codes.Code.{Code}
 use Rattle.cpi_index.specs.Frozen.{Frozen}
 use Rattle.cpi_index.specs.Carried.{Carried}
@@ -13,7 +13,7 @@ use Rattle.cpi_sql_rows.specs.Lists.{and_then, release_from_key, frozen_from, ca
 
 -- codes as a header has them
 abbrev pub carry_text : List Code → List ℕ
-carry_text carry = join_with_byte 32 (map text carry)
+carry_text carry = join_with_byte 32 (map code_text carry)
 
 -- what an answer shows of a frozen quote
 abbrev pub shown_frozen : Row → Option Frozen

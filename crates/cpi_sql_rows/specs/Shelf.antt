@@ -15,14 +15,17 @@ use Rattle.cpi_release.specs.State.{State as BookState}
 use Rattle.cpi_release.specs.FrozenMonths.{release_cmp}
 use Rattle.cpi_rows.specs.Held.{held_cmp, held_key}
 use Rattle.cpi_survey.specs.Quote.{quote_cmp, quote_key}
-use Rattle.cpi_store.specs.Office.{Office, Change, changed, with_releases}
+use Rattle.cpi_store.specs.Office.{Office, Change, office_with, with_releases}
 use Rattle.cpi_codes.specs.CodeOrder.{code_cmp}
 use Rattle.cpi_index.specs.Series.{frozen_serial, carried_serial}
-use Rattle.cpi_sql_rows.specs.Tables.{assignment_2, calendar, carried_2, collector, frozen_2, item, level_2}
-use Rattle.cpi_sql_rows.specs.Tables.{node, office_schema, outlet, plan_item, plan_ref, quote_2, release_2}
-use Rattle.cpi_sql_rows.specs.Lists.{office_in, collector_in, outlet_in, item_in, calendar_in, assignment_in}
-use Rattle.cpi_sql_rows.specs.Lists.{quote_in, node_in, place_in, reference_row, header_in, header_key, frozen_in}
-use Rattle.cpi_sql_rows.specs.Lists.{carried_in, level_in, release_from_key}
+use Rattle.cpi_sql_rows.specs.Tables.{table_of_assignments_2, table_of_calendar, table_of_carried_2}
+use Rattle.cpi_sql_rows.specs.Tables.{table_of_collectors, table_of_frozen_2, table_of_items, table_of_levels_2}
+use Rattle.cpi_sql_rows.specs.Tables.{table_of_nodes, office_schema, table_of_outlets, table_of_plan_items}
+use Rattle.cpi_sql_rows.specs.Tables.{table_of_plan_refs, table_of_quotes_2, table_of_releases_2}
+use Rattle.cpi_sql_rows.specs.Lists.{office_in, collector_in, outlet_in, item_in, calendar_in, assignment_in_row}
+use Rattle.cpi_sql_rows.specs.Lists.{quote_in, node_in, place_in_row, reference_month_in_row, header_in, header_key}
+use Rattle.cpi_sql_rows.specs.Lists.{frozen_in}
+use Rattle.cpi_sql_rows.specs.Lists.{carried_in_row, level_in_row, release_from_key}
 use Rattle.cpi_sql_rows.specs.Frames.{SameBut, written_by}
 unfoldable pub use Rattle.cpi_sql_rows.specs.WholeRows.{AllStand, IsKeyed}
 use Rattle.cpi_sql_rows.specs.WholeRows.{AreWhole}
@@ -65,9 +68,9 @@ AllStandOf entry number rows = AllStandFor (λ r. release_from_key (column r 1) 
 
 -- the types take each row of a year's plan
 pub record IsPlanTaken (year : ℕ) (trees : Trees) : Type 0 where
-  pub nodes : AllStandFor (year_in 1) node_in year (trees node.tree)
-  pub places : AllStandFor (year_in 1) place_in year (trees plan_item.tree)
-  pub references : AllStandFor (year_in 0) reference_row year (trees plan_ref.tree)
+  pub nodes : AllStandFor (year_in 1) node_in year (trees table_of_nodes.tree)
+  pub places : AllStandFor (year_in 1) place_in_row year (trees table_of_plan_items.tree)
+  pub references : AllStandFor (year_in 0) reference_month_in_row year (trees table_of_plan_refs.tree)
 
 -- the types take each row of each plan
 abbrev pub ArePlansTaken : Trees → Type 0
@@ -77,43 +80,44 @@ ArePlansTaken trees = (year : ℕ) → IsPlanTaken year trees
 pub record AreTaken (trees : Trees) : Type 0 where
   pub whole : AreWhole trees
   pub plans : ArePlansTaken trees
-  pub assignments : AllStand assignment_in (trees assignment_2.tree)
-  pub quotes : AllStand quote_in (trees quote_2.tree)
+  pub assignments : AllStand assignment_in_row (trees table_of_assignments_2.tree)
+  pub quotes : AllStand quote_in (trees table_of_quotes_2.tree)
 
 -- the tables of the plans
 pub record HasPlans (trees : Trees) : Type 0 where
-  pub node_ids : HasRowids (trees node.tree)
-  pub place_ids : HasRowids (trees plan_item.tree)
-  pub reference_ids : HasRowids (trees plan_ref.tree)
-  pub nodes : IsKeyed (held_cmp code_cmp) (held_key (λ n. n.code)) node_in (trees node.tree)
-  pub places : IsKeyed (held_cmp nat_cmp) (held_key (λ p. p.item)) place_in (trees plan_item.tree)
-  pub references : IsKeyed (held_cmp nat_cmp) (held_key (λ m. m.month)) reference_row (trees plan_ref.tree)
+  pub node_ids : HasRowids (trees table_of_nodes.tree)
+  pub place_ids : HasRowids (trees table_of_plan_items.tree)
+  pub reference_ids : HasRowids (trees table_of_plan_refs.tree)
+  pub nodes : IsKeyed (held_cmp code_cmp) (held_key (λ n. n.code)) node_in (trees table_of_nodes.tree)
+  pub places : IsKeyed (held_cmp nat_cmp) (held_key (λ p. p.item)) place_in_row (trees table_of_plan_items.tree)
+  pub references : IsKeyed (held_cmp nat_cmp) (held_key (λ m. m.month)) reference_month_in_row
+      (trees table_of_plan_refs.tree)
 
 -- the tables of the releases
 pub record HasReleases (trees : Trees) : Type 0 where
-  pub frozen_ids : HasRowids (trees frozen_2.tree)
-  pub carried_ids : HasRowids (trees carried_2.tree)
-  pub level_ids : HasRowids (trees level_2.tree)
-  pub releases : IsKeyed release_cmp header_key header_in (trees release_2.tree)
-  pub frozen : IsKeyed (held_cmp nat_cmp) (held_key frozen_serial) frozen_in (trees frozen_2.tree)
-  pub carried : IsKeyed (held_cmp nat_cmp) (held_key carried_serial) carried_in (trees carried_2.tree)
-  pub levels : IsKeyed (held_cmp code_cmp) (held_key (λ l. l.code)) level_in (trees level_2.tree)
+  pub frozen_ids : HasRowids (trees table_of_frozen_2.tree)
+  pub carried_ids : HasRowids (trees table_of_carried_2.tree)
+  pub level_ids : HasRowids (trees table_of_levels_2.tree)
+  pub releases : IsKeyed release_cmp header_key header_in (trees table_of_releases_2.tree)
+  pub frozen : IsKeyed (held_cmp nat_cmp) (held_key frozen_serial) frozen_in (trees table_of_frozen_2.tree)
+  pub carried : IsKeyed (held_cmp nat_cmp) (held_key carried_serial) carried_in_row (trees table_of_carried_2.tree)
+  pub levels : IsKeyed (held_cmp code_cmp) (held_key (λ l. l.code)) level_in_row (trees table_of_levels_2.tree)
 
 -- the tables of the office
 pub record HasTables (s : State) : Type 0 where
   pub schema : s.now.schema ≡ office_schema
   pub alone : s.in_transaction ≡ false
   pub office : IsOfficeDatabase s.now.trees
-  pub rowids : HasRowids (s.now.trees quote_2.tree)
-  pub days : HasRowids (s.now.trees calendar.tree)
-  pub assignment_ids : HasRowids (s.now.trees assignment_2.tree)
-  pub collectors : IsKeyed nat_cmp (λ b. b.number) collector_in (s.now.trees collector.tree)
-  pub outlets : IsKeyed nat_cmp (λ u. u.number) outlet_in (s.now.trees outlet.tree)
-  pub items : IsKeyed nat_cmp (λ i. i.code) item_in (s.now.trees item.tree)
-  pub calendar : IsKeyed nat_cmp (λ r. r.month) calendar_in (s.now.trees calendar.tree)
-  pub assignments : IsKeyed (held_cmp nat_cmp) (held_key (λ g. g.assignment.slot)) assignment_in
-      (s.now.trees assignment_2.tree)
-  pub quotes : IsKeyed (held_cmp quote_cmp) (held_key quote_key) quote_in (s.now.trees quote_2.tree)
+  pub rowids : HasRowids (s.now.trees table_of_quotes_2.tree)
+  pub days : HasRowids (s.now.trees table_of_calendar.tree)
+  pub assignment_ids : HasRowids (s.now.trees table_of_assignments_2.tree)
+  pub collectors : IsKeyed nat_cmp (λ b. b.number) collector_in (s.now.trees table_of_collectors.tree)
+  pub outlets : IsKeyed nat_cmp (λ u. u.number) outlet_in (s.now.trees table_of_outlets.tree)
+  pub items : IsKeyed nat_cmp (λ i. i.code) item_in (s.now.trees table_of_items.tree)
+  pub table_of_calendar : IsKeyed nat_cmp (λ r. r.month) calendar_in (s.now.trees table_of_calendar.tree)
+  pub assignments : IsKeyed (held_cmp nat_cmp) (held_key (λ g. g.assignment.slot)) assignment_in_row
+      (s.now.trees table_of_assignments_2.tree)
+  pub quotes : IsKeyed (held_cmp quote_cmp) (held_key quote_key) quote_in (s.now.trees table_of_quotes_2.tree)
   pub plans : HasPlans s.now.trees
   pub releases : HasReleases s.now.trees
 
@@ -152,24 +156,24 @@ Takes entry old new = (r : Row) → Has new r → Has old r ⊎ IsSome (entry r)
 
 -- the types take each row that a write puts
 pub record WritesTaken (old new : Trees) : Type 0 where
-  pub collectors : Takes collector_in (old collector.tree) (new collector.tree)
-  pub outlets : Takes outlet_in (old outlet.tree) (new outlet.tree)
-  pub items : Takes item_in (old item.tree) (new item.tree)
-  pub nodes : Takes node_in (old node.tree) (new node.tree)
-  pub places : Takes place_in (old plan_item.tree) (new plan_item.tree)
-  pub references : Takes reference_row (old plan_ref.tree) (new plan_ref.tree)
-  pub calendar : Takes calendar_in (old calendar.tree) (new calendar.tree)
-  pub assignments : Takes assignment_in (old assignment_2.tree) (new assignment_2.tree)
-  pub quotes : Takes quote_in (old quote_2.tree) (new quote_2.tree)
-  pub headers : Takes header_in (old release_2.tree) (new release_2.tree)
-  pub frozen : Takes frozen_in (old frozen_2.tree) (new frozen_2.tree)
-  pub carried : Takes carried_in (old carried_2.tree) (new carried_2.tree)
-  pub levels : Takes level_in (old level_2.tree) (new level_2.tree)
+  pub collectors : Takes collector_in (old table_of_collectors.tree) (new table_of_collectors.tree)
+  pub outlets : Takes outlet_in (old table_of_outlets.tree) (new table_of_outlets.tree)
+  pub items : Takes item_in (old table_of_items.tree) (new table_of_items.tree)
+  pub nodes : Takes node_in (old table_of_nodes.tree) (new table_of_nodes.tree)
+  pub places : Takes place_in_row (old table_of_plan_items.tree) (new table_of_plan_items.tree)
+  pub references : Takes reference_month_in_row (old table_of_plan_refs.tree) (new table_of_plan_refs.tree)
+  pub table_of_calendar : Takes calendar_in (old table_of_calendar.tree) (new table_of_calendar.tree)
+  pub assignments : Takes assignment_in_row (old table_of_assignments_2.tree) (new table_of_assignments_2.tree)
+  pub quotes : Takes quote_in (old table_of_quotes_2.tree) (new table_of_quotes_2.tree)
+  pub headers : Takes header_in (old table_of_releases_2.tree) (new table_of_releases_2.tree)
+  pub frozen : Takes frozen_in (old table_of_frozen_2.tree) (new table_of_frozen_2.tree)
+  pub carried : Takes carried_in_row (old table_of_carried_2.tree) (new table_of_carried_2.tree)
+  pub levels : Takes level_in_row (old table_of_levels_2.tree) (new table_of_levels_2.tree)
 
 -- what the change makes of the tables: the office has it, the types take each row that is put, and each table that it
 -- doesn't write is as it was
 pub record IsChangedBy (change : Change) (old new : Trees) : Type 0 where
-  pub office : office_in new ≡ changed change (office_in old)
+  pub office : office_in new ≡ office_with change (office_in old)
   pub rows : WritesTaken old new
   pub others : SameBut (written_by change) old new
 

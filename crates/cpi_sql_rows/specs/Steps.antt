@@ -12,7 +12,7 @@ abbrev pub outside : State → State
 outside s = record s { in_transaction = false }
 
 -- a step on the rows of one table
-pub record IsStep (tree : ℕ) (Rows : List Row → List Row → Type 0) (old new : State) : Type 0 where
+pub record IsRowStep (tree : ℕ) (Rows : List Row → List Row → Type 0) (old new : State) : Type 0 where
   pub inside : IsTrue new.in_transaction
   pub schema : new.now.schema ≡ office_schema
   pub all : HasAllTables old.now.trees → HasAllTables new.now.trees

@@ -29,8 +29,8 @@ whole_query tree terms project order =
     }
 
 -- the column is the first parameter
-abbrev pub is_first : ℕ → List Term
-is_first place = op2 (Compare Eq Binary) (col 1 place) (col 0 0) ∷ []
+abbrev pub is_first_parameter : ℕ → List Term
+is_first_parameter place = op2 (Compare Eq Binary) (col 1 place) (col 0 0) ∷ []
 
 -- rows in the order of these columns
 abbrev pub by_columns : List ℕ → List (Term × Key)
@@ -78,8 +78,8 @@ put_version_command = Insert 0 (Values (lit (Int (pos 2)) ∷ lit Null ∷ []) 2
 -- ---- collectors
 
 -- reads all collectors
-abbrev pub bearers_text : List ℕ
-bearers_text = codes "SELECT number, key FROM collector ORDER BY number"
+abbrev pub registrations_text : List ℕ
+registrations_text = codes "SELECT number, key FROM collector ORDER BY number"
 
 -- adds a collector
 abbrev pub put_collector_text : List ℕ
@@ -261,7 +261,11 @@ drop_references_text = codes "DELETE FROM plan_ref WHERE year = ?1"
 
 -- what it means
 abbrev pub drop_references_command : Command
-drop_references_command = Delete 19 (record { lets = []; body = whole_query 34 (is_first 0) (col 1 0 ∷ []) [] })
+drop_references_command = Delete 19 (record {
+  lets = [];
+  body = whole_query 34 (is_first_parameter 0)
+      (col 1 0 ∷ []) [];
+})
 
 -- drops the nodes of a year
 abbrev pub drop_nodes_text : List ℕ
@@ -269,7 +273,7 @@ drop_nodes_text = codes "DELETE FROM node WHERE year = ?1"
 
 -- what it means
 abbrev pub drop_nodes_command : Command
-drop_nodes_command = Delete 4 (record { lets = []; body = whole_query 6 (is_first 1) (col 1 0 ∷ []) [] })
+drop_nodes_command = Delete 4 (record { lets = []; body = whole_query 6 (is_first_parameter 1) (col 1 0 ∷ []) [] })
 
 -- drops the places of a year
 abbrev pub drop_places_text : List ℕ
@@ -277,7 +281,7 @@ drop_places_text = codes "DELETE FROM plan_item WHERE year = ?1"
 
 -- what it means
 abbrev pub drop_places_command : Command
-drop_places_command = Delete 5 (record { lets = []; body = whole_query 8 (is_first 1) (col 1 0 ∷ []) [] })
+drop_places_command = Delete 5 (record { lets = []; body = whole_query 8 (is_first_parameter 1) (col 1 0 ∷ []) [] })
 
 -- ---- releases
 

@@ -6,16 +6,17 @@ use Rattle.sqlite.specs.Schema.{Schema}
 use Rattle.sqlite_tied.specs.Compute.{everything}
 use Rattle.cpi_plan.specs.Calendar.{CalendarPart}
 use Rattle.cpi_plan.specs.declared.items.Item.{Item}
-use Rattle.cpi_store.specs.declared.bearer.Bearer.{Bearer}
+use Rattle.cpi_store.specs.declared.registration.Registration.{Registration}
 use Rattle.cpi_store.specs.declared.given.Given.{Given}
 use Rattle.cpi_store.specs.declared.outlet.Outlet.{Outlet}
 use Rattle.cpi_sql_rows.specs.Asked.{AsksFor}
 use Rattle.cpi_sql_rows.specs.Finding.{IsOfOffice, IsSecond}
-use Rattle.cpi_sql_rows.specs.Lists.{collector_in, outlet_in, item_in, calendar_in, assignment_in, header_in}
+use Rattle.cpi_sql_rows.specs.Lists.{collector_in, outlet_in, item_in, calendar_in, assignment_in_row, header_in}
 use Rattle.cpi_sql_rows.specs.declared.release_rows.Header.{Header}
-use Rattle.cpi_sql_rows.specs.Tables.{first_schema, office_schema, collector, outlet, item, calendar, assignment_2}
-use Rattle.cpi_sql_rows.specs.Tables.{quote_2, release_2}
-use Rattle.cpi_sql_rows.specs.Texts.{bearers_text, outlets_text, items_text, calendar_text, all_assignments_text}
+use Rattle.cpi_sql_rows.specs.Tables.{first_schema, office_schema, table_of_collectors, table_of_outlets}
+use Rattle.cpi_sql_rows.specs.Tables.{table_of_items, table_of_calendar, table_of_assignments_2}
+use Rattle.cpi_sql_rows.specs.Tables.{table_of_quotes_2, table_of_releases_2}
+use Rattle.cpi_sql_rows.specs.Texts.{registrations_text, outlets_text, items_text, calendar_text, all_assignments_text}
 use Rattle.cpi_sql_rows.specs.Texts.{all_quotes_text, headers_text}
 
 -- a table that these schemas have, what is read of it, and what its rows stand for
@@ -29,19 +30,20 @@ pub record WholeTable (X : Type 0) (IsIn : Schema → Type 0) : Type 0 where
   pub in_office : IsIn office_schema
 
 -- what is so under both schemas of the office is so under either
-pub either : (P : Schema → Type 0) → P first_schema → P office_schema → (schema : Schema) → IsOfOffice schema → P schema
-either P one two schema (inl e) = subst P (sym e) one
-either P one two schema (inr e) = subst P (sym e) two
+pub under_either : (P : Schema → Type 0) → P first_schema → P office_schema → (schema : Schema) → IsOfOffice schema
+    → P schema
+under_either P one two schema (inl e) = subst P (sym e) one
+under_either P one two schema (inr e) = subst P (sym e) two
 
 -- and what is so under schema 2
 pub second : (P : Schema → Type 0) → P office_schema → (schema : Schema) → IsSecond schema → P schema
 second P is schema e = subst P (sym e) is
 
--- ---- bearers
+-- ---- registrations
 
-pub first_bearers : AsksFor first_schema bearers_text collector.tree [] (0 ∷ 2 ∷ [])
+pub first_registrations : AsksFor first_schema registrations_text table_of_collectors.tree [] (0 ∷ 2 ∷ [])
 unfolding understood everything
-first_bearers = record {
+first_registrations = record {
   order = 0 ∷ [];
   names = codes "number" ∷ codes "key" ∷ [];
   command = refl;
@@ -50,9 +52,9 @@ first_bearers = record {
   stored = λ _. refl;
 }
 
-pub second_bearers : AsksFor office_schema bearers_text collector.tree [] (0 ∷ 2 ∷ [])
+pub second_registrations : AsksFor office_schema registrations_text table_of_collectors.tree [] (0 ∷ 2 ∷ [])
 unfolding understood everything
-second_bearers = record {
+second_registrations = record {
   order = 0 ∷ [];
   names = codes "number" ∷ codes "key" ∷ [];
   command = refl;
@@ -62,19 +64,20 @@ second_bearers = record {
 }
 
 -- all collectors
-abbrev pub bearers_table : WholeTable Bearer IsOfOffice
-bearers_table = record {
-  tree = collector.tree;
-  text = bearers_text;
+abbrev pub registrations_table : WholeTable Registration IsOfOffice
+registrations_table = record {
+  tree = table_of_collectors.tree;
+  text = registrations_text;
   shown = 0 ∷ 2 ∷ [];
   entry = collector_in;
-  asks = either (λ s. AsksFor s bearers_text collector.tree [] (0 ∷ 2 ∷ [])) first_bearers second_bearers;
+  asks = under_either (λ s. AsksFor s registrations_text table_of_collectors.tree [] (0 ∷ 2 ∷ [])) first_registrations
+      second_registrations;
   in_office = inr refl;
 }
 
 -- ---- outlets
 
-pub first_outlets : AsksFor first_schema outlets_text outlet.tree [] (0 ∷ 2 ∷ [])
+pub first_outlets : AsksFor first_schema outlets_text table_of_outlets.tree [] (0 ∷ 2 ∷ [])
 unfolding understood everything
 first_outlets = record {
   order = 0 ∷ [];
@@ -85,7 +88,7 @@ first_outlets = record {
   stored = λ _. refl;
 }
 
-pub second_outlets : AsksFor office_schema outlets_text outlet.tree [] (0 ∷ 2 ∷ [])
+pub second_outlets : AsksFor office_schema outlets_text table_of_outlets.tree [] (0 ∷ 2 ∷ [])
 unfolding understood everything
 second_outlets = record {
   order = 0 ∷ [];
@@ -99,17 +102,17 @@ second_outlets = record {
 -- all outlets
 abbrev pub outlets_table : WholeTable Outlet IsOfOffice
 outlets_table = record {
-  tree = outlet.tree;
+  tree = table_of_outlets.tree;
   text = outlets_text;
   shown = 0 ∷ 2 ∷ [];
   entry = outlet_in;
-  asks = either (λ s. AsksFor s outlets_text outlet.tree [] (0 ∷ 2 ∷ [])) first_outlets second_outlets;
+  asks = under_either (λ s. AsksFor s outlets_text table_of_outlets.tree [] (0 ∷ 2 ∷ [])) first_outlets second_outlets;
   in_office = inr refl;
 }
 
 -- ---- items
 
-pub first_items : AsksFor first_schema items_text item.tree [] (1 ∷ 2 ∷ 3 ∷ 4 ∷ 5 ∷ [])
+pub first_items : AsksFor first_schema items_text table_of_items.tree [] (1 ∷ 2 ∷ 3 ∷ 4 ∷ 5 ∷ [])
 unfolding understood everything
 first_items = record {
   order = 1 ∷ [];
@@ -120,7 +123,7 @@ first_items = record {
   stored = λ _. refl;
 }
 
-pub second_items : AsksFor office_schema items_text item.tree [] (1 ∷ 2 ∷ 3 ∷ 4 ∷ 5 ∷ [])
+pub second_items : AsksFor office_schema items_text table_of_items.tree [] (1 ∷ 2 ∷ 3 ∷ 4 ∷ 5 ∷ [])
 unfolding understood everything
 second_items = record {
   order = 1 ∷ [];
@@ -134,17 +137,18 @@ second_items = record {
 -- all items
 abbrev pub items_table : WholeTable Item IsOfOffice
 items_table = record {
-  tree = item.tree;
+  tree = table_of_items.tree;
   text = items_text;
   shown = 1 ∷ 2 ∷ 3 ∷ 4 ∷ 5 ∷ [];
   entry = item_in;
-  asks = either (λ s. AsksFor s items_text item.tree [] (1 ∷ 2 ∷ 3 ∷ 4 ∷ 5 ∷ [])) first_items second_items;
+  asks = under_either (λ s. AsksFor s items_text table_of_items.tree [] (1 ∷ 2 ∷ 3 ∷ 4 ∷ 5 ∷ [])) first_items
+      second_items;
   in_office = inr refl;
 }
 
 -- ---- calendar
 
-pub first_calendar : AsksFor first_schema calendar_text calendar.tree [] (0 ∷ 2 ∷ 3 ∷ 4 ∷ [])
+pub first_calendar : AsksFor first_schema calendar_text table_of_calendar.tree [] (0 ∷ 2 ∷ 3 ∷ 4 ∷ [])
 unfolding understood everything
 first_calendar = record {
   order = 0 ∷ [];
@@ -155,7 +159,7 @@ first_calendar = record {
   stored = λ _. refl;
 }
 
-pub second_calendar : AsksFor office_schema calendar_text calendar.tree [] (0 ∷ 2 ∷ 3 ∷ 4 ∷ [])
+pub second_calendar : AsksFor office_schema calendar_text table_of_calendar.tree [] (0 ∷ 2 ∷ 3 ∷ 4 ∷ [])
 unfolding understood everything
 second_calendar = record {
   order = 0 ∷ [];
@@ -169,17 +173,18 @@ second_calendar = record {
 -- the calendar
 abbrev pub calendar_table : WholeTable CalendarPart IsOfOffice
 calendar_table = record {
-  tree = calendar.tree;
+  tree = table_of_calendar.tree;
   text = calendar_text;
   shown = 0 ∷ 2 ∷ 3 ∷ 4 ∷ [];
   entry = calendar_in;
-  asks = either (λ s. AsksFor s calendar_text calendar.tree [] (0 ∷ 2 ∷ 3 ∷ 4 ∷ [])) first_calendar second_calendar;
+  asks = under_either (λ s. AsksFor s calendar_text table_of_calendar.tree [] (0 ∷ 2 ∷ 3 ∷ 4 ∷ [])) first_calendar
+      second_calendar;
   in_office = inr refl;
 }
 
 -- ---- all_assignments
 
-pub second_all_assignments : AsksFor office_schema all_assignments_text assignment_2.tree []
+pub second_all_assignments : AsksFor office_schema all_assignments_text table_of_assignments_2.tree []
     (1 ∷ 2 ∷ 3 ∷ 4 ∷ 5 ∷ 6 ∷ 7 ∷ 8 ∷ 9 ∷ [])
 unfolding understood everything
 second_all_assignments = record {
@@ -195,18 +200,19 @@ second_all_assignments = record {
 -- all assignments
 abbrev pub all_assignments_table : WholeTable (ℕ × Given) IsSecond
 all_assignments_table = record {
-  tree = assignment_2.tree;
+  tree = table_of_assignments_2.tree;
   text = all_assignments_text;
   shown = 1 ∷ 2 ∷ 3 ∷ 4 ∷ 5 ∷ 6 ∷ 7 ∷ 8 ∷ 9 ∷ [];
-  entry = assignment_in;
-  asks = second (λ s. AsksFor s all_assignments_text assignment_2.tree [] (1 ∷ 2 ∷ 3 ∷ 4 ∷ 5 ∷ 6 ∷ 7 ∷ 8 ∷ 9 ∷ []))
+  entry = assignment_in_row;
+  asks = second (λ s. AsksFor s all_assignments_text table_of_assignments_2.tree []
+      (1 ∷ 2 ∷ 3 ∷ 4 ∷ 5 ∷ 6 ∷ 7 ∷ 8 ∷ 9 ∷ []))
       second_all_assignments;
   in_office = refl;
 }
 
 -- ---- headers
 
-pub second_headers : AsksFor office_schema headers_text release_2.tree [] (1 ∷ 2 ∷ 3 ∷ 4 ∷ 5 ∷ [])
+pub second_headers : AsksFor office_schema headers_text table_of_releases_2.tree [] (1 ∷ 2 ∷ 3 ∷ 4 ∷ 5 ∷ [])
 unfolding understood everything
 second_headers = record {
   order = 1 ∷ 2 ∷ [];
@@ -220,17 +226,17 @@ second_headers = record {
 -- all headers
 abbrev pub headers_table : WholeTable Header IsSecond
 headers_table = record {
-  tree = release_2.tree;
+  tree = table_of_releases_2.tree;
   text = headers_text;
   shown = 1 ∷ 2 ∷ 3 ∷ 4 ∷ 5 ∷ [];
   entry = header_in;
-  asks = second (λ s. AsksFor s headers_text release_2.tree [] (1 ∷ 2 ∷ 3 ∷ 4 ∷ 5 ∷ [])) second_headers;
+  asks = second (λ s. AsksFor s headers_text table_of_releases_2.tree [] (1 ∷ 2 ∷ 3 ∷ 4 ∷ 5 ∷ [])) second_headers;
   in_office = refl;
 }
 
 -- ---- quotes, which are read in the order in which they stand
 
-pub second_all_quotes : AsksFor office_schema all_quotes_text quote_2.tree [] (1 ∷ 2 ∷ 3 ∷ 4 ∷ 5 ∷ 6 ∷ [])
+pub second_all_quotes : AsksFor office_schema all_quotes_text table_of_quotes_2.tree [] (1 ∷ 2 ∷ 3 ∷ 4 ∷ 5 ∷ 6 ∷ [])
 unfolding understood everything
 second_all_quotes = record {
   order = [];
@@ -242,6 +248,6 @@ second_all_quotes = record {
 }
 
 pub all_quotes_asked : (schema : Schema) → IsSecond schema
-    → AsksFor schema all_quotes_text quote_2.tree [] (1 ∷ 2 ∷ 3 ∷ 4 ∷ 5 ∷ 6 ∷ [])
+    → AsksFor schema all_quotes_text table_of_quotes_2.tree [] (1 ∷ 2 ∷ 3 ∷ 4 ∷ 5 ∷ 6 ∷ [])
 all_quotes_asked =
-    second (λ s. AsksFor s all_quotes_text quote_2.tree [] (1 ∷ 2 ∷ 3 ∷ 4 ∷ 5 ∷ 6 ∷ [])) second_all_quotes
+    second (λ s. AsksFor s all_quotes_text table_of_quotes_2.tree [] (1 ∷ 2 ∷ 3 ∷ 4 ∷ 5 ∷ 6 ∷ [])) second_all_quotes

@@ -1,10 +1,10 @@
 //! What a value is written as in a column: what is read of it again is the value.
 ghost use Rattle.std.specs.Prelude.{◌≡◌};
 ghost use Rattle.cpi_codes.specs.Key.{key_of};
-ghost use Rattle.cpi_codes.specs.CodeOf.{code_of};
+ghost use Rattle.cpi_codes.specs.CodeOf.{spelled_code};
 ghost use Rattle.cpi_codes.specs.ItemCode.{item_code_of};
 ghost use Rattle.cpi_sql_rows.specs.Common.{IfOk, Int, OnOk, Some, pos, string_bytes};
-ghost use Rattle.cpi_sql_rows.specs.Lists.{mark_from, mark_word, month_at, name_of, ranged, receipt_from};
+ghost use Rattle.cpi_sql_rows.specs.Lists.{mark_from, mark_word, month_at, name_of, number_within, receipt_from};
 
 use crate::rows::LAST_RECEIPT;
 use crate::stored::Unread;
@@ -36,14 +36,14 @@ pub fn month_number(month: Month) -> u32
 /// The number of the collector.
 pub fn collector_number(collector: CollectorId) -> u32
     ensures value { result ≡ collector }
-    ensures range { ranged 1 9999 (Int (pos collector)) ≡ Some collector }
+    ensures range { number_within 1 9999 (Int (pos collector)) ≡ Some collector }
 {
     u32::from(collector.number())
 }
 
 /// The number of the outlet.
 pub fn outlet_number(outlet: OutletId) -> u32
-    ensures { ranged 1 999999 (Int (pos result)) ≡ Some outlet }
+    ensures { number_within 1 999999 (Int (pos result)) ≡ Some outlet }
 {
     outlet.number()
 }
@@ -51,21 +51,21 @@ pub fn outlet_number(outlet: OutletId) -> u32
 /// The number of the slot.
 pub fn slot_number(slot: Slot) -> u32
     ensures value { result ≡ slot }
-    ensures range { ranged 1 400 (Int (pos slot)) ≡ Some slot }
+    ensures range { number_within 1 400 (Int (pos slot)) ≡ Some slot }
 {
     u32::from(slot.number())
 }
 
 /// The low tolerance, per mille.
 pub fn low_number(low: LowTolerance) -> u32
-    ensures { ranged 1 1000 (Int (pos result)) ≡ Some low }
+    ensures { number_within 1 1000 (Int (pos result)) ≡ Some low }
 {
     u32::from(low.per_mille())
 }
 
 /// The high tolerance, per mille.
 pub fn high_number(high: HighTolerance) -> u32
-    ensures { ranged 1000 10000 (Int (pos result)) ≡ Some high }
+    ensures { number_within 1000 10000 (Int (pos result)) ≡ Some high }
 {
     u32::from(high.per_mille())
 }
@@ -88,7 +88,7 @@ pub fn item_text(alloc: Global, code: ItemCode) -> Result<String, Unread>
 /// The code of the node.
 #[tactic(auto, using(crate::proofs::Written::code_read))]
 pub fn code_text(alloc: Global, code: Code) -> Result<String, Unread>
-    ensures { IfOk result (λ s. code_of (string_bytes s) ≡ Some code) }
+    ensures { IfOk result (λ s. spelled_code (string_bytes s) ≡ Some code) }
 {
     code.text(alloc).map_err(|_| Unread)
 }
@@ -130,7 +130,7 @@ pub fn receipt_number(receipt: u32) -> Result<u32, Unread>
 /// The moment, in seconds since 1970 UTC.
 pub fn moment_value(moment: Moment) -> Value
     ensures value { result ≡ Int (pos moment) }
-    ensures range { ranged 0 9999999999 (Int (pos moment)) ≡ Some moment }
+    ensures range { number_within 0 9999999999 (Int (pos moment)) ≡ Some moment }
 {
     Value::Int(moment.seconds() as i64)
 }

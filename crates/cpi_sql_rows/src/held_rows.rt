@@ -5,7 +5,7 @@ ghost use Rattle.cpi_sql_rows.specs.Common.{IsPermutation, IsSecond, IsTrue, Loo
 ghost use Rattle.cpi_sql_rows.specs.Common.{held_key, state};
 ghost use Rattle.cpi_survey.specs.Quote.{quote_cmp, quote_key};
 ghost use Rattle.cpi_sql_rows.specs.Lists.{quote_in, quotes_in, shown_given, shown_quote};
-ghost use Rattle.cpi_sql_rows.specs.Tables.{quote_2};
+ghost use Rattle.cpi_sql_rows.specs.Tables.{table_of_quotes_2};
 
 use crate::rows::{
     number_at, read_copied, read_item_code, read_mark, read_month, read_receipt, read_series,
@@ -74,10 +74,10 @@ pub fn all_quotes<S: Alter>(
 ) -> Result<Vec<HeldQuote>, Unread>
     ensures look { Looks (state S.Store conn.old) (state S.Store conn.new) result }
     ensures read { IsCleanBook (state S.Store conn.new) → HasTables (state S.Store conn.old) →
-        IfOk result (λ xs. xs.items ≡ quotes_in ((state S.Store conn.old).now.trees quote_2.tree)) }
+        IfOk result (λ xs. xs.items ≡ quotes_in ((state S.Store conn.old).now.trees table_of_quotes_2.tree)) }
     ensures order { IfOk result (λ xs. IsInOrder (held_cmp quote_cmp) (held_key quote_key) xs.items) }
     ensures stand { IsCleanBook (state S.Store conn.new) → HasTables (state S.Store conn.old) →
-        OnOk result (AllStand quote_in ((state S.Store conn.old).now.trees quote_2.tree)) }
+        OnOk result (AllStand quote_in ((state S.Store conn.old).now.trees table_of_quotes_2.tree)) }
     ensures open { HasCleanDisk (state S.Store conn.new) → OnOk result (IsTrue (state S.Store conn.new).is_open) }
     ensures found { LooksOver IsSecond (state S.Store conn.old) (state S.Store conn.new) }
 {

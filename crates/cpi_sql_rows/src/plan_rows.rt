@@ -1,5 +1,5 @@
 //! The rowids and the years of the tables of plans that are found at an open.
-ghost use Rattle.cpi_sql_rows.specs.Common.{[], Asked, HasCleanDisk, IsCleanBook, IsTrue, OnOk, state};
+ghost use Rattle.cpi_sql_rows.specs.Common.{[], QueryLeaves, HasCleanDisk, IsCleanBook, IsTrue, OnOk, state};
 ghost use Rattle.cpi_sql_rows.specs.Finding.{ArePlanRows, AsksYears, plan_row_from};
 
 use crate::rows::number_at;
@@ -46,7 +46,7 @@ pub fn scan_plans<S: Alter>(
     alloc: Global,
     text: &str,
 ) -> Result<(), Unread>
-    ensures asked { Asked text.now [] (state S.Store conn.old) (state S.Store conn.new) }
+    ensures asked { QueryLeaves text.now [] (state S.Store conn.old) (state S.Store conn.new) }
     ensures found { IsCleanBook (state S.Store conn.new)
         → OnOk result ((tree place : _) → AsksYears (state S.Store conn.old).now.schema text.now tree place
         → ArePlanRows place ((state S.Store conn.old).now.trees tree)) }

@@ -1,9 +1,9 @@
 //! The rows of the tables of releases, as an answer shows them.
 ghost use Rattle.std.specs.Prelude.{◌≡◌, ◌==◌};
 ghost use Rattle.std.specs.List.{slice_split};
-ghost use Rattle.cpi_codes.specs.CodeOf.{code_of as spelled};
+ghost use Rattle.cpi_codes.specs.CodeOf.{spelled_code};
 ghost use Rattle.cpi_sql_rows.specs.Common.{IfOk, IfSome, Some, column, map};
-ghost use Rattle.cpi_sql_rows.specs.Lists.{can_weigh as may_weigh, codes_of as spelled_all, each_of, flag_in};
+ghost use Rattle.cpi_sql_rows.specs.Lists.{may_weigh, spelled_codes, each_of, flag_in_value};
 ghost use Rattle.cpi_sql_rows.specs.Lists.{header_from, header_key, month_from, revision_from, weight_from};
 ghost use Rattle.cpi_sql_rows.specs.ReleaseRows.{shown_carried, shown_frozen, shown_level};
 
@@ -48,7 +48,7 @@ impl Keyed for Header {
 
 // The codes that the texts write; none where one writes no code, or where memory was refused.
 fn each_code(alloc: Global, texts: &[&[u8]]) -> Option<Vec<Code>>
-    ensures { IfSome result (λ codes. each_of spelled (map (λ t. t.now) texts.now) ≡ Some codes.items) }
+    ensures { IfSome result (λ codes. each_of spelled_code (map (λ t. t.now) texts.now) ≡ Some codes.items) }
 {
     let mut codes = Vec::new(alloc);
     'all: for text in texts {
@@ -66,7 +66,7 @@ fn between_spaces(alloc: Global, text: &[u8]) -> Result<Vec<&[u8]>, AllocError>
 
 // The codes that stand in the text with a space between each two.
 fn codes_of(alloc: Global, text: &[u8]) -> Option<Vec<Code>>
-    ensures { IfSome result (λ codes. spelled_all text.now ≡ Some codes.items) }
+    ensures { IfSome result (λ codes. spelled_codes text.now ≡ Some codes.items) }
 {
     if text.is_empty() {
         return Some(Vec::new(alloc));
@@ -116,7 +116,7 @@ impl Stored for FrozenQuote {
 
 // Yes or no, as 1 or 0.
 fn read_flag(row: &Row, at: usize) -> Option<bool>
-    ensures { IfSome result (λ b. flag_in (column row.now at) ≡ Some b) }
+    ensures { IfSome result (λ b. flag_in_value (column row.now at) ≡ Some b) }
 {
     match number_at(row, at)? {
         0 => Some(false),

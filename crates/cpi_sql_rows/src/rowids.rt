@@ -1,6 +1,7 @@
 //! The rowids of the tables that are found at an open.
 ghost use Rattle.sqlite.specs.Program.{overlay};
-ghost use Rattle.cpi_sql_rows.specs.Common.{[], Asked, HasCleanDisk, HasRowids, IsCleanBook, IsTrue, OnOk, column};
+ghost use Rattle.cpi_sql_rows.specs.Common.{[], QueryLeaves, HasCleanDisk, HasRowids, IsCleanBook, IsTrue, OnOk};
+ghost use Rattle.cpi_sql_rows.specs.Common.{column};
 ghost use Rattle.cpi_sql_rows.specs.Common.{state};
 ghost use Rattle.cpi_sql_rows.specs.Finding.{AsksRowids, rowid_from};
 
@@ -36,7 +37,7 @@ impl Stored for Rowid {
 
 /// Reads the rowids of a table, which are to be numbers that rise.
 pub fn scan<S: Alter>(conn: &mut Connection<S>, alloc: Global, text: &str) -> Result<(), Unread>
-    ensures asked { Asked text.now [] (state S.Store conn.old) (state S.Store conn.new) }
+    ensures asked { QueryLeaves text.now [] (state S.Store conn.old) (state S.Store conn.new) }
     ensures rise { IsCleanBook (state S.Store conn.new)
         → OnOk result ((tree : _) → AsksRowids (state S.Store conn.old).now.schema text.now tree
         → HasRowids (overlay (state S.Store conn.old).now.trees [] tree)) }

@@ -1,10 +1,12 @@
 //! The rows of the tables, as an answer shows them.
 ghost use Rattle.std.specs.Prelude.{◌≡◌};
-ghost use Rattle.cpi_codes.specs.CodeOf.{code_of as spelled};
+ghost use Rattle.cpi_codes.specs.CodeOf.{spelled_code};
 ghost use Rattle.cpi_sql_rows.specs.Common.{IfSome, Some, column};
-ghost use Rattle.cpi_sql_rows.specs.Lists.{bearer_from, calendar_from, code_from, item_from, item_of, mark_from};
-ghost use Rattle.cpi_sql_rows.specs.Lists.{mark_in, month_from, name_from, number_in, outlet_from, price_or_none};
-ghost use Rattle.cpi_sql_rows.specs.Lists.{ranged, receipt_from, shown_node, shown_place, shown_reference, text_in};
+ghost use Rattle.cpi_sql_rows.specs.Lists.{registration_from, calendar_from, code_from, item_from, item_of_values};
+ghost use Rattle.cpi_sql_rows.specs.Lists.{mark_from};
+ghost use Rattle.cpi_sql_rows.specs.Lists.{mark_in, month_from, name_from, number_in_value, outlet_from, price_or_none};
+ghost use Rattle.cpi_sql_rows.specs.Lists.{number_within, receipt_from, shown_node, shown_place, shown_reference};
+ghost use Rattle.cpi_sql_rows.specs.Lists.{text_in};
 
 use crate::reference_months::ReferenceMonth;
 use crate::stored::Stored;
@@ -12,7 +14,7 @@ use cpi_codes::{
     Code, CollectorId, ItemCode, Key, Moment, Month, Name, OutletId, Price, SeriesId, Slot,
 };
 use cpi_plan::{CalendarRow, HighTolerance, Item, LowTolerance, Node, Place};
-use cpi_store::{Bearer, Outlet};
+use cpi_store::{Outlet, Registration};
 use cpi_survey::{Mark, Reason};
 use sqlite::Row;
 use sqlite_value::value::ValueRef;
@@ -34,7 +36,7 @@ pub fn text_at(row: &Row, at: usize) -> Option<&[u8]>
 
 /// The whole number that stands there, not below 0.
 pub fn number_at(row: &Row, at: usize) -> Option<u64>
-    ensures { IfSome result (λ n. number_in (column row.now at) ≡ Some n) }
+    ensures { IfSome result (λ n. number_in_value (column row.now at) ≡ Some n) }
 {
     row.get(at).ok()
 }
@@ -78,13 +80,13 @@ fn mark_of(text: &str, value: u64) -> Option<Mark>
     }
 }
 
-impl Stored for Bearer {
-    ghost stands_for = { λ x. bearer_from (column x 0) (column x 1) };
+impl Stored for Registration {
+    ghost stands_for = { λ x. registration_from (column x 0) (column x 1) };
 
-    fn read(alloc: Global, row: &Row) -> Option<Bearer> {
+    fn read(alloc: Global, row: &Row) -> Option<Registration> {
         let number = CollectorId::new(number_at(row, 0)?)?;
         let key = Key::parse(text_at(row, 1)?)?;
-        Some(Bearer { number, key })
+        Some(Registration { number, key })
     }
 }
 
@@ -99,7 +101,7 @@ impl Stored for Outlet {
 }
 
 impl Stored for Item {
-    ghost stands_for = { λ x. item_of (column x 0) (column x 1) (column x 2) (column x 3) (column x 4) };
+    ghost stands_for = { λ x. item_of_values (column x 0) (column x 1) (column x 2) (column x 3) (column x 4) };
 
     fn read(alloc: Global, row: &Row) -> Option<Item> {
         Some(Item {
@@ -136,8 +138,8 @@ pub fn read_copied(row: &Row, at: usize) -> Option<Option<Price>>
 
 /// The series of a collector and a slot.
 pub fn read_series(row: &Row, collector: usize, slot: usize) -> Option<SeriesId>
-    ensures collector { IfSome result (λ s. ranged 1 9999 (column row.now collector) ≡ Some s.collector) }
-    ensures slot { IfSome result (λ s. ranged 1 400 (column row.now slot) ≡ Some s.slot) }
+    ensures collector { IfSome result (λ s. number_within 1 9999 (column row.now collector) ≡ Some s.collector) }
+    ensures slot { IfSome result (λ s. number_within 1 400 (column row.now slot) ≡ Some s.slot) }
 {
     let collector = CollectorId::new(number_at(row, collector)?)?;
     let slot = Slot::new(number_at(row, slot)?)?;
@@ -154,7 +156,7 @@ pub fn read_mark(row: &Row, mark: usize, value: usize) -> Option<Mark>
 
 /// The code of a node that the text writes.
 pub fn code_of(text: &[u8]) -> Option<Code>
-    ensures { result ≡ spelled text.now }
+    ensures { result ≡ spelled_code text.now }
 {
     Code::parse(text).ok()
 }
@@ -168,7 +170,7 @@ pub fn read_code(row: &Row, at: usize) -> Option<Code>
 
 /// The whole number that stands there, where it is in the range.
 pub fn read_between(row: &Row, at: usize, least: u64, most: u64) -> Option<u64>
-    ensures { IfSome result (λ n. ranged least most (column row.now at) ≡ Some n) }
+    ensures { IfSome result (λ n. number_within least most (column row.now at) ≡ Some n) }
 {
     let number = number_at(row, at)?;
     if least <= number && number <= most {
@@ -187,7 +189,7 @@ pub fn read_receipt(row: &Row, at: usize) -> Option<u32>
 
 // The year of a plan, which its rows begin with.
 fn read_year(row: &Row) -> Option<u64>
-    ensures { IfSome result (λ y. ranged 2000 2199 (column row.now 0) ≡ Some y) }
+    ensures { IfSome result (λ y. number_within 2000 2199 (column row.now 0) ≡ Some y) }
 {
     read_between(row, 0, 2000, 2199)
 }

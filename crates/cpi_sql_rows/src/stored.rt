@@ -1,6 +1,6 @@
 //! What the rows of an answer stand for.
 ghost use Rattle.std.specs.Prelude.{◌≡◌};
-ghost use Rattle.cpi_sql_rows.specs.Common.{Asked, HasCleanDisk, IfOk, IfSome, IsInOrder, IsTrue, OnOk, Option};
+ghost use Rattle.cpi_sql_rows.specs.Common.{QueryLeaves, HasCleanDisk, IfOk, IfSome, IsInOrder, IsTrue, OnOk, Option};
 ghost use Rattle.cpi_sql_rows.specs.Common.{Row as SqlRow, ShowsAll, Some, bound, state};
 
 use crate::ask::settle;
@@ -47,7 +47,7 @@ pub fn gather<S: Alter, T: Stored>(
     text: &str,
     params: &[ValueRef<'_>],
 ) -> Result<Vec<T>, Unread>
-    ensures asked { Asked text.now (bound params.now) (state S.Store conn.old) (state S.Store conn.new) }
+    ensures asked { QueryLeaves text.now (bound params.now) (state S.Store conn.old) (state S.Store conn.new) }
     ensures read { HasCleanDisk (state S.Store conn.new) → IfOk result (λ xs.
         ShowsAll T.stands_for text.now (bound params.now) (state S.Store conn.old) (state S.Store conn.new) xs.items) }
     ensures open { HasCleanDisk (state S.Store conn.new) → OnOk result (IsTrue (state S.Store conn.new).is_open) }
@@ -72,7 +72,7 @@ pub fn list<S: Alter, T: Stored>(
     text: &str,
     params: &[ValueRef<'_>],
 ) -> Result<Vec<T>, Unread>
-    ensures asked { Asked text.now (bound params.now) (state S.Store conn.old) (state S.Store conn.new) }
+    ensures asked { QueryLeaves text.now (bound params.now) (state S.Store conn.old) (state S.Store conn.new) }
     ensures read { HasCleanDisk (state S.Store conn.new) → IfOk result (λ xs.
         ShowsAll T.stands_for text.now (bound params.now) (state S.Store conn.old) (state S.Store conn.new) xs.items) }
     ensures order { IfOk result (λ xs. IsInOrder T.Key.cmp T.key xs.items) }

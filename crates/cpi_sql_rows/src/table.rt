@@ -2,7 +2,7 @@
 ghost use Rattle.std.specs.Prelude.{◌≡◌};
 ghost use Rattle.cpi_sql_rows.specs.Common.{HasCleanDisk, HasTables, IfOk, IsCleanBook, IsInOrder, IsOfOffice};
 ghost use Rattle.cpi_sql_rows.specs.Common.{IsTrue, IsWhole, Looks, LooksOver, OnOk, Row as SqlRow, Schema, column};
-ghost use Rattle.cpi_sql_rows.specs.Common.{listed, map, state};
+ghost use Rattle.cpi_sql_rows.specs.Common.{rows_in_key_order, map, state};
 ghost use Rattle.cpi_sql_rows.specs.WholeTables.{WholeTable};
 
 use crate::stored::{Stored, Unread, list};
@@ -34,7 +34,7 @@ pub fn read_all<S: Alter, T: Table>(
     ensures look { Looks (state S.Store conn.old) (state S.Store conn.new) result }
     ensures read { IsCleanBook (state S.Store conn.new) → HasTables (state S.Store conn.old) →
         IfOk result (λ xs. xs.items
-        ≡ listed T.Key.cmp T.key T.table.entry ((state S.Store conn.old).now.trees T.table.tree)) }
+        ≡ rows_in_key_order T.Key.cmp T.key T.table.entry ((state S.Store conn.old).now.trees T.table.tree)) }
     ensures order { IfOk result (λ xs. IsInOrder T.Key.cmp T.key xs.items) }
     ensures whole { IsCleanBook (state S.Store conn.new) → T.is_in (state S.Store conn.old).now.schema →
         OnOk result (IsWhole T.Key.cmp T.key T.table.entry ((state S.Store conn.old).now.trees T.table.tree)) }

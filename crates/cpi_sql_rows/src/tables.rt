@@ -1,12 +1,13 @@
 //! The tables that are read whole, each by one statement.
 ghost use Rattle.cpi_sql_rows.specs.Common.{IsSecond, refl};
-ghost use Rattle.cpi_sql_rows.specs.WholeTables.{all_assignments_table, bearers_table, calendar_table, headers_table};
+ghost use Rattle.cpi_sql_rows.specs.WholeTables.{all_assignments_table, registrations_table, calendar_table};
+ghost use Rattle.cpi_sql_rows.specs.WholeTables.{headers_table};
 ghost use Rattle.cpi_sql_rows.specs.WholeTables.{items_table, outlets_table};
 
 use crate::release_rows::Header;
 use crate::table::Table;
 use cpi_plan::{CalendarRow, Item};
-use cpi_store::{Bearer, HeldGiven, Outlet};
+use cpi_store::{HeldGiven, Outlet, Registration};
 
 impl Table for Header {
     ghost is_in = { IsSecond };
@@ -20,8 +21,8 @@ impl Table for Header {
     }
 }
 
-impl Table for Bearer {
-    ghost table = { bearers_table };
+impl Table for Registration {
+    ghost table = { registrations_table };
 
     ghost same = { λ _. refl };
 

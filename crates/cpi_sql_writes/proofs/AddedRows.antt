@@ -14,7 +14,7 @@ use Rattle.sqlite_rules.proofs.ListLemmas.{has_left, has_right, has_either}
 use Rattle.sqlite_rules.proofs.TableLemmas.{has_put as has_put_row, put_has as put_row_has}
 use Rattle.cpi_rows.specs.Keyed.{IsInOrder}
 use Rattle.cpi_rows.specs.Held.{held_cmp, held_key}
-use Rattle.cpi_sql_rows.specs.Steps.{IsStep}
+use Rattle.cpi_sql_rows.specs.Steps.{IsRowStep}
 use Rattle.cpi_sql_rows.specs.Shelf.{AllStandFor, IsKeyed, Takes}
 use Rattle.cpi_sql_writes.specs.Within.{Adds, AddsTo, Changes, Drops, Inside, IsReady, Replaces, Within}
 use Rattle.cpi_sql_writes.proofs.Replaced.{Replaced, replaced}
@@ -25,13 +25,14 @@ true_false : true ≡ false → ⊥
 true_false e = cc
 
 -- a step leaves the table ready for the next
-pub step_ready : (tree : ℕ) (Rows : List Row → List Row → Type 0) (a b : State) → IsStep tree Rows a b → IsReady tree b
+pub step_ready : (tree : ℕ) (Rows : List Row → List Row → Type 0) (a b : State) → IsRowStep tree Rows a b →
+    IsReady tree b
 step_ready tree Rows a b p = record { schema = p.schema; rowids = p.rowids }
 
 -- two steps on the rows of one table
 pub step_then : (tree : ℕ) (P Q R : List Row → List Row → Type 0)
     → ((a b c : List Row) → P a b → Q b c → R a c)
-    → (a b c : State) → IsStep tree P a b → IsStep tree Q b c → IsStep tree R a c
+    → (a b c : State) → IsRowStep tree P a b → IsRowStep tree Q b c → IsRowStep tree R a c
 step_then tree P Q R f a b c p q = record {
   inside = q.inside;
   schema = q.schema;

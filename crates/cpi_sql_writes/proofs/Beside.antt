@@ -8,9 +8,9 @@ use Rattle.std.proofs.lemmas.Bool.{cases_Bool}
 use Rattle.sqlite.specs.Order.{Row}
 use Rattle.sqlite.specs.State.{State}
 use Rattle.sqlite.specs.Tree.{Trees}
-use Rattle.cpi_rows.specs.Keyed.{put}
-use Rattle.cpi_store.specs.Office.{Change, changed}
-use Rattle.cpi_sql_rows.specs.Lists.{listed, office_in}
+use Rattle.cpi_rows.specs.Keyed.{with_row}
+use Rattle.cpi_store.specs.Office.{Change, office_with}
+use Rattle.cpi_sql_rows.specs.Lists.{rows_in_key_order, office_in}
 use Rattle.cpi_sql_rows.specs.Shelf.{HasTables, IsDone, IsKeyed}
 use Rattle.cpi_sql_rows.specs.Frames.{SameBut, is_beside, written_by}
 use Rattle.cpi_sql_rows.specs.Making.{HasAllTables}
@@ -35,7 +35,8 @@ module _ (change : Change) (old new : State) (has : HasTables old) (schema : new
   pub tables_written : (tables : List OfficeTable) → written_by change ≡ map tree_of tables
       → SameBut (map tree_of tables) old.now.trees new.now.trees
       → AllByRecursion (λ t. Written t (old.now.trees (tree_of t)) (new.now.trees (tree_of t))) tables
-      → office_in (beside (map tree_of tables) old.now.trees new.now.trees) ≡ changed change (office_in old.now.trees)
+      → office_in (beside (map tree_of tables) old.now.trees new.now.trees) ≡ office_with change
+      (office_in old.now.trees)
       → IsDone change old new
   tables_written tables writes others written office =
       table_written tables change old new writes schema alone all others written
@@ -49,8 +50,9 @@ module _ (change : Change) (old new : State) (has : HasTables old) (schema : new
       → PutsRow o key entry x (old.now.trees (tree_of t)) (new.now.trees (tree_of t))
       → (Writes R key entry (old.now.trees (tree_of t)) (new.now.trees (tree_of t))
       → Written t (old.now.trees (tree_of t)) (new.now.trees (tree_of t)))
-      → (listed R key entry (new.now.trees (tree_of t)) ≡ put R key x (listed R key entry (old.now.trees (tree_of t)))
-      → office_in (beside (tree_of t ∷ []) old.now.trees new.now.trees) ≡ changed change (office_in old.now.trees))
+      → (rows_in_key_order R key entry (new.now.trees (tree_of t)) ≡ with_row R key x
+      (rows_in_key_order R key entry (old.now.trees (tree_of t)))
+      → office_in (beside (tree_of t ∷ []) old.now.trees new.now.trees) ≡ office_with change (office_in old.now.trees))
       → IsDone change old new
   row_done t writes others o key entry x keyed puts written office =
       tables_written (t ∷ []) writes others (written (row_written o key entry x _ _ puts), tt)

@@ -11,7 +11,7 @@ use Rattle.cpi_sql_rows.proofs.Texts.{put_calendar_is}
 use Rattle.cpi_sql_rows.proofs.Upserts.{IsPutOver, IsUpsert, puts_over}
 use Rattle.cpi_sql_rows.proofs.Writing.{cast_int, cast_null}
 use Rattle.cpi_sql_rows.specs.Shelf.{HasRowids}
-use Rattle.cpi_sql_rows.specs.Tables.{calendar}
+use Rattle.cpi_sql_rows.specs.Tables.{table_of_calendar}
 use Rattle.cpi_sql_rows.specs.Texts.{given_calendar, put_calendar_text, update_calendar}
 
 -- a row of the calendar is known by its month, which is its rowid
@@ -29,7 +29,8 @@ module _ (m o c p : ℕ) where
   abbrev behind : Row
   behind = day_behind o c p
 
-  upsert : IsUpsert calendar 6 calendar_places (Int (pos m)) behind (day_columns m o c p) update_calendar.filter
+  upsert : IsUpsert table_of_calendar 6 calendar_places (Int (pos m)) behind (day_columns m o c p)
+      update_calendar.filter
       update_calendar.project
   upsert = record {
     stands = refl;
@@ -47,6 +48,7 @@ module _ (m o c p : ℕ) where
   -- the statement, over a database with these tables
   pub day_put : IsChange put_calendar_text (day_columns m o c p)
       (λ db after. HasRowids (db 10) → IsPutOver calendar_places (Int (pos m)) behind 10 db after)
-  day_put = puts_over calendar 6 calendar_places (Int (pos m)) behind (day_columns m o c p) update_calendar.filter
+  day_put = puts_over table_of_calendar 6 calendar_places (Int (pos m)) behind (day_columns m o c p)
+      update_calendar.filter
       update_calendar.project upsert put_calendar_text (Values given_calendar 5) put_calendar_is
       (λ limit db rows h. h.1)

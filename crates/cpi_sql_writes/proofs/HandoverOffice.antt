@@ -12,7 +12,7 @@ use Rattle.std.proofs.lemmas.Cmp.{nat_cmp_total, ranked}
 use Rattle.sqlite_rules.specs.Lists.{Has}
 use Rattle.sqlite_rules.proofs.ProbeLemmas.{has_mapped, mapped_has}
 use Rattle.sqlite.specs.State.{State}
-use Rattle.cpi_rows.specs.Keyed.{IsInOrder, at}
+use Rattle.cpi_rows.specs.Keyed.{IsInOrder, row_by_number}
 use Rattle.cpi_rows.specs.Held.{held_by, held_cmp, held_key}
 use Rattle.cpi_rows.proofs.Found.{at_key}
 use Rattle.cpi_rows.proofs.Places.{put_in_order}
@@ -20,10 +20,10 @@ use Rattle.cpi_store.specs.declared.given.Given.{Given}
 use Rattle.cpi_store.specs.declared.series_move.SeriesMove.{SeriesMove}
 use Rattle.cpi_store.specs.Office.{HandsOver, put_given, given_until, row_until, end_given, given_over}
 use Rattle.cpi_store.specs.Office.{hand_over}
-use Rattle.cpi_sql_rows.specs.Lists.{office_in, assignments_in, assignment_in, releases_in}
-use Rattle.cpi_sql_writes.specs.GivenColumns.{CanHandOver, IsFree, PutsGiven}
+use Rattle.cpi_sql_rows.specs.Lists.{office_in, assignments_in, assignment_in_row, releases_in}
+use Rattle.cpi_sql_writes.specs.GivenColumns.{CanHandOver, IsNumberFree, PutsGiven}
 use Rattle.cpi_sql_rows.specs.Shelf.{HasTables, IsDone, IsKeyed, Takes}
-use Rattle.cpi_sql_rows.specs.Steps.{IsStep, SameBut, outside}
+use Rattle.cpi_sql_rows.specs.Steps.{IsRowStep, SameBut, outside}
 use Rattle.cpi_sql_rows.proofs.Found.{in_order_same}
 use Rattle.cpi_sql_rows.proofs.Listed.{same_in_order, listed_in_order, has_put, put_has, put_keeps}
 use Rattle.cpi_sql_rows.proofs.Lists.{first_tied, held_has, held_total, second_tied}
@@ -84,10 +84,10 @@ record IsThere (n slot last : ℕ) (g : Given) (rows : List (ℕ × Given)) : Ty
   pub ends : given_until last found ≡ g
 
 there : (n slot last : ℕ) (g : Given) (rows : List (ℕ × Given))
-    → option_map (given_until last) (at slot_of slot (held_by n rows)) ≡ Some g → IsThere n slot last g rows
-there n slot last g rows e = by (at slot_of slot (held_by n rows)) refl e
+    → option_map (given_until last) (row_by_number slot_of slot (held_by n rows)) ≡ Some g → IsThere n slot last g rows
+there n slot last g rows e = by (row_by_number slot_of slot (held_by n rows)) refl e
   where
-    by : (o : Option Given) → at slot_of slot (held_by n rows) ≡ o → option_map (given_until last) o ≡ Some g
+    by : (o : Option Given) → row_by_number slot_of slot (held_by n rows) ≡ o → option_map (given_until last) o ≡ Some g
         → IsThere n slot last g rows
     by None f e = absurd (let no : ◌≡◌ {A = Option Given} None (Some g) = e in cc)
     by (Some x) f e = record {
@@ -98,7 +98,8 @@ there n slot last g rows e = by (at slot_of slot (held_by n rows)) refl e
     }
 
 module _ (n : ℕ) (g : Given) (rows : List (ℕ × Given)) (sorted : AreInOrder rows)
-    (stands : option_map (given_until g.assignment.last_month) (at slot_of (slot_of g) (held_by n rows)) ≡ Some g) where
+    (stands : option_map (given_until g.assignment.last_month) (row_by_number slot_of (slot_of g) (held_by n rows)) ≡
+    Some g) where
   abbrev last : ℕ
   last = g.assignment.last_month
 
@@ -155,10 +156,10 @@ module _ (n : ℕ) (g : Given) (rows : List (ℕ × Given)) (sorted : AreInOrder
 -- ---- the new slot stays free
 
 none_of : (n slot : ℕ) (rows : List (ℕ × Given)) → ((g : Given) → Has rows (n, g) → slot_of g ≡ slot → ⊥)
-    → IsFree n slot rows
-none_of n slot rows none = by (at slot_of slot (held_by n rows)) refl
+    → IsNumberFree n slot rows
+none_of n slot rows none = by (row_by_number slot_of slot (held_by n rows)) refl
   where
-    by : (o : Option Given) → at slot_of slot (held_by n rows) ≡ o → IsFree n slot rows
+    by : (o : Option Given) → row_by_number slot_of slot (held_by n rows) ≡ o → IsNumberFree n slot rows
     by None e = e
     by (Some g) e = absurd (none g
         (held_has nat_cmp_total slot_of n g rows (has_row nat_cmp slot_of slot (held_by n rows) g e))
@@ -172,7 +173,7 @@ module _ (h : SeriesMove) (rows : List (ℕ × Given)) (can : CanHandOver h rows
       slot_apart h.taker.number h.assigned.assignment.slot rows can.free (n, g) has
       (rw (mine, is, level) (tied_itself (held_total nat_cmp_total) (h.taker.number, h.assigned.assignment.slot)))
 
-  pub free_after : IsFree h.taker.number h.assigned.assignment.slot (put_given h.former.number h.ended rows)
+  pub free_after : IsNumberFree h.taker.number h.assigned.assignment.slot (put_given h.former.number h.ended rows)
   free_after = none_of h.taker.number h.assigned.assignment.slot (put_given h.former.number h.ended rows)
       (λ g has is. elim (put_has (held_total nat_cmp_total) key (h.former.number, h.ended) rows (h.taker.number, g)
       has) [
@@ -189,24 +190,24 @@ module _ (h : SeriesMove) (rows : List (ℕ × Given)) (can : CanHandOver h rows
 
 module _ (h : SeriesMove) (a b c : State) (has : HasTables (outside a))
     (can : CanHandOver h (office_in a.now.trees).assignments)
-    (one : IsStep 22 (PutsGiven h.former.number h.ended) a b)
-    (two : IsStep 22 (PutsGiven h.taker.number (given_over h)) b c) where
+    (one : IsRowStep 22 (PutsGiven h.former.number h.ended) a b)
+    (two : IsRowStep 22 (PutsGiven h.taker.number (given_over h)) b c) where
   first : (assignments_in (b.now.trees 22) ≡ put_given h.former.number h.ended (assignments_in (a.now.trees 22)))
-      × IsKeyed (held_cmp nat_cmp) key assignment_in (b.now.trees 22)
-      × Takes assignment_in (a.now.trees 22) (b.now.trees 22)
+      × IsKeyed (held_cmp nat_cmp) key assignment_in_row (b.now.trees 22)
+      × Takes assignment_in_row (a.now.trees 22) (b.now.trees 22)
   first = one.rows has.assignments
 
   second : (assignments_in (c.now.trees 22) ≡ put_given h.taker.number (given_over h) (assignments_in (b.now.trees 22)))
-      × IsKeyed (held_cmp nat_cmp) key assignment_in (c.now.trees 22)
-      × Takes assignment_in (b.now.trees 22) (c.now.trees 22)
+      × IsKeyed (held_cmp nat_cmp) key assignment_in_row (c.now.trees 22)
+      × Takes assignment_in_row (b.now.trees 22) (c.now.trees 22)
   second = two.rows first.1
 
   rows_now : assignments_in (c.now.trees 22) ≡ hand_over h (assignments_in (a.now.trees 22))
   rows_now = second.0 ∙ ap (put_given h.taker.number (given_over h)) (first.0
       ∙ sym (ended_put h.former.number h.ended (assignments_in (a.now.trees 22))
-      (listed_in_order (held_total nat_cmp_total) key assignment_in (a.now.trees 22)) can.stands))
+      (listed_in_order (held_total nat_cmp_total) key assignment_in_row (a.now.trees 22)) can.stands))
 
-  both : Takes assignment_in (a.now.trees 22) (c.now.trees 22)
+  both : Takes assignment_in_row (a.now.trees 22) (c.now.trees 22)
   unfolding Takes
   both r h = elim (second.2 r h) [ inl was ↦ first.2 r was | inr stands ↦ inr stands ]
 

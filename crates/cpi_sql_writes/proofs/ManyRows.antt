@@ -32,7 +32,7 @@ use Rattle.cpi_sql_rows.proofs.Texts.{Makes}
 use Rattle.cpi_sql_rows.proofs.Writing.{as_plain}
 use Rattle.cpi_sql_writes.specs.Columns.{AddsColumns, AreColumns, AreColumnsOf, AreTextsOf, PutsColumns}
 use Rattle.cpi_sql_writes.specs.Columns.{rows_at_once}
-use Rattle.cpi_sql_writes.specs.Within.{AddsTo, Changes, Ran, Within}
+use Rattle.cpi_sql_writes.specs.Within.{AddsTo, Changes, RanStatement, Within}
 use Rattle.cpi_sql_writes.proofs.TableSteps.{made_step}
 use Rattle.cpi_sql_writes.proofs.Withins.{within_as}
 
@@ -204,7 +204,8 @@ module _ {X : Type 0} (it : Table) (entry : Row → Option (ℕ × X)) (GoesBy :
 
     -- where the statement was run
     rows_added : (text : List ℕ) (values : Row) (old new : State) → Makes text (Insert at (Values terms (suc width)))
-        → IsTrue old.in_transaction → Ran text values old new → AddsColumns it entry GoesBy count values old new
+        → IsTrue old.in_transaction → RanStatement text values old new → AddsColumns it entry GoesBy count
+        values old new
     rows_added text values old new is inside run xs counted p =
         let gives = gives_rows values xs p counted in
         let from = Values terms (suc width) in
@@ -226,16 +227,16 @@ module _ {X H A E : Type 0} (it : Table) (at : ℕ) (stands : slice_get office_s
   abbrev Step : Bool → State → State → Type 0
   Step many a b = (h : H) → AddsColumns it entry (GoesBy h) (rows_at_once many) values a b
 
-  pub many_inserted : (many : Bool) → many ≡ true → Within old new result (Ran many_text values)
+  pub many_inserted : (many : Bool) → many ≡ true → Within old new result (RanStatement many_text values)
       → Within old new result (Step many)
   many_inserted many is ran = subst (λ b. Within old new result (Step b)) (sym is)
-      (within_as old new result (Ran many_text values) (Step true) ran
+      (within_as old new result (RanStatement many_text values) (Step true) ran
       (λ inside run h. rows_added it entry (GoesBy h) at stands 32 many_text values old new makes_many inside run))
 
-  pub one_inserted : (many : Bool) → many ≡ false → Within old new result (Ran one_text values)
+  pub one_inserted : (many : Bool) → many ≡ false → Within old new result (RanStatement one_text values)
       → Within old new result (Step many)
   one_inserted many is ran = subst (λ b. Within old new result (Step b)) (sym is)
-      (within_as old new result (Ran one_text values) (Step false) ran
+      (within_as old new result (RanStatement one_text values) (Step false) ran
       (λ inside run h. rows_added it entry (GoesBy h) at stands 1 one_text values old new makes_one inside run))
 
 -- the rows of one holder are added

@@ -4,7 +4,7 @@ use Rattle.std.specs.Prelude.{filter, if◌then◌else◌}
 use Rattle.std.specs.declared.cmp.Ordering.{Ordering}
 use Rattle.std.specs.Ordering.{is_lt, is_gt}
 use Rattle.sqlite_rules.specs.Lists.{Has}
-use Rattle.cpi_rows.specs.Keyed.{put}
+use Rattle.cpi_rows.specs.Keyed.{with_row}
 
 module _ {X Y : Type 0} (f : X → Y) where
   map_around : (xs ys : List X) (x : X) → map f (xs ++ x ∷ ys) ≡ map f xs ++ f x ∷ map f ys
@@ -28,7 +28,7 @@ module _ {X Y K L : Type 0} (R : K → K → Ordering) (key : X → K) (Q : L �
     (f g : X → Y) where
   -- g is f on what stands, and makes the row that is put; the rows that are made lie about it as those that stand do
   pub map_put : (x : X) (y : Y) (xs : List X) → g x ≡ y → ((z : X) → Q (made (f z)) (made y) ≡ R (key z) (key x))
-      → ((z : X) → Has xs z → g z ≡ f z) → map g (put R key x xs) ≡ put Q made y (map f xs)
+      → ((z : X) → Has xs z → g z ≡ f z) → map g (with_row R key x xs) ≡ with_row Q made y (map f xs)
   map_put x y xs is orders same =
       let below = filter (λ r. is_lt (R (key r) (key x))) xs in
       let above = filter (λ r. is_gt (R (key r) (key x))) xs in

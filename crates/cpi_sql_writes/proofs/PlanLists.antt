@@ -10,7 +10,7 @@ use Rattle.std.specs.List.Sorted.{IsStrictlySortedBy}
 use Rattle.std.proofs.lemmas.Cmp.{nat_cmp_total}
 use Rattle.sqlite_rules.specs.Lists.{Has}
 use Rattle.sqlite_rules.proofs.ListLemmas.{all_from}
-use Rattle.cpi_rows.specs.Keyed.{IsInOrder, put}
+use Rattle.cpi_rows.specs.Keyed.{IsInOrder, with_row}
 use Rattle.cpi_rows.proofs.Places.{put_in_order}
 use Rattle.cpi_sql_rows.specs.Lists.{numbers}
 use Rattle.cpi_sql_rows.proofs.Listed.{same_in_order, put_has, has_put, put_keeps}
@@ -55,18 +55,18 @@ module _ {P : Type 0} (key : P → ℕ) where
       → g y ≡ Some q → key q ≡ y)
       (here : g (key p) ≡ Some p) (there : (y : ℕ) → y ≢ key p
       → g y ≡ f y) (first n : ℕ) (low : first ≤ key p) (high : key p < first + n) where
-    pub made_put : filter_map g (numbers first n) ≡ put nat_cmp key p (filter_map f (numbers first n))
+    pub made_put : filter_map g (numbers first n) ≡ with_row nat_cmp key p (filter_map f (numbers first n))
     made_put =
         let old = filter_map f (numbers first n) in
         let sorted = made_in_order f f_is first n in
-        same_in_order nat_cmp_total key (filter_map g (numbers first n)) (put nat_cmp key p old)
+        same_in_order nat_cmp_total key (filter_map g (numbers first n)) (with_row nat_cmp key p old)
         (made_in_order g g_is first n) (put_in_order nat_cmp_total key old p sorted)
         (λ q h.
         let it = has_given g (numbers first n) q h in
         elim (eqb_tells it.0 (key p)) [
           | inl e ↦
               let same : p ≡ q = some_is (sym here ∙ ap g (sym e.1) ∙ it.2) in
-              subst (Has (put nat_cmp key p old)) same (has_put nat_cmp_total key p old)
+              subst (Has (with_row nat_cmp key p old)) same (has_put nat_cmp_total key p old)
           | inr other ↦
               put_keeps nat_cmp_total key p old q (given_has f (numbers first n) it.0 q it.1 (sym (there it.0 other.1)
               ∙ it.2))

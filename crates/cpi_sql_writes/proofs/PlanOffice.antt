@@ -8,12 +8,13 @@ use Rattle.cpi_plan.specs.Plan.{Plan, IsPlan}
 use Rattle.cpi_plan.specs.declared.plan_rows.Node.{Node}
 use Rattle.cpi_plan.specs.declared.plan_rows.Place.{Place}
 use Rattle.cpi_store.specs.Office.{PutsPlan}
-use Rattle.cpi_sql_rows.specs.Tables.{node, plan_item, plan_ref}
-use Rattle.cpi_sql_rows.specs.Lists.{node_at, node_in, office_in, place_at, place_in, reference_at, reference_row}
+use Rattle.cpi_sql_rows.specs.Tables.{table_of_nodes, table_of_plan_items, table_of_plan_refs}
+use Rattle.cpi_sql_rows.specs.Lists.{node_at, node_in, office_in, place_at, place_in_row, reference_at}
+use Rattle.cpi_sql_rows.specs.Lists.{reference_month_in_row}
 use Rattle.cpi_sql_rows.specs.Lists.{references_for, releases_in}
 use Rattle.cpi_sql_rows.specs.declared.reference_months.ReferenceMonth.{ReferenceMonth}
 use Rattle.cpi_sql_rows.specs.Shelf.{HasTables, IsDone}
-use Rattle.cpi_sql_rows.specs.Steps.{SameBut, IsStep, outside}
+use Rattle.cpi_sql_rows.specs.Steps.{SameBut, IsRowStep, outside}
 use Rattle.cpi_sql_rows.proofs.Frame.{Nodes, Places, References}
 use Rattle.cpi_sql_rows.proofs.Unchanged.{same_then}
 use Rattle.cpi_sql_writes.specs.PlanSteps.{is_of_year, IsYearNumber}
@@ -25,26 +26,27 @@ use Rattle.cpi_sql_writes.proofs.StoredPlans.{one_in_order, plans_put}
 
 -- the rows of one table that take the place of a year's
 abbrev Puts : {X : Type 0} → ℕ → ℕ → (Row → Option (ℕ × X)) → ℕ → List X → State → State → Type 0
-Puts tree place entry year xs = IsStep tree (Replaces entry (is_of_year place year) (IsYearNumber year) xs)
+Puts tree place entry year xs = IsRowStep tree (Replaces entry (is_of_year place year) (IsYearNumber year) xs)
 
 -- nodes, then places, and then the reference month, which are those of the plan
 module _ (p : Plan) (v : IsPlan p) (year : ℕ) (nodes : List Node) (places : List Place) (reference : Option ℕ)
     (at_year : year ≡ p.year) (range : (2000 ≤ p.year) × (p.year ≤ 2199)) (at_nodes : nodes ≡ p.nodes)
     (at_places : places ≡ p.places) (at_reference : reference ≡ p.reference) (a b c d : State)
-    (has : HasTables (outside a)) (one : Puts node.tree 1 node_in year nodes a b)
-    (two : Puts plan_item.tree 1 place_in year places b c)
-    (three : Puts plan_ref.tree 0 reference_row year (references_for reference) c d) where
+    (has : HasTables (outside a)) (one : Puts table_of_nodes.tree 1 node_in year nodes a b)
+    (two : Puts table_of_plan_items.tree 1 place_in_row year places b c)
+    (three : Puts table_of_plan_refs.tree 0 reference_month_in_row year (references_for reference) c d) where
   all_nodes : Replaced total-law (λ (n : Node). n.code) node_in p.year p.nodes (a.now.trees 6) (d.now.trees 6)
   all_nodes = year_replaced total-law (λ (n : Node). n.code) 1 node_at p.year range.0 range.1 p.nodes _ _
       has.plans.nodes v.nodes_in_order
       (rw (← at_year, ← at_nodes, three.others 6 refl, two.others 6 refl) one.rows)
 
-  all_places : Replaced nat_cmp_total (λ (q : Place). q.item) place_in p.year p.places (a.now.trees 8) (d.now.trees 8)
+  all_places : Replaced nat_cmp_total (λ (q : Place). q.item) place_in_row p.year p.places (a.now.trees 8)
+      (d.now.trees 8)
   all_places = year_replaced nat_cmp_total (λ (q : Place). q.item) 1 place_at p.year range.0 range.1 p.places _ _
       has.plans.places v.places_in_order
       (rw (← at_year, ← at_places, three.others 8 refl, ← one.others 8 refl) two.rows)
 
-  all_references : Replaced nat_cmp_total (λ (m : ReferenceMonth). m.month) reference_row p.year
+  all_references : Replaced nat_cmp_total (λ (m : ReferenceMonth). m.month) reference_month_in_row p.year
       (references_for p.reference) (a.now.trees 34) (d.now.trees 34)
   all_references = year_replaced nat_cmp_total (λ (m : ReferenceMonth). m.month) 0 reference_at p.year range.0 range.1
       (references_for p.reference) _ _ has.plans.references (one_in_order p.reference)

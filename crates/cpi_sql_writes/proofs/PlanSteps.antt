@@ -7,18 +7,19 @@ use Rattle.sqlite.specs.declared.types.Value.TheVariants.{Null, Int, Text}
 use Rattle.sqlite.specs.Order.{Row, column}
 use Rattle.sqlite.specs.Source.TheVariants.{Values}
 use Rattle.sqlite.specs.State.{State}
-use Rattle.cpi_codes.specs.CodeOf.{code_of}
+use Rattle.cpi_codes.specs.CodeOf.{spelled_code}
 use Rattle.cpi_codes.specs.ItemCode.{item_code_of}
 use Rattle.cpi_plan.specs.declared.plan_rows.Place.{Place}
 use Rattle.cpi_plan.specs.declared.plan_rows.Node.{Node}
 use Rattle.cpi_rows.specs.Keyed.{IsInOrder}
 use Rattle.cpi_rows.specs.Held.{held_cmp, held_key}
 use Rattle.cpi_sql_rows.specs.Shelf.{IsKeyed}
-use Rattle.cpi_sql_rows.specs.Tables.{node, plan_item, plan_ref}
+use Rattle.cpi_sql_rows.specs.Tables.{table_of_nodes, table_of_plan_items, table_of_plan_refs}
 use Rattle.cpi_sql_rows.specs.declared.reference_months.ReferenceMonth.{ReferenceMonth}
 use Rattle.cpi_sql_rows.specs.Texts.{drop_places_text, drop_nodes_text, drop_references_text, add_reference_text}
-use Rattle.cpi_sql_rows.specs.Texts.{given_pair, is_first}
-use Rattle.cpi_sql_rows.specs.Lists.{place_in, node_in, reference_row, month_from, ranged, name_of, and_then}
+use Rattle.cpi_sql_rows.specs.Texts.{given_pair, is_first_parameter}
+use Rattle.cpi_sql_rows.specs.Lists.{place_in_row, node_in, reference_month_in_row, month_from, number_within, name_of}
+use Rattle.cpi_sql_rows.specs.Lists.{and_then}
 use Rattle.cpi_sql_rows.proofs.Lists.{bound_is, ranged_is, same_number, equal_number, some_is}
 use Rattle.cpi_sql_rows.proofs.Reading.{equality}
 use Rattle.cpi_sql_rows.proofs.Texts.{drop_places_is, drop_nodes_is, drop_references_is}
@@ -26,23 +27,24 @@ use Rattle.cpi_sql_rows.proofs.Texts.{add_reference_is}
 use Rattle.cpi_sql_rows.proofs.Writing.{cast_int, cast_null}
 use Rattle.cpi_sql_writes.specs.Columns.{AreColumns}
 use Rattle.cpi_sql_writes.specs.PlanSteps.{is_of_year, IsYearNumber}
-use Rattle.cpi_sql_writes.specs.Within.{AddsTo, Changes, Drops, Ran, Replaces, Within}
+use Rattle.cpi_sql_writes.specs.Within.{AddsTo, Changes, Drops, RanStatement, Replaces, Within}
 use Rattle.cpi_sql_writes.proofs.AddedRows.{list_replaced}
 use Rattle.cpi_sql_writes.proofs.Replaced.{Replaced}
 use Rattle.cpi_sql_writes.proofs.TableSteps.{adds_row, drops_rows}
 
 -- what the columns of a row stand for
 module _ (year : ℕ) where
-  pub node_columns : (c t : List ℕ) (n : Node) → code_of c ≡ Some n.code → name_of t ≡ Some n.title
-      → AreColumns node node_in (IsYearNumber year) n (Int (pos year) ∷ Text c ∷ Text t ∷ Int (pos n.weight) ∷ [])
+  pub node_columns : (c t : List ℕ) (n : Node) → spelled_code c ≡ Some n.code → name_of t ≡ Some n.title
+      → AreColumns table_of_nodes node_in (IsYearNumber year) n
+      (Int (pos year) ∷ Text c ∷ Text t ∷ Int (pos n.weight) ∷ [])
   node_columns c t n code title = record {
     stand = λ id number is. rw (is, code, title) refl;
     taken = simp (cast_null, cast_int);
     width = refl;
   }
 
-  pub place_columns : (i c : List ℕ) (p : Place) → item_code_of i ≡ Some p.item → code_of c ≡ Some p.aggregate
-      → AreColumns plan_item place_in (IsYearNumber year) p (Int (pos year) ∷ Text i ∷ Text c ∷ [])
+  pub place_columns : (i c : List ℕ) (p : Place) → item_code_of i ≡ Some p.item → spelled_code c ≡ Some p.aggregate
+      → AreColumns table_of_plan_items place_in_row (IsYearNumber year) p (Int (pos year) ∷ Text i ∷ Text c ∷ [])
   place_columns i c p item code = record {
     stand = λ id number is. rw (is, item, code) refl;
     taken = simp (cast_null, cast_int);
@@ -53,28 +55,34 @@ module _ {A E : Type 0} (old new : State) (result : Result A E) (year : ℕ) whe
   abbrev key : Row
   key = Int (pos year) ∷ []
 
-  pub nodes_dropped : Within old new result (Ran drop_nodes_text key)
-      → Within old new result (Changes node.tree (Drops (is_of_year 1 year)))
-  nodes_dropped ran = drops_rows node 4 refl drop_nodes_text key old new result ran (is_first 1) (is_of_year 1 year)
+  pub nodes_dropped : Within old new result (RanStatement drop_nodes_text key)
+      → Within old new result (Changes table_of_nodes.tree (Drops (is_of_year 1 year)))
+  nodes_dropped ran = drops_rows table_of_nodes 4 refl drop_nodes_text key old new result ran (is_first_parameter 1)
+      (is_of_year 1 year)
       drop_nodes_is (λ r. equality (column r 1) (pos year)) (λ db. refl)
 
-  pub places_dropped : Within old new result (Ran drop_places_text key)
-      → Within old new result (Changes plan_item.tree (Drops (is_of_year 1 year)))
-  places_dropped ran = drops_rows plan_item 5 refl drop_places_text key old new result ran (is_first 1)
+  pub places_dropped : Within old new result (RanStatement drop_places_text key)
+      → Within old new result (Changes table_of_plan_items.tree (Drops (is_of_year 1 year)))
+  places_dropped ran = drops_rows table_of_plan_items 5 refl drop_places_text key old new result ran
+      (is_first_parameter 1)
       (is_of_year 1 year) drop_places_is (λ r. equality (column r 1) (pos year)) (λ db. refl)
 
-  pub references_dropped : Within old new result (Ran drop_references_text key)
-      → Within old new result (Changes plan_ref.tree (Drops (is_of_year 0 year)))
-  references_dropped ran = drops_rows plan_ref 19 refl drop_references_text key old new result ran (is_first 0)
+  pub references_dropped : Within old new result (RanStatement drop_references_text key)
+      → Within old new result (Changes table_of_plan_refs.tree (Drops (is_of_year 0 year)))
+  references_dropped ran = drops_rows table_of_plan_refs 19 refl drop_references_text key old new result ran
+      (is_first_parameter 0)
       (is_of_year 0 year) drop_references_is (λ r. equality (column r 0) (pos year)) (λ db. refl)
 
   pub reference_added : (m : ℕ) (r : ReferenceMonth) → month_from (Int (pos m)) ≡ Some r.month
-      → Within old new result (Ran add_reference_text (key ++ Int (pos m) ∷ []))
-      → Within old new result (Changes plan_ref.tree (AddsTo reference_row (IsYearNumber year) (r ∷ [])))
+      → Within old new result (RanStatement add_reference_text (key ++ Int (pos m) ∷ []))
+      → Within old new result (Changes table_of_plan_refs.tree
+      (AddsTo reference_month_in_row (IsYearNumber year) (r ∷ [])))
   reference_added m r month ran =
       let row = Int (pos year) ∷ Null ∷ Int (pos m) ∷ [] in
-      adds_row plan_ref 19 refl add_reference_text (key ++ Int (pos m) ∷ []) old new result ran (Values given_pair 3)
-      row (λ db. row) add_reference_is (λ limit db rows h. h.1) (λ db. simp (cast_null, cast_int)) reference_row
+      adds_row table_of_plan_refs 19 refl add_reference_text (key ++ Int (pos m) ∷ []) old new result ran
+      (Values given_pair 3)
+      row (λ db. row) add_reference_is (λ limit db rows h. h.1) (λ db. simp (cast_null, cast_int))
+      reference_month_in_row
       (IsYearNumber year) r (λ number is. rw (is, month) refl)
 
 -- ---- so they replace those of the year
@@ -85,13 +93,13 @@ year_read year low high = rw (le-leb 2000 year low, le-leb year 2199 high) refl
 -- what a row stands for, beside the year that is in one of its columns
 abbrev beside_year : {X : Type 0} → ℕ → (Row → Option X) → Row → Option (ℕ × X)
 beside_year place from r =
-    and_then (ranged 2000 2199 (column r place)) (λ y. and_then (from r) (λ x. Some (y, x)))
+    and_then (number_within 2000 2199 (column r place)) (λ y. and_then (from r) (λ x. Some (y, x)))
 
 module _ {X K : Type 0} {R : K → K → Ordering} (o : IsTotalOrder R) (key : X → K) (place : ℕ) (from : Row → Option X)
   where
     numbered : (r : Row) (n : ℕ) (x : X) → beside_year place from r ≡ Some (n, x) → column r place ≡ Int (pos n)
     numbered r n x e =
-        let one = bound_is (ranged 2000 2199 (column r place)) _ _ e in
+        let one = bound_is (number_within 2000 2199 (column r place)) _ _ e in
         let two = bound_is (from r) _ _ one.2 in
         let pair : ◌≡◌ {A = ℕ × X} (one.0, two.0) (n, x) = some_is two.2 in
         ranged_is 2000 2199 (column r place) one.0 one.1 ∙ ap (λ (p : ℕ × X). Int (pos p.0)) pair

@@ -9,7 +9,7 @@ use Rattle.sqlite.specs.State.{State}
 use Rattle.sqlite_rules.specs.Lists.{Has}
 use Rattle.sqlite_rules.proofs.ProbeLemmas.{mapped_has}
 use Rattle.cpi_codes.specs.contracts.codes.CodeOrd.TheImpl.Laws.{total-law}
-use Rattle.cpi_rows.specs.Keyed.{put, row_at}
+use Rattle.cpi_rows.specs.Keyed.{with_row, row_at}
 use Rattle.cpi_index.specs.Carried.{Carried}
 use Rattle.cpi_index.specs.Frozen.{Frozen}
 use Rattle.cpi_index.specs.Series.{frozen_serial, carried_serial}
@@ -19,14 +19,15 @@ use Rattle.cpi_release.specs.FrozenMonths.{release_cmp, release_key}
 use Rattle.cpi_store.specs.Office.{Freezes}
 use Rattle.cpi_store.proofs.Released.{release_total}
 use Rattle.cpi_sql_rows.specs.declared.release_rows.Header.{Header}
-use Rattle.cpi_sql_rows.specs.Lists.{header_in, frozen_in, carried_in, level_in, headers_in, frozens_in, carrieds_in}
+use Rattle.cpi_sql_rows.specs.Lists.{header_in, frozen_in, carried_in_row, level_in_row, headers_in, frozens_in}
+use Rattle.cpi_sql_rows.specs.Lists.{carrieds_in}
 use Rattle.cpi_sql_rows.specs.Lists.{levels_in, office_in, month_at, release_from, releases_in, header_key}
 use Rattle.cpi_sql_rows.specs.Lists.{release_number}
 use Rattle.cpi_sql_rows.specs.ReleaseRows.{frozen_after, carried_after, level_after}
 use Rattle.cpi_sql_writes.specs.ReleaseSteps.{header_of, FitsTables, IsHeaderStep, ListsStand, ReplacesList}
-use Rattle.cpi_sql_rows.specs.Tables.{frozen_2, carried_2, level_2}
+use Rattle.cpi_sql_rows.specs.Tables.{table_of_frozen_2, table_of_carried_2, table_of_levels_2}
 use Rattle.cpi_sql_rows.specs.Shelf.{HasTables, IsDone}
-use Rattle.cpi_sql_rows.specs.Steps.{IsStep, SameBut, outside}
+use Rattle.cpi_sql_rows.specs.Steps.{IsRowStep, SameBut, outside}
 use Rattle.cpi_sql_rows.proofs.Frame as tables
 use Rattle.cpi_sql_rows.proofs.Frame.{Headers, Levels, row_written}
 use Rattle.cpi_sql_rows.proofs.FoundReleases.{header_names}
@@ -54,9 +55,9 @@ module _ (r : Release) (fits : FitsTables r) (m v : ℕ) (is : month_at m ≡ So
     (has : HasTables (outside a))
     (none : row_at release_cmp release_key (r.month, r.revision) (releases_in a.now.trees) ≡ None)
     (one : IsHeaderStep (header_of r) a b)
-    (two : IsStep frozen_2.tree (ReplacesList frozen_after m v frozen) b c)
-    (three : IsStep carried_2.tree (ReplacesList carried_after m v carried) c d)
-    (four : IsStep level_2.tree (ReplacesList level_after m v levels) d e) where
+    (two : IsRowStep table_of_frozen_2.tree (ReplacesList frozen_after m v frozen) b c)
+    (three : IsRowStep table_of_carried_2.tree (ReplacesList carried_after m v carried) c d)
+    (four : IsRowStep table_of_levels_2.tree (ReplacesList level_after m v levels) d e) where
   abbrev number : ℕ
   number = release_number r.month r.revision
 
@@ -87,11 +88,11 @@ module _ (r : Release) (fits : FitsTables r) (m v : ℕ) (is : month_at m ≡ So
   frozen_rows = release_replaced frozen_after m r.month r.revision is range.0 range.1 nat_cmp_total frozen_serial
       r.frozen _ _ has.releases.frozen fits.frozen frozen_put
 
-  carried_rows : Replaced nat_cmp_total carried_serial carried_in number r.carried (a.now.trees 30) (e.now.trees 30)
+  carried_rows : Replaced nat_cmp_total carried_serial carried_in_row number r.carried (a.now.trees 30) (e.now.trees 30)
   carried_rows = release_replaced carried_after m r.month r.revision is range.0 range.1 nat_cmp_total carried_serial
       r.carried _ _ has.releases.carried fits.carried carried_put
 
-  level_rows : Replaced total-law (λ (l : Level). l.code) level_in number r.levels (a.now.trees 32) (e.now.trees 32)
+  level_rows : Replaced total-law (λ (l : Level). l.code) level_in_row number r.levels (a.now.trees 32) (e.now.trees 32)
   level_rows = release_replaced level_after m r.month r.revision is range.0 range.1 total-law (λ (l : Level). l.code)
       r.levels _ _ has.releases.levels fits.levels levels_put
 
@@ -128,7 +129,7 @@ module _ (r : Release) (fits : FitsTables r) (m v : ℕ) (is : month_at m ≡ So
       let apart = numbers_apart h there in
       rw (frozen_rows.there n apart, carried_rows.there n apart, level_rows.there n apart) refl
 
-  releases_now : releases_in e.now.trees ≡ put release_cmp release_key r (releases_in a.now.trees)
+  releases_now : releases_in e.now.trees ≡ with_row release_cmp release_key r (releases_in a.now.trees)
   unfolding releases_in
   releases_now =
       ap (λ hs. map (from_tables e.now.trees) hs) (listed_put release_total header_key header_in (header_of r)

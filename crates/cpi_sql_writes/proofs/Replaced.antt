@@ -8,7 +8,7 @@ use Rattle.sqlite.specs.Order.{Row}
 use Rattle.sqlite_rules.specs.Lists.{Has}
 use Rattle.cpi_rows.specs.Keyed.{IsInOrder}
 use Rattle.cpi_rows.specs.Held.{held_by, held_cmp, held_key}
-use Rattle.cpi_sql_rows.specs.Lists.{listed}
+use Rattle.cpi_sql_rows.specs.Lists.{rows_in_key_order}
 use Rattle.cpi_sql_rows.specs.Shelf.{HasRowids, IsKeyed, Takes}
 use Rattle.cpi_sql_rows.proofs.Frame.{WritesIds}
 use Rattle.cpi_sql_rows.proofs.Found.{in_order_same}
@@ -26,7 +26,7 @@ module _ {X K : Type 0} {R : K → K → Ordering} (o : IsTotalOrder R) (key : X
       pub takes : Takes entry old new
 
     abbrev all : List Row → List (ℕ × X)
-    all rows = listed (held_cmp R) (held_key key) entry rows
+    all rows = rows_in_key_order (held_cmp R) (held_key key) entry rows
 
     abbrev Keyed : List Row → Type 0
     Keyed rows = IsKeyed (held_cmp R) (held_key key) entry rows

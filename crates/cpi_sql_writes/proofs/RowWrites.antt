@@ -14,18 +14,19 @@ use Rattle.sqlite.specs.Tree.{Trees}
 use Rattle.cpi_plan.specs.Calendar.{CalendarPart}
 use Rattle.cpi_plan.specs.declared.items.Item.{Item}
 use Rattle.cpi_rows.specs.Held.{held_key}
-use Rattle.cpi_rows.specs.Keyed.{at}
+use Rattle.cpi_rows.specs.Keyed.{row_by_number}
 use Rattle.cpi_survey.specs.Quote.{QuoteRow, quote_key}
 use Rattle.cpi_survey.specs.declared.assignment.Assigned.{Assigned}
-use Rattle.cpi_store.specs.declared.bearer.Bearer.{Bearer}
+use Rattle.cpi_store.specs.declared.registration.Registration.{Registration}
 use Rattle.cpi_store.specs.declared.outlet.Outlet.{Outlet}
 use Rattle.cpi_store.specs.Office.{Assigns, PutsCalendar, PutsItem, PutsOutlet, Quotes, Registers}
 use Rattle.cpi_store.specs.Series.{first_of_series}
 use Rattle.cpi_sql_rows.specs.Shelf.{HasRowids}
-use Rattle.cpi_sql_rows.specs.Tables.{collector, item, outlet}
+use Rattle.cpi_sql_rows.specs.Tables.{table_of_collectors, table_of_items, table_of_outlets}
 use Rattle.cpi_sql_rows.specs.Texts.{given_pair, put_assignment_text, put_calendar_text, put_collector_text}
 use Rattle.cpi_sql_rows.specs.Texts.{put_item_text, put_outlet_text, put_quote_text}
-use Rattle.cpi_sql_rows.specs.Lists.{assignment_in, bearer_from, calendar_in, collector_in, item_in, item_of, office_in}
+use Rattle.cpi_sql_rows.specs.Lists.{assignment_in_row, registration_from, calendar_in, collector_in, item_in}
+use Rattle.cpi_sql_rows.specs.Lists.{item_of_values, office_in}
 use Rattle.cpi_sql_rows.specs.Lists.{outlet_from, outlet_in, quote_in, releases_in}
 use Rattle.cpi_sql_rows.proofs.Frame as tables
 use Rattle.cpi_sql_rows.proofs.Frame.{Assignments, Calendar, Collectors, Items, Outlets, all_tables_of}
@@ -37,7 +38,7 @@ use Rattle.cpi_sql_rows.proofs.TableRows.{AddsRow, adds_one}
 use Rattle.cpi_sql_rows.proofs.Texts.{put_collector_is, put_item_is, put_outlet_is}
 use Rattle.cpi_sql_rows.proofs.Upserts.{IsPutOver}
 use Rattle.cpi_sql_rows.proofs.Writing.{cast_int, cast_null}
-use Rattle.cpi_sql_writes.specs.GivenColumns.{IsFree, columns_of, given_of}
+use Rattle.cpi_sql_writes.specs.GivenColumns.{IsNumberFree, columns_of, given_of}
 use Rattle.cpi_sql_writes.specs.Within.{RunsAlone}
 use Rattle.cpi_sql_writes.specs.Written.{Written}
 use Rattle.cpi_sql_writes.specs.declared.given_columns.GivenColumns.{GivenColumns}
@@ -59,16 +60,17 @@ abbrev item_row : (c t u : List ℕ) (l h : ℕ) → Trees → Row
 item_row c t u l h db = Int (next_rowid (db 4)) ∷ item_columns c t u l h
 
 module _ {A E : Type 0} (old new : State) (result : Result A E) where
-  pub collector_written : (b : Bearer) (n : ℕ) (k : List ℕ) → bearer_from (Int (pos n)) (Text k) ≡ Some b
+  pub collector_written : (b : Registration) (n : ℕ) (k : List ℕ) → registration_from (Int (pos n)) (Text k) ≡ Some b
       → RunsAlone put_collector_text (Int (pos n) ∷ Text k ∷ []) old new result
-      → Written (Registers b) (λ o. at (λ (b : Bearer). b.number) b.number o.collectors ≡ None) old new result
+      → Written (Registers b) (λ o. row_by_number (λ (b : Registration). b.number) b.number o.collectors ≡ None) old
+      new result
   unfolding releases_in
   collector_written b n k is =
-      let key : Bearer → ℕ = λ b. b.number in
+      let key : Registration → ℕ = λ b. b.number in
       alone_written put_collector_text (Int (pos n) ∷ Text k ∷ []) (AddsRow 1 (numbered n k))
-      (adds_one collector 1 refl (Int (pos n) ∷ Text k ∷ []) (Values given_pair 3) (numbered n k)
+      (adds_one table_of_collectors 1 refl (Int (pos n) ∷ Text k ∷ []) (Values given_pair 3) (numbered n k)
       (λ db. numbered n k) (λ limit db rows h. h.1) (λ db. simp (cast_null, cast_int)) put_collector_text
-      put_collector_is) (Registers b) (λ o. at key b.number o.collectors ≡ None)
+      put_collector_is) (Registers b) (λ o. row_by_number key b.number o.collectors ≡ None)
       (λ a s has free made alone sound.
       row_done (Registers b) a s has made.schema alone (all_tables_of s.now made.schema sound) Collectors refl
       made.others nat_cmp_total key collector_in b has.collectors (inserted nat_cmp_total key collector_in b _ _
@@ -77,14 +79,14 @@ module _ {A E : Type 0} (old new : State) (result : Result A E) where
 
   pub outlet_written : (u : Outlet) (n : ℕ) (k : List ℕ) → outlet_from (Int (pos n)) (Text k) ≡ Some u
       → RunsAlone put_outlet_text (Int (pos n) ∷ Text k ∷ []) old new result
-      → Written (PutsOutlet u) (λ o. at (λ (u : Outlet). u.number) u.number o.outlets ≡ None) old new result
+      → Written (PutsOutlet u) (λ o. row_by_number (λ (u : Outlet). u.number) u.number o.outlets ≡ None) old new result
   unfolding releases_in
   outlet_written u n k is =
       let key : Outlet → ℕ = λ u. u.number in
       alone_written put_outlet_text (Int (pos n) ∷ Text k ∷ []) (AddsRow 3 (numbered n k))
-      (adds_one outlet 2 refl (Int (pos n) ∷ Text k ∷ []) (Values given_pair 3) (numbered n k)
+      (adds_one table_of_outlets 2 refl (Int (pos n) ∷ Text k ∷ []) (Values given_pair 3) (numbered n k)
       (λ db. numbered n k) (λ limit db rows h. h.1) (λ db. simp (cast_null, cast_int)) put_outlet_text
-      put_outlet_is) (PutsOutlet u) (λ o. at key u.number o.outlets ≡ None)
+      put_outlet_is) (PutsOutlet u) (λ o. row_by_number key u.number o.outlets ≡ None)
       (λ a s has free made alone sound.
       row_done (PutsOutlet u) a s has made.schema alone (all_tables_of s.now made.schema sound) Outlets refl made.others
       nat_cmp_total key outlet_in u has.outlets (inserted nat_cmp_total key outlet_in u _ _ (numbered n k) is made.rows
@@ -92,39 +94,40 @@ module _ {A E : Type 0} (old new : State) (result : Result A E) where
       a.now.trees) { outlets = rows }))) old new result
 
   pub item_written : (i : Item) (c t u : List ℕ) (l h : ℕ)
-      → item_of (Text c) (Text t) (Text u) (Int (pos l)) (Int (pos h)) ≡ Some i
+      → item_of_values (Text c) (Text t) (Text u) (Int (pos l)) (Int (pos h)) ≡ Some i
       → RunsAlone put_item_text (item_columns c t u l h) old new result
-      → Written (PutsItem i) (λ o. at (λ (i : Item). i.code) i.code o.items ≡ None) old new result
+      → Written (PutsItem i) (λ o. row_by_number (λ (i : Item). i.code) i.code o.items ≡ None) old new result
   unfolding releases_in
   item_written i c t u l h is =
       let key : Item → ℕ = λ i. i.code in
       alone_written put_item_text (item_columns c t u l h) (λ db. AddsRow 4 (item_row c t u l h db) db)
-      (adds_one item 3 refl (item_columns c t u l h)
+      (adds_one table_of_items 3 refl (item_columns c t u l h)
       (Values (lit Null ∷ col 0 0 ∷ col 0 1 ∷ col 0 2 ∷ col 0 3 ∷ col 0 4 ∷ []) 6) (Null ∷ item_columns c t u l h)
       (item_row c t u l h) (λ limit db rows h. h.1) (λ db. simp (cast_null, cast_int)) put_item_text put_item_is)
-      (PutsItem i) (λ o. at key i.code o.items ≡ None)
+      (PutsItem i) (λ o. row_by_number key i.code o.items ≡ None)
       (λ a s has free made alone sound.
       row_done (PutsItem i) a s has made.schema alone (all_tables_of s.now made.schema sound) Items refl made.others
       nat_cmp_total key item_in i has.items (inserted nat_cmp_total key item_in i _ _ (item_row c t u l h a.now.trees)
       is made.rows made.kept has.items (λ y h. none_apart nat_cmp key i.code _ y free h)) (λ w. w) (ap (λ rows. record
       (office_in a.now.trees) { items = rows }))) old new result
 
-  pub assignment_written : (b : Bearer) (a : Assigned) (c : GivenColumns)
+  pub assignment_written : (b : Registration) (a : Assigned) (c : GivenColumns)
       → given_of c ≡ Some (b.number, first_of_series b.number a.assignment)
       → RunsAlone put_assignment_text (columns_of c) old new result
-      → Written (Assigns b a) (λ o. IsFree b.number a.assignment.slot o.assignments) old new result
+      → Written (Assigns b a) (λ o. IsNumberFree b.number a.assignment.slot o.assignments) old new result
   unfolding releases_in
   assignment_written b a c is =
       let g = first_of_series b.number a.assignment in
       alone_written put_assignment_text (columns_of c) (Added c) (row_made c) (Assigns b a)
-      (λ o. IsFree b.number a.assignment.slot o.assignments)
+      (λ o. IsNumberFree b.number a.assignment.slot o.assignments)
       (λ s t has free made alone sound.
       row_done (Assigns b a) s t has made.schema alone (all_tables_of t.now made.schema sound) Assignments refl
-      made.others (held_total nat_cmp_total) slot_key assignment_in (b.number, g) has.assignments (added_puts b.number g
+      made.others (held_total nat_cmp_total) slot_key assignment_in_row (b.number, g) has.assignments
+      (added_puts b.number g
       c is s.now.trees t.now free made has.assignments) (λ w. record { rows = w; rowids = made.rowids }) (ap (λ rows.
       record (office_in s.now.trees) { assignments = rows }))) old new result
 
-  pub quote_written : (b : Bearer) (q : QuoteRow) (m : ℕ) (mark : List ℕ) (v : ℕ)
+  pub quote_written : (b : Registration) (q : QuoteRow) (m : ℕ) (mark : List ℕ) (v : ℕ)
       → ((id : Value) → quote_in (id ∷ quote_columns b.number q.slot m mark v q.receipt) ≡ Some (b.number, q))
       → RunsAlone put_quote_text (quote_columns b.number q.slot m mark v q.receipt) old new result
       → Written (Quotes b q) (λ _. ⊤) old new result

@@ -14,10 +14,10 @@ use Rattle.sqlite.specs.Effect.{Database}
 use Rattle.sqlite.specs.State.{State}
 use Rattle.cpi_rows.specs.Held.{held_cmp, held_key}
 use Rattle.cpi_store.specs.declared.given.Given.{Given}
-use Rattle.cpi_sql_rows.specs.Tables.{assignment_2}
+use Rattle.cpi_sql_rows.specs.Tables.{table_of_assignments_2}
 use Rattle.cpi_sql_rows.specs.Texts.{put_assignment_text, replace_given_text}
-use Rattle.cpi_sql_rows.specs.Lists.{assignments_in, assignment_in}
-use Rattle.cpi_sql_writes.specs.GivenColumns.{columns_of, copied_column, given_of, IsFree, PutsGiven}
+use Rattle.cpi_sql_rows.specs.Lists.{assignments_in, assignment_in_row}
+use Rattle.cpi_sql_writes.specs.GivenColumns.{columns_of, copied_column, given_of, IsNumberFree, PutsGiven}
 use Rattle.cpi_sql_writes.specs.declared.given_columns.GivenColumns.{GivenColumns}
 use Rattle.cpi_sql_rows.specs.Shelf.{HasRowids, IsKeyed}
 use Rattle.cpi_sql_rows.proofs.Change.{IsChange}
@@ -28,7 +28,7 @@ use Rattle.cpi_sql_writes.proofs.AddPremises.{slot_apart}
 use Rattle.cpi_sql_rows.proofs.GivenRows.{same_slot, slot_places, slot_tells}
 use Rattle.cpi_sql_rows.proofs.TableRows.{AddsRow}
 use Rattle.cpi_sql_rows.proofs.Upserts.{IsPutOver, PutsOver, puts_row}
-use Rattle.cpi_sql_writes.specs.Within.{Changes, Ran, Within}
+use Rattle.cpi_sql_writes.specs.Within.{Changes, RanStatement, Within}
 use Rattle.cpi_sql_writes.proofs.Withins.{within_as}
 use Rattle.cpi_sql_writes.proofs.SlotRows.{given_added, given_replaced}
 use Rattle.cpi_sql_writes.proofs.TableSteps.{made_step}
@@ -61,36 +61,38 @@ row_replaced c = given_replaced c.collector c.slot c.outlet (string_bytes c.item
 
 module _ (n : ℕ) (g : Given) (c : GivenColumns) (is : given_of c ≡ Some (n, g)) where
   abbrev Puts : List Row → List Row → Type 0
-  Puts = PutsRow (held_total nat_cmp_total) slot_key assignment_in (n, g)
+  Puts = PutsRow (held_total nat_cmp_total) slot_key assignment_in_row (n, g)
 
-  put_given : (old new : List Row) → (IsKeyed (held_cmp nat_cmp) slot_key assignment_in old → Puts old new)
+  put_given : (old new : List Row) → (IsKeyed (held_cmp nat_cmp) slot_key assignment_in_row old → Puts old new)
       → PutsGiven n g old new
   put_given old new row keyed = (
-    listed_put (held_total nat_cmp_total) slot_key assignment_in (n, g) old new keyed (row keyed),
-    still_keyed (held_total nat_cmp_total) slot_key assignment_in (n, g) old new keyed (row keyed),
+    listed_put (held_total nat_cmp_total) slot_key assignment_in_row (n, g) old new keyed (row keyed),
+    still_keyed (held_total nat_cmp_total) slot_key assignment_in_row (n, g) old new keyed (row keyed),
     (row keyed).takes,
   )
 
   -- the row over the one that stands
   over_puts : (old new : List Row) → PutsOver slot_places Null (columns_of c) old new → Puts old new
   over_puts =
-      puts_row slot_places Null (columns_of c) (held_total nat_cmp_total) slot_key assignment_in slot_tells (n, g)
+      puts_row slot_places Null (columns_of c) (held_total nat_cmp_total) slot_key assignment_in_row slot_tells (n, g)
       (λ id named. is) (λ r y e. refl) same_slot
 
   -- the row of a slot that is free
-  pub added_puts : (old : Trees) (after : Database) → IsFree n g.assignment.slot (assignments_in (old 22))
-      → Added c old after → IsKeyed (held_cmp nat_cmp) slot_key assignment_in (old 22) → Puts (old 22) (after.trees 22)
+  pub added_puts : (old : Trees) (after : Database) → IsNumberFree n g.assignment.slot (assignments_in (old 22))
+      → Added c old after → IsKeyed (held_cmp nat_cmp) slot_key assignment_in_row (old 22) → Puts (old 22)
+      (after.trees 22)
   added_puts old after free added keyed =
-      inserted (held_total nat_cmp_total) slot_key assignment_in (n, g) (old 22) (after.trees 22)
+      inserted (held_total nat_cmp_total) slot_key assignment_in_row (n, g) (old 22) (after.trees 22)
       (Int (next_rowid (old 22)) ∷ columns_of c) is added.rows added.kept keyed
       (slot_apart n g.assignment.slot (assignments_in (old 22)) free)
 
 module _ {A E : Type 0} (c : GivenColumns) (old new : State) (result : Result A E) where
-  pub given_puts : Within old new result (Ran replace_given_text (columns_of c))
+  pub given_puts : Within old new result (RanStatement replace_given_text (columns_of c))
       → Within old new result (λ old new. (n : ℕ) (g : Given) → given_of c ≡ Some (n, g)
-      → Changes assignment_2.tree (PutsGiven n g) old new)
-  given_puts ran = within_as old new result (Ran replace_given_text (columns_of c)) (λ old new. (n : ℕ) (g : Given)
-      → given_of c ≡ Some (n, g) → Changes assignment_2.tree (PutsGiven n g) old new) ran
+      → Changes table_of_assignments_2.tree (PutsGiven n g) old new)
+  given_puts ran = within_as old new result (RanStatement replace_given_text (columns_of c))
+      (λ old new. (n : ℕ) (g : Given)
+      → given_of c ≡ Some (n, g) → Changes table_of_assignments_2.tree (PutsGiven n g) old new) ran
       (λ inside run n g is ready. made_step 22 replace_given_text (columns_of c) _ (row_replaced c) (PutsGiven n g)
       old new (λ ids made. let done = made ids in record {
         schema = done.schema;
@@ -99,13 +101,15 @@ module _ {A E : Type 0} (c : GivenColumns) (old new : State) (result : Result A 
         others = done.others;
       }) inside run ready)
 
-  pub given_adds : Within old new result (Ran put_assignment_text (columns_of c))
+  pub given_adds : Within old new result (RanStatement put_assignment_text (columns_of c))
       → Within old new result (λ old new. (n : ℕ) (g : Given) → given_of c ≡ Some (n, g)
-      → IsFree n g.assignment.slot (assignments_in (old.now.trees assignment_2.tree))
-      → Changes assignment_2.tree (PutsGiven n g) old new)
-  given_adds ran = within_as old new result (Ran put_assignment_text (columns_of c)) (λ old new. (n : ℕ) (g : Given)
-      → given_of c ≡ Some (n, g) → IsFree n g.assignment.slot (assignments_in (old.now.trees assignment_2.tree))
-      → Changes assignment_2.tree (PutsGiven n g) old new) ran
+      → IsNumberFree n g.assignment.slot (assignments_in (old.now.trees table_of_assignments_2.tree))
+      → Changes table_of_assignments_2.tree (PutsGiven n g) old new)
+  given_adds ran = within_as old new result (RanStatement put_assignment_text (columns_of c))
+      (λ old new. (n : ℕ) (g : Given)
+      → given_of c ≡ Some (n, g) → IsNumberFree n g.assignment.slot
+      (assignments_in (old.now.trees table_of_assignments_2.tree))
+      → Changes table_of_assignments_2.tree (PutsGiven n g) old new) ran
       (λ inside run n g is free ready. made_step 22 put_assignment_text (columns_of c) (Added c) (row_made c)
       (PutsGiven n g) old new (λ ids made. record {
         schema = made.schema;

@@ -18,7 +18,7 @@ use Rattle.cpi_sql_rows.proofs.Texts.{put_assignment_is, replace_given_is}
 use Rattle.cpi_sql_rows.proofs.Upserts.{IsPutOver, IsUpsert, puts_over}
 use Rattle.cpi_sql_rows.proofs.Writing.{cast_int, cast_null}
 use Rattle.cpi_sql_rows.specs.Shelf.{HasRowids}
-use Rattle.cpi_sql_rows.specs.Tables.{assignment_2}
+use Rattle.cpi_sql_rows.specs.Tables.{table_of_assignments_2}
 use Rattle.cpi_sql_rows.specs.Texts.{given_assignment, put_assignment_text, replace_given_text, update_given}
 
 -- the columns of a row: of the slot, its outlet, its item and its months, of its series, and the copied price
@@ -30,7 +30,7 @@ module _ (c s o : ℕ) (i : List ℕ) (f l n t : ℕ) (k : Value) (fits : cast I
   abbrev all : Row
   all = slot_columns c s o i f l n t k
 
-  casts : (id : Value) → cast Integer id ≡ id → cast_row assignment_2 (id ∷ all) ≡ id ∷ all
+  casts : (id : Value) → cast Integer id ≡ id → cast_row table_of_assignments_2 (id ∷ all) ≡ id ∷ all
   casts id fit = rw (
     fit,
     cast_int (pos c),
@@ -45,12 +45,12 @@ module _ (c s o : ℕ) (i : List ℕ) (f l n t : ℕ) (k : Value) (fits : cast I
 
   -- an INSERT
   pub given_added : IsChange put_assignment_text all (λ db. AddsRow 22 (Int (next_rowid (db 22)) ∷ all) db)
-  given_added = adds_one assignment_2 13 refl all (Values given_assignment 10) (Null ∷ all)
+  given_added = adds_one table_of_assignments_2 13 refl all (Values given_assignment 10) (Null ∷ all)
       (λ db. Int (next_rowid (db 22)) ∷ all) (λ limit db rows h. h.1)
       (λ db. ap (λ r. put_row (with_rowid Chosen (db 22) r) (db 22)) (casts Null cast_null)) put_assignment_text
       put_assignment_is
 
-  upsert : IsUpsert assignment_2 13 slot_places Null all all update_given.filter update_given.project
+  upsert : IsUpsert table_of_assignments_2 13 slot_places Null all all update_given.filter update_given.project
   upsert = record {
     stands = refl;
     stored = λ db. refl;
@@ -58,7 +58,7 @@ module _ (c s o : ℕ) (i : List ℕ) (f l n t : ℕ) (k : Value) (fits : cast I
     casts = casts;
     numbered = λ rows. (next_rowid rows, refl, refl);
     meets = λ new r. refl;
-    one = one_row assignment_2 slot_places slots_unique;
+    one = one_row table_of_assignments_2 slot_places slots_unique;
     tested = λ id z r. equality (rowid r) id;
     written = λ id z r. refl;
     stays = λ id r is hit. refl;
@@ -67,5 +67,6 @@ module _ (c s o : ℕ) (i : List ℕ) (f l n t : ℕ) (k : Value) (fits : cast I
   -- the row over the one that stands
   pub given_replaced : IsChange replace_given_text all
       (λ db after. HasRowids (db 22) → IsPutOver slot_places Null all 22 db after)
-  given_replaced = puts_over assignment_2 13 slot_places Null all all update_given.filter update_given.project upsert
+  given_replaced = puts_over table_of_assignments_2 13 slot_places Null all all update_given.filter
+      update_given.project upsert
       replace_given_text (Values given_assignment 10) replace_given_is (λ limit db rows h. h.1)

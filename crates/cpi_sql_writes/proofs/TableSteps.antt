@@ -28,7 +28,7 @@ use Rattle.sqlite_value.proofs.OrderLemmas.{value_cmp_total}
 use Rattle.cpi_sql_rows.specs.Tables.{office_schema}
 use Rattle.cpi_sql_rows.specs.Texts.{whole_query}
 use Rattle.cpi_sql_rows.specs.Shelf.{HasRowids}
-use Rattle.cpi_sql_rows.specs.Steps.{IsStep, SameBut}
+use Rattle.cpi_sql_rows.specs.Steps.{IsRowStep, SameBut}
 use Rattle.cpi_sql_rows.proofs.Change.{IsChange, is_change}
 use Rattle.cpi_sql_rows.proofs.Frame.{all_tables_of}
 use Rattle.cpi_sql_rows.proofs.Reading.{Members, members, left_has, has_left}
@@ -37,7 +37,7 @@ use Rattle.cpi_sql_rows.proofs.TableRows.{AddsRow, GivesOne, adds_one, no_work, 
 use Rattle.cpi_sql_rows.proofs.Texts.{Makes}
 use Rattle.cpi_sql_rows.proofs.Unchanged.{others_same}
 use Rattle.cpi_sql_rows.proofs.Writing.{as_plain, went, same_value}
-use Rattle.cpi_sql_writes.specs.Within.{AddsTo, Changes, Drops, IsReady, Ran, Within}
+use Rattle.cpi_sql_writes.specs.Within.{AddsTo, Changes, Drops, IsReady, RanStatement, Within}
 use Rattle.cpi_sql_writes.proofs.AddedRows.{added_one}
 use Rattle.cpi_sql_writes.proofs.Withins.{within_as}
 
@@ -52,7 +52,7 @@ pub record IsMade (tree : ℕ) (Rows : List Row → List Row → Type 0) (old : 
 pub made_step : (tree : ℕ) (text : List ℕ) (params : Row) (Done : Trees → Database → Type 0)
     → IsChange text params Done → (Rows : List Row → List Row → Type 0) (old new : State)
     → (HasRowids (old.now.trees tree) → Done old.now.trees new.now → IsMade tree Rows old.now.trees new.now)
-    → IsTrue old.in_transaction → Ran text params old new → IsReady tree old → IsStep tree Rows old new
+    → IsTrue old.in_transaction → RanStatement text params old new → IsReady tree old → IsRowStep tree Rows old new
 made_step tree text params Done makes Rows old new turn inside run ready =
     let ran = makes.ran old new run.0 ready.schema run.1 in
     let made = turn ready.rowids ran.0 in
@@ -122,7 +122,7 @@ module _ (it : Table) (at : ℕ) (stands : slice_get office_schema.tables at ≡
       }
 
   module _ {A E : Type 0} (text : List ℕ) (params : Row) (old new : State) (result : Result A E)
-      (ran : Within old new result (Ran text params)) where
+      (ran : Within old new result (RanStatement text params)) where
     pub adds_row : {X : Type 0} (from : Source) (source : Row) (row : Trees → Row) → Makes text (Insert at from)
         → GivesOne it params from source
         → ((db : Trees)
@@ -131,7 +131,7 @@ module _ (it : Table) (at : ℕ) (stands : slice_get office_schema.tables at ≡
         → ((number : ℕ) → GoesBy number → entry (row old.now.trees) ≡ Some (number, x))
         → Within old new result (Changes it.tree (AddsTo entry GoesBy (x ∷ [])))
     adds_row from source row is one becomes entry GoesBy x reads =
-        within_as old new result (Ran text params) (Changes it.tree (AddsTo entry GoesBy (x ∷ []))) ran
+        within_as old new result (RanStatement text params) (Changes it.tree (AddsTo entry GoesBy (x ∷ []))) ran
         (made_step it.tree text params (λ db. AddsRow it.tree (row db) db)
         (adds_one it at stands params from source row one becomes text is) (AddsTo entry GoesBy (x ∷ [])) old new
         (λ ids added. record {
@@ -151,7 +151,7 @@ module _ (it : Table) (at : ℕ) (stands : slice_get office_schema.tables at ≡
         let command = Delete at (record { lets = []; body = whole_query it.tree terms (col 1 0 ∷ []) [] }) in
         let Done : Trees → Database → Type 0 =
         λ db after. HasRowids (db it.tree) → IsMade it.tree (Drops is_of) db after in
-        within_as old new result (Ran text params) (Changes it.tree (Drops is_of)) ran
+        within_as old new result (RanStatement text params) (Changes it.tree (Drops is_of)) ran
         (made_step it.tree text params Done (is_change text command is params (λ o m t c w. w)
         (λ e. elim e [ inl commit ↦ absurd cc | inr release ↦ absurd (let f = release.1 in cc) ]) Done
         (λ limit s db tally after does shaped.

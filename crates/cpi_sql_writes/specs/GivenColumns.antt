@@ -5,12 +5,12 @@ use Rattle.std.specs.Ordering.{nat_cmp}
 use Rattle.sqlite.specs.declared.types.Value.{Value}
 use Rattle.sqlite.specs.declared.types.Value.TheVariants.{Null, Int, Text}
 use Rattle.sqlite.specs.Order.{Row}
-use Rattle.cpi_rows.specs.Keyed.{at}
+use Rattle.cpi_rows.specs.Keyed.{row_by_number}
 use Rattle.cpi_rows.specs.Held.{held_by, held_cmp, held_key}
 use Rattle.cpi_store.specs.declared.given.Given.{Given}
 use Rattle.cpi_store.specs.declared.series_move.SeriesMove.{SeriesMove}
 use Rattle.cpi_store.specs.Office.{put_given, given_until}
-use Rattle.cpi_sql_rows.specs.Lists.{given_from, assignment_in, assignments_in}
+use Rattle.cpi_sql_rows.specs.Lists.{given_from, assignment_in_row, assignments_in}
 use Rattle.cpi_sql_rows.specs.Shelf.{IsKeyed, Takes}
 use Rattle.cpi_sql_writes.specs.declared.given_columns.GivenColumns.{GivenColumns}
 
@@ -34,17 +34,17 @@ given_of c = given_from (Int (pos c.collector)) (Int (pos c.slot)) (Int (pos c.o
 
 -- what a collector's slot was given stands in the rows, in place of what was there
 abbrev pub PutsGiven : ℕ → Given → List Row → List Row → Type 0
-PutsGiven number g old new = IsKeyed (held_cmp nat_cmp) (held_key (λ g. g.assignment.slot)) assignment_in old →
+PutsGiven number g old new = IsKeyed (held_cmp nat_cmp) (held_key (λ g. g.assignment.slot)) assignment_in_row old →
     (assignments_in new ≡ put_given number g (assignments_in old))
-    × IsKeyed (held_cmp nat_cmp) (held_key (λ g. g.assignment.slot)) assignment_in new
-    × Takes assignment_in old new
+    × IsKeyed (held_cmp nat_cmp) (held_key (λ g. g.assignment.slot)) assignment_in_row new
+    × Takes assignment_in_row old new
 
 -- no slot of the collector has the number
-abbrev pub IsFree : ℕ → ℕ → List (ℕ × Given) → Type 0
-IsFree number slot rows = at (λ g. g.assignment.slot) slot (held_by number rows) ≡ None
+abbrev pub IsNumberFree : ℕ → ℕ → List (ℕ × Given) → Type 0
+IsNumberFree number slot rows = row_by_number (λ g. g.assignment.slot) slot (held_by number rows) ≡ None
 
 -- the former slot was given what ends, but for its last month, and the new slot is free
 pub record CanHandOver (h : SeriesMove) (rows : List (ℕ × Given)) : Type 0 where
   pub stands : option_map (given_until h.ended.assignment.last_month)
-      (at (λ g. g.assignment.slot) h.ended.assignment.slot (held_by h.former.number rows)) ≡ Some h.ended
-  pub free : IsFree h.taker.number h.assigned.assignment.slot rows
+      (row_by_number (λ g. g.assignment.slot) h.ended.assignment.slot (held_by h.former.number rows)) ≡ Some h.ended
+  pub free : IsNumberFree h.taker.number h.assigned.assignment.slot rows

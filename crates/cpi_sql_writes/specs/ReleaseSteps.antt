@@ -13,9 +13,10 @@ use Rattle.cpi_release.specs.declared.release.Release.{Release}
 use Rattle.cpi_release.specs.FrozenMonths.{release_cmp, release_key}
 use Rattle.cpi_store.specs.Office.{Office}
 use Rattle.cpi_sql_rows.specs.declared.release_rows.Header.{Header}
-use Rattle.cpi_sql_rows.specs.Tables.{carried_2, frozen_2, level_2, office_schema, release_2}
+use Rattle.cpi_sql_rows.specs.Tables.{table_of_carried_2, table_of_frozen_2, table_of_levels_2, office_schema}
+use Rattle.cpi_sql_rows.specs.Tables.{table_of_releases_2}
 use Rattle.cpi_sql_rows.specs.Lists.{and_then, month_at, release_from_key, revision_from, header_in, release_number}
-use Rattle.cpi_sql_rows.specs.Lists.{carried_in, frozen_in, level_in}
+use Rattle.cpi_sql_rows.specs.Lists.{carried_in_row, frozen_in, level_in_row}
 use Rattle.cpi_sql_rows.specs.Shelf.{AllStandOf, equals}
 use Rattle.cpi_sql_rows.specs.Making.{HasAllTables}
 use Rattle.cpi_sql_rows.specs.Steps.{SameBut}
@@ -51,8 +52,8 @@ pub record IsHeaderStep (h : Header) (old new : State) : Type 0 where
   pub inside : IsTrue new.in_transaction
   pub schema : new.now.schema ≡ office_schema
   pub all : HasAllTables old.now.trees → HasAllTables new.now.trees
-  pub rows : AddsHeader h (old.now.trees release_2.tree) (new.now.trees release_2.tree)
-  pub others : SameBut (release_2.tree ∷ []) old.now.trees new.now.trees
+  pub rows : AddsHeader h (old.now.trees table_of_releases_2.tree) (new.now.trees table_of_releases_2.tree)
+  pub others : SameBut (table_of_releases_2.tree ∷ []) old.now.trees new.now.trees
 
 -- The header is added, where its columns are these.
 abbrev pub PutsHeader : ℕ → ℕ → Header → State → State → Type 0
@@ -70,8 +71,8 @@ header_of r = record {
 }
 
 -- no release of its month has its revision
-abbrev pub IsNew : Release → Office → Type 0
-IsNew r office = row_at release_cmp release_key (r.month, r.revision) office.releases ≡ None
+abbrev pub IsNewRevision : Release → Office → Type 0
+IsNewRevision r office = row_at release_cmp release_key (r.month, r.revision) office.releases ≡ None
 
 -- the tables can hold it: its lists rise by their keys, as reads give them
 pub record FitsTables (r : Release) : Type 0 where
@@ -81,6 +82,6 @@ pub record FitsTables (r : Release) : Type 0 where
 
 -- the types take each row of the release's lists
 pub record ListsStand (r : Release) (trees : Trees) : Type 0 where
-  pub frozen : AllStandOf frozen_in (release_number r.month r.revision) (trees frozen_2.tree)
-  pub carried : AllStandOf carried_in (release_number r.month r.revision) (trees carried_2.tree)
-  pub levels : AllStandOf level_in (release_number r.month r.revision) (trees level_2.tree)
+  pub frozen : AllStandOf frozen_in (release_number r.month r.revision) (trees table_of_frozen_2.tree)
+  pub carried : AllStandOf carried_in_row (release_number r.month r.revision) (trees table_of_carried_2.tree)
+  pub levels : AllStandOf level_in_row (release_number r.month r.revision) (trees table_of_levels_2.tree)

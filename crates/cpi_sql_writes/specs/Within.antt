@@ -7,18 +7,18 @@ use Rattle.sqlite_rules.specs.Lists.{Has}
 use Rattle.cpi_sql_rows.specs.Tables.{office_schema}
 use Rattle.cpi_store.specs.Office.{Change}
 use Rattle.cpi_sql_rows.specs.Shelf.{HasRowids, HasTables, IsCleanBook, IsDone, IsKept}
-use Rattle.cpi_sql_rows.specs.Steps.{IsStep, outside}
+use Rattle.cpi_sql_rows.specs.Steps.{IsRowStep, outside}
 
 -- the statement was run
-abbrev pub Ran : List ℕ → Row → State → State → Type 0
-Ran text params old new = (count : ℕ) × Executes text params old new (Ok count)
+abbrev pub RanStatement : List ℕ → Row → State → State → Type 0
+RanStatement text params old new = (count : ℕ) × Executes text params old new (Ok count)
 
 -- what one statement leaves that is a transaction of its own
 pub record RunsAlone {A E : Type 0} (text : List ℕ) (params : Row) (old new : State) (result : Result A E)
     : Type 0 where
   pub clean : IsCleanBook new → IsCleanBook old
   pub stays_open : HasCleanDisk new → old.in_transaction ≡ false → OnOk result (IsTrue new.is_open)
-  pub ran : HasCleanDisk new → OnOk result (Ran text params old new)
+  pub ran : HasCleanDisk new → OnOk result (RanStatement text params old new)
   pub kept : IsCleanBook new → old.in_transaction ≡ false → OnErr result (IsKept old new)
   pub crash : Survives old new (CommitsBy text params old)
 
@@ -39,7 +39,7 @@ pub record IsReady (tree : ℕ) (s : State) : Type 0 where
 
 -- a step on the rows of one table
 abbrev pub Changes : ℕ → (List Row → List Row → Type 0) → State → State → Type 0
-Changes tree Rows old new = IsReady tree old → IsStep tree Rows old new
+Changes tree Rows old new = IsReady tree old → IsRowStep tree Rows old new
 
 -- the steps together are the change of the office, were the transaction at an end
 abbrev pub ChangesOffice : Change → State → State → Type 0

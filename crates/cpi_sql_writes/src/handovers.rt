@@ -4,9 +4,9 @@ ghost use Rattle.cpi_store.specs.declared.given.Given.{Given};
 ghost use Rattle.cpi_store.specs.Office.{HandsOver};
 ghost use Rattle.cpi_sql_rows.specs.Common.{⊤, ℕ, HasCleanDisk, IsTrue, OnOk, Some, state};
 ghost use Rattle.cpi_sql_rows.specs.Lists.{assignments_in};
-ghost use Rattle.cpi_sql_rows.specs.Tables.{assignment_2};
-ghost use Rattle.cpi_sql_writes.specs.GivenColumns.{CanHandOver, columns_of, given_of, IsFree, PutsGiven};
-ghost use Rattle.cpi_sql_writes.specs.Within.{Changes, Ran, Within};
+ghost use Rattle.cpi_sql_rows.specs.Tables.{table_of_assignments_2};
+ghost use Rattle.cpi_sql_writes.specs.GivenColumns.{CanHandOver, columns_of, given_of, IsNumberFree, PutsGiven};
+ghost use Rattle.cpi_sql_writes.specs.Within.{Changes, RanStatement, Within};
 ghost use Rattle.cpi_sql_writes.specs.Written.{Written};
 
 use crate::given_columns::{GivenColumns, given_columns};
@@ -25,7 +25,7 @@ fn run_given<S: Alter>(
 ) -> Result<(), Unread>
     ensures same_reference { tx.new.conn.ghost_name ≡ tx.old.conn.ghost_name }
     ensures ran { Within (state S.Store tx.old.conn.now) (state S.Store tx.new.conn.now) result
-        (Ran text.now (columns_of columns.now)) }
+        (RanStatement text.now (columns_of columns.now)) }
 {
     run_inside(
         tx,
@@ -59,7 +59,7 @@ fn replace_given<S: Alter>(
     ensures same_reference { tx.new.conn.ghost_name ≡ tx.old.conn.ghost_name }
     ensures put { Within (state S.Store tx.old.conn.now) (state S.Store tx.new.conn.now) result
         (λ old new. (number : ℕ) (g : Given) → given_of columns.now ≡ Some (number, g)
-        → Changes assignment_2.tree (PutsGiven number g) old new) }
+        → Changes table_of_assignments_2.tree (PutsGiven number g) old new) }
 {
     run_given(tx, REPLACE_GIVEN, columns)
 }
@@ -73,8 +73,8 @@ fn add_given<S: Alter>(tx: &mut Transaction<'_, S>, columns: &GivenColumns) -> R
     ensures same_reference { tx.new.conn.ghost_name ≡ tx.old.conn.ghost_name }
     ensures put { Within (state S.Store tx.old.conn.now) (state S.Store tx.new.conn.now) result
         (λ old new. (number : ℕ) (g : Given) → given_of columns.now ≡ Some (number, g)
-        → IsFree number g.assignment.slot (assignments_in (old.now.trees assignment_2.tree))
-        → Changes assignment_2.tree (PutsGiven number g) old new) }
+        → IsNumberFree number g.assignment.slot (assignments_in (old.now.trees table_of_assignments_2.tree))
+        → Changes table_of_assignments_2.tree (PutsGiven number g) old new) }
 {
     run_given(tx, ADD_GIVEN, columns)
 }

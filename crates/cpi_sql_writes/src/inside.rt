@@ -1,7 +1,7 @@
 //! A statement of a transaction.
 ghost use Rattle.std.specs.Prelude.{◌≡◌};
 ghost use Rattle.cpi_sql_rows.specs.Common.{bound, state};
-ghost use Rattle.cpi_sql_writes.specs.Within.{Ran, Within};
+ghost use Rattle.cpi_sql_writes.specs.Within.{RanStatement, Within};
 
 use cpi_sql_rows::Unread;
 use sqlite::{Alter, Transaction};
@@ -15,7 +15,7 @@ pub fn run_inside<S: Alter>(
 ) -> Result<(), Unread>
     ensures same_reference { tx.new.conn.ghost_name ≡ tx.old.conn.ghost_name }
     ensures ran { Within (state S.Store tx.old.conn.now) (state S.Store tx.new.conn.now) result
-        (Ran text.now (bound params.now)) }
+        (RanStatement text.now (bound params.now)) }
 {
     let _count = tx.execute(text, params)?;
     Ok(())

@@ -1,10 +1,10 @@
 //! The rows of a year's plan: its nodes, its places and its reference month.
 ghost use Rattle.std.specs.Prelude.{◌∷◌, ◌≡◌};
-ghost use Rattle.cpi_codes.specs.CodeOf.{code_of};
+ghost use Rattle.cpi_codes.specs.CodeOf.{spelled_code};
 ghost use Rattle.cpi_codes.specs.ItemCode.{item_code_of};
 ghost use Rattle.cpi_sql_rows.specs.Common.{[], Some, state, string_bytes};
-ghost use Rattle.cpi_sql_rows.specs.Lists.{node_in, place_in, reference_row, references_for};
-ghost use Rattle.cpi_sql_rows.specs.Tables.{node, plan_item, plan_ref};
+ghost use Rattle.cpi_sql_rows.specs.Lists.{node_in, place_in_row, reference_month_in_row, references_for};
+ghost use Rattle.cpi_sql_rows.specs.Tables.{table_of_nodes, table_of_plan_items, table_of_plan_refs};
 ghost use Rattle.cpi_sql_writes.specs.PlanSteps.{is_of_year, IsYearNumber};
 ghost use Rattle.cpi_sql_writes.specs.Within.{AddsTo, Changes, Drops, Replaces, Within};
 
@@ -24,7 +24,7 @@ impl HeldRow for Node {
 
     type Texts = String;
 
-    ghost table = { node };
+    ghost table = { table_of_nodes };
 
     ghost entry = { node_in };
 
@@ -32,7 +32,7 @@ impl HeldRow for Node {
 
     ghost goes_by = { IsYearNumber };
 
-    ghost spells = { λ node code. code_of (string_bytes code) ≡ Some node.code };
+    ghost spells = { λ node code. spelled_code (string_bytes code) ≡ Some node.code };
 
     fn drop_of<S: Alter>(tx: &mut Transaction<'_, S>, year: u32) -> Result<(), Unread> {
         run_inside(tx, DROP_NODES, params![year])
@@ -86,9 +86,9 @@ impl HeldRow for Place {
 
     type Texts = PlaceTexts;
 
-    ghost table = { plan_item };
+    ghost table = { table_of_plan_items };
 
-    ghost entry = { place_in };
+    ghost entry = { place_in_row };
 
     ghost is_of = { is_of_year 1 };
 
@@ -96,7 +96,7 @@ impl HeldRow for Place {
 
     ghost spells = { λ place texts.
         (item_code_of (string_bytes texts.item) ≡ Some place.item)
-        × (code_of (string_bytes texts.aggregate) ≡ Some place.aggregate) };
+        × (spelled_code (string_bytes texts.aggregate) ≡ Some place.aggregate) };
 
     fn drop_of<S: Alter>(tx: &mut Transaction<'_, S>, year: u32) -> Result<(), Unread> {
         run_inside(tx, DROP_PLACES, params![year])
@@ -145,7 +145,8 @@ fn add_reference<S: Alter>(
 ) -> Result<(), Unread>
     ensures same_reference { tx.new.conn.ghost_name ≡ tx.old.conn.ghost_name }
     ensures added { Within (state S.Store tx.old.conn.now) (state S.Store tx.new.conn.now) result
-        (Changes plan_ref.tree (AddsTo reference_row (IsYearNumber year) (references_for reference))) }
+        (Changes table_of_plan_refs.tree (AddsTo reference_month_in_row (IsYearNumber year)
+        (references_for reference))) }
 {
     match reference {
         Some(month) => run_inside(tx, ADD_REFERENCE, params![year, month_number(month)]),
@@ -161,8 +162,8 @@ pub fn replace_reference<S: Alter>(
 ) -> Result<(), Unread>
     ensures same_reference { tx.new.conn.ghost_name ≡ tx.old.conn.ghost_name }
     ensures replaced { Within (state S.Store tx.old.conn.now) (state S.Store tx.new.conn.now) result
-        (Changes plan_ref.tree
-        (Replaces reference_row (is_of_year 0 year) (IsYearNumber year) (references_for reference))) }
+        (Changes table_of_plan_refs.tree
+        (Replaces reference_month_in_row (is_of_year 0 year) (IsYearNumber year) (references_for reference))) }
 {
     run_inside(tx, DROP_REFERENCE, params![year])?;
     add_reference(tx, year, reference)

@@ -1,13 +1,14 @@
 //! The rows of a release: its frozen quotes, its carried prices and its table.
 ghost use Rattle.std.specs.Prelude.{◌≡◌};
 ghost use Rattle.sqlite_value.specs.Value.{owned};
-ghost use Rattle.cpi_codes.specs.CodeOf.{code_of};
+ghost use Rattle.cpi_codes.specs.CodeOf.{spelled_code};
 ghost use Rattle.cpi_codes.specs.ItemCode.{item_code_of};
 ghost use Rattle.cpi_index.specs.Carried.{IsTicks};
 ghost use Rattle.cpi_sql_rows.specs.Common.{IfOk, Int, OnOk, pos, Some, string_bytes};
-ghost use Rattle.cpi_sql_rows.specs.Lists.{carried_in, flag_in, frozen_in, level_in, ranged, weight_from};
+ghost use Rattle.cpi_sql_rows.specs.Lists.{carried_in_row, flag_in_value, frozen_in, level_in_row, number_within};
+ghost use Rattle.cpi_sql_rows.specs.Lists.{weight_from};
 ghost use Rattle.cpi_sql_rows.specs.ReleaseRows.{annual};
-ghost use Rattle.cpi_sql_rows.specs.Tables.{carried_2, frozen_2, level_2};
+ghost use Rattle.cpi_sql_rows.specs.Tables.{table_of_carried_2, table_of_frozen_2, table_of_levels_2};
 ghost use Rattle.cpi_sql_writes.specs.ReleaseSteps.{is_of_release, IsReleaseNumber};
 
 use crate::held_row::{HeldRow, insert_rows};
@@ -32,7 +33,7 @@ pub struct ReleaseNumbers {
 }
 
 fn flag_number(flag: bool) -> u32
-    ensures { flag_in (Int (pos result)) ≡ Some flag }
+    ensures { flag_in_value (Int (pos result)) ≡ Some flag }
 {
     if flag { 1 } else { 0 }
 }
@@ -44,7 +45,7 @@ impl HeldRow for FrozenQuote {
 
     type Texts = String;
 
-    ghost table = { frozen_2 };
+    ghost table = { table_of_frozen_2 };
 
     ghost entry = { frozen_in };
 
@@ -102,13 +103,13 @@ impl HeldRow for FrozenQuote {
 fn ticks_value(ticks: u64) -> ValueRef<'static>
     requires { IsTicks ticks }
     ensures value { owned result ≡ Int (pos ticks) }
-    ensures range { ranged 1 1000000000000000 (Int (pos ticks)) ≡ Some ticks }
+    ensures range { number_within 1 1000000000000000 (Int (pos ticks)) ≡ Some ticks }
 {
     ValueRef::Int(ticks as i64)
 }
 
 fn denominator(price: &CarriedPrice) -> u32
-    ensures { ranged 1 100000000 (Int (pos result)) ≡ Some price.now.kden }
+    ensures { number_within 1 100000000 (Int (pos result)) ≡ Some price.now.kden }
 {
     price.kden()
 }
@@ -120,9 +121,9 @@ impl HeldRow for CarriedPrice {
 
     type Texts = String;
 
-    ghost table = { carried_2 };
+    ghost table = { table_of_carried_2 };
 
-    ghost entry = { carried_in };
+    ghost entry = { carried_in_row };
 
     ghost is_of = { λ numbers. is_of_release numbers.month numbers.revision };
 
@@ -181,14 +182,14 @@ impl HeldRow for CarriedPrice {
 
 fn index_value(index: Index) -> ValueRef<'static>
     ensures value { owned result ≡ Int (pos index) }
-    ensures range { ranged 1 10000000000000 (Int (pos index)) ≡ Some index }
+    ensures range { number_within 1 10000000000000 (Int (pos index)) ≡ Some index }
 {
     ValueRef::Int(index.millionths() as i64)
 }
 
 fn chained_value(level: ChainedLevel) -> ValueRef<'static>
     ensures value { owned result ≡ Int (pos level) }
-    ensures range { ranged 1 1000000000000000 (Int (pos level)) ≡ Some level }
+    ensures range { number_within 1 1000000000000000 (Int (pos level)) ≡ Some level }
 {
     ValueRef::Int(level.millionths() as i64)
 }
@@ -227,15 +228,15 @@ impl HeldRow for Level {
 
     type Texts = String;
 
-    ghost table = { level_2 };
+    ghost table = { table_of_levels_2 };
 
-    ghost entry = { level_in };
+    ghost entry = { level_in_row };
 
     ghost is_of = { λ numbers. is_of_release numbers.month numbers.revision };
 
     ghost goes_by = { λ numbers. IsReleaseNumber numbers.month numbers.revision };
 
-    ghost spells = { λ level code. code_of (string_bytes code) ≡ Some level.code };
+    ghost spells = { λ level code. spelled_code (string_bytes code) ≡ Some level.code };
 
     fn drop_of<S: Alter>(
         tx: &mut Transaction<'_, S>,

@@ -4,7 +4,7 @@ ghost use Rattle.cpi_store.specs.Office.{Freezes};
 ghost use Rattle.cpi_sql_rows.specs.Common.{HasCleanDisk, HasTables, Int, IsCleanBook, IsTrue, OnOk, pos};
 ghost use Rattle.cpi_sql_rows.specs.Common.{Some, state};
 ghost use Rattle.cpi_sql_rows.specs.Lists.{month_at, office_in, revision_from};
-ghost use Rattle.cpi_sql_writes.specs.ReleaseSteps.{FitsTables, IsNew, ListsStand};
+ghost use Rattle.cpi_sql_writes.specs.ReleaseSteps.{FitsTables, IsNewRevision, ListsStand};
 ghost use Rattle.cpi_sql_writes.specs.Written.{Written};
 
 use crate::held_row::replace;
@@ -42,7 +42,7 @@ fn fits_tables(release: &Release) -> bool
 impl OneChange for Release {
     ghost change = { Freezes };
 
-    ghost fits = { IsNew };
+    ghost fits = { IsNewRevision };
 
     ghost leaves = { ListsStand };
 
@@ -66,10 +66,10 @@ pub fn put_release<S: Alter>(
     alloc: Global,
     release: &Release,
 ) -> Result<(), Unread>
-    ensures written { Written (Freezes release.now) (IsNew release.now)
+    ensures written { Written (Freezes release.now) (IsNewRevision release.now)
         (state S.Store conn.old) (state S.Store conn.new) result }
     ensures stand { IsCleanBook (state S.Store conn.new) → HasTables (state S.Store conn.old) →
-        IsNew release.now (office_in (state S.Store conn.old).now.trees) →
+        IsNewRevision release.now (office_in (state S.Store conn.old).now.trees) →
         OnOk result (ListsStand release.now (state S.Store conn.new).now.trees) }
     ensures open { HasCleanDisk (state S.Store conn.new) → OnOk result (IsTrue (state S.Store conn.new).is_open) }
 {

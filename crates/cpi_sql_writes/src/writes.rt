@@ -1,10 +1,11 @@
 //! The statements that put one row.
 ghost use Rattle.std.specs.Prelude.{◌≡◌};
 ghost use Rattle.cpi_store.specs.Office.{Assigns, PutsCalendar, PutsItem, PutsOutlet, Quotes, Registers};
-ghost use Rattle.cpi_sql_rows.specs.Common.{⊤, at, bound, false, HasCleanDisk, IfOk, Int, IsTrue, None, OnOk};
+ghost use Rattle.cpi_sql_rows.specs.Common.{⊤, row_by_number, bound, false, HasCleanDisk, IfOk, Int, IsTrue, None};
+ghost use Rattle.cpi_sql_rows.specs.Common.{OnOk};
 ghost use Rattle.cpi_sql_rows.specs.Common.{pos, Some, state, string_bytes, Text};
-ghost use Rattle.cpi_sql_rows.specs.Lists.{bearer_from, calendar_from, month_at, ranged};
-ghost use Rattle.cpi_sql_writes.specs.GivenColumns.{IsFree};
+ghost use Rattle.cpi_sql_rows.specs.Lists.{registration_from, calendar_from, month_at, number_within};
+ghost use Rattle.cpi_sql_writes.specs.GivenColumns.{IsNumberFree};
 ghost use Rattle.cpi_sql_writes.specs.Within.{RunsAlone};
 ghost use Rattle.cpi_sql_writes.specs.Written.{Written};
 
@@ -15,7 +16,7 @@ use cpi_sql_rows::{
     Unread, collector_number, high_number, item_text, key_text, low_number, mark_text, mark_value,
     moment_value, month_number, name_text, outlet_number, receipt_number, run, slot_number,
 };
-use cpi_store::{Bearer, Outlet};
+use cpi_store::{Outlet, Registration};
 use cpi_survey::{Assigned, Quote};
 use sqlite::{Alter, Connection, params};
 use sqlite_value::value::ValueRef;
@@ -33,12 +34,12 @@ fn put_row<S: Alter>(
     Ok(())
 }
 
-// The columns that stand for the bearer.
-fn bearer_columns(alloc: Global, bearer: Bearer) -> Result<(u32, String), Unread>
-    ensures { IfOk result (λ p. bearer_from (Int (pos p.0)) (Text (string_bytes p.1)) ≡ Some bearer) }
+// The columns that stand for the registration.
+fn registration_columns(alloc: Global, registration: Registration) -> Result<(u32, String), Unread>
+    ensures { IfOk result (λ p. registration_from (Int (pos p.0)) (Text (string_bytes p.1)) ≡ Some registration) }
 {
-    let key = key_text(alloc, bearer.key)?;
-    Ok((u32::from(bearer.number.number()), key))
+    let key = key_text(alloc, registration.key)?;
+    Ok((u32::from(registration.number.number()), key))
 }
 
 const PUT_COLLECTOR: &str = "INSERT INTO collector (number, key) VALUES (?1, ?2)";
@@ -47,14 +48,15 @@ const PUT_COLLECTOR: &str = "INSERT INTO collector (number, key) VALUES (?1, ?2)
 pub fn put_collector<S: Alter>(
     conn: &mut Connection<S>,
     alloc: Global,
-    bearer: Bearer,
+    registration: Registration,
 ) -> Result<(), Unread>
-    ensures written { Written (Registers bearer) (λ office. at (λ b. b.number) bearer.number office.collectors ≡ None)
+    ensures written { Written (Registers registration)
+        (λ office. row_by_number (λ b. b.number) registration.number office.collectors ≡ None)
         (state S.Store conn.old) (state S.Store conn.new) result }
     ensures open { HasCleanDisk (state S.Store conn.new) → (state S.Store conn.old).in_transaction ≡ false
         → OnOk result (IsTrue (state S.Store conn.new).is_open) }
 {
-    let columns = bearer_columns(alloc, bearer)?;
+    let columns = registration_columns(alloc, registration)?;
     put_row(conn, PUT_COLLECTOR, params![columns.0, columns.1.as_str()])
 }
 
@@ -63,7 +65,7 @@ const PUT_OUTLET: &str = "INSERT INTO outlet (number, name) VALUES (?1, ?2)";
 /// Puts a new outlet.
 pub fn put_outlet<S: Alter>(conn: &mut Connection<S>, outlet: &Outlet) -> Result<(), Unread>
     ensures written { Written (PutsOutlet outlet.now)
-        (λ office. at (λ u. u.number) outlet.now.number office.outlets ≡ None)
+        (λ office. row_by_number (λ u. u.number) outlet.now.number office.outlets ≡ None)
         (state S.Store conn.old) (state S.Store conn.new) result }
     ensures open { HasCleanDisk (state S.Store conn.new) → (state S.Store conn.old).in_transaction ≡ false
         → OnOk result (IsTrue (state S.Store conn.new).is_open) }
@@ -81,7 +83,8 @@ pub fn put_item<S: Alter>(
     alloc: Global,
     item: &Item,
 ) -> Result<(), Unread>
-    ensures written { Written (PutsItem item.now) (λ office. at (λ i. i.code) item.now.code office.items ≡ None)
+    ensures written { Written (PutsItem item.now) (λ office. row_by_number (λ i. i.code) item.now.code
+        office.items ≡ None)
         (state S.Store conn.old) (state S.Store conn.new) result }
     ensures open { HasCleanDisk (state S.Store conn.new) → (state S.Store conn.old).in_transaction ≡ false
         → OnOk result (IsTrue (state S.Store conn.new).is_open) }
@@ -106,16 +109,16 @@ const PUT_ASSIGNMENT: &str =
 pub fn put_assignment<S: Alter>(
     conn: &mut Connection<S>,
     alloc: Global,
-    bearer: Bearer,
+    registration: Registration,
     assigned: &Assigned,
 ) -> Result<(), Unread>
-    ensures written { Written (Assigns bearer assigned.now)
-        (λ office. IsFree bearer.number assigned.now.assignment.slot office.assignments)
+    ensures written { Written (Assigns registration assigned.now)
+        (λ office. IsNumberFree registration.number assigned.now.assignment.slot office.assignments)
         (state S.Store conn.old) (state S.Store conn.new) result }
     ensures open { HasCleanDisk (state S.Store conn.new) → (state S.Store conn.old).in_transaction ≡ false
         → OnOk result (IsTrue (state S.Store conn.new).is_open) }
 {
-    let (collector, slot) = (bearer.number, assigned.assignment.slot);
+    let (collector, slot) = (registration.number, assigned.assignment.slot);
     let series = SeriesId { collector, slot };
     let columns = given_columns(alloc, collector, &assigned.assignment, series)?;
     put_row(
@@ -144,14 +147,15 @@ const PUT_QUOTE: &str =
 /// receipt is none that a collector is given.
 pub fn put_quote<S: Alter>(
     conn: &mut Connection<S>,
-    bearer: Bearer,
+    registration: Registration,
     quote: Quote,
 ) -> Result<(), Unread>
-    ensures written { Written (Quotes bearer quote) (λ _. ⊤) (state S.Store conn.old) (state S.Store conn.new) result }
+    ensures written { Written (Quotes registration quote) (λ _. ⊤) (state S.Store conn.old)
+        (state S.Store conn.new) result }
     ensures open { HasCleanDisk (state S.Store conn.new) → (state S.Store conn.old).in_transaction ≡ false
         → OnOk result (IsTrue (state S.Store conn.new).is_open) }
 {
-    let collector = collector_number(bearer.number);
+    let collector = collector_number(registration.number);
     let slot = slot_number(quote.slot);
     let month = month_number(quote.month);
     let word = mark_text(quote.mark);
@@ -166,7 +170,7 @@ pub fn put_quote<S: Alter>(
 
 // Does nothing: it is called for the proof, which learns that the moment is within the range of its column.
 fn know_moment(moment: Moment)
-    ensures { ranged 0 9999999999 (Int (pos moment)) ≡ Some moment }
+    ensures { number_within 0 9999999999 (Int (pos moment)) ≡ Some moment }
 {
     let _value = moment_value(moment);
 }

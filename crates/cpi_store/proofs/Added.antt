@@ -8,23 +8,24 @@ use Rattle.std.specs.List.Sorted.{IsStrictlySortedBy}
 use Rattle.std.specs.List.{AllByRecursion, flat_map}
 use Rattle.std.proofs.lemmas.Cmp.{nat_cmp_total, tied_itself}
 use Rattle.std.proofs.lemmas.Bool.Decides.{eqb_tells}
-use Rattle.cpi_rows.specs.Keyed.{at, put_by, IsInOrder}
+use Rattle.cpi_rows.specs.Keyed.{row_by_number, put_by, IsInOrder}
 use Rattle.cpi_rows.proofs.Puts.{parted, map-put, different}
 use Rattle.cpi_rows.proofs.Found.{at-map}
 use Rattle.cpi_survey.specs.declared.assignment.Assigned.{Assigned}
-use Rattle.cpi_store.specs.declared.bearer.Bearer.{Bearer}
+use Rattle.cpi_store.specs.declared.registration.Registration.{Registration}
 use Rattle.cpi_store.specs.declared.outlet.Outlet.{Outlet}
 use Rattle.cpi_store.specs.declared.holder.Holder.{Holder}
 use Rattle.cpi_store.specs.declared.taken_over.TakenOver.{TakenOver}
 use Rattle.cpi_release.specs.declared.release.Release.{Release}
-use Rattle.cpi_store.specs.Bearer.{bearer_of}
-use Rattle.cpi_store.specs.Holders.{collectors_of, collector_of_holder, all_assignments, all_quotes, assignments_of}
+use Rattle.cpi_store.specs.Registration.{registration_of}
+use Rattle.cpi_store.specs.Holders.{collectors_of, collector_of_holder, all_assignments, quotes_of_holders}
+use Rattle.cpi_store.specs.Holders.{assignments_of}
 use Rattle.cpi_store.specs.Holders.{quotes_of, named_by, ArePlaced, office_of}
-use Rattle.cpi_store.specs.Office.{changed, Registers}
+use Rattle.cpi_store.specs.Office.{office_with, Registers}
 use Rattle.cpi_survey.specs.Own.{OwnPart}
 use Rattle.cpi_survey.specs.Public.{PublicPart}
 
-abbrev number : Bearer → ℕ
+abbrev number : Registration → ℕ
 number b = b.number
 
 abbrev own_assignments : Holder → List Assigned
@@ -32,53 +33,55 @@ own_assignments h = h.own.assignments
 
 -- ---- who bears a key, after one was added
 
-pub bearer_new : (key : ℕ) (b : Bearer) (xs ys : List Bearer) → eqb b.key key ≡ true →
-    bearer_of key (xs ++ ys) ≡ None → bearer_of key (xs ++ b ∷ ys) ≡ Some b
-bearer_new key b [] ys e none = rw e refl
-bearer_new key b (x ∷ xs) ys e none = by (eqb x.key key) refl (bearer_new key b xs ys e)
+pub registration_new : (key : ℕ) (b : Registration) (xs ys : List Registration) → eqb b.key key ≡ true →
+    registration_of key (xs ++ ys) ≡ None → registration_of key (xs ++ b ∷ ys) ≡ Some b
+registration_new key b [] ys e none = rw e refl
+registration_new key b (x ∷ xs) ys e none = by (eqb x.key key) refl (registration_new key b xs ys e)
   where
-    by : (s : Bool) → eqb x.key key ≡ s → (bearer_of key (xs ++ ys) ≡ None → bearer_of key (xs ++ b ∷ ys) ≡ Some b) →
-        bearer_of key (x ∷ xs ++ b ∷ ys) ≡ Some b
+    by : (s : Bool) → eqb x.key key ≡ s → (registration_of key (xs ++ ys) ≡ None → registration_of key (xs ++ b ∷ ys) ≡
+        Some b) →
+        registration_of key (x ∷ xs ++ b ∷ ys) ≡ Some b
     by true f rest = let no : Some x ≡ None = rw f at none in cc
     by false f rest = rw f (rest (rw f at none))
 
-pub bearer_passed : (key : ℕ) (b : Bearer) (xs ys : List Bearer) → eqb b.key key ≡ false →
-    bearer_of key (xs ++ b ∷ ys) ≡ bearer_of key (xs ++ ys)
-bearer_passed key b [] ys e = rw e refl
-bearer_passed key b (x ∷ xs) ys e = by (eqb x.key key) refl (bearer_passed key b xs ys e)
+pub registration_passed : (key : ℕ) (b : Registration) (xs ys : List Registration) → eqb b.key key ≡ false →
+    registration_of key (xs ++ b ∷ ys) ≡ registration_of key (xs ++ ys)
+registration_passed key b [] ys e = rw e refl
+registration_passed key b (x ∷ xs) ys e = by (eqb x.key key) refl (registration_passed key b xs ys e)
   where
-    by : (s : Bool) → eqb x.key key ≡ s → bearer_of key (xs ++ b ∷ ys) ≡ bearer_of key (xs ++ ys) →
-        bearer_of key (x ∷ xs ++ b ∷ ys) ≡ bearer_of key (x ∷ xs ++ ys)
+    by : (s : Bool) → eqb x.key key ≡ s → registration_of key (xs ++ b ∷ ys) ≡ registration_of key (xs ++ ys) →
+        registration_of key (x ∷ xs ++ b ∷ ys) ≡ registration_of key (x ∷ xs ++ ys)
     by true f rest = rw f refl
     by false f rest = rw f rest
 
-module _ (b : Bearer) (bs : List Bearer) (sorted : IsInOrder nat_cmp number bs)
-    (none : at number b.number bs ≡ None) where
+module _ (b : Registration) (bs : List Registration) (sorted : IsInOrder nat_cmp number bs)
+    (none : row_by_number number b.number bs ≡ None) where
   abbrev all_others : filter (λ r. is_lt (nat_cmp r.number b.number)) bs
       ++ filter (λ r. is_gt (nat_cmp r.number b.number)) bs ≡ bs
   all_others = parted nat_cmp_total number b.number bs sorted none
 
-  pub bearer-put_own : (key : ℕ) → eqb b.key key ≡ true → bearer_of key bs ≡ None →
-      bearer_of key (put_by number b bs) ≡ Some b
-  bearer-put_own key e free = bearer_new key b _ _ e (ap (bearer_of key) all_others ∙ free)
+  pub registration-put_own : (key : ℕ) → eqb b.key key ≡ true → registration_of key bs ≡ None →
+      registration_of key (put_by number b bs) ≡ Some b
+  registration-put_own key e free = registration_new key b _ _ e (ap (registration_of key) all_others ∙ free)
 
-  pub bearer-put_other : (key : ℕ) → eqb b.key key ≡ false → bearer_of key (put_by number b bs) ≡ bearer_of key bs
-  bearer-put_other key e = bearer_passed key b _ _ e ∙ ap (bearer_of key) all_others
+  pub registration-put_other : (key : ℕ) → eqb b.key key ≡ false → registration_of key (put_by number b bs) ≡
+      registration_of key bs
+  registration-put_other key e = registration_passed key b _ _ e ∙ ap (registration_of key) all_others
 
-  -- a map from key to bearer goes along
-  pub bearer_added : bearer_of b.key bs ≡ None → (key : ℕ) (before after : Option Bearer) →
-      before ≡ bearer_of key bs → after ≡ cond (is_eq (nat_cmp b.key key)) (Some b) before →
-      after ≡ bearer_of key (put_by number b bs)
-  bearer_added free key before after was is = by (eqb_tells b.key key)
+  -- a map from key to registration goes along
+  pub registration_added : registration_of b.key bs ≡ None → (key : ℕ) (before after : Option Registration) →
+      before ≡ registration_of key bs → after ≡ cond (is_eq (nat_cmp b.key key)) (Some b) before →
+      after ≡ registration_of key (put_by number b bs)
+  registration_added free key before after was is = by (eqb_tells b.key key)
     where
       by : ((eqb b.key key ≡ true) × (b.key ≡ key)) ⊎ ((eqb b.key key ≡ false) × (b.key ≢ key)) →
-          after ≡ bearer_of key (put_by number b bs)
+          after ≡ registration_of key (put_by number b bs)
       by (inl same) =
           let test : is_eq (nat_cmp b.key key) ≡ true = rw (← same.1) (ap is_eq (tied_itself nat_cmp_total b.key)) in
           is ∙ ap (λ t. cond t (Some b) before) test ∙ sym
-          (bearer-put_own key same.0 (ap (λ k. bearer_of k bs) (sym same.1) ∙ free))
+          (registration-put_own key same.0 (ap (λ k. registration_of k bs) (sym same.1) ∙ free))
       by (inr apart) = is ∙ ap (λ t. cond t (Some b) before) (different b.key key apart.1) ∙ was
-          ∙ sym (bearer-put_other key apart.0)
+          ∙ sym (registration-put_other key apart.0)
 
 -- ---- what the holders have, after one was added
 
@@ -101,13 +104,14 @@ fixed_more g f h (x ∷ xs) ys here all =
     ap (λ y. y ∷ map g (map f (xs ++ h ∷ ys))) first ∙ ap (λ zs. f x ∷ zs) (fixed_more g f h xs ys here rest)
 
 -- a number that no collector has, no holder has
-pub no_holder : (n : ℕ) (hs : List Holder) → at number n (collectors_of hs) ≡ None →
-    at (λ (h : Holder). h.number) n hs ≡ None
-no_holder n hs none = by (at (λ (h : Holder). h.number) n hs) refl (sym (at-map collector_of_holder number n hs) ∙ none)
+pub no_holder : (n : ℕ) (hs : List Holder) → row_by_number number n (collectors_of hs) ≡ None →
+    row_by_number (λ (h : Holder). h.number) n hs ≡ None
+no_holder n hs none = by (row_by_number (λ (h : Holder). h.number) n hs) refl
+    (sym (at-map collector_of_holder number n hs) ∙ none)
   where
-    by : (w : Option Holder) → at (λ (h : Holder). h.number) n hs ≡ w →
-        option_map collector_of_holder (at (λ (h : Holder). h.number) n hs) ≡ None →
-        at (λ (h : Holder). h.number) n hs ≡ None
+    by : (w : Option Holder) → row_by_number (λ (h : Holder). h.number) n hs ≡ w →
+        option_map collector_of_holder (row_by_number (λ (h : Holder). h.number) n hs) ≡ None →
+        row_by_number (λ (h : Holder). h.number) n hs ≡ None
     by None e f = e
     by (Some h) e f = let no : Some (collector_of_holder h) ≡ None = rw e at f in cc
 
@@ -124,7 +128,7 @@ collectors_in_order [] sorted = tt
 collectors_in_order (h ∷ hs) sorted = (all_above h.number hs sorted.0, collectors_in_order hs sorted.1)
 
 module _ (h : Holder) (hs : List Holder) (sorted : IsInOrder nat_cmp (λ h. h.number) hs)
-    (none : at (λ (h : Holder). h.number) h.number hs ≡ None) where
+    (none : row_by_number (λ (h : Holder). h.number) h.number hs ≡ None) where
   abbrev after : List Holder
   after = put_by (λ (h : Holder). h.number) h hs
 
@@ -155,13 +159,14 @@ module _ (h : Holder) (hs : List Holder) (sorted : IsInOrder nat_cmp (λ h. h.nu
         named_by us (map own_assignments after) ≡ map own_assignments after
     names_added us all = fixed_more _ own_assignments h below above (rw no_assignments refl) (rw others all)
 
-  pub quotes_added : h.own.quotes ≡ [] → all_quotes after ≡ all_quotes hs
+  pub quotes_added : h.own.quotes ≡ [] → quotes_of_holders after ≡ quotes_of_holders hs
   quotes_added no_quotes = passed_over (λ (g : Holder). map (λ x. (g.number, x)) (quotes_of g)) h below above
-      (ap (λ ws. map (λ x. (h.number, x)) ws) no_quotes) ∙ ap all_quotes others
+      (ap (λ ws. map (λ x. (h.number, x)) ws) no_quotes) ∙ ap quotes_of_holders others
 
   pub office_added : h.own ≡ record { assignments = []; quotes = [] } →
       (public : PublicPart) (us : List Outlet) (rs : List Release) (taken : List TakenOver) →
-      office_of public us rs taken after ≡ changed (Registers (collector_of_holder h)) (office_of public us rs taken hs)
+      office_of public us rs taken after ≡ office_with (Registers (collector_of_holder h))
+      (office_of public us rs taken hs)
   office_added nothing public us rs taken = rw (
     collectors_added,
     assignments_added (ap (λ (o : OwnPart). o.assignments) nothing),

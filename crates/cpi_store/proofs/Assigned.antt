@@ -4,7 +4,7 @@ use Rattle.std.proofs.Common.{ap, ◌∙◌}
 use Rattle.std.specs.Prelude.{filter, Result, Ok, Err, OnOk, OnErr}
 use Rattle.std.specs.Ordering.{nat_cmp}
 use Rattle.std.specs.List.{AllByRecursion}
-use Rattle.cpi_rows.specs.Keyed.{put}
+use Rattle.cpi_rows.specs.Keyed.{with_row}
 use Rattle.cpi_rows.proofs.Puts.{map-put}
 use Rattle.cpi_store.specs.Outlet.{with_name}
 use Rattle.cpi_store.specs.declared.outlet.Outlet.{Outlet}
@@ -60,7 +60,7 @@ module _ (us : List Outlet) (a : Assigned) (hs : List Holder) (i : ℕ) (h after
   abbrev own : Holder → List Assigned
   own g = g.own.assignments
 
-  pub placed_put : after.own.assignments ≡ put nat_cmp slot a h.own.assignments → HasOutlet us a →
+  pub placed_put : after.own.assignments ≡ with_row nat_cmp slot a h.own.assignments → HasOutlet us a →
       ArePlaced us (map own hs) → ArePlaced us (map own (set hs i after))
   placed_put e has all = all_set (AllByRecursion (HasOutlet us)) own hs i after h
       (λ old. rw (e, found) (all_joined (HasOutlet us) _ _ (all_filtered (HasOutlet us) _ _ old)
@@ -70,7 +70,7 @@ module _ (us : List Outlet) (a : Assigned) (hs : List Holder) (i : ℕ) (h after
       ArePlaced us (map own (set hs i after))
   placed_same e all = all_set (AllByRecursion (HasOutlet us)) own hs i after h (λ old. rw (e, found) old) all
 
-  pub names_put : after.own.assignments ≡ put nat_cmp slot a h.own.assignments → a ≡ with_name us a.assignment →
+  pub names_put : after.own.assignments ≡ with_row nat_cmp slot a h.own.assignments → a ≡ with_name us a.assignment →
       named_by us (map own hs) ≡ map own hs → named_by us (map own (set hs i after)) ≡ map own (set hs i after)
   names_put e named all = fixed_set (λ own. map (with_name us) (map (λ x. x.assignment) own)) own hs i after h
       (λ old.
@@ -79,8 +79,8 @@ module _ (us : List Outlet) (a : Assigned) (hs : List Holder) (i : ℕ) (h after
       ∙ ap (map (with_name us)) (map-put nat_cmp (λ (x : Assignment). x.slot)
       (λ (x : Assigned). x.assignment) a h.own.assignments)
       ∙ map-put nat_cmp slot (with_name us) a.assignment (map (λ x. x.assignment) h.own.assignments)
-      ∙ ap (λ x. put nat_cmp slot x (map (with_name us) (map (λ x. x.assignment) h.own.assignments))) (sym named)
-      ∙ ap (put nat_cmp slot a) before ∙ sym e) all
+      ∙ ap (λ x. with_row nat_cmp slot x (map (with_name us) (map (λ x. x.assignment) h.own.assignments))) (sym named)
+      ∙ ap (with_row nat_cmp slot a) before ∙ sym e) all
 
   pub names_same : after.own.assignments ≡ h.own.assignments → named_by us (map own hs) ≡ map own hs →
       named_by us (map own (set hs i after)) ≡ map own (set hs i after)

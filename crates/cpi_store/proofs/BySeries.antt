@@ -19,9 +19,9 @@ use Rattle.cpi_plan.proofs.NodeLemmas.{row_moved}
 use Rattle.cpi_plan.proofs.SameLemmas.{same_rows}
 use Rattle.cpi_codes.specs.declared.series.SeriesId.{SeriesId}
 use Rattle.cpi_index.specs.Frozen.{Frozen}
-use Rattle.cpi_index.specs.Series.{is_by_series, frozen_serial, serial}
+use Rattle.cpi_index.specs.Series.{are_by_series, frozen_serial, serial}
 use Rattle.cpi_index.proofs.Rising.{next_above}
-use Rattle.cpi_store.specs.Series.{series_cmp, placed, by_series}
+use Rattle.cpi_store.specs.Series.{series_cmp, put_by_series, by_series}
 
 pub series_cmp_total : IsTotalOrder series_cmp
 series_cmp_total = then_total (by_key_total nat_cmp_total (λ (s : SeriesId). s.collector))
@@ -32,22 +32,22 @@ series f = f.series
 
 -- ---- they are all there
 
-pub placed_moved : (f : Frozen) (rows : List Frozen) → IsPermutation (f ∷ rows) (placed f rows)
+pub placed_moved : (f : Frozen) (rows : List Frozen) → IsPermutation (f ∷ rows) (put_by_series f rows)
 placed_moved f [] = IsPermutation-refl (f ∷ [])
 placed_moved f (g ∷ rows) = by (is_gt (series_cmp f.series g.series)) refl (placed_moved f rows)
   where
-    by : (t : Bool) → is_gt (series_cmp f.series g.series) ≡ t → IsPermutation (f ∷ rows) (placed f rows) →
-        IsPermutation (f ∷ g ∷ rows) (placed f (g ∷ rows))
+    by : (t : Bool) → is_gt (series_cmp f.series g.series) ≡ t → IsPermutation (f ∷ rows) (put_by_series f rows) →
+        IsPermutation (f ∷ g ∷ rows) (put_by_series f (g ∷ rows))
     by true e rest =
-        rw e (IsPermutation-trans (f ∷ g ∷ rows) (g ∷ f ∷ rows) (g ∷ placed f rows)
+        rw e (IsPermutation-trans (f ∷ g ∷ rows) (g ∷ f ∷ rows) (g ∷ put_by_series f rows)
         (IsPermutation-sym (g ∷ f ∷ rows) (f ∷ g ∷ rows) (IsPermutation-middle (g ∷ []) f rows))
-        (IsPermutation-cons g (f ∷ rows) (placed f rows) rest))
+        (IsPermutation-cons g (f ∷ rows) (put_by_series f rows) rest))
     by false e rest = rw e (IsPermutation-refl (f ∷ g ∷ rows))
 
 pub by_series_moved : (rows : List Frozen) → IsPermutation rows (by_series rows)
 by_series_moved [] = IsPermutation-refl []
 by_series_moved (f ∷ rows) =
-    IsPermutation-trans (f ∷ rows) (f ∷ by_series rows) (placed f (by_series rows))
+    IsPermutation-trans (f ∷ rows) (f ∷ by_series rows) (put_by_series f (by_series rows))
     (IsPermutation-cons f rows (by_series rows) (by_series_moved rows)) (placed_moved f (by_series rows))
 
 -- ---- they are in order
@@ -84,12 +84,12 @@ before_all f g (h ∷ rows) e all = (
 
 -- what is after both is after what is put among those
 placed_after : (f g : Frozen) (rows : List Frozen) → is_gt (series_cmp g.series f.series) ≡ false →
-    NoneBefore g rows → NoneBefore g (placed f rows)
+    NoneBefore g rows → NoneBefore g (put_by_series f rows)
 placed_after f g [] e all = (e, tt)
 placed_after f g (h ∷ rows) e all = by (is_gt (series_cmp f.series h.series)) refl (placed_after f g rows e all.1)
   where
-    by : (t : Bool) → is_gt (series_cmp f.series h.series) ≡ t → NoneBefore g (placed f rows) →
-        NoneBefore g (placed f (h ∷ rows))
+    by : (t : Bool) → is_gt (series_cmp f.series h.series) ≡ t → NoneBefore g (put_by_series f rows) →
+        NoneBefore g (put_by_series f (h ∷ rows))
     by true p rest = rw p (all.0, rest)
     by false p rest = rw p (e, all)
 
@@ -102,12 +102,12 @@ other_way f g e = by (series_cmp f.series g.series) refl e
     by Equal p e = let no : false ≡ true = sym (ap is_gt p) ∙ e in cc
     by Greater p e = ap is_gt (series_cmp_total.antisymm g.series f.series ∙ ap ordering_reverse p)
 
-placed_never_falls : (f : Frozen) (rows : List Frozen) → NeverFall rows → NeverFall (placed f rows)
+placed_never_falls : (f : Frozen) (rows : List Frozen) → NeverFall rows → NeverFall (put_by_series f rows)
 placed_never_falls f [] up = (tt, tt)
 placed_never_falls f (g ∷ rows) up = by (is_gt (series_cmp f.series g.series)) refl (placed_never_falls f rows up.1)
   where
-    by : (t : Bool) → is_gt (series_cmp f.series g.series) ≡ t → NeverFall (placed f rows) →
-        NeverFall (placed f (g ∷ rows))
+    by : (t : Bool) → is_gt (series_cmp f.series g.series) ≡ t → NeverFall (put_by_series f rows) →
+        NeverFall (put_by_series f (g ∷ rows))
     by true e rest = rw e (placed_after f g rows (other_way f g e) up.0, rest)
     by false e rest = rw e ((e, before_all f g rows e up.0), up)
 
@@ -120,7 +120,7 @@ by_series_never_falls (f ∷ rows) = placed_never_falls f (by_series rows) (by_s
 less_is : (m n : ℕ) → m < n → nat_cmp m n ≡ Less
 less_is m n h = grind (arith, nat_tests)
 
-by_number : (xs : List Frozen) → is_by_series frozen_serial xs ≡ true → IsInOrder nat_cmp frozen_serial xs
+by_number : (xs : List Frozen) → are_by_series frozen_serial xs ≡ true → IsInOrder nat_cmp frozen_serial xs
 by_number xs h = rises_whole nat_cmp_total frozen_serial xs
     (λ k d l. less_is _ _ (next_above frozen_serial xs 0 k d d h l))
 
@@ -159,7 +159,7 @@ both_orders [] up sorted = tt
 both_orders (f ∷ xs) up sorted = (strictly f xs up.0 sorted.0, both_orders xs up.1 sorted.1)
 
 -- where no series comes twice, quotes by series rise
-pub by_series_in_order : (rows : List Frozen) → is_by_series frozen_serial (by_series rows) ≡ true →
+pub by_series_in_order : (rows : List Frozen) → are_by_series frozen_serial (by_series rows) ≡ true →
     IsInOrder series_cmp series (by_series rows)
 by_series_in_order rows h = both_orders (by_series rows) (by_series_never_falls rows) (by_number (by_series rows) h)
 
@@ -198,7 +198,7 @@ sorted_rises xs ys moved order sorted = rises_whole series_cmp_total series ys s
             cc
 
 pub sorted_is_by_series : (old new : List Frozen) → IsPermutation old new → IsSortedByKey series series_cmp new →
-    is_by_series frozen_serial (by_series old) ≡ true → new ≡ by_series old
+    are_by_series frozen_serial (by_series old) ≡ true → new ≡ by_series old
 sorted_is_by_series old new moved sorted h =
     let order = by_series_in_order old h in
     let whole = IsPermutation-trans (by_series old) old new

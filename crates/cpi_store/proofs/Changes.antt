@@ -8,7 +8,7 @@ use Rattle.std.specs.Ordering.{nat_cmp, is_lt, is_gt}
 use Rattle.std.proofs.lemmas.Bool.{false≢true, le-leb}
 use Rattle.std.proofs.lemmas.Bool.Decides.{eqb_tells, leb_tells}
 use Rattle.std.proofs.Math.Nat.{le_trans, le_antisymm}
-use Rattle.cpi_rows.specs.Keyed.{put, at}
+use Rattle.cpi_rows.specs.Keyed.{with_row, row_by_number}
 use Rattle.cpi_rows.specs.Held.{held_by, held_cmp, held_key}
 use Rattle.cpi_rows.proofs.Found.{at_key}
 use Rattle.cpi_codes.specs.declared.series.SeriesId.{SeriesId}
@@ -47,21 +47,22 @@ pub record AreGiven (rows : List (ℕ × Given)) : Type 0 where
 
 -- an assignment of a new slot, which is one that there can be
 pub record IsNewlyGiven (rows : List (ℕ × Given)) (n : ℕ) (a : Assignment) : Type 0 where
-  pub new : at (λ g. g.assignment.slot) a.slot (held_by n rows) ≡ None
+  pub new : row_by_number (λ g. g.assignment.slot) a.slot (held_by n rows) ≡ None
   pub made : IsWellMade (n, a)
 
 -- A hand-over that can be: what the former slot was given ends with the month before the new slot's first, the new slot
 -- has the months that are left, the same item, outlet and series, and no quote of the former slot is of such a month.
 pub record IsHandover (rows : List (ℕ × Given)) (quotes : List (ℕ × QuoteRow)) (h : SeriesMove) : Type 0 where
   pub former : Given
-  pub found : at (λ g. g.assignment.slot) h.ended.assignment.slot (held_by h.former.number rows) ≡ Some former
+  pub found : row_by_number (λ g. g.assignment.slot) h.ended.assignment.slot (held_by h.former.number rows) ≡
+      Some former
   pub ended : h.ended ≡ given_until (h.assigned.assignment.first_month - 1) former
   pub after_first : former.assignment.first_month < h.assigned.assignment.first_month
   pub until_last : h.assigned.assignment.first_month ≤ former.assignment.last_month
   pub last : h.assigned.assignment.last_month ≡ former.assignment.last_month
   pub item : h.assigned.assignment.item ≡ former.assignment.item
   pub outlet : h.assigned.assignment.outlet ≡ former.assignment.outlet
-  pub new : at (λ g. g.assignment.slot) h.assigned.assignment.slot (held_by h.taker.number rows) ≡ None
+  pub new : row_by_number (λ g. g.assignment.slot) h.assigned.assignment.slot (held_by h.taker.number rows) ≡ None
   pub taker : 1 ≤ h.taker.number
   pub slot : (1 ≤ h.assigned.assignment.slot) × (h.assigned.assignment.slot ≤ 400)
   pub unquoted : list_any (λ q. q.slot == h.ended.assignment.slot && nat_le h.assigned.assignment.first_month q.month)
@@ -92,7 +93,7 @@ all_joined P [] ys a b = b
 all_joined P (x ∷ xs) ys a b = (a.0, all_joined P xs ys a.1 b)
 
 all_put : {X K : Type 0} (P : X → Type 0) (cmp : K → K → Ordering) (key : X → K) (row : X) (rows : List X) → P row →
-    AllByRecursion P rows → AllByRecursion P (put cmp key row rows)
+    AllByRecursion P rows → AllByRecursion P (with_row cmp key row rows)
 all_put P cmp key row rows one all =
     all_joined P _ _ (all_filtered P (λ r. is_lt (cmp (key r) (key row))) rows all)
     (one, all_filtered P (λ r. is_gt (cmp (key r) (key row))) rows all)
@@ -143,24 +144,25 @@ module _ (rows : List (ℕ × Given)) (n : ℕ) (a : Assignment) (all : AreGiven
   more_in_order : AreInOrder more_rows
   more_in_order = put_given_in_order n one rows all.in_order
 
-  more_found : (c k : ℕ) (x : Given) → at (λ g. g.assignment.slot) k (held_by c more_rows) ≡ Some x →
-      ((c ≡ n) × (k ≡ a.slot) × (x ≡ one)) ⊎ (at (λ g. g.assignment.slot) k (held_by c rows) ≡ Some x)
+  more_found : (c k : ℕ) (x : Given) → row_by_number (λ g. g.assignment.slot) k (held_by c more_rows) ≡ Some x →
+      ((c ≡ n) × (k ≡ a.slot) × (x ≡ one)) ⊎ (row_by_number (λ g. g.assignment.slot) k (held_by c rows) ≡ Some x)
   more_found c k x found = found_put n one rows all.in_order c k x found
 
-  still_found : (c k : ℕ) (x : Given) → at (λ g. g.assignment.slot) k (held_by c rows) ≡ Some x →
-      at (λ g. g.assignment.slot) k (held_by c more_rows) ≡ Some x
+  still_found : (c k : ℕ) (x : Given) → row_by_number (λ g. g.assignment.slot) k (held_by c rows) ≡ Some x →
+      row_by_number (λ g. g.assignment.slot) k (held_by c more_rows) ≡ Some x
   still_found c k x found = at_put_found n one rows all.in_order new.new c k x found
 
   -- a series whose slot is there is not the new one
-  series_apart : (s : SeriesId) (g : Given) → at (λ g. g.assignment.slot) s.slot (held_by s.collector rows) ≡ Some g →
+  series_apart : (s : SeriesId) (g : Given) → row_by_number (λ g. g.assignment.slot) s.slot (held_by s.collector rows)
+      ≡ Some g →
       s ≢ own_series n a.slot
   series_apart s g found same =
-      let no : None ≡ Some g = sym new.new ∙ ap (λ (t : SeriesId). at (λ g. g.assignment.slot) t.slot
+      let no : None ≡ Some g = sym new.new ∙ ap (λ (t : SeriesId). row_by_number (λ g. g.assignment.slot) t.slot
       (held_by t.collector rows)) (sym same) ∙ found in
       cc
 
   -- no row is of the new series
-  none_of_new : (c k : ℕ) (x : Given) → at (λ g. g.assignment.slot) k (held_by c rows) ≡ Some x →
+  none_of_new : (c k : ℕ) (x : Given) → row_by_number (λ g. g.assignment.slot) k (held_by c rows) ≡ Some x →
       x.series ≢ own_series n a.slot
   none_of_new c k x found =
       let has = all_of_found (λ g. g.assignment.slot) (HasItsSeries rows) c k x rows all.series found in
@@ -175,41 +177,46 @@ module _ (rows : List (ℕ × Given)) (n : ℕ) (a : Assignment) (all : AreGiven
       (last_least s (last_of_series s more_rows) rows
       (all_from_found (λ g. g.assignment.slot) _ rows all.in_order lower))
     where
-      upper : (c : ℕ) (x : Given) → at (λ g. g.assignment.slot) x.assignment.slot (held_by c more_rows) ≡ Some x →
+      upper : (c : ℕ) (x : Given) → row_by_number (λ g. g.assignment.slot) x.assignment.slot (held_by c more_rows)
+          ≡ Some x →
           x.series ≡ s → x.assignment.last_month ≤ last_of_series s rows
       upper c x found same = by (more_found c x.assignment.slot x found)
         where
           by : ((c ≡ n) × (x.assignment.slot ≡ a.slot) × (x ≡ one))
-              ⊎ (at (λ g. g.assignment.slot) x.assignment.slot (held_by c rows) ≡ Some x) →
+              ⊎ (row_by_number (λ g. g.assignment.slot) x.assignment.slot (held_by c rows) ≡ Some x) →
               x.assignment.last_month ≤ last_of_series s rows
           by (inl is) = absurd (apart (sym same ∙ ap (λ (g : Given). g.series) is.2))
           by (inr stood) = all_of_found (λ g. g.assignment.slot)
               (λ row. row.1.series ≡ s → row.1.assignment.last_month ≤ last_of_series s rows) c x.assignment.slot x
               rows (last_covers s rows) stood same
 
-      lower : (c : ℕ) (x : Given) → at (λ g. g.assignment.slot) x.assignment.slot (held_by c rows) ≡ Some x →
+      lower : (c : ℕ) (x : Given) → row_by_number (λ g. g.assignment.slot) x.assignment.slot (held_by c rows) ≡ Some x →
           x.series ≡ s → x.assignment.last_month ≤ last_of_series s more_rows
       lower c x found same = all_of_found (λ g. g.assignment.slot)
           (λ row. row.1.series ≡ s → row.1.assignment.last_month ≤ last_of_series s more_rows) c x.assignment.slot x
           more_rows (last_covers s more_rows) (still_found c x.assignment.slot x found) same
 
-  more_made : (c : ℕ) (x : Given) → at (λ g. g.assignment.slot) x.assignment.slot (held_by c more_rows) ≡ Some x →
+  more_made : (c : ℕ) (x : Given) → row_by_number (λ g. g.assignment.slot) x.assignment.slot (held_by c more_rows)
+      ≡ Some x →
       IsWellMade (c, x.assignment)
   more_made c x found = by (more_found c x.assignment.slot x found)
     where
       by : ((c ≡ n) × (x.assignment.slot ≡ a.slot) × (x ≡ one))
-          ⊎ (at (λ g. g.assignment.slot) x.assignment.slot (held_by c rows) ≡ Some x) → IsWellMade (c, x.assignment)
+          ⊎ (row_by_number (λ g. g.assignment.slot) x.assignment.slot (held_by c rows) ≡ Some x) → IsWellMade
+          (c, x.assignment)
       by (inl is) = subst (λ m. IsWellMade (m, x.assignment)) (sym is.0)
           (subst (λ (g : Given). IsWellMade (n, g.assignment)) (sym is.2) new.made)
       by (inr stood) = all_of_found (λ g. g.assignment.slot) (λ row. IsWellMade (row.0, row.1.assignment)) c
           x.assignment.slot x rows all.made stood
 
-  more_series : (c : ℕ) (x : Given) → at (λ g. g.assignment.slot) x.assignment.slot (held_by c more_rows) ≡ Some x →
+  more_series : (c : ℕ) (x : Given) → row_by_number (λ g. g.assignment.slot) x.assignment.slot (held_by c more_rows)
+      ≡ Some x →
       HasItsSeries more_rows (c, x)
   more_series c x found = by (more_found c x.assignment.slot x found)
     where
       by : ((c ≡ n) × (x.assignment.slot ≡ a.slot) × (x ≡ one))
-          ⊎ (at (λ g. g.assignment.slot) x.assignment.slot (held_by c rows) ≡ Some x) → HasItsSeries more_rows (c, x)
+          ⊎ (row_by_number (λ g. g.assignment.slot) x.assignment.slot (held_by c rows) ≡ Some x) → HasItsSeries
+          more_rows (c, x)
       by (inl is) = subst (λ (g : Given). HasItsSeries more_rows (c, g)) (sym is.2)
           (one, at_put_same n one rows, refl, refl)
       by (inr stood) =
@@ -217,16 +224,16 @@ module _ (rows : List (ℕ × Given)) (n : ℕ) (a : Assignment) (all : AreGiven
           stood in
           (has.0, still_found x.series.collector x.series.slot has.0 has.1, has.2, has.3)
 
-  more_apart : (p q : ℕ × Given) → at (λ g. g.assignment.slot) p.1.assignment.slot
-      (held_by p.0 more_rows) ≡ Some p.1 → at (λ g. g.assignment.slot) q.1.assignment.slot
+  more_apart : (p q : ℕ × Given) → row_by_number (λ g. g.assignment.slot) p.1.assignment.slot
+      (held_by p.0 more_rows) ≡ Some p.1 → row_by_number (λ g. g.assignment.slot) q.1.assignment.slot
       (held_by q.0 more_rows) ≡ Some q.1 → AreTwo (λ g. g.assignment.slot) p q → AreApart p q
   more_apart p q here there two = by (more_found p.0 p.1.assignment.slot p.1 here)
       (more_found q.0 q.1.assignment.slot q.1 there)
     where
       by : ((p.0 ≡ n) × (p.1.assignment.slot ≡ a.slot) × (p.1 ≡ one))
-          ⊎ (at (λ g. g.assignment.slot) p.1.assignment.slot (held_by p.0 rows) ≡ Some p.1) →
+          ⊎ (row_by_number (λ g. g.assignment.slot) p.1.assignment.slot (held_by p.0 rows) ≡ Some p.1) →
           ((q.0 ≡ n) × (q.1.assignment.slot ≡ a.slot) × (q.1 ≡ one))
-          ⊎ (at (λ g. g.assignment.slot) q.1.assignment.slot (held_by q.0 rows) ≡ Some q.1) → AreApart p q
+          ⊎ (row_by_number (λ g. g.assignment.slot) q.1.assignment.slot (held_by q.0 rows) ≡ Some q.1) → AreApart p q
       by (inl is) (inl too) = absurd (two (is.0 ∙ sym too.0, is.1 ∙ sym too.1))
       by (inl is) (inr stood) = λ same month x y. none_of_new q.0 q.1.assignment.slot q.1 stood
           (sym same ∙ ap (λ (g : Given). g.series) is.2)
@@ -312,9 +319,18 @@ all_earlier n slot month (row ∷ quotes) none = by (eqb_tells row.0 n) (eqb_tel
         ⊎ ((leb month row.1.month ≡ false) × (row.1.month < month)) → (None_of quotes → All_of quotes) →
         All_of (row ∷ quotes)
     by (inr other) tells late rest = (λ same here. absurd (other.1 same), rest (rw other.0 at none))
-    by (inl mine) (inr there) late rest = (λ same here. absurd (there.1 here), rest (rw (mine.0, there.0) at none))
-    by (inl mine) (inl here) (inl late) rest = absurd (false≢true (sym (rw (mine.0, here.0, late.0) at none)))
-    by (inl mine) (inl here) (inr early) rest = (λ same place. early.1, rest (rw (mine.0, here.0, early.0) at none))
+    by (inl mine) (inr there) late rest = (
+      λ same here. absurd (there.1 here),
+      rest
+          (rw (mine.0, there.0) at none),
+    )
+    by (inl mine) (inl here) (inl late) rest = absurd
+        (false≢true (sym (rw (mine.0, here.0, late.0) at none)))
+    by (inl mine) (inl here) (inr early) rest = (
+      λ same place. early.1,
+      rest
+          (rw (mine.0, here.0, early.0) at none),
+    )
 
 all_both : {X : Type 0} (P Q R : X → Type 0) → ((x : X) → P x → Q x → R x) → (xs : List X) → AllByRecursion P xs →
     AllByRecursion Q xs → AllByRecursion R xs
@@ -356,7 +372,7 @@ module _ (rows : List (ℕ × Given)) (quotes : List (ℕ × QuoteRow)) (h : Ser
   ended_is = ap (λ m. given_until m over.former) ends ∙ sym over.ended
 
   found_former : option_map (given_until h.ended.assignment.last_month)
-      (at place h.ended.assignment.slot (held_by h.former.number rows)) ≡ Some h.ended
+      (row_by_number place h.ended.assignment.slot (held_by h.former.number rows)) ≡ Some h.ended
   found_former = ap (option_map (given_until h.ended.assignment.last_month)) over.found ∙ ap Some ended_is
 
   -- the former slot's place is that of what it was given
@@ -367,42 +383,42 @@ module _ (rows : List (ℕ × Given)) (quotes : List (ℕ × QuoteRow)) (h : Ser
   two_slots : h.taker.number ≡ h.former.number → h.assigned.assignment.slot ≡ h.ended.assignment.slot → ⊥
   two_slots same here =
       let no : None ≡ Some over.former = sym over.new
-      ∙ ap (λ n. at place h.assigned.assignment.slot (held_by n rows)) same
-      ∙ ap (λ k. at place k (held_by h.former.number rows)) here ∙ over.found in
+      ∙ ap (λ n. row_by_number place h.assigned.assignment.slot (held_by n rows)) same
+      ∙ ap (λ k. row_by_number place k (held_by h.former.number rows)) here ∙ over.found in
       cc
 
-  still_new : at place h.assigned.assignment.slot (held_by h.taker.number ended_rows) ≡ None
-  still_new = by (at place h.assigned.assignment.slot (held_by h.taker.number ended_rows)) refl
+  still_new : row_by_number place h.assigned.assignment.slot (held_by h.taker.number ended_rows) ≡ None
+  still_new = by (row_by_number place h.assigned.assignment.slot (held_by h.taker.number ended_rows)) refl
     where
-      by : (w : Option Given) → at place h.assigned.assignment.slot (held_by h.taker.number ended_rows) ≡ w →
-          at place h.assigned.assignment.slot (held_by h.taker.number ended_rows) ≡ None
+      by : (w : Option Given) → row_by_number place h.assigned.assignment.slot (held_by h.taker.number ended_rows) ≡ w →
+          row_by_number place h.assigned.assignment.slot (held_by h.taker.number ended_rows) ≡ None
       by None e = e
       by (Some x) e = some (found_ended h.former.number h.ended.assignment.slot h.ended.assignment.last_month rows
           h.taker.number h.assigned.assignment.slot x e)
         where
           some : ((h.taker.number ≡ h.former.number) × (h.assigned.assignment.slot ≡ h.ended.assignment.slot)
               × (option_map (given_until h.ended.assignment.last_month)
-              (at place h.ended.assignment.slot (held_by h.former.number rows)) ≡ Some x))
-              ⊎ ((at place h.assigned.assignment.slot (held_by h.taker.number rows) ≡ Some x)
+              (row_by_number place h.ended.assignment.slot (held_by h.former.number rows)) ≡ Some x))
+              ⊎ ((row_by_number place h.assigned.assignment.slot (held_by h.taker.number rows) ≡ Some x)
               × (IsFormer h.taker.number h.assigned.assignment.slot → ⊥)) →
-              at place h.assigned.assignment.slot (held_by h.taker.number ended_rows) ≡ None
+              row_by_number place h.assigned.assignment.slot (held_by h.taker.number ended_rows) ≡ None
           some (inl former) = absurd (two_slots former.0 former.1)
           some (inr stood) = let no : None ≡ Some x = sym over.new ∙ stood.0 in cc
 
   -- ---- what is found after it
 
   -- the new slot's, the former slot's, or what stood before in another slot
-  handed_found : (c k : ℕ) (x : Given) → at place k (held_by c handed_rows) ≡ Some x →
+  handed_found : (c k : ℕ) (x : Given) → row_by_number place k (held_by c handed_rows) ≡ Some x →
       (IsTaker c k × (x ≡ given_over h)) ⊎ ((IsFormer c k × (x ≡ h.ended))
-      ⊎ ((at place k (held_by c rows) ≡ Some x) × (IsFormer c k → ⊥)))
+      ⊎ ((row_by_number place k (held_by c rows) ≡ Some x) × (IsFormer c k → ⊥)))
   handed_found c k x found = by (found_put h.taker.number (given_over h) ended_rows ended_in_order c k x found)
     where
       before : ((c ≡ h.former.number) × (k ≡ h.ended.assignment.slot)
           × (option_map (given_until h.ended.assignment.last_month)
-          (at place h.ended.assignment.slot (held_by h.former.number rows)) ≡ Some x))
-          ⊎ ((at place k (held_by c rows) ≡ Some x) × (IsFormer c k → ⊥)) →
+          (row_by_number place h.ended.assignment.slot (held_by h.former.number rows)) ≡ Some x))
+          ⊎ ((row_by_number place k (held_by c rows) ≡ Some x) × (IsFormer c k → ⊥)) →
           (IsTaker c k × (x ≡ given_over h)) ⊎ ((IsFormer c k × (x ≡ h.ended))
-          ⊎ ((at place k (held_by c rows) ≡ Some x) × (IsFormer c k → ⊥)))
+          ⊎ ((row_by_number place k (held_by c rows) ≡ Some x) × (IsFormer c k → ⊥)))
       before (inl former) =
           let same : Some h.ended ≡ Some x = sym found_former ∙ former.2 in
           let is : x ≡ h.ended = cc in
@@ -410,65 +426,67 @@ module _ (rows : List (ℕ × Given)) (quotes : List (ℕ × QuoteRow)) (h : Ser
       before (inr other) = inr (inr other)
 
       by : ((c ≡ h.taker.number) × (k ≡ h.assigned.assignment.slot) × (x ≡ given_over h))
-          ⊎ (at place k (held_by c ended_rows) ≡ Some x) →
+          ⊎ (row_by_number place k (held_by c ended_rows) ≡ Some x) →
           (IsTaker c k × (x ≡ given_over h)) ⊎ ((IsFormer c k × (x ≡ h.ended))
-          ⊎ ((at place k (held_by c rows) ≡ Some x) × (IsFormer c k → ⊥)))
+          ⊎ ((row_by_number place k (held_by c rows) ≡ Some x) × (IsFormer c k → ⊥)))
       by (inl new) = inl ((new.0, new.1), new.2)
       by (inr stood) = before (found_ended h.former.number h.ended.assignment.slot h.ended.assignment.last_month rows
           c k x stood)
 
-  found_taker : at place h.assigned.assignment.slot (held_by h.taker.number handed_rows) ≡ Some (given_over h)
+  found_taker : row_by_number place h.assigned.assignment.slot (held_by h.taker.number handed_rows) ≡ Some
+      (given_over h)
   found_taker = at_put_same h.taker.number (given_over h) ended_rows
 
-  still_ended : (c k : ℕ) (x : Given) → at place k (held_by c ended_rows) ≡ Some x →
-      at place k (held_by c handed_rows) ≡ Some x
+  still_ended : (c k : ℕ) (x : Given) → row_by_number place k (held_by c ended_rows) ≡ Some x →
+      row_by_number place k (held_by c handed_rows) ≡ Some x
   still_ended c k x found = at_put_found h.taker.number (given_over h) ended_rows ended_in_order still_new c k x found
 
-  found_ended_one : at place h.ended.assignment.slot (held_by h.former.number handed_rows) ≡ Some h.ended
+  found_ended_one : row_by_number place h.ended.assignment.slot (held_by h.former.number handed_rows) ≡ Some h.ended
   found_ended_one =
       still_ended h.former.number h.ended.assignment.slot h.ended
       (at_ended_same h.former.number h.ended.assignment.slot h.ended.assignment.last_month rows ∙ found_former)
 
   -- what stood in the former slot is what it was given; what stood in another stands there still
-  stood_before : (c k : ℕ) (x : Given) → at place k (held_by c rows) ≡ Some x →
-      (IsFormer c k × (x ≡ over.former)) ⊎ (at place k (held_by c handed_rows) ≡ Some x)
+  stood_before : (c k : ℕ) (x : Given) → row_by_number place k (held_by c rows) ≡ Some x →
+      (IsFormer c k × (x ≡ over.former)) ⊎ (row_by_number place k (held_by c handed_rows) ≡ Some x)
   stood_before c k x found = by (eqb_tells c h.former.number) (eqb_tells k h.ended.assignment.slot)
     where
       by : ((eqb c h.former.number ≡ true) × (c ≡ h.former.number))
           ⊎ ((eqb c h.former.number ≡ false) × (c ≢ h.former.number)) →
           ((eqb k h.ended.assignment.slot ≡ true) × (k ≡ h.ended.assignment.slot))
           ⊎ ((eqb k h.ended.assignment.slot ≡ false) × (k ≢ h.ended.assignment.slot)) →
-          (IsFormer c k × (x ≡ over.former)) ⊎ (at place k (held_by c handed_rows) ≡ Some x)
+          (IsFormer c k × (x ≡ over.former)) ⊎ (row_by_number place k (held_by c handed_rows) ≡ Some x)
       by (inl same) (inl here) =
           let both : Some over.former ≡ Some x = sym over.found
-          ∙ sym (ap (λ n. at place k (held_by n rows)) same.1
-          ∙ ap (λ j. at place j (held_by h.former.number rows)) here.1) ∙ found in
+          ∙ sym (ap (λ n. row_by_number place k (held_by n rows)) same.1
+          ∙ ap (λ j. row_by_number place j (held_by h.former.number rows)) here.1) ∙ found in
           let is : x ≡ over.former = cc in
           inl ((same.1, here.1), is)
       by (inl same) (inr there) = inr (still_ended c k x (
-          ap (λ n. at place k (held_by n ended_rows)) same.1
+          ap (λ n. row_by_number place k (held_by n ended_rows)) same.1
           ∙ at_ended_other h.former.number h.ended.assignment.slot h.ended.assignment.last_month k rows there.1
-          ∙ ap (λ n. at place k (held_by n rows)) (sym same.1) ∙ found
+          ∙ ap (λ n. row_by_number place k (held_by n rows)) (sym same.1) ∙ found
           ))
       by (inr apart) tells = inr (still_ended c k x
-          (ap (at place k) (held_ended_other c h.former.number h.ended.assignment.slot h.ended.assignment.last_month
+          (ap (row_by_number place k) (held_ended_other c h.former.number h.ended.assignment.slot
+          h.ended.assignment.last_month
           rows apart.1) ∙ found))
 
   -- in each slot that had something is something of that series and item
   record IsKept (c k : ℕ) (x : Given) : Type 0 where
     pub now : Given
-    pub found : at place k (held_by c handed_rows) ≡ Some now
+    pub found : row_by_number place k (held_by c handed_rows) ≡ Some now
     pub series : now.series ≡ x.series
     pub item : now.assignment.item ≡ x.assignment.item
 
-  kept : (c k : ℕ) (x : Given) → at place k (held_by c rows) ≡ Some x → IsKept c k x
+  kept : (c k : ℕ) (x : Given) → row_by_number place k (held_by c rows) ≡ Some x → IsKept c k x
   kept c k x found = by (stood_before c k x found)
     where
-      by : (IsFormer c k × (x ≡ over.former)) ⊎ (at place k (held_by c handed_rows) ≡ Some x) → IsKept c k x
+      by : (IsFormer c k × (x ≡ over.former)) ⊎ (row_by_number place k (held_by c handed_rows) ≡ Some x) → IsKept c k x
       by (inl former) = record {
         now = h.ended;
-        found = ap (λ n. at place k (held_by n handed_rows)) former.0.0
-            ∙ ap (λ j. at place j (held_by h.former.number handed_rows)) former.0.1 ∙ found_ended_one;
+        found = ap (λ n. row_by_number place k (held_by n handed_rows)) former.0.0
+            ∙ ap (λ j. row_by_number place j (held_by h.former.number handed_rows)) former.0.1 ∙ found_ended_one;
         series = ap (λ (g : Given). g.series) over.ended ∙ ap (λ (g : Given). g.series) (sym former.1);
         item = ap (λ (g : Given). g.assignment.item) over.ended ∙ ap (λ (g : Given). g.assignment.item) (sym former.1);
       }
@@ -478,7 +496,7 @@ module _ (rows : List (ℕ × Given)) (quotes : List (ℕ × QuoteRow)) (h : Ser
   record ComesFrom (x : Given) : Type 0 where
     pub number : ℕ
     pub before : Given
-    pub found : at place before.assignment.slot (held_by number rows) ≡ Some before
+    pub found : row_by_number place before.assignment.slot (held_by number rows) ≡ Some before
     pub series : x.series ≡ before.series
     pub item : x.assignment.item ≡ before.assignment.item
     pub outlet : x.assignment.outlet ≡ before.assignment.outlet
@@ -488,8 +506,8 @@ module _ (rows : List (ℕ × Given)) (quotes : List (ℕ × QuoteRow)) (h : Ser
   series_over : (given_over h).series ≡ over.former.series
   series_over = ap (λ (g : Given). g.series) over.ended
 
-  former_found : at place over.former.assignment.slot (held_by h.former.number rows) ≡ Some over.former
-  former_found = ap (λ k. at place k (held_by h.former.number rows)) former_place ∙ over.found
+  former_found : row_by_number place over.former.assignment.slot (held_by h.former.number rows) ≡ Some over.former
+  former_found = ap (λ k. row_by_number place k (held_by h.former.number rows)) former_place ∙ over.found
 
   new_comes : ComesFrom (given_over h)
   new_comes = record {
@@ -516,7 +534,7 @@ module _ (rows : List (ℕ × Given)) (quotes : List (ℕ × QuoteRow)) (h : Ser
     last = let low = over.after_first in let high = over.until_last in let end = ends in omega (arith, low, high, end);
   }
 
-  stays_comes : (c : ℕ) (x : Given) → at place x.assignment.slot (held_by c rows) ≡ Some x → ComesFrom x
+  stays_comes : (c : ℕ) (x : Given) → row_by_number place x.assignment.slot (held_by c rows) ≡ Some x → ComesFrom x
   stays_comes c x found = record {
     number = c;
     before = x;
@@ -529,12 +547,13 @@ module _ (rows : List (ℕ × Given)) (quotes : List (ℕ × QuoteRow)) (h : Ser
     last = omega arith;
   }
 
-  comes : (c : ℕ) (x : Given) → at place x.assignment.slot (held_by c handed_rows) ≡ Some x → ComesFrom x
+  comes : (c : ℕ) (x : Given) → row_by_number place x.assignment.slot (held_by c handed_rows) ≡ Some x → ComesFrom x
   comes c x found = by (handed_found c x.assignment.slot x found)
     where
       by : (IsTaker c x.assignment.slot × (x ≡ given_over h))
           ⊎ ((IsFormer c x.assignment.slot × (x ≡ h.ended))
-          ⊎ ((at place x.assignment.slot (held_by c rows) ≡ Some x) × (IsFormer c x.assignment.slot → ⊥))) → ComesFrom x
+          ⊎ ((row_by_number place x.assignment.slot (held_by c rows) ≡ Some x) × (IsFormer c x.assignment.slot → ⊥))) →
+          ComesFrom x
       by (inl new) = subst ComesFrom (sym new.1) new_comes
       by (inr (inl former)) = subst ComesFrom (sym former.1) ended_comes
       by (inr (inr other)) = stays_comes c x other.0
@@ -547,7 +566,8 @@ module _ (rows : List (ℕ × Given)) (quotes : List (ℕ × QuoteRow)) (h : Ser
       (last_least s (last_of_series s rows) handed_rows (all_from_found place _ handed_rows handed_in_order upper))
       (last_least s (last_of_series s handed_rows) rows (all_from_found place _ rows all.in_order lower))
     where
-      upper : (c : ℕ) (x : Given) → at place x.assignment.slot (held_by c handed_rows) ≡ Some x → x.series ≡ s →
+      upper : (c : ℕ) (x : Given) → row_by_number place x.assignment.slot (held_by c handed_rows) ≡ Some x →
+          x.series ≡ s →
           x.assignment.last_month ≤ last_of_series s rows
       upper c x found same =
           let from = comes c x found in
@@ -556,18 +576,18 @@ module _ (rows : List (ℕ × Given)) (quotes : List (ℕ × QuoteRow)) (h : Ser
           rows (last_covers s rows) from.found in
           le_trans from.last (covered (sym from.series ∙ same))
 
-      lower : (c : ℕ) (x : Given) → at place x.assignment.slot (held_by c rows) ≡ Some x → x.series ≡ s →
+      lower : (c : ℕ) (x : Given) → row_by_number place x.assignment.slot (held_by c rows) ≡ Some x → x.series ≡ s →
           x.assignment.last_month ≤ last_of_series s handed_rows
       lower c x found same = by (stood_before c x.assignment.slot x found)
         where
-          covered : (d k : ℕ) (y : Given) → at place k (held_by d handed_rows) ≡ Some y → y.series ≡ s →
+          covered : (d k : ℕ) (y : Given) → row_by_number place k (held_by d handed_rows) ≡ Some y → y.series ≡ s →
               y.assignment.last_month ≤ last_of_series s handed_rows
           covered d k y there = all_of_found place (λ row. row.1.series ≡ s →
               row.1.assignment.last_month ≤ last_of_series s handed_rows) d k y handed_rows
               (last_covers s handed_rows) there
 
           by : (IsFormer c x.assignment.slot × (x ≡ over.former))
-              ⊎ (at place x.assignment.slot (held_by c handed_rows) ≡ Some x) →
+              ⊎ (row_by_number place x.assignment.slot (held_by c handed_rows) ≡ Some x) →
               x.assignment.last_month ≤ last_of_series s handed_rows
           by (inl former) =
               let below = covered h.taker.number h.assigned.assignment.slot (given_over h) found_taker
@@ -577,11 +597,12 @@ module _ (rows : List (ℕ × Given)) (quotes : List (ℕ × QuoteRow)) (h : Ser
               subst (λ m. m ≤ last_of_series s handed_rows) (sym equal) below
           by (inr stands) = covered c x.assignment.slot x stands same
 
-  handed_made : (c : ℕ) (x : Given) → at place x.assignment.slot (held_by c handed_rows) ≡ Some x →
+  handed_made : (c : ℕ) (x : Given) → row_by_number place x.assignment.slot (held_by c handed_rows) ≡ Some x →
       IsWellMade (c, x.assignment)
   handed_made c x found = by (handed_found c x.assignment.slot x found)
     where
-      made_before : (d k : ℕ) (y : Given) → at place k (held_by d rows) ≡ Some y → IsWellMade (d, y.assignment)
+      made_before : (d k : ℕ) (y : Given) → row_by_number place k (held_by d rows) ≡ Some y → IsWellMade
+          (d, y.assignment)
       made_before d k y there = all_of_found place (λ row. IsWellMade (row.0, row.1.assignment)) d k y rows all.made
           there
 
@@ -606,7 +627,7 @@ module _ (rows : List (ℕ × Given)) (quotes : List (ℕ × QuoteRow)) (h : Ser
 
       by : (IsTaker c x.assignment.slot × (x ≡ given_over h))
           ⊎ ((IsFormer c x.assignment.slot × (x ≡ h.ended))
-          ⊎ ((at place x.assignment.slot (held_by c rows) ≡ Some x) × (IsFormer c x.assignment.slot → ⊥))) →
+          ⊎ ((row_by_number place x.assignment.slot (held_by c rows) ≡ Some x) × (IsFormer c x.assignment.slot → ⊥))) →
           IsWellMade (c, x.assignment)
       by (inl new) = subst (λ n. IsWellMade (n, x.assignment)) (sym new.0.0)
           (subst (λ (g : Given). IsWellMade (h.taker.number, g.assignment)) (sym new.1) new_made)
@@ -614,7 +635,7 @@ module _ (rows : List (ℕ × Given)) (quotes : List (ℕ × QuoteRow)) (h : Ser
           (subst (λ (g : Given). IsWellMade (h.former.number, g.assignment)) (sym former.1) ended_made)
       by (inr (inr other)) = made_before c x.assignment.slot x other.0
 
-  handed_series : (c : ℕ) (x : Given) → at place x.assignment.slot (held_by c handed_rows) ≡ Some x →
+  handed_series : (c : ℕ) (x : Given) → row_by_number place x.assignment.slot (held_by c handed_rows) ≡ Some x →
       HasItsSeries handed_rows (c, x)
   handed_series c x found =
       let from = comes c x found in
@@ -622,7 +643,7 @@ module _ (rows : List (ℕ × Given)) (quotes : List (ℕ × QuoteRow)) (h : Ser
       all.series from.found in
       let now = kept from.before.series.collector from.before.series.slot has.0 has.1 in (
         now.now,
-        ap (λ (s : SeriesId). at place s.slot (held_by s.collector handed_rows)) from.series ∙ now.found,
+        ap (λ (s : SeriesId). row_by_number place s.slot (held_by s.collector handed_rows)) from.series ∙ now.found,
         now.series ∙ has.2 ∙ sym from.series,
         now.item ∙ has.3 ∙ sym from.item,
       )
@@ -651,11 +672,13 @@ module _ (rows : List (ℕ × Given)) (quotes : List (ℕ × QuoteRow)) (h : Ser
   abbrev IsFound : ℕ × Given → Type 0
   IsFound r = (IsTaker r.0 r.1.assignment.slot × (r.1 ≡ given_over h))
       ⊎ ((IsFormer r.0 r.1.assignment.slot × (r.1 ≡ h.ended))
-      ⊎ ((at place r.1.assignment.slot (held_by r.0 rows) ≡ Some r.1) × (IsFormer r.0 r.1.assignment.slot → ⊥)))
+      ⊎ ((row_by_number place r.1.assignment.slot (held_by r.0 rows) ≡ Some r.1) ×
+      (IsFormer r.0 r.1.assignment.slot → ⊥)))
 
   -- another slot's is apart from what comes from the former one's
   other_apart : (x : Given) → (number : ℕ) → (from : ComesFrom x) → from.number ≡ h.former.number →
-      from.before ≡ over.former → (q : ℕ × Given) → at place q.1.assignment.slot (held_by q.0 rows) ≡ Some q.1 →
+      from.before ≡ over.former → (q : ℕ × Given) → row_by_number place q.1.assignment.slot (held_by q.0 rows) ≡
+      Some q.1 →
       (IsFormer q.0 q.1.assignment.slot → ⊥) → AreApart (number, x) q
   unfolding stays_comes
   other_apart x number from mine is q found other =
@@ -704,7 +727,7 @@ module _ (rows : List (ℕ × Given)) (quotes : List (ℕ × QuoteRow)) (h : Ser
   one_quoted row has early = by (stood_before row.0 row.1.slot has.0 has.1)
     where
       by : (IsFormer row.0 row.1.slot × (has.0 ≡ over.former))
-          ⊎ (at place row.1.slot (held_by row.0 handed_rows) ≡ Some has.0) → HasItsAssignment handed_rows row
+          ⊎ (row_by_number place row.1.slot (held_by row.0 handed_rows) ≡ Some has.0) → HasItsAssignment handed_rows row
       by (inl former) =
           let active = active_tells row.1.month has.0.assignment has.2 in
           let below = early former.0.0 former.0.1 in
@@ -713,8 +736,8 @@ module _ (rows : List (ℕ × Given)) (quotes : List (ℕ × QuoteRow)) (h : Ser
           ap (λ (g : Given). g.assignment.first_month) over.ended
           ∙ ap (λ (g : Given). g.assignment.first_month) (sym former.1) in (
             h.ended,
-            ap (λ n. at place row.1.slot (held_by n handed_rows)) former.0.0
-                ∙ ap (λ k. at place k (held_by h.former.number handed_rows)) former.0.1 ∙ found_ended_one,
+            ap (λ n. row_by_number place row.1.slot (held_by n handed_rows)) former.0.0
+                ∙ ap (λ k. row_by_number place k (held_by h.former.number handed_rows)) former.0.1 ∙ found_ended_one,
             active_within row.1.month h.ended.assignment (omega (arith, same, active.0)) (omega (arith, below, end)),
           )
       by (inr stands) = (has.0, stands, has.2)
@@ -739,27 +762,29 @@ module _ (rows : List (ℕ × Given)) (quotes : List (ℕ × QuoteRow)) (h : Ser
   frozen_handed releases frozen = all_weaker (HasFrozenList rows) (HasFrozenList handed_rows) one_handed releases frozen
 
   -- each row has its collector, outlet and item, in whatever office that has the taker
-  pub rows_handed : (o : Office) → IsSome (at (λ b. b.number) h.taker.number o.collectors) →
+  pub rows_handed : (o : Office) → IsSome (row_by_number (λ b. b.number) h.taker.number o.collectors) →
       AllByRecursion (HasItsRows o) rows → AllByRecursion (HasItsRows o) (hand_over h rows)
   rows_handed o taker has = all_from_found place _ handed_rows handed_in_order each
     where
-      before : (d k : ℕ) (y : Given) → at place k (held_by d rows) ≡ Some y → HasItsRows o (d, y)
+      before : (d k : ℕ) (y : Given) → row_by_number place k (held_by d rows) ≡ Some y → HasItsRows o (d, y)
       before d k y there = all_of_found place (HasItsRows o) d k y rows has there
 
-      each : (c : ℕ) (x : Given) → at place x.assignment.slot (held_by c handed_rows) ≡ Some x → HasItsRows o (c, x)
+      each : (c : ℕ) (x : Given) → row_by_number place x.assignment.slot (held_by c handed_rows) ≡ Some x →
+          HasItsRows o (c, x)
       each c x found =
           let from = comes c x found in
           let old = before from.number from.before.assignment.slot from.before from.found in (
             by (handed_found c x.assignment.slot x found),
-            subst (λ n. IsSome (at (λ u. u.number) n o.outlets)) (sym from.outlet) old.1,
-            subst (λ n. IsSome (at (λ i. i.code) n o.items)) (sym from.item) old.2,
+            subst (λ n. IsSome (row_by_number (λ u. u.number) n o.outlets)) (sym from.outlet) old.1,
+            subst (λ n. IsSome (row_by_number (λ i. i.code) n o.items)) (sym from.item) old.2,
           )
         where
           by : (IsTaker c x.assignment.slot × (x ≡ given_over h))
               ⊎ ((IsFormer c x.assignment.slot × (x ≡ h.ended))
-              ⊎ ((at place x.assignment.slot (held_by c rows) ≡ Some x) × (IsFormer c x.assignment.slot → ⊥))) →
-              IsSome (at (λ b. b.number) c o.collectors)
-          by (inl new) = subst (λ n. IsSome (at (λ b. b.number) n o.collectors)) (sym new.0.0) taker
-          by (inr (inl former)) = subst (λ n. IsSome (at (λ b. b.number) n o.collectors)) (sym former.0.0)
+              ⊎ ((row_by_number place x.assignment.slot (held_by c rows) ≡ Some x) ×
+              (IsFormer c x.assignment.slot → ⊥))) →
+              IsSome (row_by_number (λ b. b.number) c o.collectors)
+          by (inl new) = subst (λ n. IsSome (row_by_number (λ b. b.number) n o.collectors)) (sym new.0.0) taker
+          by (inr (inl former)) = subst (λ n. IsSome (row_by_number (λ b. b.number) n o.collectors)) (sym former.0.0)
               (before h.former.number h.ended.assignment.slot over.former over.found).0
           by (inr (inr other)) = (before c x.assignment.slot x other.0).0

@@ -11,7 +11,7 @@ use Rattle.std.proofs.lemmas.Cmp.{ranked}
 use Rattle.std.proofs.lemmas.List.{map-append}
 use Rattle.std.proofs.lemmas.Map.Keys.{sorted_head, sorted_tail, Less-from_sorted}
 use Rattle.cpi_rows.specs.Keyed.{row_at, IsInOrder}
-use Rattle.cpi_survey.specs.Assignment.{ended, ended_one, until}
+use Rattle.cpi_survey.specs.Assignment.{with_last_month, ended_one, until}
 use Rattle.cpi_survey.specs.declared.assignment.Assignment.{Assignment}
 use Rattle.cpi_survey.specs.declared.assignment.Assigned.{Assigned}
 use Rattle.cpi_store.specs.Outlet.{with_name}
@@ -48,17 +48,17 @@ module _ (c slot last_month : ℕ) where
   -- the collector's own ends
   own_ends : (n : ℕ) → eqb n c ≡ true → (rows : List Assigned) →
       map ending (map (λ a. (n, a)) (map (λ a. a.assignment) rows)) ≡ map (λ a. (n, a))
-      (map (λ a. a.assignment) (ended slot last_month rows))
+      (map (λ a. a.assignment) (with_last_month slot last_month rows))
   own_ends n same [] = refl
   own_ends n same (a ∷ rows) = rw same (by (eqb a.assignment.slot slot) refl (own_ends n same rows))
     where
       by : (t : Bool) → eqb a.assignment.slot slot ≡ t →
           map ending (map (λ a. (n, a)) (map (λ a. a.assignment) rows)) ≡ map (λ a. (n, a))
-          (map (λ a. a.assignment) (ended slot last_month rows)) →
+          (map (λ a. a.assignment) (with_last_month slot last_month rows)) →
           (if eqb a.assignment.slot slot then (n, until last_month a.assignment) else (n, a.assignment)) ∷ map ending
           (map (λ a. (n, a)) (map (λ a. a.assignment) rows))
           ≡ (n, (ended_one slot last_month a).assignment) ∷ map (λ a. (n, a))
-          (map (λ a. a.assignment) (ended slot last_month rows))
+          (map (λ a. a.assignment) (with_last_month slot last_month rows))
       by true e rest = rw e (ap (λ ys. (n, until last_month a.assignment) ∷ ys) rest)
       by false e rest = rw e (ap (λ ys. (n, a.assignment) ∷ ys) rest)
 
@@ -95,7 +95,7 @@ module _ (c slot last_month : ℕ) where
   -- after the holder at the place ended the slot, all have that slot ended
   pub all_ended : (hs : List Holder) (i : ℕ) (after d : Holder) → IsInOrder nat_cmp (λ h. h.number) hs →
       i < length hs → (get_or hs i d).number ≡ c → after.number ≡ c →
-      after.own.assignments ≡ ended slot last_month (get_or hs i d).own.assignments →
+      after.own.assignments ≡ with_last_month slot last_month (get_or hs i d).own.assignments →
       all_assignments (set hs i after) ≡ map ending (all_assignments hs)
   all_ended [] i after d sorted in_range at_c is_c ends = absurd (omega arith)
   all_ended (h ∷ hs) zero after d sorted in_range at_c is_c ends =
@@ -140,7 +140,7 @@ module _ (us : List Outlet) (slot last_month : ℕ) where
       by false e = rw e has
 
   all_have_ended : (own : List Assigned) → AllByRecursion (HasOutlet us) own →
-      AllByRecursion (HasOutlet us) (ended slot last_month own)
+      AllByRecursion (HasOutlet us) (with_last_month slot last_month own)
   all_have_ended [] all = tt
   all_have_ended (a ∷ own) all = (has_ended a all.0, all_have_ended own all.1)
 
@@ -154,16 +154,18 @@ module _ (us : List Outlet) (slot last_month : ℕ) where
       by false e = rw e named
 
   all_names_ended : (own : List Assigned) → map (with_name us) (map (λ a. a.assignment) own) ≡ own →
-      map (with_name us) (map (λ a. a.assignment) (ended slot last_month own)) ≡ ended slot last_month own
+      map (with_name us) (map (λ a. a.assignment) (with_last_month slot last_month own)) ≡ with_last_month slot
+      last_month own
   all_names_ended [] named = refl
   all_names_ended (a ∷ own) named =
       let first : with_name us a.assignment ≡ a = cc in
       let rest : map (with_name us) (map (λ a. a.assignment) own) ≡ own = cc in
-      ap (λ x. x ∷ map (with_name us) (map (λ a. a.assignment) (ended slot last_month own))) (name_ended a first)
+      ap (λ x. x ∷ map (with_name us) (map (λ a. a.assignment) (with_last_month slot last_month own)))
+      (name_ended a first)
       ∙ ap (λ xs. ended_one slot last_month a ∷ xs) (all_names_ended own rest)
 
   module _ (hs : List Holder) (i : ℕ) (h after : Holder) (found : h ≡ get_or hs i h)
-      (ends : after.own.assignments ≡ ended slot last_month h.own.assignments) where
+      (ends : after.own.assignments ≡ with_last_month slot last_month h.own.assignments) where
     abbrev own : Holder → List Assigned
     own g = g.own.assignments
 
@@ -175,7 +177,7 @@ module _ (us : List Outlet) (slot last_month : ℕ) where
         (set hs i after)
     names_ended all = fixed_set (λ own. map (with_name us) (map (λ x. x.assignment) own)) own hs i after h
         (λ old.
-        let same : after.own.assignments ≡ ended slot last_month (get_or hs i h).own.assignments = ends
-        ∙ ap (λ (g : Holder). ended slot last_month g.own.assignments) found in
+        let same : after.own.assignments ≡ with_last_month slot last_month (get_or hs i h).own.assignments = ends
+        ∙ ap (λ (g : Holder). with_last_month slot last_month g.own.assignments) found in
         ap (λ xs. map (with_name us) (map (λ (x : Assigned). x.assignment) xs)) same
         ∙ all_names_ended (get_or hs i h).own.assignments old ∙ sym same) all

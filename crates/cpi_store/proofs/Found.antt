@@ -7,7 +7,7 @@ use Rattle.std.specs.declared.cmp.Ordering.{Ordering}
 use Rattle.std.specs.Ordering.{nat_cmp, is_eq}
 use Rattle.std.specs.List.{flat_map}
 use Rattle.std.proofs.lemmas.Cmp.{nat_cmp_total, ranked}
-use Rattle.cpi_rows.specs.Keyed.{put, row_at, IsInOrder}
+use Rattle.cpi_rows.specs.Keyed.{with_row, row_at, IsInOrder}
 use Rattle.cpi_rows.specs.Held.{held_by, held_cmp, held_key}
 use Rattle.cpi_rows.specs.Gathered.{rows_in}
 use Rattle.cpi_rows.proofs.Places.{row_found, put_at_row, put_in_order}
@@ -21,7 +21,7 @@ use Rattle.cpi_store.specs.declared.outlet.Outlet.{Outlet}
 use Rattle.cpi_survey.specs.declared.assignment.Assignment.{Assignment}
 use Rattle.cpi_store.specs.declared.holder.Holder.{Holder}
 use Rattle.cpi_store.specs.declared.taken_over.TakenOver.{TakenOver}
-use Rattle.cpi_store.specs.Holders.{collectors_of, collector_of_holder, all_assignments, all_given, all_quotes}
+use Rattle.cpi_store.specs.Holders.{collectors_of, collector_of_holder, all_assignments, all_given, quotes_of_holders}
 use Rattle.cpi_store.specs.Holders.{assignments_of, quotes_of, named_by}
 use Rattle.cpi_store.proofs.OwnGiven.{assignments_held}
 
@@ -43,7 +43,7 @@ module _ (hs : List Holder) (sorted : IsInOrder nat_cmp (λ h. h.number) hs) (c 
   pub number_is : (get_or hs at h).number ≡ c
   number_is = ranked _ _ _ (sym (level h))
 
-  pub own_quotes : held_by c (all_quotes hs) ≡ h.own.quotes
+  pub own_quotes : held_by c (quotes_of_holders hs) ≡ h.own.quotes
   own_quotes =
       held_gathered quote_cmp quote_key (λ g. g.number) quotes_of c hs sorted
       ∙ ap (rows_in quotes_of) (row_found nat_cmp_total (λ g. g.number) hs sorted c at h in_range (level h))
@@ -53,12 +53,13 @@ module _ (hs : List Holder) (sorted : IsInOrder nat_cmp (λ h. h.number) hs) (c 
     same_at : after.number ≡ (get_or hs at h).number
     same_at = same ∙ ap (λ (g : Holder). g.number) found
 
-    pub quotes_after : (q : QuoteRow) → after.own.quotes ≡ put quote_cmp quote_key q h.own.quotes →
-        all_quotes (set hs at after) ≡ put (held_cmp quote_cmp) (held_key quote_key) (c, q) (all_quotes hs)
+    pub quotes_after : (q : QuoteRow) → after.own.quotes ≡ with_row quote_cmp quote_key q h.own.quotes →
+        quotes_of_holders (set hs at after) ≡ with_row (held_cmp quote_cmp) (held_key quote_key) (c, q)
+        (quotes_of_holders hs)
     quotes_after q e =
         put_gathered quote_cmp quote_key (λ g. g.number) quotes_of q after hs at h sorted in_range same_at
-        (e ∙ ap (λ (g : Holder). put quote_cmp quote_key q g.own.quotes) found)
-        ∙ ap (λ n. put (held_cmp quote_cmp) (held_key quote_key) (n, q) (all_quotes hs)) number_is
+        (e ∙ ap (λ (g : Holder). with_row quote_cmp quote_key q g.own.quotes) found)
+        ∙ ap (λ n. with_row (held_cmp quote_cmp) (held_key quote_key) (n, q) (quotes_of_holders hs)) number_is
 
     pub assignments_after : after.own.assignments ≡ h.own.assignments →
         all_assignments (set hs at after) ≡ all_assignments hs
@@ -67,21 +68,21 @@ module _ (hs : List Holder) (sorted : IsInOrder nat_cmp (λ h. h.number) hs) (c 
         ∙ ap (λ ws. map (λ x. ((get_or hs at h).number, x)) (map (λ a. a.assignment) ws))
         (e ∙ ap (λ (g : Holder). g.own.assignments) found))
 
-    pub quotes_same : after.own.quotes ≡ h.own.quotes → all_quotes (set hs at after) ≡ all_quotes hs
+    pub quotes_same : after.own.quotes ≡ h.own.quotes → quotes_of_holders (set hs at after) ≡ quotes_of_holders hs
     quotes_same e = flat_map_set_same (λ g. map (λ x. (g.number, x)) (quotes_of g)) hs at after h
         (ap (λ n. map (λ x. (n, x)) (quotes_of after)) same_at ∙ ap (λ ws. map (λ x. ((get_or hs at h).number, x)) ws)
         (e ∙ ap (λ (g : Holder). g.own.quotes) found))
 
-    pub assignments_put : (a : Assigned) → after.own.assignments ≡ put nat_cmp
-        (λ x. x.assignment.slot) a h.own.assignments → all_assignments (set hs at after) ≡ put (held_cmp nat_cmp)
+    pub assignments_put : (a : Assigned) → after.own.assignments ≡ with_row nat_cmp
+        (λ x. x.assignment.slot) a h.own.assignments → all_assignments (set hs at after) ≡ with_row (held_cmp nat_cmp)
         (held_key (λ x. x.slot)) (c, a.assignment) (all_assignments hs)
     assignments_put a e =
         put_gathered nat_cmp (λ (x : Assignment). x.slot) (λ g. g.number) assignments_of a.assignment after hs at h
         sorted in_range same_at
         (ap (map (λ (x : Assigned). x.assignment)) e ∙ map-put nat_cmp (λ (x : Assignment). x.slot)
         (λ (x : Assigned). x.assignment) a h.own.assignments
-        ∙ ap (λ (g : Holder). put nat_cmp (λ (x : Assignment). x.slot) a.assignment (assignments_of g)) found)
-        ∙ ap (λ n. put (held_cmp nat_cmp) (held_key (λ (x : Assignment). x.slot)) (n, a.assignment)
+        ∙ ap (λ (g : Holder). with_row nat_cmp (λ (x : Assignment). x.slot) a.assignment (assignments_of g)) found)
+        ∙ ap (λ n. with_row (held_cmp nat_cmp) (held_key (λ (x : Assignment). x.slot)) (n, a.assignment)
         (all_assignments hs)) number_is
 
     pub order_after : IsInOrder nat_cmp (λ g. g.number) (set hs at after)
@@ -145,10 +146,10 @@ pub own_found : (outlets : List Outlet) (taken : List TakenOver) (c : ℕ) (h : 
     (λ (x : Holder). x.own.assignments) hs → row_at nat_cmp (λ (x : Holder). x.number) c hs ≡ Some h →
     h.own ≡ record {
       assignments = map (with_name outlets) (map (λ g. g.assignment) (held_by c (all_given taken hs)));
-      quotes = held_by c (all_quotes hs);
+      quotes = held_by c (quotes_of_holders hs);
     }
 own_found outlets taken c h hs sorted names found =
-    let quotes : held_by c (all_quotes hs) ≡ h.own.quotes =
+    let quotes : held_by c (quotes_of_holders hs) ≡ h.own.quotes =
     held_gathered quote_cmp quote_key (λ g. g.number) quotes_of c hs sorted ∙ ap (rows_in quotes_of) found in
     let rows : held_by c (all_assignments hs) ≡ assignments_of h = held_gathered nat_cmp (λ (a : Assignment). a.slot)
     (λ g. g.number) assignments_of c hs sorted ∙ ap (rows_in assignments_of) found in
@@ -167,10 +168,10 @@ pub own_missing : (outlets : List Outlet) (taken : List TakenOver) (c : ℕ) (hs
     nothing ≡ record {
       assignments = map (with_name outlets)
           (map (λ g. g.assignment) (held_by c (all_given taken hs)));
-      quotes = held_by c (all_quotes hs);
+      quotes = held_by c (quotes_of_holders hs);
     }
 own_missing outlets taken c hs sorted none =
-    let quotes : held_by c (all_quotes hs) ≡ [] =
+    let quotes : held_by c (quotes_of_holders hs) ≡ [] =
     held_gathered quote_cmp quote_key (λ g. g.number) quotes_of c hs sorted ∙ ap (rows_in quotes_of) none in
     let rows : held_by c (all_assignments hs) ≡ [] = held_gathered nat_cmp (λ (a : Assignment). a.slot)
     (λ g. g.number) assignments_of c hs sorted ∙ ap (rows_in assignments_of) none in

@@ -20,13 +20,13 @@ use Rattle.cpi_survey.specs.Quote.{QuoteRow, quote_cmp, quote_key}
 use Rattle.cpi_survey.specs.declared.assignment.Assigned.{Assigned}
 use Rattle.cpi_survey.specs.declared.assignment.Assignment.{Assignment}
 use Rattle.cpi_index.specs.Frozen.{Frozen}
-use Rattle.cpi_index.specs.Series.{is_by_series, frozen_serial}
+use Rattle.cpi_index.specs.Series.{are_by_series, frozen_serial}
 use Rattle.cpi_plan.proofs.OnceLemmas.{once_from_order}
 use Rattle.cpi_store.specs.Office.{frozen_row, stored_rows}
 use Rattle.cpi_store.specs.Series.{by_series, given_in, is_handed_over, last_handed_over, last_known, last_of_series}
-use Rattle.cpi_store.specs.Series.{own_series, same_series, series_in}
+use Rattle.cpi_store.specs.Series.{own_series, same_series, series_named_in}
 use Rattle.cpi_store.specs.Holders.{own_row, own_rows, own_given, rows_of_holders, all_assignments, all_given}
-use Rattle.cpi_store.specs.Holders.{all_quotes, assignments_of, quotes_of}
+use Rattle.cpi_store.specs.Holders.{quotes_of_holders, assignments_of, quotes_of}
 use Rattle.cpi_store.specs.declared.given.Given.{Given}
 use Rattle.cpi_store.specs.declared.holder.Holder.{Holder}
 use Rattle.cpi_store.specs.declared.series_ends.SeriesEnds.{SeriesEnds}
@@ -79,7 +79,7 @@ module _ (month : ℕ) (ends : SeriesEnds) (taken : List TakenOver) (quotes : Li
       (row_at quote_cmp quote_key (a.assignment.slot, month) qs)) e
     where
       s : SeriesId
-      s = series_in taken h.number a.assignment.slot
+      s = series_named_in taken h.number a.assignment.slot
 
       known : ℕ
       known = max a.assignment.last_month (last_known ends s)
@@ -134,10 +134,10 @@ module _ (month : ℕ) (ends : SeriesEnds) (taken : List TakenOver) (quotes : Li
     one_ended r has covered q stands = by (is_handed_over taken s) refl
       where
         s : SeriesId
-        s = series_in taken r.0 r.1.slot
+        s = series_named_in taken r.0 r.1.slot
 
         Ends : ℕ × Assignment → Type 0
-        Ends x = same_series (series_in taken x.0 x.1.slot) s ≡ true → last_of_series s given_all ≡ x.1.last_month
+        Ends x = same_series (series_named_in taken x.0 x.1.slot) s ≡ true → last_of_series s given_all ≡ x.1.last_month
 
         by : (t : Bool) → is_handed_over taken s ≡ t →
             last_of_series s given_all ≡ max r.1.last_month (last_known ends s)
@@ -186,7 +186,7 @@ all_found (h ∷ hs) sorted = (
 
 own_held : (hs : List Holder) → IsInOrder nat_cmp (λ h. h.number) hs → (gs : List Holder) →
     AllByRecursion (λ (h : Holder). row_at nat_cmp (λ (h : Holder). h.number) h.number hs ≡ Some h) gs →
-    AllByRecursion (λ (h : Holder). held_by h.number (all_quotes hs) ≡ h.own.quotes) gs
+    AllByRecursion (λ (h : Holder). held_by h.number (quotes_of_holders hs) ≡ h.own.quotes) gs
 own_held hs sorted [] all = tt
 own_held hs sorted (g ∷ gs) all = (
   held_gathered quote_cmp quote_key (λ h. h.number) quotes_of g.number hs sorted
@@ -199,14 +199,15 @@ own_held hs sorted (g ∷ gs) all = (
 pub month_gathered : (month : ℕ) (ends : SeriesEnds) (taken : List TakenOver) (hs : List Holder) →
     IsInOrder nat_cmp (λ h. h.number) hs → ((s : SeriesId) →
     last_known ends s ≡ last_handed_over taken s (all_given taken hs)) →
-    is_by_series frozen_serial (by_series (stored_rows month (all_quotes hs) (all_given taken hs))) ≡ true →
-    stored_rows month (all_quotes hs) (all_given taken hs) ≡ rows_of_holders month ends taken hs
+    are_by_series frozen_serial (by_series (stored_rows month (quotes_of_holders hs) (all_given taken hs))) ≡ true →
+    stored_rows month (quotes_of_holders hs) (all_given taken hs) ≡ rows_of_holders month ends taken hs
 month_gathered month ends taken hs sorted known whole =
     let rows : List (ℕ × Assignment) = all_assignments hs in
-    let stored : List Frozen = stored_rows month (all_quotes hs) (all_given taken hs) in
+    let stored : List Frozen = stored_rows month (quotes_of_holders hs) (all_given taken hs) in
     let apart : IsDistinct is_one stored =
     once_from_order series_cmp_total (λ (f : Frozen). f.series) stored (by_series stored) (by_series_moved stored)
     (by_series_in_order stored whole) in
-    all_holders month ends taken (all_quotes hs) (all_given taken hs) hs (own_held hs sorted hs (all_found hs sorted))
-    (all_ended month ends taken (all_quotes hs) rows known apart rows
+    all_holders month ends taken (quotes_of_holders hs) (all_given taken hs) hs
+    (own_held hs sorted hs (all_found hs sorted))
+    (all_ended month ends taken (quotes_of_holders hs) rows known apart rows
     (recursion_from_All (Contains rows) rows (All-contains_itself rows)) (last_of_series-covers (all_given taken hs)))

@@ -11,12 +11,12 @@ use Rattle.std.specs.Cmp.{IsTotalOrder}
 use Rattle.std.proofs.lemmas.Bool.{lt-leb}
 use Rattle.std.proofs.lemmas.Bool.Decides.{eqb_tells}
 use Rattle.std.proofs.lemmas.Cmp.{nat_cmp_total, on_total, then_total}
-use Rattle.cpi_rows.specs.Keyed.{put, IsInOrder, at}
+use Rattle.cpi_rows.specs.Keyed.{with_row, IsInOrder, row_by_number}
 use Rattle.cpi_rows.specs.Held.{held_by, held_cmp, held_key}
 use Rattle.cpi_rows.proofs.Held.{puts_own, puts_other}
 use Rattle.cpi_rows.proofs.Places.{put_in_order}
 use Rattle.cpi_rows.proofs.Puts.{put_standing, different, row_at-put_same, row_at-put_apart, at-put_found}
-use Rattle.cpi_survey.specs.Assignment.{until, ended}
+use Rattle.cpi_survey.specs.Assignment.{until, with_last_month}
 use Rattle.cpi_store.specs.declared.given.Given.{Given}
 use Rattle.cpi_store.specs.declared.series_move.SeriesMove.{SeriesMove}
 use Rattle.cpi_store.specs.declared.outlet.Outlet.{Outlet}
@@ -77,40 +77,44 @@ held_ended_other c n slot last (r ∷ rows) apart = by (until_tells n slot last 
         ((eqb r.0 c ≡ true) × (r.0 ≡ c)) ⊎ ((eqb r.0 c ≡ false) × (r.0 ≢ c)) →
         held_by c (end_given n slot last rows) ≡ held_by c rows →
         held_by c (end_given n slot last (r ∷ rows)) ≡ held_by c (r ∷ rows)
-    by (inl ended) (inl mine) rest = absurd (apart (sym mine.1 ∙ ended.1))
-    by (inl ended) (inr other) rest = rw (ended.0, other.0) rest
+    by (inl with_last_month) (inl mine) rest = absurd (apart (sym mine.1 ∙ with_last_month.1))
+    by (inl with_last_month) (inr other) rest = rw (with_last_month.0, other.0) rest
     by (inr stays) (inl mine) rest = rw (stays.0, mine.0) (ap (λ gs. r.1 ∷ gs) rest)
     by (inr stays) (inr other) rest = rw (stays.0, other.0) rest
 
 own_same : (slot last : ℕ) (own : List Given) →
-    at (λ g. g.assignment.slot) slot (map (ended_given slot last) own) ≡ option_map (given_until last)
-    (at (λ g. g.assignment.slot) slot own)
+    row_by_number (λ g. g.assignment.slot) slot (map (ended_given slot last) own) ≡ option_map (given_until last)
+    (row_by_number (λ g. g.assignment.slot) slot own)
 own_same slot last [] = refl
 own_same slot last (g ∷ own) = by (eqb_tells g.assignment.slot slot) (own_same slot last own)
   where
     Has : List Given → Type 0
-    Has gs = at (λ g. g.assignment.slot) slot (map (ended_given slot last) gs) ≡ option_map (given_until last)
-        (at (λ g. g.assignment.slot) slot gs)
+    Has gs = row_by_number (λ g. g.assignment.slot) slot (map (ended_given slot last) gs) ≡ option_map
+        (given_until last)
+        (row_by_number (λ g. g.assignment.slot) slot gs)
 
     passed : is_eq (nat_cmp g.assignment.slot slot) ≡ false → Has own →
-        at (λ g. g.assignment.slot) slot (g ∷ map (ended_given slot last) own) ≡ option_map (given_until last)
-        (at (λ g. g.assignment.slot) slot (g ∷ own))
+        row_by_number (λ g. g.assignment.slot) slot (g ∷ map (ended_given slot last) own) ≡ option_map
+        (given_until last)
+        (row_by_number (λ g. g.assignment.slot) slot (g ∷ own))
     passed e rest = rw e rest
 
     by : ((eqb g.assignment.slot slot ≡ true) × (g.assignment.slot ≡ slot))
         ⊎ ((eqb g.assignment.slot slot ≡ false) × (g.assignment.slot ≢ slot)) → Has own → Has (g ∷ own)
     by (inl here) rest = let same : g.assignment.slot ≡ slot = here.1 in
         rw (here.0, lt-leb (suc g.assignment.slot) slot (omega (arith, same)), here.0) refl
-    by (inr there) rest = ap (λ x. at (λ g. g.assignment.slot) slot (x ∷ map (ended_given slot last) own))
+    by (inr there) rest = ap (λ x. row_by_number (λ g. g.assignment.slot) slot (x ∷ map (ended_given slot last) own))
         (rw there.0 refl) ∙ passed (different g.assignment.slot slot there.1) rest
 
 own_other : (slot last k : ℕ) → k ≢ slot → (own : List Given) →
-    at (λ g. g.assignment.slot) k (map (ended_given slot last) own) ≡ at (λ g. g.assignment.slot) k own
+    row_by_number (λ g. g.assignment.slot) k (map (ended_given slot last) own) ≡ row_by_number
+    (λ g. g.assignment.slot) k own
 own_other slot last k apart [] = refl
 own_other slot last k apart (g ∷ own) = by (eqb_tells g.assignment.slot slot) (own_other slot last k apart own)
   where
     Has : List Given → Type 0
-    Has gs = at (λ g. g.assignment.slot) k (map (ended_given slot last) gs) ≡ at (λ g. g.assignment.slot) k gs
+    Has gs = row_by_number (λ g. g.assignment.slot) k (map (ended_given slot last) gs) ≡ row_by_number
+        (λ g. g.assignment.slot) k gs
 
     stays : (w : Bool) → is_eq (nat_cmp g.assignment.slot k) ≡ w → eqb g.assignment.slot slot ≡ false → Has own →
         Has (g ∷ own)
@@ -123,15 +127,17 @@ own_other slot last k apart (g ∷ own) = by (eqb_tells g.assignment.slot slot) 
     by (inr there) rest = stays (is_eq (nat_cmp g.assignment.slot k)) refl there.0 rest
 
 pub at_ended_same : (n slot last : ℕ) (rows : List (ℕ × Given)) →
-    at (λ g. g.assignment.slot) slot (held_by n (end_given n slot last rows)) ≡ option_map (given_until last)
-    (at (λ g. g.assignment.slot) slot (held_by n rows))
-at_ended_same n slot last rows = ap (at (λ g. g.assignment.slot) slot) (held_ended_own n slot last rows)
+    row_by_number (λ g. g.assignment.slot) slot (held_by n (end_given n slot last rows)) ≡ option_map (given_until last)
+    (row_by_number (λ g. g.assignment.slot) slot (held_by n rows))
+at_ended_same n slot last rows = ap (row_by_number (λ g. g.assignment.slot) slot) (held_ended_own n slot last rows)
     ∙ own_same slot last (held_by n rows)
 
 pub at_ended_other : (n slot last k : ℕ) (rows : List (ℕ × Given)) → k ≢ slot →
-    at (λ g. g.assignment.slot) k (held_by n (end_given n slot last rows)) ≡ at (λ g. g.assignment.slot) k
+    row_by_number (λ g. g.assignment.slot) k (held_by n (end_given n slot last rows)) ≡ row_by_number
+    (λ g. g.assignment.slot) k
     (held_by n rows)
-at_ended_other n slot last k rows apart = ap (at (λ g. g.assignment.slot) k) (held_ended_own n slot last rows)
+at_ended_other n slot last k rows apart = ap (row_by_number (λ g. g.assignment.slot) k)
+    (held_ended_own n slot last rows)
     ∙ own_other slot last k apart (held_by n rows)
 
 key_until : (n slot last : ℕ) (r : ℕ × Given) →
@@ -143,7 +149,7 @@ key_until n slot last r = by (until_tells n slot last r)
         ⊎ ((row_until n slot last r ≡ r) × ((r.0 ≡ n) × (r.1.assignment.slot ≡ slot) → ⊥)) →
         held_key (λ (g : Given). g.assignment.slot) (row_until n slot last r) ≡ held_key
         (λ (g : Given). g.assignment.slot) r
-    by (inl ended) = ap (held_key (λ (g : Given). g.assignment.slot)) ended.0
+    by (inl with_last_month) = ap (held_key (λ (g : Given). g.assignment.slot)) with_last_month.0
     by (inr stays) = ap (held_key (λ (g : Given). g.assignment.slot)) stays.0
 
 -- each row keeps its place
@@ -173,11 +179,13 @@ all_fixed f (x ∷ xs) all = ap (λ y. y ∷ map f xs) all.0 ∙ ap (λ ys. x �
 
 -- an assignment that has that last month already stays as it is
 pub end_standing : (n slot : ℕ) (g : Given) (rows : List (ℕ × Given)) → AreInOrder rows →
-    at (λ g. g.assignment.slot) slot (held_by n rows) ≡ Some g → end_given n slot g.assignment.last_month rows ≡ rows
+    row_by_number (λ g. g.assignment.slot) slot (held_by n rows) ≡ Some g → end_given n slot g.assignment.last_month
+    rows ≡ rows
 end_standing n slot g rows sorted found = all_fixed (row_until n slot g.assignment.last_month) rows
     (all_from_found (λ x. x.assignment.slot) _ rows sorted fixed)
   where
-    fixed : (c : ℕ) (x : Given) → at (λ (y : Given). y.assignment.slot) x.assignment.slot (held_by c rows) ≡ Some x →
+    fixed : (c : ℕ) (x : Given) → row_by_number (λ (y : Given). y.assignment.slot) x.assignment.slot (held_by c rows)
+        ≡ Some x →
         row_until n slot g.assignment.last_month (c, x) ≡ (c, x)
     fixed c x there = by (until_tells n slot g.assignment.last_month (c, x))
       where
@@ -185,12 +193,13 @@ end_standing n slot g rows sorted found = all_fixed (row_until n slot g.assignme
             × (x.assignment.slot ≡ slot))
             ⊎ ((row_until n slot g.assignment.last_month (c, x) ≡ (c, x))
             × ((c ≡ n) × (x.assignment.slot ≡ slot) → ⊥)) → row_until n slot g.assignment.last_month (c, x) ≡ (c, x)
-        by (inl ended) =
-            let same : Some x ≡ Some g = sym there ∙ ap (λ k. at (λ (y : Given). y.assignment.slot) k
-            (held_by c rows)) ended.2 ∙ ap (λ m. at (λ (y : Given). y.assignment.slot) slot (held_by m rows))
-            ended.1 ∙ found in
+        by (inl with_last_month) =
+            let same : Some x ≡ Some g = sym there ∙ ap (λ k. row_by_number (λ (y : Given). y.assignment.slot) k
+            (held_by c rows)) with_last_month.2 ∙ ap
+            (λ m. row_by_number (λ (y : Given). y.assignment.slot) slot (held_by m rows))
+            with_last_month.1 ∙ found in
             let is : g ≡ x = cc in
-            ended.0 ∙ ap (λ (y : Given). (c, given_until y.assignment.last_month x)) is
+            with_last_month.0 ∙ ap (λ (y : Given). (c, given_until y.assignment.last_month x)) is
         by (inr stays) = stays.0
 
 -- ---- what a slot was given, where one is put
@@ -205,90 +214,98 @@ put_given_in_order n g rows sorted = put_in_order given_total (held_key (λ (g :
 
 -- what was put stands in its slot
 pub at_put_same : (n : ℕ) (g : Given) (rows : List (ℕ × Given)) →
-    at (λ g. g.assignment.slot) g.assignment.slot (held_by n (put_given n g rows)) ≡ Some g
-at_put_same n g rows = ap (at (λ g. g.assignment.slot) g.assignment.slot)
+    row_by_number (λ g. g.assignment.slot) g.assignment.slot (held_by n (put_given n g rows)) ≡ Some g
+at_put_same n g rows = ap (row_by_number (λ g. g.assignment.slot) g.assignment.slot)
     (puts_own nat_cmp (λ (g : Given). g.assignment.slot) n g rows)
     ∙ row_at-put_same nat_cmp_total (λ (g : Given). g.assignment.slot) g (held_by n rows)
 
 -- what stood in another slot still stands there: the slot where one is put was free
 pub at_put_found : (n : ℕ) (g : Given) (rows : List (ℕ × Given)) → AreInOrder rows →
-    at (λ g. g.assignment.slot) g.assignment.slot (held_by n rows) ≡ None →
-    (c slot : ℕ) (x : Given) → at (λ g. g.assignment.slot) slot (held_by c rows) ≡ Some x →
-    at (λ g. g.assignment.slot) slot (held_by c (put_given n g rows)) ≡ Some x
+    row_by_number (λ g. g.assignment.slot) g.assignment.slot (held_by n rows) ≡ None →
+    (c slot : ℕ) (x : Given) → row_by_number (λ g. g.assignment.slot) slot (held_by c rows) ≡ Some x →
+    row_by_number (λ g. g.assignment.slot) slot (held_by c (put_given n g rows)) ≡ Some x
 at_put_found n g rows sorted new c slot x found = by (eqb_tells c n)
   where
     by : ((eqb c n ≡ true) × (c ≡ n)) ⊎ ((eqb c n ≡ false) × (c ≢ n)) →
-        at (λ g. g.assignment.slot) slot (held_by c (put_given n g rows)) ≡ Some x
+        row_by_number (λ g. g.assignment.slot) slot (held_by c (put_given n g rows)) ≡ Some x
     by (inl same) =
-        ap (λ k. at (λ g. g.assignment.slot) slot (held_by k (put_given n g rows))) same.1
-        ∙ ap (at (λ g. g.assignment.slot) slot) (puts_own nat_cmp (λ (g : Given). g.assignment.slot) n g rows)
+        ap (λ k. row_by_number (λ g. g.assignment.slot) slot (held_by k (put_given n g rows))) same.1
+        ∙ ap (row_by_number (λ g. g.assignment.slot) slot)
+        (puts_own nat_cmp (λ (g : Given). g.assignment.slot) n g rows)
         ∙ at-put_found (λ g. g.assignment.slot) g (held_by n rows)
         (held_in_order nat_cmp (λ g. g.assignment.slot) n rows sorted) new slot x
-        (ap (λ k. at (λ g. g.assignment.slot) slot (held_by k rows)) (sym same.1) ∙ found)
-    by (inr apart) = ap (at (λ g. g.assignment.slot) slot)
+        (ap (λ k. row_by_number (λ g. g.assignment.slot) slot (held_by k rows)) (sym same.1) ∙ found)
+    by (inr apart) = ap (row_by_number (λ g. g.assignment.slot) slot)
         (puts_other nat_cmp (λ (g : Given). g.assignment.slot) c n g rows apart.1) ∙ found
 
 -- ---- what is found then
 
 -- what is found after a row was put into a free slot is that row, or stood there before
 pub found_put : (n : ℕ) (g : Given) (rows : List (ℕ × Given)) → AreInOrder rows → (c k : ℕ) (x : Given) →
-    at (λ g. g.assignment.slot) k (held_by c (put_given n g rows)) ≡ Some x →
-    ((c ≡ n) × (k ≡ g.assignment.slot) × (x ≡ g)) ⊎ (at (λ g. g.assignment.slot) k (held_by c rows) ≡ Some x)
+    row_by_number (λ g. g.assignment.slot) k (held_by c (put_given n g rows)) ≡ Some x →
+    ((c ≡ n) × (k ≡ g.assignment.slot) × (x ≡ g)) ⊎ (row_by_number (λ g. g.assignment.slot) k (held_by c rows) ≡ Some x)
 found_put n g rows sorted c k x found = by (eqb_tells c n) (eqb_tells g.assignment.slot k)
   where
-    own : c ≡ n → at (λ g. g.assignment.slot) k (put nat_cmp (λ (g : Given). g.assignment.slot) g (held_by n rows)) ≡
+    own : c ≡ n → row_by_number (λ g. g.assignment.slot) k
+        (with_row nat_cmp (λ (g : Given). g.assignment.slot) g (held_by n rows)) ≡
         Some x
-    own same = sym (ap (λ m. at (λ g. g.assignment.slot) k (held_by m (put_given n g rows))) same
-        ∙ ap (at (λ g. g.assignment.slot) k) (puts_own nat_cmp (λ (g : Given). g.assignment.slot) n g rows)) ∙ found
+    own same = sym (ap (λ m. row_by_number (λ g. g.assignment.slot) k (held_by m (put_given n g rows))) same
+        ∙ ap (row_by_number (λ g. g.assignment.slot) k)
+        (puts_own nat_cmp (λ (g : Given). g.assignment.slot) n g rows)) ∙ found
 
     by : ((eqb c n ≡ true) × (c ≡ n)) ⊎ ((eqb c n ≡ false) × (c ≢ n)) →
         ((eqb g.assignment.slot k ≡ true) × (g.assignment.slot ≡ k))
         ⊎ ((eqb g.assignment.slot k ≡ false) × (g.assignment.slot ≢ k)) →
-        ((c ≡ n) × (k ≡ g.assignment.slot) × (x ≡ g)) ⊎ (at (λ g. g.assignment.slot) k (held_by c rows) ≡ Some x)
+        ((c ≡ n) × (k ≡ g.assignment.slot) × (x ≡ g)) ⊎
+        (row_by_number (λ g. g.assignment.slot) k (held_by c rows) ≡ Some x)
     by (inl same) (inl here) =
         let is : Some g ≡ Some x = sym (row_at-put_same nat_cmp_total (λ (g : Given). g.assignment.slot) g
-        (held_by n rows)) ∙ ap (λ j. at (λ g. g.assignment.slot) j
-        (put nat_cmp (λ (g : Given). g.assignment.slot) g (held_by n rows))) here.1 ∙ own same.1 in
+        (held_by n rows)) ∙ ap (λ j. row_by_number (λ g. g.assignment.slot) j
+        (with_row nat_cmp (λ (g : Given). g.assignment.slot) g (held_by n rows))) here.1 ∙ own same.1 in
         let equal : x ≡ g = cc in
         inl (same.1, sym here.1, equal)
     by (inl same) (inr there) = inr (
-        ap (λ m. at (λ g. g.assignment.slot) k (held_by m rows)) same.1
+        ap (λ m. row_by_number (λ g. g.assignment.slot) k (held_by m rows)) same.1
         ∙ sym (row_at-put_apart nat_cmp_total (λ (g : Given). g.assignment.slot) k g (held_by n rows)
         (held_in_order nat_cmp (λ g. g.assignment.slot) n rows sorted) (different g.assignment.slot k there.1))
         ∙ own same.1
         )
-    by (inr apart) tells = inr (sym (ap (at (λ g. g.assignment.slot) k)
+    by (inr apart) tells = inr (sym (ap (row_by_number (λ g. g.assignment.slot) k)
         (puts_other nat_cmp (λ (g : Given). g.assignment.slot) c n g rows apart.1)) ∙ found)
 
 -- what is found after an assignment was ended is that assignment, or stood there before
 pub found_ended : (n slot last : ℕ) (rows : List (ℕ × Given)) (c k : ℕ) (x : Given) →
-    at (λ g. g.assignment.slot) k (held_by c (end_given n slot last rows)) ≡ Some x →
-    ((c ≡ n) × (k ≡ slot) × (option_map (given_until last) (at (λ g. g.assignment.slot) slot (held_by n rows)) ≡ Some
+    row_by_number (λ g. g.assignment.slot) k (held_by c (end_given n slot last rows)) ≡ Some x →
+    ((c ≡ n) × (k ≡ slot) × (option_map (given_until last)
+    (row_by_number (λ g. g.assignment.slot) slot (held_by n rows)) ≡ Some
     x))
-    ⊎ ((at (λ g. g.assignment.slot) k (held_by c rows) ≡ Some x) × ((c ≡ n) × (k ≡ slot) → ⊥))
+    ⊎ ((row_by_number (λ g. g.assignment.slot) k (held_by c rows) ≡ Some x) × ((c ≡ n) × (k ≡ slot) → ⊥))
 found_ended n slot last rows c k x found = by (eqb_tells c n) (eqb_tells k slot)
   where
-    own : c ≡ n → at (λ g. g.assignment.slot) k (held_by n (end_given n slot last rows)) ≡ Some x
-    own same = ap (λ m. at (λ g. g.assignment.slot) k (held_by m (end_given n slot last rows))) (sym same) ∙ found
+    own : c ≡ n → row_by_number (λ g. g.assignment.slot) k (held_by n (end_given n slot last rows)) ≡ Some x
+    own same = ap (λ m. row_by_number (λ g. g.assignment.slot) k (held_by m (end_given n slot last rows)))
+        (sym same) ∙ found
 
     by : ((eqb c n ≡ true) × (c ≡ n)) ⊎ ((eqb c n ≡ false) × (c ≢ n)) → ((eqb k slot ≡ true) × (k ≡ slot))
         ⊎ ((eqb k slot ≡ false) × (k ≢ slot)) →
-        ((c ≡ n) × (k ≡ slot) × (option_map (given_until last) (at (λ g. g.assignment.slot) slot (held_by n rows)) ≡
+        ((c ≡ n) × (k ≡ slot) × (option_map (given_until last)
+        (row_by_number (λ g. g.assignment.slot) slot (held_by n rows)) ≡
         Some x))
-        ⊎ ((at (λ g. g.assignment.slot) k (held_by c rows) ≡ Some x) × ((c ≡ n) × (k ≡ slot) → ⊥))
+        ⊎ ((row_by_number (λ g. g.assignment.slot) k (held_by c rows) ≡ Some x) × ((c ≡ n) × (k ≡ slot) → ⊥))
     by (inl same) (inl here) = inl (
       same.1,
       here.1,
       sym (at_ended_same n slot last rows)
-          ∙ ap (λ j. at (λ g. g.assignment.slot) j (held_by n (end_given n slot last rows))) (sym here.1) ∙ own same.1,
+          ∙ ap (λ j. row_by_number (λ g. g.assignment.slot) j (held_by n (end_given n slot last rows))) (sym here.1) ∙
+          own same.1,
     )
     by (inl same) (inr there) = inr (
-      ap (λ m. at (λ g. g.assignment.slot) k (held_by m rows)) same.1
+      ap (λ m. row_by_number (λ g. g.assignment.slot) k (held_by m rows)) same.1
           ∙ sym (at_ended_other n slot last k rows there.1) ∙ own same.1,
       λ both. there.1 both.1,
     )
     by (inr apart) tells = inr (
-      sym (ap (at (λ g. g.assignment.slot) k) (held_ended_other c n slot last rows apart.1))
+      sym (ap (row_by_number (λ g. g.assignment.slot) k) (held_ended_other c n slot last rows apart.1))
           ∙ found,
       λ both. apart.1 both.0,
     )
@@ -297,8 +314,9 @@ found_ended n slot last rows c k x found = by (eqb_tells c n) (eqb_tells k slot)
 
 -- a hand-over that stands already changes nothing
 pub handed_standing : (rows : List (ℕ × Given)) (h : SeriesMove) → AreInOrder rows →
-    at (λ g. g.assignment.slot) h.ended.assignment.slot (held_by h.former.number rows) ≡ Some h.ended →
-    at (λ g. g.assignment.slot) h.assigned.assignment.slot (held_by h.taker.number rows) ≡ Some (given_over h) →
+    row_by_number (λ g. g.assignment.slot) h.ended.assignment.slot (held_by h.former.number rows) ≡ Some h.ended →
+    row_by_number (λ g. g.assignment.slot) h.assigned.assignment.slot (held_by h.taker.number rows) ≡ Some
+    (given_over h) →
     hand_over h rows ≡ rows
 handed_standing rows h sorted former new =
     ap (put_given h.taker.number (given_over h)) (end_standing h.former.number h.ended.assignment.slot h.ended rows
@@ -309,13 +327,14 @@ handed_standing rows h sorted former new =
 
 -- what a collector is shown of an assignment that was ended
 pub shown_ended : (outlets : List Outlet) (slot last : ℕ) (own : List Given) →
-    map (with_name outlets) (map (λ g. g.assignment) (map (ended_given slot last) own)) ≡ ended slot last
+    map (with_name outlets) (map (λ g. g.assignment) (map (ended_given slot last) own)) ≡ with_last_month slot last
     (map (with_name outlets) (map (λ g. g.assignment) own))
 shown_ended outlets slot last [] = refl
 shown_ended outlets slot last (g ∷ own) = by (eqb g.assignment.slot slot) refl (shown_ended outlets slot last own)
   where
     Same : List Given → Type 0
-    Same gs = map (with_name outlets) (map (λ (x : Given). x.assignment) (map (ended_given slot last) gs)) ≡ ended
+    Same gs = map (with_name outlets) (map (λ (x : Given). x.assignment) (map (ended_given slot last) gs)) ≡
+        with_last_month
         slot last (map (with_name outlets) (map (λ (x : Given). x.assignment) gs))
 
     by : (w : Bool) → eqb g.assignment.slot slot ≡ w → Same own → Same (g ∷ own)

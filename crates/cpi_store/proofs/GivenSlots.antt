@@ -10,7 +10,7 @@ use Rattle.std.specs.List.{AllByRecursion, list_any}
 use Rattle.std.proofs.lemmas.Bool.Decides.{eqb_tells}
 use Rattle.std.proofs.lemmas.Cmp.{nat_cmp_total, then_total}
 use Rattle.std.proofs.lemmas.List.Folds.{list_any-append}
-use Rattle.cpi_rows.specs.Keyed.{at, put, row_at}
+use Rattle.cpi_rows.specs.Keyed.{row_by_number, with_row, row_at}
 use Rattle.cpi_rows.specs.Held.{held_by, held_cmp, held_key}
 use Rattle.cpi_rows.proofs.Rising.{by_key_total}
 use Rattle.cpi_survey.specs.declared.assignment.Assignment.{Assignment}
@@ -35,23 +35,25 @@ slot_of a = a.slot
 
 -- a slot is found among its collector's where a row is of it
 pub has_slot : (c slot : ℕ) (rows : List (ℕ × Assignment)) →
-    is_some (at (λ a. a.slot) slot (held_by c rows)) ≡ list_any (is_of c slot) rows
+    is_some (row_by_number (λ a. a.slot) slot (held_by c rows)) ≡ list_any (is_of c slot) rows
 has_slot c slot [] = refl
 has_slot c slot (r ∷ rows) = by (eqb_tells r.0 c) (has_slot c slot rows)
   where
-    here : (b : Bool) → is_eq (nat_cmp r.1.slot slot) ≡ b → is_some (at slot_of slot (held_by c rows)) ≡ list_any
-        (is_of c slot) rows → is_some (at slot_of slot (r.1 ∷ held_by c rows)) ≡ (b || list_any (is_of c slot) rows)
+    here : (b : Bool) → is_eq (nat_cmp r.1.slot slot) ≡ b → is_some (row_by_number slot_of slot (held_by c rows))
+        ≡ list_any
+        (is_of c slot) rows → is_some (row_by_number slot_of slot (r.1 ∷ held_by c rows)) ≡
+        (b || list_any (is_of c slot) rows)
     here true e rest = rw e refl
     here false e rest = rw e rest
 
     by : ((eqb r.0 c ≡ true) × (r.0 ≡ c)) ⊎ ((eqb r.0 c ≡ false) × (r.0 ≢ c)) →
-        is_some (at slot_of slot (held_by c rows)) ≡ list_any (is_of c slot) rows →
-        is_some (at slot_of slot (held_by c (r ∷ rows))) ≡ list_any (is_of c slot) (r ∷ rows)
+        is_some (row_by_number slot_of slot (held_by c rows)) ≡ list_any (is_of c slot) rows →
+        is_some (row_by_number slot_of slot (held_by c (r ∷ rows))) ≡ list_any (is_of c slot) (r ∷ rows)
     by (inl same) rest = rw same.0 (here (eqb r.1.slot slot) (unsigned_tied r.1.slot slot) rest)
     by (inr apart) rest = rw apart.0 rest
 
 -- a slot that isn't found has no row
-pub free_slot : (c slot : ℕ) (rows : List (ℕ × Assignment)) → at (λ a. a.slot) slot (held_by c rows) ≡ None →
+pub free_slot : (c slot : ℕ) (rows : List (ℕ × Assignment)) → row_by_number (λ a. a.slot) slot (held_by c rows) ≡ None →
     list_any (is_of c slot) rows ≡ false
 free_slot c slot rows none = sym (has_slot c slot rows) ∙ ap is_some none
 
@@ -117,7 +119,7 @@ module _ {X K : Type 0} (R : K → K → Ordering) (key : X → K) (p : X → Bo
       by Greater e (inr later) rest = higher (rest later) (ap is_lt e) (ap is_gt e)
 
   pub any-put : (rows : List X) → ((x : X) → R (key x) (key row) ≡ Equal → p x ≡ true → p row ≡ true) →
-      list_any p rows ≡ true → list_any p (put R key row rows) ≡ true
+      list_any p rows ≡ true → list_any p (with_row R key row rows) ≡ true
   any-put rows alike h = list_any-append p (below rows) (row ∷ above rows) ∙ by (kept_or_replaced rows alike h)
     where
       by : (list_any p (below rows) ≡ true) ⊎ (list_any p (row ∷ above rows) ≡ true) →
@@ -125,7 +127,7 @@ module _ {X K : Type 0} (R : K → K → Ordering) (key : X → K) (p : X → Bo
       by (inl l) = or_first (list_any p (below rows)) (list_any p (row ∷ above rows)) l
       by (inr g) = or_second (list_any p (below rows)) (list_any p (row ∷ above rows)) g
 
-  pub any-put_own : (rows : List X) → p row ≡ true → list_any p (put R key row rows) ≡ true
+  pub any-put_own : (rows : List X) → p row ≡ true → list_any p (with_row R key row rows) ≡ true
   any-put_own rows h = list_any-append p (below rows) (row ∷ above rows)
       ∙ or_second (list_any p (below rows)) (list_any p (row ∷ above rows))
       (or_first (p row) (list_any p (above rows)) h)
@@ -135,7 +137,7 @@ module _ {X K : Type 0} (R : K → K → Ordering) (key : X → K) (p : X → Bo
 -- a slot that is among the rows stays among those after an assignment was put
 pub slot_stays : (c slot n : ℕ) (a : Assignment) (rows : List (ℕ × Assignment)) →
     list_any (is_of c slot) rows ≡ true → list_any (is_of c slot)
-    (put (held_cmp nat_cmp) (held_key (λ a. a.slot)) (n, a) rows) ≡ true
+    (with_row (held_cmp nat_cmp) (held_key (λ a. a.slot)) (n, a) rows) ≡ true
 slot_stays c slot n a rows h = any-put (held_cmp nat_cmp) (held_key slot_of) (is_of c slot) (n, a) rows alike h
   where
     alike : (x : ℕ × Assignment) → held_cmp nat_cmp (x.0, x.1.slot) (n, a.slot) ≡ Equal → is_of c slot x ≡ true →
@@ -158,7 +160,8 @@ abbrev pub taken_key : TakenOver → ℕ × ℕ
 taken_key t = (t.collector, t.slot)
 
 -- a slot that wasn't given took no series over
-pub none_taken : (c slot : ℕ) (rows : List (ℕ × Assignment)) → at (λ a. a.slot) slot (held_by c rows) ≡ None →
+pub none_taken : (c slot : ℕ) (rows : List (ℕ × Assignment)) → row_by_number (λ a. a.slot) slot
+    (held_by c rows) ≡ None →
     (taken : List TakenOver) → AllByRecursion (IsGiven rows) taken →
     row_at (held_cmp nat_cmp) taken_key (c, slot) taken ≡ None
 none_taken c slot rows none [] all = refl
@@ -187,7 +190,7 @@ none_taken c slot rows none (t ∷ taken) all = by (is_eq (held_cmp nat_cmp (t.c
         let both : (eqb t.collector c && eqb t.slot slot) ≡ true = sym (level_slots t.collector t.slot c slot) ∙ e in
         let collector : t.collector ≡ c = is t.collector c (collectors (eqb t.collector c) (eqb t.slot slot) both) in
         let at_slot : t.slot ≡ slot = is t.slot slot (slots (eqb t.collector c) (eqb t.slot slot) both) in
-        let there : is_some (at slot_of slot (held_by c rows)) ≡ true = rw (← collector, ← at_slot) all.0 in
+        let there : is_some (row_by_number slot_of slot (held_by c rows)) ≡ true = rw (← collector, ← at_slot) all.0 in
         let no : false ≡ true = sym (ap is_some none) ∙ there in
         cc
     by false e rest = rw e rest

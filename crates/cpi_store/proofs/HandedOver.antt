@@ -7,7 +7,7 @@ use Rattle.std.specs.declared.cmp.Ordering.TheVariants.{Less, Equal, Greater}
 use Rattle.std.specs.Ordering.{nat_cmp, is_lt, is_gt, is_eq, ordering_reverse}
 use Rattle.std.specs.List.{AllByRecursion, list_any}
 use Rattle.std.proofs.lemmas.Bool.Decides.{eqb_tells}
-use Rattle.cpi_rows.specs.Keyed.{IsInOrder, at, put, row_at}
+use Rattle.cpi_rows.specs.Keyed.{IsInOrder, row_by_number, with_row, row_at}
 use Rattle.cpi_rows.specs.Held.{held_by, held_cmp, held_key}
 use Rattle.cpi_rows.proofs.Places.{put_in_order}
 use Rattle.cpi_rows.proofs.Puts.{map-put, row_at-put_apart, row_at-put_same}
@@ -19,7 +19,7 @@ use Rattle.cpi_store.specs.declared.series_move.SeriesMove.{SeriesMove}
 use Rattle.cpi_store.specs.declared.taken_over.TakenOver.{TakenOver}
 use Rattle.cpi_store.specs.Holders.{IsGiven, assignment_until}
 use Rattle.cpi_store.specs.Office.{end_given, given_over, hand_over, put_given}
-use Rattle.cpi_store.specs.Series.{first_of_series, given_in, own_series, series_in, series_or}
+use Rattle.cpi_store.specs.Series.{first_of_series, given_in, own_series, series_named_in, series_or}
 use Rattle.cpi_store.proofs.Assigned.{all_filtered, all_joined}
 use Rattle.cpi_store.proofs.GivenSlots.{any-map, any-put_own, free_slot, given_after, has_slot, held_cmp_total, is_of}
 use Rattle.cpi_store.proofs.GivenSlots.{level_slots, slot_stays, taken_key}
@@ -31,10 +31,10 @@ slot_of a = a.slot
 -- an assignment that is put names its own series where its slot took none over
 pub given_put : (taken : List TakenOver) (c : ℕ) (a : Assignment) (rows : List (ℕ × Assignment)) →
     row_at (held_cmp nat_cmp) taken_key (c, a.slot) taken ≡ None →
-    map (given_in taken) (put (held_cmp nat_cmp) (held_key (λ a. a.slot)) (c, a) rows) ≡ put_given c
+    map (given_in taken) (with_row (held_cmp nat_cmp) (held_key (λ a. a.slot)) (c, a) rows) ≡ put_given c
     (first_of_series c a) (map (given_in taken) rows)
 given_put taken c a rows none =
-    let own : series_in taken c a.slot ≡ own_series c a.slot = ap (series_or (own_series c a.slot)) none in
+    let own : series_named_in taken c a.slot ≡ own_series c a.slot = ap (series_or (own_series c a.slot)) none in
     map-put (held_cmp nat_cmp) (held_key (λ (g : Given). g.assignment.slot)) (given_in taken) (c, a) rows
     ∙ ap (λ (s : SeriesId). put_given c (record { assignment = a; series = s }) (map (given_in taken) rows)) own
 
@@ -54,7 +54,7 @@ given_ended taken c slot last_month (r ∷ rows) =
     by true e rest = rw e (ap (λ ys. (
       r.0,
       record
-          { assignment = until last_month r.1; series = series_in taken r.0 r.1.slot },
+          { assignment = until last_month r.1; series = series_named_in taken r.0 r.1.slot },
     ) ∷ ys) rest)
     by false e rest = rw e (ap (λ ys. given_in taken r ∷ ys) rest)
 
@@ -91,16 +91,16 @@ module _ (h : SeriesMove) (taken : List TakenOver)
   over = record { collector = n; slot = new_slot; series = h.ended.series }
 
   abbrev after : List TakenOver
-  after = put (held_cmp nat_cmp) (λ t. (t.collector, t.slot)) over taken
+  after = with_row (held_cmp nat_cmp) (λ t. (t.collector, t.slot)) over taken
 
   pub taken_in_order : IsInOrder (held_cmp nat_cmp) (λ t. (t.collector, t.slot)) after
   taken_in_order = put_in_order held_cmp_total (λ t. (t.collector, t.slot)) taken over by_slot
 
-  new_series : series_in after n new_slot ≡ h.ended.series
+  new_series : series_named_in after n new_slot ≡ h.ended.series
   new_series = ap (series_or (own_series n new_slot)) (row_at-put_same held_cmp_total taken_key over taken)
 
   other_series : (row : ℕ × Assignment) → is_of n new_slot row ≡ false →
-      series_in after row.0 row.1.slot ≡ series_in taken row.0 row.1.slot
+      series_named_in after row.0 row.1.slot ≡ series_named_in taken row.0 row.1.slot
   other_series row apart =
       ap (series_or (own_series row.0 row.1.slot))
       (row_at-put_apart held_cmp_total taken_key (row.0, row.1.slot) over taken by_slot
@@ -125,10 +125,10 @@ module _ (h : SeriesMove) (taken : List TakenOver)
       rest_none false b e = e
 
   module _ (rows : List (ℕ × Assignment)) (stands : IsSome
-      (at (λ a. a.slot) h.ended.assignment.slot (held_by h.former.number rows)))
-      (free : at (λ a. a.slot) h.assigned.assignment.slot (held_by h.taker.number rows) ≡ None) where
+      (row_by_number (λ a. a.slot) h.ended.assignment.slot (held_by h.former.number rows)))
+      (free : row_by_number (λ a. a.slot) h.assigned.assignment.slot (held_by h.taker.number rows) ≡ None) where
     abbrev put_rows : List (ℕ × Assignment)
-    put_rows = put (held_cmp nat_cmp) (held_key (λ a. a.slot)) (n, h.assigned.assignment) rows
+    put_rows = with_row (held_cmp nat_cmp) (held_key (λ a. a.slot)) (n, h.assigned.assignment) rows
 
     abbrev passed_on : List (ℕ × Assignment)
     passed_on = map (assignment_until h.former.number h.ended.assignment.slot h.ended.assignment.last_month) put_rows
@@ -139,7 +139,8 @@ module _ (h : SeriesMove) (taken : List TakenOver)
       where
         clash : n ≡ h.former.number → new_slot ≡ h.ended.assignment.slot → ⊥
         clash collector slot =
-            let there : is_some (at slot_of new_slot (held_by n rows)) ≡ true = rw (collector, slot) stands in
+            let there : is_some (row_by_number slot_of new_slot (held_by n rows)) ≡ true = rw (collector, slot)
+            stands in
             let no : false ≡ true = sym (ap is_some free) ∙ there in
             cc
 

@@ -13,7 +13,7 @@ use Rattle.cpi_survey.specs.declared.assignment.Assignment.{Assignment}
 use Rattle.cpi_index.specs.Frozen.{Frozen}
 use Rattle.cpi_store.specs.Office.{frozen_quote, frozen_row}
 use Rattle.cpi_store.specs.Series.{given_in, is_handed_over, last_handed_over, last_of_series, own_series, same_series}
-use Rattle.cpi_store.specs.Series.{series_cmp, series_in}
+use Rattle.cpi_store.specs.Series.{series_cmp, series_named_in}
 use Rattle.cpi_store.specs.declared.given.Given.{Given}
 use Rattle.cpi_store.specs.declared.taken_over.TakenOver.{TakenOver}
 use Rattle.cpi_store.proofs.GivenSlots.{level_slots, taken_key}
@@ -75,7 +75,7 @@ any_found p key (x ∷ taken) t found passes =
 
 -- the slot of a series that no slot took over is the one that the series names
 pub names_own : (taken : List TakenOver) (c slot : ℕ) (s : SeriesId) → is_handed_over taken s ≡ false →
-    same_series (series_in taken c slot) s ≡ true → same_series (own_series c slot) s ≡ true
+    same_series (series_named_in taken c slot) s ≡ true → same_series (own_series c slot) s ≡ true
 names_own taken c slot s free same = by (row_at (held_cmp nat_cmp) taken_key (c, slot) taken) refl
   where
     by : (w : Option TakenOver) → row_at (held_cmp nat_cmp) taken_key (c, slot) taken ≡ w →
@@ -98,7 +98,7 @@ module _ (month : ℕ) (quotes : List (ℕ × QuoteRow)) (given : List (ℕ × G
   stored row = frozen_row month quotes given row
 
   abbrev is_its : ℕ × Assignment → Bool
-  is_its r = same_series (series_in taken r.0 r.1.slot) s
+  is_its r = same_series (series_named_in taken r.0 r.1.slot) s
 
   abbrev quote_of_it : ℕ × Assignment → Frozen
   quote_of_it r = frozen_quote given (given_in taken r).1 q
@@ -147,13 +147,13 @@ module _ (month : ℕ) (quotes : List (ℕ × QuoteRow)) (given : List (ℕ × G
       by true e =
           let split = rw (stores r e) at all in
           let apart : is_one f (quote_of_it r) ≡ false = split.0 in
-          let level : is_one f (quote_of_it r) ≡ same_series f.series (series_in taken r.0 r.1.slot) =
-          level_slots f.series.collector f.series.slot (series_in taken r.0 r.1.slot).collector
-          (series_in taken r.0 r.1.slot).slot in
-          let one : same_series f.series (series_in taken r.0 r.1.slot) ≡ true =
-          same_series-is f.series (series_in taken r.0 r.1.slot)
-          (collectors_are f.series s same ∙ sym (collectors_are (series_in taken r.0 r.1.slot) s e))
-          (slots_are f.series s same ∙ sym (slots_are (series_in taken r.0 r.1.slot) s e)) in
+          let level : is_one f (quote_of_it r) ≡ same_series f.series (series_named_in taken r.0 r.1.slot) =
+          level_slots f.series.collector f.series.slot (series_named_in taken r.0 r.1.slot).collector
+          (series_named_in taken r.0 r.1.slot).slot in
+          let one : same_series f.series (series_named_in taken r.0 r.1.slot) ≡ true =
+          same_series-is f.series (series_named_in taken r.0 r.1.slot)
+          (collectors_are f.series s same ∙ sym (collectors_are (series_named_in taken r.0 r.1.slot) s e))
+          (slots_are f.series s same ∙ sym (slots_are (series_named_in taken r.0 r.1.slot) s e)) in
           let no : false ≡ true = sym apart ∙ level ∙ one in
           cc
       by false e = e

@@ -8,7 +8,7 @@ use Rattle.std.specs.Ordering.{nat_cmp, is_lt, is_gt, is_eq}
 use Rattle.std.specs.Cmp.{unsigned_tied}
 use Rattle.std.proofs.lemmas.Bool.Decides.{eqb_tells}
 use Rattle.std.proofs.lemmas.List.{map-append}
-use Rattle.cpi_rows.specs.Keyed.{IsInOrder, at, put, row_at}
+use Rattle.cpi_rows.specs.Keyed.{IsInOrder, row_by_number, with_row, row_at}
 use Rattle.cpi_rows.specs.Held.{held_by, held_cmp, held_key}
 use Rattle.cpi_rows.proofs.Found.{at_key}
 use Rattle.cpi_rows.proofs.Puts.{map-put, put_standing}
@@ -21,24 +21,25 @@ slot_of g = g.assignment.slot
 
 -- the row of a slot among those of all is that of the slot among its collector's
 pub row_at-held : {X : Type 0} (key : X → ℕ) (c slot : ℕ) (rows : List (ℕ × X)) →
-    row_at (held_cmp nat_cmp) (held_key key) (c, slot) rows ≡ option_map (λ x. (c, x)) (at key slot (held_by c rows))
+    row_at (held_cmp nat_cmp) (held_key key) (c, slot) rows ≡ option_map (λ x. (c, x))
+    (row_by_number key slot (held_by c rows))
 row_at-held key c slot [] = refl
 row_at-held {X = X} key c slot (r ∷ rows) = rw (level_slots r.0 (key r.1) c slot)
     (by (eqb_tells r.0 c) (row_at-held key c slot rows))
   where
     Found : List (ℕ × X) → Type 0
     Found rs = row_at (held_cmp nat_cmp) (held_key key) (c, slot) rs ≡ option_map (λ x. (c, x))
-        (at key slot (held_by c rs))
+        (row_by_number key slot (held_by c rs))
 
     here : r.0 ≡ c → (b : Bool) → is_eq (nat_cmp (key r.1) slot) ≡ b → Found rows →
         (if b then Some r else row_at (held_cmp nat_cmp) (held_key key) (c, slot) rows) ≡ option_map (λ x. (c, x))
-        (at key slot (r.1 ∷ held_by c rows))
+        (row_by_number key slot (r.1 ∷ held_by c rows))
     here same true e rest = rw e (ap (λ n. Some (n, r.1)) same)
     here same false e rest = rw e rest
 
     by : ((eqb r.0 c ≡ true) × (r.0 ≡ c)) ⊎ ((eqb r.0 c ≡ false) × (r.0 ≢ c)) → Found rows →
         (if r.0 == c && key r.1 == slot then Some r else row_at (held_cmp nat_cmp) (held_key key) (c, slot) rows) ≡
-        option_map (λ x. (c, x)) (at key slot (held_by c (r ∷ rows)))
+        option_map (λ x. (c, x)) (row_by_number key slot (held_by c (r ∷ rows)))
     by (inl same) rest = rw same.0 (here same.1 (eqb (key r.1) slot) (unsigned_tied (key r.1) slot) rest)
     by (inr apart) rest = rw apart.0 rest
 
@@ -61,9 +62,9 @@ module _ (c slot last_month : ℕ) where
   end_given-put n g rows apart =
       let keys : (λ (row : ℕ × Given). held_key slot_of (ending row)) ≡ held_key slot_of = λ i row. key_stays row i in
       let stays : ending (n, g) ≡ (n, g) = rw apart refl in
-      ap (λ key. map ending (put (held_cmp nat_cmp) key (n, g) rows)) (sym keys)
+      ap (λ key. map ending (with_row (held_cmp nat_cmp) key (n, g) rows)) (sym keys)
       ∙ map-put (held_cmp nat_cmp) (held_key slot_of) ending (n, g) rows
-      ∙ ap (λ row. put (held_cmp nat_cmp) (held_key slot_of) row (map ending rows)) stays
+      ∙ ap (λ row. with_row (held_cmp nat_cmp) (held_key slot_of) row (map ending rows)) stays
 
   -- among rows of which the test passes none of the slot's, none changes
   none_ends : (p : ℕ × Given → Bool) → ((row : ℕ × Given) → p row ≡ true →
@@ -80,7 +81,7 @@ module _ (c slot last_month : ℕ) where
   -- Where the slot stands among rows in order, its row with the other last month is put in its place.
   pub end_given-is_put : (g : Given) (rows : List (ℕ × Given)) →
       IsInOrder (held_cmp nat_cmp) (held_key slot_of) rows →
-      at (λ g. g.assignment.slot) slot (held_by c rows) ≡ Some g →
+      row_by_number (λ g. g.assignment.slot) slot (held_by c rows) ≡ Some g →
       end_given c slot last_month rows ≡ put_given c (given_until last_month g) rows
   end_given-is_put g rows sorted found =
       let slot_is : g.assignment.slot ≡ slot = at_key slot_of slot g (held_by c rows) found in
@@ -112,7 +113,8 @@ module _ (c slot last_month : ℕ) where
       apart : (test : Ordering → Bool) → test Equal ≡ false → (row : ℕ × Given) → g.assignment.slot ≡ slot →
           test (held_cmp nat_cmp (held_key slot_of row) (c, g.assignment.slot)) ≡ true →
           (row.0 == c && row.1.assignment.slot == slot) ≡ false
-      apart test out row is passes = by (held_cmp nat_cmp (held_key slot_of row) (c, slot)) refl (rw is at passes)
+      apart test out row is passes = by (held_cmp nat_cmp (held_key slot_of row) (c, slot)) refl
+          (rw is at passes)
         where
           by : (s : Ordering) → held_cmp nat_cmp (held_key slot_of row) (c, slot) ≡ s →
               test (held_cmp nat_cmp (held_key slot_of row) (c, slot)) ≡ true →

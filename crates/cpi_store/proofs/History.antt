@@ -17,15 +17,17 @@ use Rattle.cpi_codes.specs.Month.{year_of}
 use Rattle.cpi_codes.specs.CodeOrder.{code_cmp}
 use Rattle.std.specs.List.Sorted.{IsStrictlySortedBy}
 use Rattle.cpi_rows.proofs.Places.{none_in_order}
-use Rattle.cpi_rows.specs.Keyed.{at, IsInOrder}
+use Rattle.cpi_rows.specs.Keyed.{row_by_number, IsInOrder}
 use Rattle.cpi_plan.specs.Plan.{Plan}
 use Rattle.cpi_plan.specs.declared.plan_rows.Node.{Node}
 use Rattle.cpi_index.specs.Row.{Row}
-use Rattle.cpi_index.specs.Series.{is_by_series, frozen_serial, carried_serial}
-use Rattle.cpi_release.specs.FrozenMonths.{ReleaseKey, frozen_months, is_next, is_after_first, release_cmp, release_key}
+use Rattle.cpi_index.specs.Series.{are_by_series, frozen_serial, carried_serial}
+use Rattle.cpi_release.specs.FrozenMonths.{ReleaseKey, frozen_months, is_next_month, is_past_first_month, release_cmp}
+use Rattle.cpi_release.specs.FrozenMonths.{release_key}
 use Rattle.cpi_release.specs.FrozenMonths.{plan_for}
-use Rattle.cpi_release.specs.Releasing.{Freeze, released, freeze_of, has_earlier, plan_of, AreMonths, IsOrdered}
-use Rattle.cpi_release.specs.Releases.{release_of, rows_in, plan_in_use}
+use Rattle.cpi_release.specs.Releasing.{Freeze, release_of_month, freeze_of, has_an_earlier, plan_in, AreMonths}
+use Rattle.cpi_release.specs.Releasing.{IsOrdered}
+use Rattle.cpi_release.specs.Releases.{latest_release, rows_of_bases, plan_in_use}
 use Rattle.cpi_release.specs.MonthTable.{level_row}
 use Rattle.cpi_release.specs.declared.level.Level.{Level}
 use Rattle.cpi_release.proofs.LatestRows.{latest_all}
@@ -35,28 +37,28 @@ use Rattle.cpi_store.specs.Released.{IsReleased, AreReleased}
 use Rattle.cpi_store.specs.Sound.{IsSound, HasNodesInOrder}
 use Rattle.cpi_store.proofs.Series.{frozen_by_serial, consistent, by_serial, all_series}
 use Rattle.cpi_store.proofs.Released.{month_in_order, month_of_series}
-use Rattle.cpi_store.specs.Office.{Office, month_rows}
+use Rattle.cpi_store.specs.Office.{Office, quotes_of_month}
 use Rattle.cpi_store.specs.History.{ReleasesAreComputed, ReleasesAreSound, SourcesAreFit}
 
 -- ---- earlier months, by the releases and by their frozen_months
-earlier_is : (month : ℕ) (rs : List Release) → has_earlier rs month ≡ is_after_first month (frozen_months rs)
+earlier_is : (month : ℕ) (rs : List Release) → has_an_earlier rs month ≡ is_past_first_month month (frozen_months rs)
 earlier_is month [] = refl
 earlier_is month (r ∷ rs) = ap (λ b. nat_lt r.month month || b) (earlier_is month rs)
 
 -- ---- all releases, as they are made
 module _ (plans : List Plan) where
-  pub plan_same : (month : ℕ) (rs : List Release) → plan_of plans rs month ≡ plan_for plans (frozen_months rs) month
-  plan_same month rs = ap (λ b. if b then at (λ (y : Plan). y.year) (year_of month) plans else None)
+  pub plan_same : (month : ℕ) (rs : List Release) → plan_in plans rs month ≡ plan_for plans (frozen_months rs) month
+  plan_same month rs = ap (λ b. if b then row_by_number (λ (y : Plan). y.year) (year_of month) plans else None)
       (earlier_is month rs)
 
   abbrev one_released : List Release → Freeze → List Release
-  one_released done x = done ++ released (plan_of plans done x.month) done x ∷ []
+  one_released done x = done ++ release_of_month (plan_in plans done x.month) done x ∷ []
 
   all_same : (before rs : List Release) → AreReleased plans before rs →
       fold one_released before (map freeze_of rs) ≡ before ++ rs
   all_same before [] all = sym (append-nil before)
   all_same before (r ∷ rs) all =
-      ap (λ w. fold one_released (before ++ released w before (freeze_of r) ∷ []) (map freeze_of rs))
+      ap (λ w. fold one_released (before ++ release_of_month w before (freeze_of r) ∷ []) (map freeze_of rs))
       (plan_same r.month before)
       ∙ ap (λ x. fold one_released (before ++ x ∷ []) (map freeze_of rs)) (sym all.0.computed)
       ∙ all_same (before ++ r ∷ []) rs all.1
@@ -64,7 +66,7 @@ module _ (plans : List Plan) where
 
   -- ---- a month again, or the one after it
   pub next_after : (month : ℕ) (before : List Release) (x : Release) →
-      is_next month (frozen_months (before ++ x ∷ [])) ≡ (x.month == month || month == x.month + 1)
+      is_next_month month (frozen_months (before ++ x ∷ [])) ≡ (x.month == month || month == x.month + 1)
   next_after month [] x = refl
   next_after month (b ∷ []) x = refl
   next_after month (b ∷ d ∷ before) x = next_after month (d ∷ before) x
@@ -113,7 +115,7 @@ module _ (plans : List Plan) where
 
   none_earlier : (r : Release) (rs : List Release) →
       AllByRecursion (λ (s : Release). release_cmp (release_key r) (release_key s) ≡ Less) rs →
-      has_earlier rs r.month ≡ false
+      has_an_earlier rs r.month ≡ false
   none_earlier r [] all = refl
   none_earlier r (s ∷ rs) all =
       let up = month_up (release_key r) (release_key s) all.0 in
@@ -129,7 +131,8 @@ module _ (plans : List Plan) where
   last_false false b e f = absurd (false≢true (sym f ∙ e))
 
   abbrev IsPlanned : List Release → Release → Type 0
-  IsPlanned all r = has_earlier all r.month ≡ true → IsSome (at (λ (y : Plan). y.year) (year_of r.month) plans)
+  IsPlanned all r = has_an_earlier all r.month ≡ true → IsSome
+      (row_by_number (λ (y : Plan). y.year) (year_of r.month) plans)
 
   all_planned : (before rs : List Release) → IsInOrder release_cmp release_key rs → AreReleased plans before rs →
       AllByRecursion (IsPlanned (before ++ rs)) rs
@@ -137,13 +140,14 @@ module _ (plans : List Plan) where
   all_planned before (r ∷ rs) sorted all = (
     λ early.
         let not_itself : nat_lt r.month r.month ≡ false = lt-leb (suc r.month) r.month (omega arith) in
-        let none : has_earlier (r ∷ rs) r.month ≡ false =
+        let none : has_an_earlier (r ∷ rs) r.month ≡ false =
         rw not_itself (none_earlier r rs (sorted_head
         (λ (a b : Release). release_cmp (release_key a) (release_key b)) r rs sorted)) in
-        let before_it : has_earlier before r.month ≡ true =
-        last_false (has_earlier before r.month) (has_earlier (r ∷ rs) r.month)
+        let before_it : has_an_earlier before r.month ≡ true =
+        last_false (has_an_earlier before r.month) (has_an_earlier (r ∷ rs) r.month)
         (sym (list_any-append (λ (s : Release). nat_lt s.month r.month) before (r ∷ rs)) ∙ early) none in
-        has_plan (at (λ (y : Plan). y.year) (year_of r.month) plans) (is_after_first r.month (frozen_months before))
+        has_plan (row_by_number (λ (y : Plan). y.year) (year_of r.month) plans)
+        (is_past_first_month r.month (frozen_months before))
         all.0.planned (sym (earlier_is r.month before) ∙ before_it),
     subst (λ xs. AllByRecursion (IsPlanned xs) rs) (append_assoc before (r ∷ []) rs)
         (all_planned (before ++ r ∷ []) rs (sorted_tail
@@ -151,26 +155,26 @@ module _ (plans : List Plan) where
   )
 
   planned : (rs : List Release) → IsInOrder release_cmp release_key rs → AreReleased plans [] rs → (month : ℕ) →
-      IsSome (release_of rs month) → has_earlier rs month ≡ true →
-      IsSome (at (λ (y : Plan). y.year) (year_of month) plans)
-  planned rs sorted all month found early = by (release_of rs month) refl found
+      IsSome (latest_release rs month) → has_an_earlier rs month ≡ true →
+      IsSome (row_by_number (λ (y : Plan). y.year) (year_of month) plans)
+  planned rs sorted all month found early = by (latest_release rs month) refl found
     where
-      by : (o : Option Release) → release_of rs month ≡ o → IsSome o →
-          IsSome (at (λ (y : Plan). y.year) (year_of month) plans)
+      by : (o : Option Release) → latest_release rs month ≡ o → IsSome o →
+          IsSome (row_by_number (λ (y : Plan). y.year) (year_of month) plans)
       by None e some = absurd (false≢true some)
       by (Some r) e some =
           let one = latest_all (λ (x : Release). x.month) month (IsPlanned rs) rs r (all_planned [] rs sorted all) e in
-          subst (λ m. IsSome (at (λ (y : Plan). y.year) (year_of m) plans)) one.1
-          (one.0 (ap (has_earlier rs) one.1 ∙ early))
+          subst (λ m. IsSome (row_by_number (λ (y : Plan). y.year) (year_of m) plans)) one.1
+          (one.0 (ap (has_an_earlier rs) one.1 ∙ early))
 
 -- ---- the lists of each release are in their order
 
 pub at_all : {X : Type 0} (P : X → Type 0) (key : X → ℕ) (k : ℕ) (x : X) (xs : List X) → AllByRecursion P xs →
-    at key k xs ≡ Some x → P x
+    row_by_number key k xs ≡ Some x → P x
 at_all P key k x [] all found = let no : None ≡ Some x = found in cc
 at_all P key k x (y ∷ ys) all found = by (is_eq (nat_cmp (key y) k)) refl (at_all P key k x ys all.1)
   where
-    by : (b : Bool) → is_eq (nat_cmp (key y) k) ≡ b → (at key k ys ≡ Some x → P x) → P x
+    by : (b : Bool) → is_eq (nat_cmp (key y) k) ≡ b → (row_by_number key k ys ≡ Some x → P x) → P x
     by true e rest =
         let some : Some y ≡ Some x = rw e at found in
         let is : y ≡ x = cc in
@@ -198,37 +202,37 @@ module _ (p : Plan) (releases : List Release) (month : ℕ) (rows : List Row) wh
 module _ (plans : List Plan) (nodes : AllByRecursion HasNodesInOrder plans) where
   plan_ordered : (p : Plan) (before : List Release) (month : ℕ) →
       plan_for plans (frozen_months before) month ≡ Some p → HasNodesInOrder p
-  plan_ordered p before month e = by (is_after_first month (frozen_months before)) refl
+  plan_ordered p before month e = by (is_past_first_month month (frozen_months before)) refl
     where
-      by : (b : Bool) → is_after_first month (frozen_months before) ≡ b → HasNodesInOrder p
+      by : (b : Bool) → is_past_first_month month (frozen_months before) ≡ b → HasNodesInOrder p
       by true t = at_all HasNodesInOrder (λ (y : Plan). y.year) (year_of month) p plans nodes (rw t at e)
       by false t = let no : None ≡ Some p = rw t at e in cc
 
   one_ordered : (before : List Release) (r : Release) → AllByRecursion IsOrdered before →
-      is_by_series frozen_serial r.frozen ≡ true → IsReleased plans before r → IsOrdered r
+      are_by_series frozen_serial r.frozen ≡ true → IsReleased plans before r → IsOrdered r
   one_ordered before r done frozen one = by (plan_for plans (frozen_months before) r.month) refl
     where
       by : (w : Option Plan) → plan_for plans (frozen_months before) r.month ≡ w → IsOrdered r
-      by None e = let is : r ≡ released None before (freeze_of r) = one.computed
-          ∙ ap (λ w. released w before (freeze_of r)) e in record {
+      by None e = let is : r ≡ release_of_month None before (freeze_of r) = one.computed
+          ∙ ap (λ w. release_of_month w before (freeze_of r)) e in record {
             frozen = frozen;
-            carried = ap (λ (x : Release). is_by_series carried_serial x.carried) is;
+            carried = ap (λ (x : Release). are_by_series carried_serial x.carried) is;
             levels = subst (λ (x : Release). IsInOrder code_cmp (λ l. l.code) x.levels) (sym is)
                 (none_in_order code_cmp (λ l. l.code));
           }
-      by (Some p) e = let is : r ≡ released (Some p) before (freeze_of r) = one.computed
-          ∙ ap (λ w. released w before (freeze_of r)) e in record {
+      by (Some p) e = let is : r ≡ release_of_month (Some p) before (freeze_of r) = one.computed
+          ∙ ap (λ w. release_of_month w before (freeze_of r)) e in record {
             frozen = frozen;
-            carried = ap (λ (x : Release). is_by_series carried_serial x.carried) is
+            carried = ap (λ (x : Release). are_by_series carried_serial x.carried) is
                 ∙ carry_in_order before (λ month s found.
                 (latest_all (λ (x : Release). x.month) month IsOrdered before s done found).0) p r.month r.frozen;
             levels = subst (λ (x : Release). IsInOrder code_cmp (λ l. l.code) x.levels) (sym is)
-                (table_in_order (plan_in_use p before r.month) before r.month (rows_in p before r.month r.frozen)
+                (table_in_order (plan_in_use p before r.month) before r.month (rows_of_bases p before r.month r.frozen)
                 p.nodes (plan_ordered p before r.month e));
           }
 
   all_ordered : (before rs : List Release) → AllByRecursion IsOrdered before →
-      AllByRecursion (λ (r : Release). is_by_series frozen_serial r.frozen ≡ true) rs → AreReleased plans before rs →
+      AllByRecursion (λ (r : Release). are_by_series frozen_serial r.frozen ≡ true) rs → AreReleased plans before rs →
       AllByRecursion IsOrdered rs
   all_ordered before [] done frozen all = tt
   all_ordered before (r ∷ rs) done frozen all = let one = one_ordered before r done frozen.0 all.0 in
@@ -249,9 +253,11 @@ releases_sound o s = let frozen = frozen_by_serial o.assignments s.made o.releas
   computed = sym (all_same o.plans [] o.releases s.released);
 }
 
-pub quotes_by_series : (o : Office) → IsSound o → (month : ℕ) → is_by_series frozen_serial (month_rows month o) ≡ true
+pub quotes_by_series : (o : Office) → IsSound o → (month : ℕ) → are_by_series frozen_serial
+    (quotes_of_month month o) ≡ true
 quotes_by_series o s month =
-    by_serial (month_rows month o) (all_series o.assignments s.made (month_rows month o) (month_of_series o s month))
+    by_serial (quotes_of_month month o) (all_series o.assignments s.made (quotes_of_month month o)
+    (month_of_series o s month))
     (month_in_order o s month)
 
 pub releases_computed : ReleasesAreComputed

@@ -18,16 +18,16 @@ use Rattle.cpi_rows.proofs.Puts.{different}
 use Rattle.cpi_survey.specs.Own.{OwnPart}
 use Rattle.cpi_survey.specs.Quote.{QuoteRow}
 use Rattle.cpi_survey.specs.declared.assignment.Assigned.{Assigned}
-use Rattle.cpi_store.specs.declared.bearer.Bearer.{Bearer}
+use Rattle.cpi_store.specs.declared.registration.Registration.{Registration}
 use Rattle.cpi_store.specs.declared.given.Given.{Given}
 use Rattle.cpi_store.specs.declared.holder.Holder.{Holder}
 use Rattle.cpi_store.specs.declared.outlet.Outlet.{Outlet}
-use Rattle.cpi_store.specs.Bearer.{bearer_of}
-use Rattle.cpi_store.specs.Holders.{HasOutlet, all_assignments, all_quotes, collectors_of, collector_of_holder}
+use Rattle.cpi_store.specs.Registration.{registration_of}
+use Rattle.cpi_store.specs.Holders.{HasOutlet, all_assignments, quotes_of_holders, collectors_of, collector_of_holder}
 use Rattle.cpi_store.specs.Holders.{assignments_of, quotes_of, named_by}
-use Rattle.cpi_store.specs.Loading.{HaveRows, beside, own_made, without_series}
+use Rattle.cpi_store.specs.Loading.{HaveRows, rows_with_number, own_made, without_series}
 use Rattle.cpi_store.specs.Outlet.{with_name}
-use Rattle.cpi_store.proofs.Added.{bearer_new, bearer_passed}
+use Rattle.cpi_store.proofs.Added.{registration_new, registration_passed}
 
 -- ---- rows in order, and parts of them
 
@@ -56,21 +56,21 @@ module _ {X K : Type 0} (cmp : K → K → Ordering) (key : X → K) (c : ℕ) w
   abbrev held_order : ℕ × X → ℕ × X → Ordering
   held_order a b = held_cmp cmp (held_key key a) (held_key key b)
 
-  own_above : (x : X) (own : List X) → AllByRecursion (λ y. held_order (c, x) y ≡ Less) (beside c own)
+  own_above : (x : X) (own : List X) → AllByRecursion (λ y. held_order (c, x) y ≡ Less) (rows_with_number c own)
       → AllByRecursion (λ y. cmp (key x) (key y) ≡ Less) own
   own_above x [] all = tt
   own_above x (y ∷ own) all =
       let one : ordering_then (nat_cmp c c) (cmp (key x) (key y)) ≡ Less = all.0 in
       (rw (tied_itself nat_cmp_total c) at one, own_above x own all.1)
 
-  own_sorted : (own : List X) → IsInOrder (held_cmp cmp) (held_key key) (beside c own) → IsInOrder cmp key own
+  own_sorted : (own : List X) → IsInOrder (held_cmp cmp) (held_key key) (rows_with_number c own) → IsInOrder cmp key own
   unfolding IsStrictlySortedBy
   own_sorted [] sorted = tt
   own_sorted (x ∷ own) sorted = (own_above x own sorted.0, own_sorted own sorted.1)
 
   -- the rows of one collector are in order where they stand among all
   pub own_in_order : (rows : List (ℕ × X)) (from n : ℕ) (own : List X)
-      → IsInOrder (held_cmp cmp) (held_key key) rows → beside c own ≡ take n (drop from rows)
+      → IsInOrder (held_cmp cmp) (held_key key) rows → rows_with_number c own ≡ take n (drop from rows)
       → IsInOrder cmp key own
   own_in_order rows from n own sorted is =
       let part : IsInOrder (held_cmp cmp) (held_key key) (take n (drop from rows)) =
@@ -101,7 +101,7 @@ module _ (us : List Outlet) where
   named_again (g ∷ gs) = ap (λ xs. with_name us g.assignment ∷ xs) (named_again gs)
 
   beside_named : (c : ℕ) (gs : List Given)
-      → beside c (map (λ a. a.assignment) (named gs)) ≡ map without_series (beside c gs)
+      → rows_with_number c (map (λ a. a.assignment) (named gs)) ≡ map without_series (rows_with_number c gs)
   beside_named c [] = refl
   beside_named c (g ∷ gs) = ap (λ xs. (c, g.assignment) ∷ xs) (beside_named c gs)
 
@@ -115,8 +115,9 @@ all_behind P (y ∷ xs) x all here = (all.0, all_behind P xs x all.1 here)
 abbrev lists_of : List Holder → List (List Assigned)
 lists_of hs = map (λ h. h.own.assignments) hs
 
-module _ (us : List Outlet) (bs : List Bearer) (gs : List (ℕ × Given)) (qs : List (ℕ × QuoteRow)) (hs : List Holder)
-    (have : HaveRows us bs gs qs hs) (b : Bearer) (own_gs : List Given) (own_qs : List QuoteRow) (own : OwnPart)
+module _ (us : List Outlet) (bs : List Registration) (gs : List (ℕ × Given)) (qs : List (ℕ × QuoteRow))
+    (hs : List Holder)
+    (have : HaveRows us bs gs qs hs) (b : Registration) (own_gs : List Given) (own_qs : List QuoteRow) (own : OwnPart)
     (made : own ≡ own_made us own_gs own_qs) (placed : AllByRecursion (HasOutlet us) own.assignments) where
   abbrev one : Holder
   one = record { number = b.number; key = b.key; own = own }
@@ -130,22 +131,24 @@ module _ (us : List Outlet) (bs : List Bearer) (gs : List (ℕ × Given)) (qs : 
   names_own : names_of own.assignments ≡ own.assignments
   names_own = rw made (named_again us own_gs)
 
-  pub have_more : HaveRows us (bs ++ b ∷ []) (gs ++ beside b.number own_gs) (qs ++ beside b.number own_qs)
+  pub have_more : HaveRows us (bs ++ b ∷ []) (gs ++ rows_with_number b.number own_gs)
+      (qs ++ rows_with_number b.number own_qs)
       (hs ++ one ∷ [])
   have_more = record {
     collectors = map-append collector_of_holder hs (one ∷ []) ∙ ap (λ xs. xs ++ b ∷ []) have.collectors;
     assignments =
-        flat_map-append (λ (h : Holder). beside h.number (assignments_of h)) hs (one ∷ [])
-        ∙ ap (λ xs. all_assignments hs ++ xs) (append-nil (beside b.number (assignments_of one)))
-        ∙ ap (λ (o : OwnPart). all_assignments hs ++ beside b.number (map (λ a. a.assignment) o.assignments)) made
+        flat_map-append (λ (h : Holder). rows_with_number h.number (assignments_of h)) hs (one ∷ [])
+        ∙ ap (λ xs. all_assignments hs ++ xs) (append-nil (rows_with_number b.number (assignments_of one)))
+        ∙ ap (λ (o : OwnPart). all_assignments hs ++ rows_with_number b.number
+        (map (λ a. a.assignment) o.assignments)) made
         ∙ ap (λ xs. all_assignments hs ++ xs) (beside_named us b.number own_gs)
-        ∙ ap (λ xs. xs ++ map without_series (beside b.number own_gs)) have.assignments
-        ∙ sym (map-append without_series gs (beside b.number own_gs));
+        ∙ ap (λ xs. xs ++ map without_series (rows_with_number b.number own_gs)) have.assignments
+        ∙ sym (map-append without_series gs (rows_with_number b.number own_gs));
     quotes =
-        flat_map-append (λ (h : Holder). beside h.number (quotes_of h)) hs (one ∷ [])
-        ∙ ap (λ xs. all_quotes hs ++ xs) (append-nil (beside b.number (quotes_of one)))
-        ∙ ap (λ (o : OwnPart). all_quotes hs ++ beside b.number o.quotes) made
-        ∙ ap (λ xs. xs ++ beside b.number own_qs) have.quotes;
+        flat_map-append (λ (h : Holder). rows_with_number h.number (quotes_of h)) hs (one ∷ [])
+        ∙ ap (λ xs. quotes_of_holders hs ++ xs) (append-nil (rows_with_number b.number (quotes_of one)))
+        ∙ ap (λ (o : OwnPart). quotes_of_holders hs ++ rows_with_number b.number o.quotes) made
+        ∙ ap (λ xs. xs ++ rows_with_number b.number own_qs) have.quotes;
     names =
         ap (named_by us) lists
         ∙ map-append names_of (lists_of hs) (own.assignments ∷ [])
@@ -163,21 +166,21 @@ ok_found P (Ok y) x e h = let same : x ≡ y = cc in subst P (sym same) h
 ok_found P (Err y) x e h = let no : Some x ≡ None = e in cc
 
 -- who bears a key, after one was put behind the others
-pub bearer_behind : (b : Bearer) (bs : List Bearer) → bearer_of b.key bs ≡ None
-    → (key : ℕ) (before after : Option Bearer) → before ≡ bearer_of key bs
-    → after ≡ cond (is_eq (nat_cmp b.key key)) (Some b) before → after ≡ bearer_of key (bs ++ b ∷ [])
-bearer_behind b bs free key before after was is = by (eqb_tells b.key key)
+pub registration_behind : (b : Registration) (bs : List Registration) → registration_of b.key bs ≡ None
+    → (key : ℕ) (before after : Option Registration) → before ≡ registration_of key bs
+    → after ≡ cond (is_eq (nat_cmp b.key key)) (Some b) before → after ≡ registration_of key (bs ++ b ∷ [])
+registration_behind b bs free key before after was is = by (eqb_tells b.key key)
   where
     by : ((eqb b.key key ≡ true) × (b.key ≡ key)) ⊎ ((eqb b.key key ≡ false) × (b.key ≢ key))
-        → after ≡ bearer_of key (bs ++ b ∷ [])
+        → after ≡ registration_of key (bs ++ b ∷ [])
     by (inl same) =
         let test : is_eq (nat_cmp b.key key) ≡ true = rw (← same.1) (ap is_eq (tied_itself nat_cmp_total b.key)) in
-        let none : bearer_of key (bs ++ []) ≡ None =
-        ap (bearer_of key) (append-nil bs) ∙ ap (λ k. bearer_of k bs) (sym same.1) ∙ free in
-        is ∙ ap (λ t. cond t (Some b) before) test ∙ sym (bearer_new key b bs [] same.0 none)
+        let none : registration_of key (bs ++ []) ≡ None =
+        ap (registration_of key) (append-nil bs) ∙ ap (λ k. registration_of k bs) (sym same.1) ∙ free in
+        is ∙ ap (λ t. cond t (Some b) before) test ∙ sym (registration_new key b bs [] same.0 none)
     by (inr apart) =
         is ∙ ap (λ t. cond t (Some b) before) (different b.key key apart.1) ∙ was
-        ∙ sym (bearer_passed key b bs [] apart.0 ∙ ap (bearer_of key) (append-nil bs))
+        ∙ sym (registration_passed key b bs [] apart.0 ∙ ap (registration_of key) (append-nil bs))
 
 -- ---- the order of the collectors
 

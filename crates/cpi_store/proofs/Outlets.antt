@@ -4,7 +4,7 @@ use Rattle.std.specs.Prelude.{IsSome}
 use Rattle.std.specs.Ordering.{nat_cmp}
 use Rattle.std.specs.List.{AllByRecursion}
 use Rattle.std.proofs.lemmas.Bool.{false≢true}
-use Rattle.cpi_rows.specs.Keyed.{at, put_by, IsInOrder}
+use Rattle.cpi_rows.specs.Keyed.{row_by_number, put_by, IsInOrder}
 use Rattle.cpi_rows.proofs.Puts.{at-put_found, at-put_some}
 use Rattle.cpi_store.specs.Outlet.{with_name}
 use Rattle.cpi_store.specs.declared.outlet.Outlet.{Outlet}
@@ -12,12 +12,12 @@ use Rattle.cpi_survey.specs.declared.assignment.Assigned.{Assigned}
 use Rattle.cpi_store.specs.Holders.{named_by, HasOutlet, ArePlaced}
 
 module _ (u : Outlet) (us : List Outlet) (sorted : IsInOrder nat_cmp (λ u. u.number) us)
-    (new : at (λ u. u.number) u.number us ≡ None) where
+    (new : row_by_number (λ u. u.number) u.number us ≡ None) where
   name_stays : (a : Assigned) → HasOutlet us a →
       with_name (put_by (λ u. u.number) u us) a.assignment ≡ with_name us a.assignment
-  name_stays a has = by (at (λ u. u.number) a.assignment.outlet us) refl has
+  name_stays a has = by (row_by_number (λ u. u.number) a.assignment.outlet us) refl has
     where
-      by : (w : Option Outlet) → at (λ u. u.number) a.assignment.outlet us ≡ w → IsSome w →
+      by : (w : Option Outlet) → row_by_number (λ u. u.number) a.assignment.outlet us ≡ w → IsSome w →
           with_name (put_by (λ u. u.number) u us) a.assignment ≡ with_name us a.assignment
       by None e some = absurd (false≢true some)
       by (Some x) e some = rw (at-put_found (λ u. u.number) u us sorted new a.assignment.outlet x e, e) refl

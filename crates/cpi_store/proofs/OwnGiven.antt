@@ -4,7 +4,7 @@ use Rattle.std.proofs.Common.{inl, inr}
 use Rattle.std.specs.Prelude.{◌⊎◌, IsSome, option_map}
 use Rattle.std.proofs.lemmas.Bool.{false≢true}
 use Rattle.std.proofs.lemmas.Bool.Decides.{eqb_tells}
-use Rattle.cpi_rows.specs.Keyed.{at}
+use Rattle.cpi_rows.specs.Keyed.{row_by_number}
 use Rattle.cpi_rows.specs.Held.{held_by}
 use Rattle.cpi_rows.proofs.Found.{at-map, at_key}
 use Rattle.cpi_survey.specs.declared.assignment.Assignment.{Assignment}
@@ -13,7 +13,7 @@ use Rattle.cpi_store.specs.Outlet.{with_name}
 use Rattle.cpi_store.specs.declared.given.Given.{Given}
 use Rattle.cpi_store.specs.declared.outlet.Outlet.{Outlet}
 use Rattle.cpi_store.specs.declared.taken_over.TakenOver.{TakenOver}
-use Rattle.cpi_store.specs.Series.{given_in, series_in}
+use Rattle.cpi_store.specs.Series.{given_in, series_named_in}
 
 abbrev slot_of : Given → ℕ
 slot_of g = g.assignment.slot
@@ -23,10 +23,10 @@ own_slot a = a.slot
 
 -- where no assignment of a slot is found, nothing was given to it
 pub nothing_found : (us : List Outlet) (slot : ℕ) (gs : List Given) →
-    None ≡ at (λ a. a.assignment.slot) slot (map (with_name us) (map (λ g. g.assignment) gs)) →
-    None ≡ at (λ g. g.assignment.slot) slot gs
+    None ≡ row_by_number (λ a. a.assignment.slot) slot (map (with_name us) (map (λ g. g.assignment) gs)) →
+    None ≡ row_by_number (λ g. g.assignment.slot) slot gs
 nothing_found us slot gs is =
-    by (at slot_of slot gs) (is ∙ at-map (with_name us) (λ (a : Assigned). a.assignment.slot) slot
+    by (row_by_number slot_of slot gs) (is ∙ at-map (with_name us) (λ (a : Assigned). a.assignment.slot) slot
     (map (λ g. g.assignment) gs) ∙ ap (option_map (with_name us))
     (at-map (λ (g : Given). g.assignment) own_slot slot gs))
   where
@@ -36,7 +36,7 @@ nothing_found us slot gs is =
 
 module _ (taken : List TakenOver) (c : ℕ) where
   abbrev named : Assignment → Given
-  named a = record { assignment = a; series = series_in taken c a.slot }
+  named a = record { assignment = a; series = series_named_in taken c a.slot }
 
   -- a collector's rows among all, each beside its series, are the collector's
   held_given : (rows : List (ℕ × Assignment)) → held_by c (map (given_in taken) rows) ≡ map named (held_by c rows)
@@ -59,64 +59,69 @@ module _ (taken : List TakenOver) (c : ℕ) where
 
   -- what a slot was given is its assignment, beside its series
   pub at_given : (slot : ℕ) (rows : List (ℕ × Assignment)) →
-      at (λ g. g.assignment.slot) slot (held_by c (map (given_in taken) rows)) ≡ option_map
-      (λ a. record { assignment = a; series = series_in taken c slot }) (at (λ a. a.slot) slot (held_by c rows))
-  at_given slot rows = ap (at slot_of slot) (held_given rows) ∙ at-map named slot_of slot (held_by c rows)
-      ∙ by (at own_slot slot (held_by c rows)) refl
+      row_by_number (λ g. g.assignment.slot) slot (held_by c (map (given_in taken) rows)) ≡ option_map
+      (λ a. record { assignment = a; series = series_named_in taken c slot })
+      (row_by_number (λ a. a.slot) slot (held_by c rows))
+  at_given slot rows = ap (row_by_number slot_of slot) (held_given rows) ∙ at-map named slot_of slot (held_by c rows)
+      ∙ by (row_by_number own_slot slot (held_by c rows)) refl
     where
       beside : ℕ → Assignment → Given
-      beside s a = record { assignment = a; series = series_in taken c s }
+      beside s a = record { assignment = a; series = series_named_in taken c s }
 
-      by : (w : Option Assignment) → at own_slot slot (held_by c rows) ≡ w →
-          option_map named (at own_slot slot (held_by c rows)) ≡ option_map (beside slot)
-          (at own_slot slot (held_by c rows))
+      by : (w : Option Assignment) → row_by_number own_slot slot (held_by c rows) ≡ w →
+          option_map named (row_by_number own_slot slot (held_by c rows)) ≡ option_map (beside slot)
+          (row_by_number own_slot slot (held_by c rows))
       by None e = rw e refl
       by (Some a) e = rw e (ap (λ s. Some (beside s a)) (at_key own_slot slot a (held_by c rows) e))
 
   -- the same from the assignments with their outlets' names
   pub given_found : (us : List Outlet) (slot : ℕ) (rows : List (ℕ × Assignment)) (found : Option Assigned) →
-      found ≡ at (λ a. a.assignment.slot) slot (map (with_name us)
+      found ≡ row_by_number (λ a. a.assignment.slot) slot (map (with_name us)
       (map (λ g. g.assignment) (held_by c (map (given_in taken) rows)))) →
-      option_map (λ a. record { assignment = a.assignment; series = series_in taken c slot }) found ≡ at
+      option_map (λ a. record { assignment = a.assignment; series = series_named_in taken c slot }) found ≡
+      row_by_number
       (λ g. g.assignment.slot) slot (held_by c (map (given_in taken) rows))
   given_found us slot rows found is =
       ap (option_map beside)
-      (is ∙ ap (λ mine. at (λ (a : Assigned). a.assignment.slot) slot (map (with_name us) mine))
+      (is ∙ ap (λ mine. row_by_number (λ (a : Assigned). a.assignment.slot) slot (map (with_name us) mine))
       (assignments_held rows) ∙ at-map (with_name us) (λ (a : Assigned). a.assignment.slot) slot (held_by c rows))
-      ∙ by (at own_slot slot (held_by c rows)) ∙ sym (at_given slot rows)
+      ∙ by (row_by_number own_slot slot (held_by c rows)) ∙ sym (at_given slot rows)
     where
       beside : Assigned → Given
-      beside a = record { assignment = a.assignment; series = series_in taken c slot }
+      beside a = record { assignment = a.assignment; series = series_named_in taken c slot }
 
       by : (w : Option Assignment) → option_map beside (option_map (with_name us) w) ≡ option_map
-          (λ a. record { assignment = a; series = series_in taken c slot }) w
+          (λ a. record { assignment = a; series = series_named_in taken c slot }) w
       by None = refl
       by (Some a) = refl
 
   -- a slot that was given nothing has no assignment, and one that was given something has one
   pub nothing_given : (slot : ℕ) (rows : List (ℕ × Assignment)) →
-      at (λ g. g.assignment.slot) slot (held_by c (map (given_in taken) rows)) ≡ None →
-      at (λ a. a.slot) slot (held_by c rows) ≡ None
-  nothing_given slot rows none = by (at own_slot slot (held_by c rows)) refl (sym (at_given slot rows) ∙ none)
+      row_by_number (λ g. g.assignment.slot) slot (held_by c (map (given_in taken) rows)) ≡ None →
+      row_by_number (λ a. a.slot) slot (held_by c rows) ≡ None
+  nothing_given slot rows none = by (row_by_number own_slot slot (held_by c rows)) refl
+      (sym (at_given slot rows) ∙ none)
     where
       beside : Assignment → Given
-      beside a = record { assignment = a; series = series_in taken c slot }
+      beside a = record { assignment = a; series = series_named_in taken c slot }
 
-      by : (w : Option Assignment) → at own_slot slot (held_by c rows) ≡ w →
-          option_map beside (at own_slot slot (held_by c rows)) ≡ None → at own_slot slot (held_by c rows) ≡ None
+      by : (w : Option Assignment) → row_by_number own_slot slot (held_by c rows) ≡ w →
+          option_map beside (row_by_number own_slot slot (held_by c rows)) ≡ None → row_by_number own_slot slot
+          (held_by c rows) ≡ None
       by None e h = e
       by (Some a) e h = let no : Some (beside a) ≡ None = rw e at h in cc
 
   pub slot_given : (slot : ℕ) (rows : List (ℕ × Assignment)) →
-      IsSome (at (λ g. g.assignment.slot) slot (held_by c (map (given_in taken) rows))) →
-      IsSome (at (λ a. a.slot) slot (held_by c rows))
-  slot_given slot rows some = by (at own_slot slot (held_by c rows)) refl (rw (← at_given slot rows) some)
+      IsSome (row_by_number (λ g. g.assignment.slot) slot (held_by c (map (given_in taken) rows))) →
+      IsSome (row_by_number (λ a. a.slot) slot (held_by c rows))
+  slot_given slot rows some = by (row_by_number own_slot slot (held_by c rows)) refl (rw (← at_given slot rows) some)
     where
       beside : Assignment → Given
-      beside a = record { assignment = a; series = series_in taken c slot }
+      beside a = record { assignment = a; series = series_named_in taken c slot }
 
-      by : (w : Option Assignment) → at own_slot slot (held_by c rows) ≡ w →
-          IsSome (option_map beside (at own_slot slot (held_by c rows))) → IsSome (at own_slot slot (held_by c rows))
+      by : (w : Option Assignment) → row_by_number own_slot slot (held_by c rows) ≡ w →
+          IsSome (option_map beside (row_by_number own_slot slot (held_by c rows))) → IsSome
+          (row_by_number own_slot slot (held_by c rows))
       by None e h = absurd (false≢true (rw e at h))
       by (Some a) e h = rw e refl
 

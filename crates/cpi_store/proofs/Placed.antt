@@ -11,7 +11,7 @@ use Rattle.std.proofs.lemmas.Cmp.{nat_cmp_total, ranked, on_total, then_total, a
 use Rattle.cpi_rows.specs.Keyed.{IsInOrder, row_at}
 use Rattle.cpi_codes.specs.declared.series.SeriesId.{SeriesId}
 use Rattle.cpi_index.specs.Frozen.{Frozen}
-use Rattle.cpi_store.specs.Series.{series_cmp, placed, by_series}
+use Rattle.cpi_store.specs.Series.{series_cmp, put_by_series, by_series}
 use Rattle.cpi_store.specs.Sound.{AllPairs}
 
 pub series_total : IsTotalOrder series_cmp
@@ -32,12 +32,12 @@ series_equal s t e = by (nat_cmp s.collector t.collector) refl e
 -- ---- what holds of each quote
 
 pub all_placed : (P : Frozen → Type 0) (f : Frozen) (rows : List Frozen) → P f → AllByRecursion P rows →
-    AllByRecursion P (placed f rows)
+    AllByRecursion P (put_by_series f rows)
 all_placed P f [] one all = (one, tt)
 all_placed P f (g ∷ rows) one all = by (is_gt (series_cmp f.series g.series)) refl (all_placed P f rows one all.1)
   where
-    by : (w : Bool) → is_gt (series_cmp f.series g.series) ≡ w → AllByRecursion P (placed f rows) →
-        AllByRecursion P (placed f (g ∷ rows))
+    by : (w : Bool) → is_gt (series_cmp f.series g.series) ≡ w → AllByRecursion P (put_by_series f rows) →
+        AllByRecursion P (put_by_series f (g ∷ rows))
     by true e rest = rw e (all.0, rest)
     by false e rest = rw e (one, (all.0, all.1))
 
@@ -61,14 +61,15 @@ above_too f g (h ∷ rows) less all = (
 )
 
 placed_in_order : (f : Frozen) (rows : List Frozen) → AllByRecursion (AreApart f) rows →
-    IsInOrder series_cmp (λ g. g.series) rows → IsInOrder series_cmp (λ g. g.series) (placed f rows)
+    IsInOrder series_cmp (λ g. g.series) rows → IsInOrder series_cmp (λ g. g.series) (put_by_series f rows)
 unfolding IsStrictlySortedBy
 placed_in_order f [] apart sorted = (tt, tt)
 placed_in_order f (g ∷ rows) apart sorted = by (series_cmp f.series g.series) refl
     (placed_in_order f rows apart.1 sorted.1)
   where
-    by : (w : Ordering) → series_cmp f.series g.series ≡ w → IsInOrder series_cmp (λ g. g.series) (placed f rows) →
-        IsInOrder series_cmp (λ g. g.series) (placed f (g ∷ rows))
+    by : (w : Ordering) → series_cmp f.series g.series ≡ w → IsInOrder series_cmp (λ g. g.series)
+        (put_by_series f rows) →
+        IsInOrder series_cmp (λ g. g.series) (put_by_series f (g ∷ rows))
     by Less e rest = rw (ap is_gt e) ((e, above_too f g rows e sorted.0), (sorted.0, sorted.1))
     by Equal e rest = absurd (apart.0 (series_equal f.series g.series e))
     by Greater e rest =
@@ -87,16 +88,16 @@ by_series_in_order (f ∷ rows) apart = placed_in_order f (by_series rows) (all_
 
 module _ (s : SeriesId) where
   first_placed : (f : Frozen) (rows : List Frozen) →
-      row_at series_cmp (λ f. f.series) s (placed f rows) ≡ row_at series_cmp (λ f. f.series) s (f ∷ rows)
+      row_at series_cmp (λ f. f.series) s (put_by_series f rows) ≡ row_at series_cmp (λ f. f.series) s (f ∷ rows)
   first_placed f [] = refl
   first_placed f (g ∷ rows) = by (series_cmp f.series g.series) refl (first_placed f rows)
     where
       Same : List Frozen → Type 0
-      Same rs = row_at series_cmp (λ (f : Frozen). f.series) s (placed f rs) ≡ row_at series_cmp
+      Same rs = row_at series_cmp (λ (f : Frozen). f.series) s (put_by_series f rs) ≡ row_at series_cmp
           (λ (f : Frozen). f.series) s (f ∷ rs)
 
       behind : series_cmp f.series g.series ≡ Greater → (w : Ordering) → series_cmp g.series s ≡ w → Same rows →
-          row_at series_cmp (λ (f : Frozen). f.series) s (g ∷ placed f rows) ≡ row_at series_cmp
+          row_at series_cmp (λ (f : Frozen). f.series) s (g ∷ put_by_series f rows) ≡ row_at series_cmp
           (λ (f : Frozen). f.series) s (f ∷ g ∷ rows)
       behind e Less t rest = rw (ap is_eq t) rest
       behind e Greater t rest = rw (ap is_eq t) rest

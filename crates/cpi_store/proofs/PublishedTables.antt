@@ -10,11 +10,11 @@ use Rattle.std.specs.Ordering.{nat_cmp, is_le}
 use Rattle.std.proofs.lemmas.Cmp.{ranked}
 use Rattle.std.proofs.lemmas.List.{append-nil, map-append}
 use Rattle.std.proofs.lemmas.List.Elements.{filter-append}
-use Rattle.cpi_release.specs.Latest.{latest}
+use Rattle.cpi_release.specs.Latest.{latest_row}
 use Rattle.cpi_release.specs.PublishedTables.{PublishedTable, published_table, published_until, is_asked}
 use Rattle.cpi_release.specs.declared.release.Release.{Release}
 use Rattle.cpi_release.proofs.LatestRows.{latest_own, latest_other}
-use Rattle.cpi_store.specs.Tables.{table_until, wanted}
+use Rattle.cpi_store.specs.Tables.{table_until, is_wanted}
 
 module _ (month : ℕ) (revision : Option ℕ) (until : ℕ) where
   abbrev asked : PublishedTable → Bool
@@ -37,14 +37,14 @@ module _ (month : ℕ) (revision : Option ℕ) (until : ℕ) where
       ∙ filter-append asked (published_until until rs) (published_until until (r ∷ []))
 
   one_more : (rs : List Release) (r : Release) (ts : List PublishedTable) → of (r ∷ []) ≡ ts →
-      table_until month revision until (rs ++ r ∷ []) ≡ latest in_month month (of rs ++ ts)
-  one_more rs r ts is = ap (latest in_month month) (of_behind rs r ∙ ap (λ xs. of rs ++ xs) is)
+      table_until month revision until (rs ++ r ∷ []) ≡ latest_row in_month month (of rs ++ ts)
+  one_more rs r ts is = ap (latest_row in_month month) (of_behind rs r ∙ ap (λ xs. of rs ++ xs) is)
 
   none_more : (rs : List Release) (r : Release) → of (r ∷ []) ≡ [] →
       table_until month revision until (rs ++ r ∷ []) ≡ table_until month revision until rs
-  none_more rs r is = one_more rs r [] is ∙ ap (latest in_month month) (append-nil (of rs))
+  none_more rs r is = one_more rs r [] is ∙ ap (latest_row in_month month) (append-nil (of rs))
 
-  pub table_wanted : (rs : List Release) (r : Release) → wanted month revision until r ≡ true →
+  pub table_wanted : (rs : List Release) (r : Release) → is_wanted month revision until r ≡ true →
       table_until month revision until (rs ++ r ∷ []) ≡ Some (published_table r)
   table_wanted rs r e = by (due r) (asked (published_table r)) refl refl (eqb_tells r.month month)
     where
@@ -57,7 +57,7 @@ module _ (month : ℕ) (revision : Option ℕ) (until : ℕ) where
       by true false f g tells = absurd (false≢true (rw (f, g) at e))
       by false a f g tells = absurd (false≢true (rw f at e))
 
-  pub table_unwanted : (rs : List Release) (r : Release) → wanted month revision until r ≡ false →
+  pub table_unwanted : (rs : List Release) (r : Release) → is_wanted month revision until r ≡ false →
       table_until month revision until (rs ++ r ∷ []) ≡ table_until month revision until rs
   table_unwanted rs r e = by (due r) (asked (published_table r)) refl refl (eqb_tells r.month month)
     where
@@ -72,14 +72,14 @@ module _ (month : ℕ) (revision : Option ℕ) (until : ℕ) where
 
 -- a revision that is named is one of those that may be latest
 pub wanted_named : (month revision until : ℕ) (r : Release) → (r.revision == revision) ≡ true →
-    wanted month (Some revision) until r ≡ wanted month None until r
+    is_wanted month (Some revision) until r ≡ is_wanted month None until r
 wanted_named month revision until r e = rw e refl
 
 pub wanted_other : (month revision until : ℕ) (r : Release) → (r.revision == revision) ≡ false →
-    wanted month (Some revision) until r ≡ false
+    is_wanted month (Some revision) until r ≡ false
 wanted_other month revision until r e = by (nat_le r.publishes until) refl
   where
-    by : (b : Bool) → nat_le r.publishes until ≡ b → wanted month (Some revision) until r ≡ false
+    by : (b : Bool) → nat_le r.publishes until ≡ b → is_wanted month (Some revision) until r ≡ false
     by true f = rw (f, e) refl
     by false f = rw f refl
 

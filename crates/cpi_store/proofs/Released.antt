@@ -12,7 +12,7 @@ use Rattle.std.specs.Cmp.{IsTotalOrder}
 use Rattle.std.proofs.lemmas.Map.Keys.{sorted_head, sorted_tail}
 use Rattle.std.proofs.lemmas.List.{append-nil}
 use Rattle.std.proofs.lemmas.Map.Lookups.{exact_pairs, exact_unsigned}
-use Rattle.cpi_rows.specs.Keyed.{IsInOrder, at, row_at, put_by}
+use Rattle.cpi_rows.specs.Keyed.{IsInOrder, row_by_number, row_at, put_by}
 use Rattle.cpi_rows.specs.Held.{held_by}
 use Rattle.cpi_rows.proofs.Found.{row_key}
 use Rattle.cpi_rows.proofs.Puts.{put_last, row_at-put_apart, different}
@@ -21,12 +21,13 @@ use Rattle.cpi_survey.specs.Assignment.{is_active}
 use Rattle.cpi_survey.specs.Quote.{QuoteRow, quote_cmp, quote_key}
 use Rattle.cpi_plan.specs.Plan.{Plan}
 use Rattle.cpi_release.specs.FrozenMonths.{ReleaseKey, release_cmp, release_key, frozen_month, frozen_months, follows}
-use Rattle.cpi_release.specs.FrozenMonths.{revision_after, is_next, next_revision, is_year_frozen, is_after_first}
+use Rattle.cpi_release.specs.FrozenMonths.{revision_after, is_next_month, revision_to_give, has_year_frozen}
+use Rattle.cpi_release.specs.FrozenMonths.{is_past_first_month}
 use Rattle.cpi_release.specs.FrozenMonths.{plan_for}
-use Rattle.cpi_release.specs.Releasing.{released, fault_of, freeze_of}
+use Rattle.cpi_release.specs.Releasing.{release_of_month, fault_of, freeze_of}
 use Rattle.cpi_release.specs.declared.release.Release.{Release}
 use Rattle.cpi_store.specs.declared.given.Given.{Given}
-use Rattle.cpi_store.specs.Office.{Office, frozen_row, stored_rows, month_rows, put_release}
+use Rattle.cpi_store.specs.Office.{Office, frozen_row, stored_rows, quotes_of_month, put_release}
 use Rattle.cpi_store.specs.Series.{series_cmp}
 use Rattle.cpi_store.specs.FrozenLists.{IsOfSeries, HasFrozenList}
 use Rattle.cpi_store.specs.Released.{IsReleased, AreReleased}
@@ -49,7 +50,7 @@ module _ (month : ℕ) (quotes : List (ℕ × QuoteRow)) (given : List (ℕ × G
   IsActiveIfQuoted r = (q : QuoteRow) → stored r ≡ Some q → is_active month r.1.assignment ≡ true
 
   active_if_quoted : AllByRecursion (HasItsAssignment given) quotes → (r : ℕ × Given) →
-      at (λ g. g.assignment.slot) r.1.assignment.slot (held_by r.0 given) ≡ Some r.1 → IsActiveIfQuoted r
+      row_by_number (λ g. g.assignment.slot) r.1.assignment.slot (held_by r.0 given) ≡ Some r.1 → IsActiveIfQuoted r
   active_if_quoted quoted r found q e =
       let has = all_of_held quote_cmp quote_key (HasItsAssignment given) r.0
       (r.1.assignment.slot, month) q quotes quoted e in
@@ -57,13 +58,13 @@ module _ (month : ℕ) (quotes : List (ℕ × QuoteRow)) (given : List (ℕ × G
       exact_pairs nat_cmp nat_cmp exact_unsigned exact_unsigned (q.slot, q.month) (r.1.assignment.slot, month)
       (row_key quote_cmp quote_key (r.1.assignment.slot, month) q (held_by r.0 quotes) e) in
       let both : Some r.1 ≡ Some has.0 = sym found ∙ ap
-      (λ (k : ℕ × ℕ). at (λ (g : Given). g.assignment.slot) k.0 (held_by r.0 given)) (sym keys) ∙ has.1 in
+      (λ (k : ℕ × ℕ). row_by_number (λ (g : Given). g.assignment.slot) k.0 (held_by r.0 given)) (sym keys) ∙ has.1 in
       let is : has.0 ≡ r.1 = one_given r.1 has.0 both in
       ap (λ (k : ℕ × ℕ). is_active k.1 r.1.assignment) (sym keys) ∙ ap (λ (g : Given). is_active q.month g.assignment)
       (sym is) ∙ has.2
 
   pub all_active : AllByRecursion (HasItsAssignment given) quotes → (rows : List (ℕ × Given)) →
-      AllByRecursion (λ (r : ℕ × Given). at (λ g. g.assignment.slot) r.1.assignment.slot
+      AllByRecursion (λ (r : ℕ × Given). row_by_number (λ g. g.assignment.slot) r.1.assignment.slot
       (held_by r.0 given) ≡ Some r.1) rows → AllByRecursion IsActiveIfQuoted rows
   all_active quoted [] each = tt
   all_active quoted (r ∷ rows) each = (active_if_quoted quoted r each.0, all_active quoted rows each.1)
@@ -108,15 +109,15 @@ module _ (o : Office) (s : IsSound o) (month : ℕ) where
   month_active = all_active month o.quotes o.assignments s.quoted o.assignments
       (each_found (λ g. g.assignment.slot) o.assignments s.assignments)
 
-  pub month_in_order : IsInOrder series_cmp (λ f. f.series) (month_rows month o)
+  pub month_in_order : IsInOrder series_cmp (λ f. f.series) (quotes_of_month month o)
   month_in_order = by_series_in_order (stored_rows month o.quotes o.assignments)
       (stored_apart month o.quotes o.assignments o.assignments s.apart month_active)
 
-  pub month_of_series : AllByRecursion (IsOfSeries o.assignments) (month_rows month o)
+  pub month_of_series : AllByRecursion (IsOfSeries o.assignments) (quotes_of_month month o)
   month_of_series = all_by_series (IsOfSeries o.assignments) (stored_rows month o.quotes o.assignments)
       (stored_of_series month o.quotes o.assignments o.assignments s.series)
 
-pub newly_frozen : (o : Office) → IsSound o → (r : Release) → r.frozen ≡ month_rows r.month o →
+pub newly_frozen : (o : Office) → IsSound o → (r : Release) → r.frozen ≡ quotes_of_month r.month o →
     HasFrozenList o.assignments r
 newly_frozen o s r is = record {
   in_order = subst (IsInOrder series_cmp (λ f. f.series)) (sym is) (month_in_order o s r.month);
@@ -150,15 +151,16 @@ last_below r month e = by (eqb_tells r.month month) e
 
 -- each release is listed before the one that follows
 all_below : (month : ℕ) (rs : List Release) → IsInOrder release_cmp release_key rs →
-    is_next month (frozen_months rs) ≡ true → AllByRecursion
-    (λ r. release_cmp (release_key r) (month, next_revision month (frozen_months rs)) ≡ Less) rs
+    is_next_month month (frozen_months rs) ≡ true → AllByRecursion
+    (λ r. release_cmp (release_key r) (month, revision_to_give month (frozen_months rs)) ≡ Less) rs
 all_below month [] sorted e = tt
 all_below month (r ∷ []) sorted e = (last_below r month e, tt)
 all_below month (r ∷ x ∷ rs) sorted e =
     let rest = all_below month (x ∷ rs) (sorted_tail (λ (a b : Release). release_cmp (release_key a) (release_key b))
     r (x ∷ rs) sorted) e in
     let head = sorted_head (λ (a b : Release). release_cmp (release_key a) (release_key b)) r (x ∷ rs) sorted in (
-      release_total.trans (release_key r) (release_key x) (month, next_revision month (frozen_months (x ∷ rs))) head.0
+      release_total.trans (release_key r) (release_key x)
+          (month, revision_to_give month (frozen_months (x ∷ rs))) head.0
           rest.0,
       rest,
     )
@@ -175,7 +177,7 @@ released_append plans before (x ∷ rs) r all one = (
 )
 
 pub put_at_end : (rs : List Release) (r : Release) → IsInOrder release_cmp release_key rs →
-    is_next r.month (frozen_months rs) ≡ true → r.revision ≡ next_revision r.month (frozen_months rs) →
+    is_next_month r.month (frozen_months rs) ≡ true → r.revision ≡ revision_to_give r.month (frozen_months rs) →
     put_release r rs ≡ rs ++ r ∷ []
 put_at_end rs r sorted follows is =
     put_last release_total release_key r rs (subst
@@ -184,9 +186,9 @@ put_at_end rs r sorted follows is =
 
 -- a release that follows is not there yet
 pub none_follows : (month : ℕ) (rs : List Release) → IsInOrder release_cmp release_key rs →
-    is_next month (frozen_months rs) ≡ true → row_at release_cmp release_key
-    (month, next_revision month (frozen_months rs)) rs ≡ None
-none_follows month rs sorted follows = none_below (month, next_revision month (frozen_months rs)) rs
+    is_next_month month (frozen_months rs) ≡ true → row_at release_cmp release_key
+    (month, revision_to_give month (frozen_months rs)) rs ≡ None
+none_follows month rs sorted follows = none_below (month, revision_to_give month (frozen_months rs)) rs
     (all_below month rs sorted follows)
   where
     none_below : (k : ReleaseKey) (rs : List Release) →
@@ -206,7 +208,7 @@ module _ (plans : List Plan) (p : Plan) (sorted : IsInOrder nat_cmp (λ y. y.yea
   abbrev others : List Plan
   others = put_by (λ y. y.year) p plans
 
-  same_plan_at : (y : ℕ) → p.year ≢ y → at (λ y. y.year) y others ≡ at (λ y. y.year) y plans
+  same_plan_at : (y : ℕ) → p.year ≢ y → row_by_number (λ y. y.year) y others ≡ row_by_number (λ y. y.year) y plans
   same_plan_at y apart = row_at-put_apart nat_cmp_total (λ y. y.year) y p plans sorted (different p.year y apart)
 
   one_replanned : (before : List Release) (r : Release) → p.year ≢ year_of r.month → IsReleased plans before r →
@@ -214,23 +216,27 @@ module _ (plans : List Plan) (p : Plan) (sorted : IsInOrder nat_cmp (λ y. y.yea
   one_replanned before r apart one =
       let same = same_plan_at (year_of r.month) apart in
       let plan : plan_for others (frozen_months before) r.month ≡ plan_for plans (frozen_months before) r.month =
-      ap (λ w. if is_after_first r.month (frozen_months before) then w else None) same in
+      ap (λ w. if is_past_first_month r.month (frozen_months before) then w else None) same in
       record {
         follows = one.follows;
         revision = one.revision;
-        planned = ap (λ w. is_after_first r.month (frozen_months before) && is_none w) same ∙ one.planned;
+        planned = ap (λ w. is_past_first_month r.month (frozen_months before) && is_none w) same ∙ one.planned;
         faultless = ap (λ w. fault_of w before (freeze_of r)) plan ∙ one.faultless;
-        computed = one.computed ∙ sym (ap (λ w. released w before (freeze_of r)) plan);
+        computed = one.computed ∙ sym (ap (λ w. release_of_month w before (freeze_of r)) plan);
       }
 
-  pub replanned : (before rs : List Release) → is_year_frozen p.year (frozen_months rs) ≡ false →
+  pub replanned : (before rs : List Release) → has_year_frozen p.year (frozen_months rs) ≡ false →
       AreReleased plans before rs → AreReleased others before rs
   replanned before [] free all = tt
   replanned before (r ∷ rs) free all = by (eqb_tells (year_of r.month) p.year) (replanned (before ++ r ∷ []) rs)
     where
       by : ((eqb (year_of r.month) p.year ≡ true) × (year_of r.month ≡ p.year))
           ⊎ ((eqb (year_of r.month) p.year ≡ false) × (year_of r.month ≢ p.year)) →
-          (is_year_frozen p.year (frozen_months rs) ≡ false → AreReleased plans (before ++ r ∷ []) rs →
+          (has_year_frozen p.year (frozen_months rs) ≡ false → AreReleased plans (before ++ r ∷ []) rs →
           AreReleased others (before ++ r ∷ []) rs) → AreReleased others before (r ∷ rs)
       by (inl same) rest = let e : true ≡ false = rw same.0 at free in cc
-      by (inr apart) rest = (one_replanned before r (λ e. apart.1 (sym e)) all.0, rest (rw apart.0 at free) all.1)
+      by (inr apart) rest = (
+        one_replanned before r (λ e. apart.1 (sym e)) all.0,
+        rest
+            (rw apart.0 at free) all.1,
+      )

@@ -8,11 +8,11 @@ use Rattle.std.specs.List.{AllByRecursion, Contains}
 use Rattle.std.specs.List.Sorted.{IsStrictlySortedBy}
 use Rattle.std.proofs.lemmas.Bool.{le-leb}
 use Rattle.std.proofs.lemmas.Cmp.{ranked}
-use Rattle.cpi_rows.specs.Keyed.{IsInOrder, at}
+use Rattle.cpi_rows.specs.Keyed.{IsInOrder, row_by_number}
 use Rattle.cpi_rows.specs.Held.{held_by}
 use Rattle.cpi_codes.specs.declared.series.SeriesId.{SeriesId}
 use Rattle.cpi_index.specs.Frozen.{Frozen}
-use Rattle.cpi_index.specs.Series.{serial, frozen_serial, rises_from, is_by_series}
+use Rattle.cpi_index.specs.Series.{serial, frozen_serial, rises_from, are_by_series}
 use Rattle.std.proofs.lemmas.List.Elements.{All-from_recursion}
 use Rattle.cpi_rows.proofs.Found.{at_key}
 use Rattle.cpi_release.specs.Releasing.{AreConsistent, all_frozen}
@@ -64,7 +64,7 @@ any_low (f ∷ fs) = (omega arith, any_low fs)
 
 -- in the order of series, so in the order of their numbers
 pub by_serial : (fs : List Frozen) → AllByRecursion (λ f. IsSeries f.series) fs →
-    IsInOrder series_cmp (λ f. f.series) fs → is_by_series frozen_serial fs ≡ true
+    IsInOrder series_cmp (λ f. f.series) fs → are_by_series frozen_serial fs ≡ true
 by_serial fs all sorted = all_rise 0 fs (any_low fs) all sorted
 
 -- ---- the series of a frozen quote is within the limits
@@ -87,7 +87,7 @@ all_series given all (f ∷ fs) of = (series_of_frozen given all f of.0, all_ser
 
 pub frozen_by_serial : (given : List (ℕ × Given)) → AreMade given → (rs : List Release) →
     AllByRecursion (HasFrozenList given) rs → AllByRecursion
-    (λ (r : Release). is_by_series frozen_serial r.frozen ≡ true) rs
+    (λ (r : Release). are_by_series frozen_serial r.frozen ≡ true) rs
 frozen_by_serial given all [] of = tt
 frozen_by_serial given all (r ∷ rs) of = (
   by_serial r.frozen
@@ -132,7 +132,7 @@ consistent given all rs of q r in_q in_r e =
     let same : q.series ≡ r.series = series_of_serial q.series r.series (series_of_frozen given all q one)
     (series_of_frozen given all r two) e in
     let found : Some one.0 ≡ Some two.0 = sym one.1
-    ∙ ap (λ (s : SeriesId). at (λ (g : Given). g.assignment.slot) s.slot (held_by s.collector given)) same
+    ∙ ap (λ (s : SeriesId). row_by_number (λ (g : Given). g.assignment.slot) s.slot (held_by s.collector given)) same
     ∙ two.1 in
     let is : one.0 ≡ two.0 = cc in (
       one.2 ∙ ap (λ (g : Given). g.assignment.item) is ∙ sym two.2,

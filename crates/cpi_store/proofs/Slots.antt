@@ -9,7 +9,7 @@ use Rattle.std.specs.List.{AllByRecursion}
 use Rattle.std.specs.List.Sorted.{IsStrictlySortedBy}
 use Rattle.std.proofs.lemmas.Bool.Decides.{eqb_tells}
 use Rattle.std.proofs.lemmas.Cmp.{nat_cmp_total, tied_itself, ranked}
-use Rattle.cpi_rows.specs.Keyed.{IsInOrder, at, row_at}
+use Rattle.cpi_rows.specs.Keyed.{IsInOrder, row_by_number, row_at}
 use Rattle.cpi_rows.specs.Held.{held_by, held_cmp, held_key}
 use Rattle.cpi_store.specs.Sound.{AllPairs}
 
@@ -76,13 +76,13 @@ row_held cmp key n k x (r ∷ rows) found = by (eqb_tells r.0 n) (row_held cmp k
 module _ {X : Type 0} (key : X → ℕ) where
   later_found : (r : ℕ × X) (rows all : List (ℕ × X)) →
       AllByRecursion (λ s. held_cmp nat_cmp (held_key key r) (held_key key s) ≡ Less) rows →
-      AllByRecursion (λ (s : ℕ × X). at key (key s.1) (held_by s.0 all) ≡ Some s.1) rows →
-      AllByRecursion (λ (s : ℕ × X). at key (key s.1) (held_by s.0 (r ∷ all)) ≡ Some s.1) rows
+      AllByRecursion (λ (s : ℕ × X). row_by_number key (key s.1) (held_by s.0 all) ≡ Some s.1) rows →
+      AllByRecursion (λ (s : ℕ × X). row_by_number key (key s.1) (held_by s.0 (r ∷ all)) ≡ Some s.1) rows
   later_found r [] all below found = tt
   later_found r (s ∷ rows) all below found = (by (eqb_tells r.0 s.0), later_found r rows all below.1 found.1)
     where
       by : ((eqb r.0 s.0 ≡ true) × (r.0 ≡ s.0)) ⊎ ((eqb r.0 s.0 ≡ false) × (r.0 ≢ s.0)) →
-          at key (key s.1) (held_by s.0 (r ∷ all)) ≡ Some s.1
+          row_by_number key (key s.1) (held_by s.0 (r ∷ all)) ≡ Some s.1
       by (inl same) =
           let less : nat_cmp (key r.1) (key s.1) ≡ Less =
           sym (ap (λ w. ordering_then w (nat_cmp (key r.1) (key s.1)))
@@ -92,33 +92,33 @@ module _ {X : Type 0} (key : X → ℕ) where
 
   -- each row is the one in its slot
   pub each_found : (rows : List (ℕ × X)) → IsInOrder (held_cmp nat_cmp) (held_key key) rows →
-      AllByRecursion (λ (s : ℕ × X). at key (key s.1) (held_by s.0 rows) ≡ Some s.1) rows
+      AllByRecursion (λ (s : ℕ × X). row_by_number key (key s.1) (held_by s.0 rows) ≡ Some s.1) rows
   unfolding IsStrictlySortedBy
   each_found [] sorted = tt
   each_found (r ∷ rows) sorted = (here, later_found r rows rows sorted.0 (each_found rows sorted.1))
     where
-      here : at key (key r.1) (held_by r.0 (r ∷ rows)) ≡ Some r.1
+      here : row_by_number key (key r.1) (held_by r.0 (r ∷ rows)) ≡ Some r.1
       here = by (eqb_tells r.0 r.0)
         where
           by : ((eqb r.0 r.0 ≡ true) × (r.0 ≡ r.0)) ⊎ ((eqb r.0 r.0 ≡ false) × (r.0 ≢ r.0)) →
-              at key (key r.1) (held_by r.0 (r ∷ rows)) ≡ Some r.1
+              row_by_number key (key r.1) (held_by r.0 (r ∷ rows)) ≡ Some r.1
           by (inl same) = rw (same.0, ap is_eq (tied_itself nat_cmp_total (key r.1))) refl
           by (inr apart) = absurd (apart.1 refl)
 
   -- ---- what holds of each row holds of what is found, and the other way round
 
   pub all_of_found : (P : ℕ × X → Type 0) (c k : ℕ) (x : X) (rows : List (ℕ × X)) → AllByRecursion P rows →
-      at key k (held_by c rows) ≡ Some x → P (c, x)
+      row_by_number key k (held_by c rows) ≡ Some x → P (c, x)
   all_of_found P c k x rows all found = all_of_held nat_cmp key P c k x rows all found
 
   all_from_each : (P : ℕ × X → Type 0) (all rows : List (ℕ × X)) →
-      AllByRecursion (λ (s : ℕ × X). at key (key s.1) (held_by s.0 all) ≡ Some s.1) rows →
-      ((c : ℕ) (x : X) → at key (key x) (held_by c all) ≡ Some x → P (c, x)) → AllByRecursion P rows
+      AllByRecursion (λ (s : ℕ × X). row_by_number key (key s.1) (held_by s.0 all) ≡ Some s.1) rows →
+      ((c : ℕ) (x : X) → row_by_number key (key x) (held_by c all) ≡ Some x → P (c, x)) → AllByRecursion P rows
   all_from_each P all [] each f = tt
   all_from_each P all (r ∷ rows) each f = (f r.0 r.1 each.0, all_from_each P all rows each.1 f)
 
   pub all_from_found : (P : ℕ × X → Type 0) (rows : List (ℕ × X)) → IsInOrder (held_cmp nat_cmp) (held_key key) rows →
-      ((c : ℕ) (x : X) → at key (key x) (held_by c rows) ≡ Some x → P (c, x)) → AllByRecursion P rows
+      ((c : ℕ) (x : X) → row_by_number key (key x) (held_by c rows) ≡ Some x → P (c, x)) → AllByRecursion P rows
   all_from_found P rows sorted f = all_from_each P rows rows (each_found rows sorted) f
 
   -- ---- the same of whatever two, in slots that are not one
@@ -128,16 +128,17 @@ module _ {X : Type 0} (key : X → ℕ) where
 
   pub pairs_of_found : (P : ℕ × X → ℕ × X → Type 0) → ((a b : ℕ × X) → P a b → P b a) → (rows : List (ℕ × X)) →
       AllPairs P rows →
-      (c k : ℕ) (x : X) → at key k (held_by c rows) ≡ Some x → (d l : ℕ) (y : X) →
-      at key l (held_by d rows) ≡ Some y → AreTwo (c, x) (d, y) → P (c, x) (d, y)
+      (c k : ℕ) (x : X) → row_by_number key k (held_by c rows) ≡ Some x → (d l : ℕ) (y : X) →
+      row_by_number key l (held_by d rows) ≡ Some y → AreTwo (c, x) (d, y) → P (c, x) (d, y)
   pairs_of_found P turned [] all c k x found d l y other two = let no : None ≡ Some x = found in cc
   pairs_of_found P turned (r ∷ rows) all c k x found d l y other two =
       by (found_more nat_cmp key c k x r rows found) (found_more nat_cmp key d l y r rows other)
       (pairs_of_found P turned rows all.1 c k x)
     where
-      by : ((r.0 ≡ c) × (r.1 ≡ x)) ⊎ (at key k (held_by c rows) ≡ Some x) → ((r.0 ≡ d) × (r.1 ≡ y))
-          ⊎ (at key l (held_by d rows) ≡ Some y) →
-          (at key k (held_by c rows) ≡ Some x → (d l : ℕ) (y : X) → at key l (held_by d rows) ≡ Some y →
+      by : ((r.0 ≡ c) × (r.1 ≡ x)) ⊎ (row_by_number key k (held_by c rows) ≡ Some x) → ((r.0 ≡ d) × (r.1 ≡ y))
+          ⊎ (row_by_number key l (held_by d rows) ≡ Some y) →
+          (row_by_number key k (held_by c rows) ≡ Some x → (d l : ℕ) (y : X) → row_by_number key l (held_by d rows)
+          ≡ Some y →
           AreTwo (c, x) (d, y) → P (c, x) (d, y)) → P (c, x) (d, y)
       by (inl here) (inl there) rest = absurd (two (sym here.0 ∙ there.0, ap key (sym here.1 ∙ there.1)))
       by (inl here) (inr later) rest =
@@ -159,8 +160,9 @@ module _ {X : Type 0} (key : X → ℕ) where
 
   all_above : (P : ℕ × X → Type 0) (all : List (ℕ × X)) (r : ℕ × X) (rows : List (ℕ × X)) →
       AllByRecursion (λ s. held_cmp nat_cmp (held_key key r) (held_key key s) ≡ Less) rows →
-      AllByRecursion (λ (s : ℕ × X). at key (key s.1) (held_by s.0 all) ≡ Some s.1) rows →
-      ((s : ℕ × X) → at key (key s.1) (held_by s.0 all) ≡ Some s.1 → AreTwo r s → P s) → AllByRecursion P rows
+      AllByRecursion (λ (s : ℕ × X). row_by_number key (key s.1) (held_by s.0 all) ≡ Some s.1) rows →
+      ((s : ℕ × X) → row_by_number key (key s.1) (held_by s.0 all) ≡ Some s.1 → AreTwo r s → P s) →
+      AllByRecursion P rows
   all_above P all r [] below each f = tt
   all_above P all r (s ∷ rows) below each f = (
     f s each.0 (below_two r s below.0),
@@ -169,8 +171,9 @@ module _ {X : Type 0} (key : X → ℕ) where
 
   pairs_from_each : (P : ℕ × X → ℕ × X → Type 0) (all rows : List (ℕ × X)) →
       IsInOrder (held_cmp nat_cmp) (held_key key) rows →
-      AllByRecursion (λ (s : ℕ × X). at key (key s.1) (held_by s.0 all) ≡ Some s.1) rows →
-      ((a b : ℕ × X) → at key (key a.1) (held_by a.0 all) ≡ Some a.1 → at key (key b.1) (held_by b.0 all) ≡ Some b.1 →
+      AllByRecursion (λ (s : ℕ × X). row_by_number key (key s.1) (held_by s.0 all) ≡ Some s.1) rows →
+      ((a b : ℕ × X) → row_by_number key (key a.1) (held_by a.0 all) ≡ Some a.1 → row_by_number key (key b.1)
+      (held_by b.0 all) ≡ Some b.1 →
       AreTwo a b → P a b) → AllPairs P rows
   unfolding IsStrictlySortedBy
   pairs_from_each P all [] sorted each f = tt
@@ -181,8 +184,8 @@ module _ {X : Type 0} (key : X → ℕ) where
 
   pub pairs_from_found : (P : ℕ × X → ℕ × X → Type 0) (rows : List (ℕ × X)) →
       IsInOrder (held_cmp nat_cmp) (held_key key) rows →
-      ((a b : ℕ × X) → at key (key a.1) (held_by a.0 rows) ≡ Some a.1 →
-      at key (key b.1) (held_by b.0 rows) ≡ Some b.1 → AreTwo a b → P a b) → AllPairs P rows
+      ((a b : ℕ × X) → row_by_number key (key a.1) (held_by a.0 rows) ≡ Some a.1 →
+      row_by_number key (key b.1) (held_by b.0 rows) ≡ Some b.1 → AreTwo a b → P a b) → AllPairs P rows
   pairs_from_found P rows sorted f = pairs_from_each P rows rows sorted (each_found rows sorted) f
 
 -- ---- one holder's rows are in order

@@ -15,7 +15,7 @@ use Rattle.cpi_store.specs.declared.given.Given.{Given}
 use Rattle.cpi_store.specs.declared.taken_over.TakenOver.{TakenOver}
 use Rattle.cpi_store.specs.Holders.{IsGiven}
 use Rattle.cpi_store.specs.Loading.{taken_rows, without_series}
-use Rattle.cpi_store.specs.Series.{given_in, own_series, same_series, series_in, series_or}
+use Rattle.cpi_store.specs.Series.{given_in, own_series, same_series, series_named_in, series_or}
 use Rattle.cpi_store.proofs.Changes.{same_series_tells}
 use Rattle.cpi_store.proofs.GivenSlots.{given_after, has_slot, held_cmp_total, is_of, taken_key}
 
@@ -72,10 +72,10 @@ none_above key (row ∷ rows) all = passed_by key row rows (apart key row all.0)
 
 -- the first row's series
 series_first : (row : Row) (rows : List Row) → AreAbove (key_of row) rows
-    → series_in (taken_rows (row ∷ rows)) row.0 row.1.assignment.slot ≡ row.1.series
+    → series_named_in (taken_rows (row ∷ rows)) row.0 row.1.assignment.slot ≡ row.1.series
 series_first row rows all = by (names row)
   where
-    by : Names row → series_in (taken_rows (row ∷ rows)) row.0 row.1.assignment.slot ≡ row.1.series
+    by : Names row → series_named_in (taken_rows (row ∷ rows)) row.0 row.1.assignment.slot ≡ row.1.series
     by (inl own) = rw own.0 (ap (series_or (named_by row)) (none_above (key_of row) rows all) ∙ sym own.1)
     by (inr took) = rw (took.0, ap is_eq (tied_itself held_cmp_total (key_of row))) refl
 

@@ -1,7 +1,7 @@
 -- What a release has of the quotes that were frozen with it: each series once, with what its assignments say of it.
 use Rattle.std.specs.Prelude.{◌≡◌, ℕ, List, Some}
 use Rattle.std.specs.List.{AllByRecursion}
-use Rattle.cpi_rows.specs.Keyed.{IsInOrder, at}
+use Rattle.cpi_rows.specs.Keyed.{IsInOrder, row_by_number}
 use Rattle.cpi_rows.specs.Held.{held_by}
 use Rattle.cpi_index.specs.Frozen.{Frozen}
 use Rattle.cpi_release.specs.declared.release.Release.{Release}
@@ -12,7 +12,7 @@ use Rattle.cpi_store.specs.Series.{series_cmp, last_of_series}
 abbrev pub IsOfSeries : List (ℕ × Given) → Frozen → Type 0
 IsOfSeries given f =
     (g : Given)
-    × (at (λ g. g.assignment.slot) f.series.slot (held_by f.series.collector given) ≡ Some g)
+    × (row_by_number (λ g. g.assignment.slot) f.series.slot (held_by f.series.collector given) ≡ Some g)
     × (f.item ≡ g.assignment.item)
     × (f.last_month ≡ last_of_series f.series given)
 

@@ -1,6 +1,6 @@
 -- What a sound office says of its releases: each table is the index of what was frozen with it and before it.
 use Rattle.std.specs.Prelude.{◌≡◌, map}
-use Rattle.cpi_release.specs.KeptSamples.{IsFit}
+use Rattle.cpi_release.specs.CachedSamples.{IsFit}
 use Rattle.cpi_release.specs.Releasing.{AreSound, all_released, freeze_of}
 use Rattle.cpi_store.specs.Office.{Office}
 use Rattle.cpi_store.specs.Sources.{office_sources}

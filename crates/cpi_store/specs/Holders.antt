@@ -1,8 +1,8 @@
 -- A collector with all that is the collector's, as the book in memory keeps it.
 use Rattle.std.specs.Prelude.{ℕ, ◌==◌, ◌&&◌, List, map, max, Option, option_map, IsSome, ⊤, if◌then◌else◌}
 use Rattle.std.specs.List.{AllByRecursion, filter_map, flat_map}
-use Rattle.cpi_rows.specs.Keyed.{at, row_at}
-use Rattle.cpi_rows.specs.Gathered.{gathered}
+use Rattle.cpi_rows.specs.Keyed.{row_by_number, row_at}
+use Rattle.cpi_rows.specs.Gathered.{rows_with_holders}
 use Rattle.cpi_survey.specs.Quote.{QuoteRow, quote_cmp, quote_key}
 use Rattle.cpi_survey.specs.declared.assignment.Assignment.{Assignment}
 use Rattle.cpi_survey.specs.declared.assignment.Assigned.{Assigned}
@@ -10,10 +10,10 @@ use Rattle.cpi_survey.specs.Assignment.{until}
 use Rattle.cpi_survey.specs.Public.{PublicPart}
 use Rattle.cpi_store.specs.Outlet.{with_name}
 use Rattle.cpi_store.specs.declared.outlet.Outlet.{Outlet}
-use Rattle.cpi_store.specs.declared.bearer.Bearer.{Bearer}
+use Rattle.cpi_store.specs.declared.registration.Registration.{Registration}
 use Rattle.cpi_release.specs.State.{State}
 use Rattle.cpi_store.specs.Office.{Office}
-use Rattle.cpi_store.specs.Series.{given_in, last_known, series_in}
+use Rattle.cpi_store.specs.Series.{given_in, last_known, series_named_in}
 use Rattle.cpi_store.specs.declared.series_ends.SeriesEnds.{SeriesEnds}
 use Rattle.cpi_codes.specs.declared.series.SeriesId.{SeriesId}
 use Rattle.cpi_index.specs.Frozen.{Frozen}
@@ -23,10 +23,10 @@ use Rattle.cpi_rows.specs.Held.{held_by}
 use Rattle.cpi_store.specs.declared.holder.Holder.{Holder}
 use Rattle.cpi_release.specs.declared.release.Release.{Release}
 
-abbrev pub collector_of_holder : Holder → Bearer
+abbrev pub collector_of_holder : Holder → Registration
 collector_of_holder h = record { number = h.number; key = h.key }
 
-abbrev pub collectors_of : List Holder → List Bearer
+abbrev pub collectors_of : List Holder → List Registration
 collectors_of hs = map collector_of_holder hs
 
 abbrev pub assignments_of : Holder → List Assignment
@@ -36,10 +36,10 @@ abbrev pub quotes_of : Holder → List QuoteRow
 quotes_of h = h.own.quotes
 
 abbrev pub all_assignments : List Holder → List (ℕ × Assignment)
-all_assignments hs = gathered (λ h. h.number) assignments_of hs
+all_assignments hs = rows_with_holders (λ h. h.number) assignments_of hs
 
-abbrev pub all_quotes : List Holder → List (ℕ × QuoteRow)
-all_quotes hs = gathered (λ h. h.number) quotes_of hs
+abbrev pub quotes_of_holders : List Holder → List (ℕ × QuoteRow)
+quotes_of_holders hs = rows_with_holders (λ h. h.number) quotes_of hs
 
 -- the assignments of all holders, each beside its series
 abbrev pub all_given : List TakenOver → List Holder → List (ℕ × Given)
@@ -61,7 +61,7 @@ quote_of_series ends a series q = record {
 -- the stored quotes of a month of one collector, by slot
 abbrev pub own_row : ℕ → SeriesEnds → List TakenOver → Holder → Assigned → Option Frozen
 own_row month ends taken h a =
-    option_map (quote_of_series ends a.assignment (series_in taken h.number a.assignment.slot))
+    option_map (quote_of_series ends a.assignment (series_named_in taken h.number a.assignment.slot))
     (row_at quote_cmp quote_key (a.assignment.slot, month) h.own.quotes)
 
 abbrev pub own_rows : ℕ → SeriesEnds → List TakenOver → Holder → List Frozen
@@ -78,7 +78,7 @@ assignment_until number slot last_month row =
 
 -- each slot that took a series over has its assignment
 abbrev pub IsGiven : List (ℕ × Assignment) → TakenOver → Type 0
-IsGiven assignments t = IsSome (at (λ a. a.slot) t.slot (held_by t.collector assignments))
+IsGiven assignments t = IsSome (row_by_number (λ a. a.slot) t.slot (held_by t.collector assignments))
 
 -- the office that a public part, the outlets, the releases, and the holders with the series that they took over make up
 abbrev pub office_of : PublicPart → List Outlet → List Release → List TakenOver → List Holder → Office
@@ -89,7 +89,7 @@ office_of public outlets releases taken holders = record {
   collectors = collectors_of holders;
   outlets = outlets;
   assignments = all_given taken holders;
-  quotes = all_quotes holders;
+  quotes = quotes_of_holders holders;
   releases = releases;
 }
 
@@ -115,7 +115,7 @@ named_by outlets lists = map (λ own. map (with_name outlets) (map (λ a. a.assi
 
 -- the outlet of each assignment is there
 abbrev pub HasOutlet : List Outlet → Assigned → Type 0
-HasOutlet outlets a = IsSome (at (λ u. u.number) a.assignment.outlet outlets)
+HasOutlet outlets a = IsSome (row_by_number (λ u. u.number) a.assignment.outlet outlets)
 
 abbrev pub ArePlaced : List Outlet → List (List Assigned) → Type 0
 ArePlaced outlets lists = AllByRecursion (AllByRecursion (HasOutlet outlets)) lists

@@ -4,18 +4,18 @@ use Rattle.std.specs.List.{filter_map}
 use Rattle.cpi_survey.specs.Own.{OwnPart}
 use Rattle.cpi_survey.specs.Quote.{QuoteRow}
 use Rattle.cpi_survey.specs.declared.assignment.Assignment.{Assignment}
-use Rattle.cpi_store.specs.Holders.{ArePlaced, all_assignments, all_quotes, collectors_of, named_by}
+use Rattle.cpi_store.specs.Holders.{ArePlaced, all_assignments, quotes_of_holders, collectors_of, named_by}
 use Rattle.cpi_store.specs.Outlet.{with_name}
 use Rattle.cpi_store.specs.Series.{own_series, same_series}
-use Rattle.cpi_store.specs.declared.bearer.Bearer.{Bearer}
+use Rattle.cpi_store.specs.declared.registration.Registration.{Registration}
 use Rattle.cpi_store.specs.declared.given.Given.{Given}
 use Rattle.cpi_store.specs.declared.holder.Holder.{Holder}
 use Rattle.cpi_store.specs.declared.outlet.Outlet.{Outlet}
 use Rattle.cpi_store.specs.declared.taken_over.TakenOver.{TakenOver}
 
 -- rows of one collector, each beside the collector's number
-abbrev pub beside : {X : Type 0} → ℕ → List X → List (ℕ × X)
-beside number rows = map (λ x. (number, x)) rows
+abbrev pub rows_with_number : {X : Type 0} → ℕ → List X → List (ℕ × X)
+rows_with_number number rows = map (λ x. (number, x)) rows
 
 -- what a slot is for, without its series
 abbrev pub without_series : ℕ × Given → ℕ × Assignment
@@ -38,10 +38,10 @@ own_made outlets given quotes = record {
 }
 
 -- the holders are these collectors, who have these rows and no others
-pub record HaveRows (outlets : List Outlet) (bearers : List Bearer) (given : List (ℕ × Given))
+pub record HaveRows (outlets : List Outlet) (registrations : List Registration) (given : List (ℕ × Given))
     (stored : List (ℕ × QuoteRow)) (holders : List Holder) : Type 0 where
-  pub collectors : collectors_of holders ≡ bearers
+  pub collectors : collectors_of holders ≡ registrations
   pub assignments : all_assignments holders ≡ map without_series given
-  pub quotes : all_quotes holders ≡ stored
+  pub quotes : quotes_of_holders holders ≡ stored
   pub names : named_by outlets (map (λ h. h.own.assignments) holders) ≡ map (λ h. h.own.assignments) holders
   pub placed : ArePlaced outlets (map (λ h. h.own.assignments) holders)

@@ -2,7 +2,7 @@
 use Rattle.std.specs.Prelude.{ℕ, ◌==◌, ◌&&◌, List, [], map, Option, option_map, if◌then◌else◌}
 use Rattle.std.specs.List.{filter_map}
 use Rattle.std.specs.Ordering.{nat_cmp}
-use Rattle.cpi_rows.specs.Keyed.{put, put_by, row_at}
+use Rattle.cpi_rows.specs.Keyed.{with_row, put_by, row_at}
 use Rattle.cpi_rows.specs.Held.{held_by, held_cmp, held_key}
 use Rattle.cpi_plan.specs.declared.items.Item.{Item}
 use Rattle.cpi_store.specs.declared.outlet.Outlet.{Outlet}
@@ -11,7 +11,7 @@ use Rattle.cpi_plan.specs.Calendar.{CalendarPart}
 use Rattle.cpi_survey.specs.declared.assignment.Assignment.{Assignment}
 use Rattle.cpi_survey.specs.declared.assignment.Assigned.{Assigned}
 use Rattle.cpi_survey.specs.Assignment.{until}
-use Rattle.cpi_store.specs.declared.bearer.Bearer.{Bearer}
+use Rattle.cpi_store.specs.declared.registration.Registration.{Registration}
 use Rattle.cpi_store.specs.declared.given.Given.{Given}
 use Rattle.cpi_store.specs.declared.series_move.SeriesMove.{SeriesMove}
 use Rattle.cpi_store.specs.Series.{by_series, first_of_series, last_of_series}
@@ -28,7 +28,7 @@ pub record Office : Type 0 where
   pub items : List Item  -- by code
   pub plans : List Plan  -- by year
   pub calendar : List CalendarPart  -- by month
-  pub collectors : List Bearer  -- by number
+  pub collectors : List Registration  -- by number
   pub outlets : List Outlet  -- by number
   pub assignments : List (ℕ × Given)  -- by collector and slot
   pub quotes : List (ℕ × QuoteRow)  -- by collector, slot and month
@@ -63,13 +63,13 @@ own_part c o = record { assignments = map (with_name o.outlets) (assignments_by 
 
 -- the assignments and quotes of all collectors, each with its collector's number
 abbrev pub put_given : ℕ → Given → List (ℕ × Given) → List (ℕ × Given)
-put_given number g rows = put (held_cmp nat_cmp) (held_key (λ g. g.assignment.slot)) (number, g) rows
+put_given number g rows = with_row (held_cmp nat_cmp) (held_key (λ g. g.assignment.slot)) (number, g) rows
 
 abbrev pub put_quote : ℕ → QuoteRow → List (ℕ × QuoteRow) → List (ℕ × QuoteRow)
-put_quote number q rows = put (held_cmp quote_cmp) (held_key quote_key) (number, q) rows
+put_quote number q rows = with_row (held_cmp quote_cmp) (held_key quote_key) (number, q) rows
 
 abbrev pub put_release : Release → List Release → List Release
-put_release r releases = put release_cmp release_key r releases
+put_release r releases = with_row release_cmp release_key r releases
 
 -- ---- a series that is handed over
 
@@ -117,33 +117,33 @@ abbrev pub stored_rows : ℕ → List (ℕ × QuoteRow) → List (ℕ × Given) 
 stored_rows month quotes given = filter_map (frozen_row month quotes given) given
 
 -- the stored quotes of a month, by series
-abbrev pub month_rows : ℕ → Office → List Frozen
-month_rows month o = by_series (stored_rows month o.quotes o.assignments)
+abbrev pub quotes_of_month : ℕ → Office → List Frozen
+quotes_of_month month o = by_series (stored_rows month o.quotes o.assignments)
 
 -- A row that an accepted request puts.
 pub data Change : Type 0 where
   PutsItem : Item → Change
   PutsPlan : Plan → Change
   PutsCalendar : CalendarPart → Change
-  Registers : Bearer → Change
+  Registers : Registration → Change
   PutsOutlet : Outlet → Change
   -- for this collector, as a series of its own; with the outlet's name of that moment
-  Assigns : Bearer → Assigned → Change
+  Assigns : Registration → Assigned → Change
   -- from one collector to another; with the outlet's name of that moment
   HandsOver : SeriesMove → Change
   -- of this collector
-  Quotes : Bearer → QuoteRow → Change
+  Quotes : Registration → QuoteRow → Change
   Freezes : Release → Change
 
 -- the office with the row in its place
-abbrev pub changed : Change → Office → Office
-changed (PutsItem i) o = record o { items = put_by (λ i. i.code) i o.items }
-changed (PutsPlan p) o = record o { plans = put_by (λ y. y.year) p o.plans }
-changed (PutsCalendar r) o = record o { calendar = put_by (λ r. r.month) r o.calendar }
-changed (Registers b) o = record o { collectors = put_by (λ b. b.number) b o.collectors }
-changed (PutsOutlet u) o = record o { outlets = put_by (λ u. u.number) u o.outlets }
-changed (Assigns b a) o =
+abbrev pub office_with : Change → Office → Office
+office_with (PutsItem i) o = record o { items = put_by (λ i. i.code) i o.items }
+office_with (PutsPlan p) o = record o { plans = put_by (λ y. y.year) p o.plans }
+office_with (PutsCalendar r) o = record o { calendar = put_by (λ r. r.month) r o.calendar }
+office_with (Registers b) o = record o { collectors = put_by (λ b. b.number) b o.collectors }
+office_with (PutsOutlet u) o = record o { outlets = put_by (λ u. u.number) u o.outlets }
+office_with (Assigns b a) o =
     record o { assignments = put_given b.number (first_of_series b.number a.assignment) o.assignments }
-changed (HandsOver h) o = record o { assignments = hand_over h o.assignments }
-changed (Quotes b q) o = record o { quotes = put_quote b.number q o.quotes }
-changed (Freezes r) o = record o { releases = put_release r o.releases }
+office_with (HandsOver h) o = record o { assignments = hand_over h o.assignments }
+office_with (Quotes b q) o = record o { quotes = put_quote b.number q o.quotes }
+office_with (Freezes r) o = record o { releases = put_release r o.releases }

@@ -36,14 +36,14 @@ last_of_series series (row ∷ rows) =
     else last_of_series series rows
 
 -- a quote in its place among quotes by series
-abbrev pub placed : Frozen → List Frozen → List Frozen
-placed f [] = f ∷ []
-placed f (g ∷ rows) = if is_gt (series_cmp f.series g.series) then g ∷ placed f rows else f ∷ g ∷ rows
+abbrev pub put_by_series : Frozen → List Frozen → List Frozen
+put_by_series f [] = f ∷ []
+put_by_series f (g ∷ rows) = if is_gt (series_cmp f.series g.series) then g ∷ put_by_series f rows else f ∷ g ∷ rows
 
 -- quotes in the order of their series
 abbrev pub by_series : List Frozen → List Frozen
 by_series [] = []
-by_series (f ∷ rows) = placed f (by_series rows)
+by_series (f ∷ rows) = put_by_series f (by_series rows)
 
 -- ---- as the book in memory keeps them: the series of those slots alone that took one over
 
@@ -52,14 +52,14 @@ series_or own None = own
 series_or own (Some t) = t.series
 
 -- the series of a slot
-abbrev pub series_in : List TakenOver → ℕ → ℕ → SeriesId
-series_in taken collector slot =
+abbrev pub series_named_in : List TakenOver → ℕ → ℕ → SeriesId
+series_named_in taken collector slot =
     series_or (own_series collector slot) (row_at (held_cmp nat_cmp) (λ t. (t.collector, t.slot))
     (collector, slot) taken)
 
 -- an assignment beside the series of its slot
 abbrev pub given_in : List TakenOver → ℕ × Assignment → ℕ × Given
-given_in taken row = (row.0, record { assignment = row.1; series = series_in taken row.0 row.1.slot })
+given_in taken row = (row.0, record { assignment = row.1; series = series_named_in taken row.0 row.1.slot })
 
 -- whether a slot took the series over
 abbrev pub is_handed_over : List TakenOver → SeriesId → Bool

@@ -3,7 +3,7 @@
 use Rattle.std.specs.Prelude.{◌≡◌, ℕ, ◌≤◌, true, List, [], ◌∷◌, Some, IsSome, ⊤}
 use Rattle.std.specs.List.{AllByRecursion}
 use Rattle.std.specs.Ordering.{nat_cmp}
-use Rattle.cpi_rows.specs.Keyed.{IsInOrder, at}
+use Rattle.cpi_rows.specs.Keyed.{IsInOrder, row_by_number}
 use Rattle.cpi_rows.specs.Held.{held_cmp, held_key, held_by}
 use Rattle.cpi_codes.specs.CodeOrder.{code_cmp}
 use Rattle.cpi_plan.specs.Plan.{Plan}
@@ -11,30 +11,31 @@ use Rattle.cpi_survey.specs.Quote.{QuoteRow, quote_cmp, quote_key}
 use Rattle.cpi_survey.specs.declared.assignment.Assignment.{Assignment}
 use Rattle.cpi_survey.specs.Assignment.{is_active}
 use Rattle.cpi_release.specs.FrozenMonths.{release_cmp, release_key}
-use Rattle.cpi_store.specs.declared.bearer.Bearer.{Bearer}
+use Rattle.cpi_store.specs.declared.registration.Registration.{Registration}
 use Rattle.cpi_store.specs.declared.given.Given.{Given}
-use Rattle.cpi_store.specs.Bearer.{bearer_of}
+use Rattle.cpi_store.specs.Registration.{registration_of}
 use Rattle.cpi_store.specs.Office.{Office}
 use Rattle.cpi_store.specs.FrozenLists.{HasFrozenList}
 use Rattle.cpi_store.specs.Released.{AreReleased}
 
 -- whoever has a number is the only one to bear that key
-abbrev pub BearOwnKeys : List Bearer → Type 0
-BearOwnKeys bearers =
-    (number : ℕ) (b : Bearer) → at (λ b. b.number) number bearers ≡ Some b → bearer_of b.key bearers ≡ Some b
+abbrev pub BearOwnKeys : List Registration → Type 0
+BearOwnKeys registrations =
+    (number : ℕ) (b : Registration) → row_by_number (λ b. b.number) number registrations ≡ Some b → registration_of
+    b.key registrations ≡ Some b
 
 -- the collector, the outlet and the item of an assignment are there
 abbrev pub HasItsRows : Office → ℕ × Given → Type 0
 HasItsRows o row =
-    IsSome (at (λ b. b.number) row.0 o.collectors)
-    × IsSome (at (λ u. u.number) row.1.assignment.outlet o.outlets)
-    × IsSome (at (λ i. i.code) row.1.assignment.item o.items)
+    IsSome (row_by_number (λ b. b.number) row.0 o.collectors)
+    × IsSome (row_by_number (λ u. u.number) row.1.assignment.outlet o.outlets)
+    × IsSome (row_by_number (λ i. i.code) row.1.assignment.item o.items)
 
 -- the quote's slot is one that its collector has, and its month one in which the slot is active
 abbrev pub HasItsAssignment : List (ℕ × Given) → ℕ × QuoteRow → Type 0
 HasItsAssignment given row =
     (g : Given)
-    × (at (λ g. g.assignment.slot) row.1.slot (held_by row.0 given) ≡ Some g)
+    × (row_by_number (λ g. g.assignment.slot) row.1.slot (held_by row.0 given) ≡ Some g)
     × (is_active row.1.month g.assignment ≡ true)
 
 -- an assignment's collector and slot are within their limits, and its first month isn't after its last
@@ -47,7 +48,7 @@ pub record IsWellMade (row : ℕ × Assignment) : Type 0 where
 abbrev pub HasItsSeries : List (ℕ × Given) → ℕ × Given → Type 0
 HasItsSeries given row =
     (g : Given)
-    × (at (λ g. g.assignment.slot) row.1.series.slot (held_by row.1.series.collector given) ≡ Some g)
+    × (row_by_number (λ g. g.assignment.slot) row.1.series.slot (held_by row.1.series.collector given) ≡ Some g)
     × (g.series ≡ row.1.series)
     × (g.assignment.item ≡ row.1.assignment.item)
 

@@ -8,14 +8,14 @@ use Rattle.cpi_survey.specs.declared.mark.Mark.{Mark}
 use Rattle.cpi_survey.specs.Assignment.{is_active}
 use Rattle.cpi_survey.specs.Quote.{quote_cmp, quote_key}
 use Rattle.cpi_store.specs.declared.given.Given.{Given}
-use Rattle.cpi_store.specs.Office.{Office, month_rows}
+use Rattle.cpi_store.specs.Office.{Office, quotes_of_month}
 use Rattle.cpi_store.specs.Series.{same_series, series_cmp}
 use Rattle.cpi_store.specs.Sound.{IsSound}
 
 -- the mark of a series among the quotes that a freeze of the month takes
 abbrev pub frozen_mark : ℕ → SeriesId → Office → Option Mark
 frozen_mark month series o =
-    option_map (λ f. f.mark) (row_at series_cmp (λ f. f.series) series (month_rows month o))
+    option_map (λ f. f.mark) (row_at series_cmp (λ f. f.series) series (quotes_of_month month o))
 
 -- the assignment that the series has in the month, beside its collector's number
 abbrev pub assignment_in : ℕ → SeriesId → List (ℕ × Given) → Option (ℕ × Given)

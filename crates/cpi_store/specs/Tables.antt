@@ -8,5 +8,5 @@ abbrev pub table_until : ℕ → Option ℕ → ℕ → List Release → Option 
 table_until month revision until releases = asked_table month revision (published_until until releases)
 
 -- whether a release is the one that is asked for
-abbrev pub wanted : ℕ → Option ℕ → ℕ → Release → Bool
-wanted month revision until r = nat_le r.publishes until && is_asked revision r.revision && r.month == month
+abbrev pub is_wanted : ℕ → Option ℕ → ℕ → Release → Bool
+is_wanted month revision until r = nat_le r.publishes until && is_asked revision r.revision && r.month == month

@@ -2,9 +2,9 @@
 ghost use Rattle.std.specs.Prelude.{◌≡◌, ◌<◌, ◌≤◌, IsOk, IsSome, None, Some, false, true, map, option_map};
 ghost use Rattle.std.specs.Option.{option_copied};
 
-use crate::bearer::Bearer;
 use crate::given::Given;
 use crate::outlet::Outlet;
+use crate::registration::Registration;
 use crate::series_move::SeriesMove;
 use cpi_codes::{CollectorId, Key, Moment, Month, OutletId, Slot};
 use cpi_index::FrozenQuote;
@@ -39,19 +39,19 @@ pub trait Book: Groups {
     ghost use Rattle.std.specs.Borrow.{sem};
     ghost use Rattle.cpi_survey.specs.Quote.{greatest_receipt};
     ghost use Rattle.cpi_store.specs.Outlet.{with_name};
-    ghost use Rattle.cpi_store.specs.Office.{Office, public_part, own_part, changed, PutsItem, PutsPlan};
+    ghost use Rattle.cpi_store.specs.Office.{Office, public_part, own_part, office_with, PutsItem, PutsPlan};
     ghost use Rattle.cpi_store.specs.Office.{PutsCalendar, Registers, PutsOutlet, Assigns, HandsOver, Quotes, Freezes};
-    ghost use Rattle.cpi_store.specs.Office.{month_rows, given_until};
-    ghost use Rattle.cpi_store.specs.Bearer.{bearer_of, collector_of, collector_key};
+    ghost use Rattle.cpi_store.specs.Office.{quotes_of_month, given_until};
+    ghost use Rattle.cpi_store.specs.Registration.{registration_of, collector_of, collector_key};
     ghost use Rattle.cpi_release.specs.State.{State, Keeps, Reads};
     ghost use Rattle.cpi_store.specs.Calls.{Writes, IsOffice, EndsAs};
     ghost use Rattle.cpi_store.specs.Sources.{office_sources};
     ghost use Rattle.cpi_store.specs.Tables.{table_until};
-    ghost use Rattle.cpi_release.specs.KeptSamples.{IsFit};
-    ghost use Rattle.cpi_index.specs.Series.{is_by_series, frozen_serial};
-    ghost use Rattle.cpi_plan.specs.Plan.{has_unknown};
+    ghost use Rattle.cpi_release.specs.CachedSamples.{IsFit};
+    ghost use Rattle.cpi_index.specs.Series.{are_by_series, frozen_serial};
+    ghost use Rattle.cpi_plan.specs.Plan.{has_unknown_item};
     ghost use Rattle.cpi_rows.specs.Held.{held_by};
-    ghost use Rattle.cpi_rows.specs.Keyed.{IsInOrder, at, row_at};
+    ghost use Rattle.cpi_rows.specs.Keyed.{IsInOrder, row_by_number, row_at};
     ghost use Rattle.cpi_release.specs.FrozenMonths.{frozen_months, release_cmp, release_key};
     ghost use Rattle.cpi_release.specs.PublishedTables.{frozen_month_of, published_until};
 
@@ -63,15 +63,15 @@ pub trait Book: Groups {
     ghost finds_always: { Type 0 };
 
     /// The collector who bears the key; none where nobody does.
-    fn bearer_of(&mut self, key: Key) -> Result<Option<Bearer>, StoreFault>
+    fn registration_of(&mut self, key: Key) -> Result<Option<Registration>, StoreFault>
         ensures reads { Reads (state self.old) (state self.new) result (λ found.
-            found ≡ bearer_of key (state self.old).held.collectors) }
+            found ≡ registration_of key (state self.old).held.collectors) }
         ensures always { finds_always → IsOk result };
 
     /// The collector with the number; none where the number isn't registered.
-    fn bearer_at(&mut self, number: CollectorId) -> Result<Option<Bearer>, StoreFault>
+    fn registration_at(&mut self, number: CollectorId) -> Result<Option<Registration>, StoreFault>
         ensures reads { Reads (state self.old) (state self.new) result (λ found.
-            found ≡ at (λ b. b.number) number (state self.old).held.collectors) }
+            found ≡ row_by_number (λ b. b.number) number (state self.old).held.collectors) }
         ensures always { finds_always → IsOk result };
 
     /// The number of the collector who bears the key; none where nobody does.
@@ -90,7 +90,7 @@ pub trait Book: Groups {
     fn outlet(&mut self, number: OutletId) -> Result<Option<&Outlet>, StoreFault>
         ensures* reads { sem 𝓛 (EndsAs Self.row self.entry (λ book.
             Reads (state self.old) (state book) result (λ found.
-            option_copied found ≡ at (λ u. u.number) number (state self.old).held.outlets))) }
+            option_copied found ≡ row_by_number (λ u. u.number) number (state self.old).held.outlets))) }
         ensures always { finds_always → IsOk result };
 
     /// The public specification: items by code, plans by year, and calendar rows by month.
@@ -118,7 +118,7 @@ pub trait Book: Groups {
     /// What the collector's slot was given, with its series; none where the collector has no such slot.
     fn given(&mut self, collector: CollectorId, slot: Slot) -> Result<Option<Given>, StoreFault>
         ensures reads { Reads (state self.old) (state self.new) result (λ found.
-            found ≡ at (λ g. g.assignment.slot) slot (held_by collector (state self.old).held.assignments)) }
+            found ≡ row_by_number (λ g. g.assignment.slot) slot (held_by collector (state self.old).held.assignments)) }
         ensures always { finds_always → IsOk result };
 
     /// The frozen months in each of their revisions, with the moment at which its table is published, by month and
@@ -131,8 +131,8 @@ pub trait Book: Groups {
     /// has two in the month.
     fn month_rows(&mut self, month: Month) -> Result<Vec<FrozenQuote>, StoreFault>
         ensures reads { Reads (state self.old) (state self.new) result (λ found.
-            is_by_series frozen_serial (month_rows month (state self.old).held) ≡ true →
-            found.items ≡ month_rows month (state self.old).held) };
+            are_by_series frozen_serial (quotes_of_month month (state self.old).held) ≡ true →
+            found.items ≡ quotes_of_month month (state self.old).held) };
 
     /// The months and revisions whose tables are published by the moment, each with its moment of publishing, by month
     /// and revision.
@@ -166,55 +166,61 @@ pub trait Book: Groups {
 
     /// Puts a new item. The caller owes that no item has its code.
     fn put_item(&mut self, item: Item) -> Result<(), StoreFault>
-        requires new { (state self.old).is_clean → at (λ i. i.code) item.code (state self.old).held.items ≡ None }
+        requires new { (state self.old).is_clean → row_by_number (λ i. i.code) item.code
+            (state self.old).held.items ≡ None }
         ensures writes { Writes (state self.old) (state self.new) result
-            (changed (PutsItem item) (state self.old).held) };
+            (office_with (PutsItem item) (state self.old).held) };
 
     /// Puts a year's plan, over the one that stands if there is one. The caller owes that its items are there.
     fn put_plan(&mut self, plan: YearPlan) -> Result<(), StoreFault>
-        requires known { (state self.old).is_clean → has_unknown (state self.old).held.items plan.places ≡ false }
+        requires known { (state self.old).is_clean → has_unknown_item (state self.old).held.items plan.places ≡ false }
         ensures writes { Writes (state self.old) (state self.new) result
-            (changed (PutsPlan plan) (state self.old).held) };
+            (office_with (PutsPlan plan) (state self.old).held) };
 
     /// Puts a month's calendar row, over the one that stands if there is one.
     fn put_calendar(&mut self, row: CalendarRow) -> Result<(), StoreFault>
         ensures writes { Writes (state self.old) (state self.new) result
-            (changed (PutsCalendar row) (state self.old).held) };
+            (office_with (PutsCalendar row) (state self.old).held) };
 
     /// Puts a new collector, who has nothing yet. The caller owes that nobody has the number, and that nobody bears
     /// the key.
-    fn put_collector(&mut self, bearer: Bearer) -> Result<(), StoreFault>
+    fn put_collector(&mut self, registration: Registration) -> Result<(), StoreFault>
         requires number { (state self.old).is_clean →
-            at (λ b. b.number) bearer.number (state self.old).held.collectors ≡ None }
-        requires key { (state self.old).is_clean → bearer_of bearer.key (state self.old).held.collectors ≡ None }
+            row_by_number (λ b. b.number) registration.number (state self.old).held.collectors ≡ None }
+        requires key { (state self.old).is_clean → registration_of registration.key
+            (state self.old).held.collectors ≡ None }
         ensures writes { Writes (state self.old) (state self.new) result
-            (changed (Registers bearer) (state self.old).held) };
+            (office_with (Registers registration) (state self.old).held) };
 
     /// Puts a new outlet. The caller owes that no outlet has its number.
     fn put_outlet(&mut self, outlet: Outlet) -> Result<(), StoreFault>
         requires new { (state self.old).is_clean →
-            at (λ u. u.number) outlet.number (state self.old).held.outlets ≡ None }
+            row_by_number (λ u. u.number) outlet.number (state self.old).held.outlets ≡ None }
         ensures writes { Writes (state self.old) (state self.new) result
-            (changed (PutsOutlet outlet) (state self.old).held) };
+            (office_with (PutsOutlet outlet) (state self.old).held) };
 
     /// Puts a new assignment of the collector, as a series of its own, with the name of its outlet. The caller owes
     /// that the collector is registered with this key, that the collector's slot is free, that the first month isn't
     /// after the last, that item and outlet are there, and that the name is the outlet's.
-    fn put_assignment(&mut self, bearer: Bearer, assigned: Assigned) -> Result<(), StoreFault>
+    fn put_assignment(
+        &mut self,
+        registration: Registration,
+        assigned: Assigned,
+    ) -> Result<(), StoreFault>
         requires known { (state self.old).is_clean →
-            at (λ b. b.number) bearer.number (state self.old).held.collectors ≡ Some bearer }
+            row_by_number (λ b. b.number) registration.number (state self.old).held.collectors ≡ Some registration }
         requires new { (state self.old).is_clean →
-            at (λ g. g.assignment.slot) assigned.assignment.slot
-            (held_by bearer.number (state self.old).held.assignments) ≡ None }
+            row_by_number (λ g. g.assignment.slot) assigned.assignment.slot
+            (held_by registration.number (state self.old).held.assignments) ≡ None }
         requires months { (state self.old).is_clean → assigned.assignment.first_month ≤ assigned.assignment.last_month }
         requires item { (state self.old).is_clean →
-            IsSome (at (λ i. i.code) assigned.assignment.item (state self.old).held.items) }
+            IsSome (row_by_number (λ i. i.code) assigned.assignment.item (state self.old).held.items) }
         requires outlet { (state self.old).is_clean →
-            IsSome (at (λ u. u.number) assigned.assignment.outlet (state self.old).held.outlets) }
+            IsSome (row_by_number (λ u. u.number) assigned.assignment.outlet (state self.old).held.outlets) }
         requires name { (state self.old).is_clean →
             assigned ≡ with_name (state self.old).held.outlets assigned.assignment }
         ensures writes { Writes (state self.old) (state self.new) result
-            (changed (Assigns bearer assigned) (state self.old).held) };
+            (office_with (Assigns registration assigned) (state self.old).held) };
 
     /// Ends an assignment of one collector, and gives its series to a new slot of another, who may be the same: both or
     /// neither. The caller owes that both collectors are registered with these keys, that the former assignment stands
@@ -222,33 +228,36 @@ pub trait Book: Groups {
     /// its own.
     fn put_handover(&mut self, handover: SeriesMove) -> Result<(), StoreFault>
         requires former { (state self.old).is_clean →
-            at (λ b. b.number) handover.former.number (state self.old).held.collectors ≡ Some handover.former }
+            row_by_number (λ b. b.number) handover.former.number (state self.old).held.collectors ≡ Some
+            handover.former }
         requires taker { (state self.old).is_clean →
-            at (λ b. b.number) handover.taker.number (state self.old).held.collectors ≡ Some handover.taker }
+            row_by_number (λ b. b.number) handover.taker.number (state self.old).held.collectors ≡ Some handover.taker }
         requires stands { (state self.old).is_clean →
-            option_map (given_until handover.ended.assignment.last_month) (at (λ g. g.assignment.slot)
+            option_map (given_until handover.ended.assignment.last_month) (row_by_number (λ g. g.assignment.slot)
             handover.ended.assignment.slot (held_by handover.former.number (state self.old).held.assignments))
             ≡ Some handover.ended }
-        requires new { (state self.old).is_clean → at (λ g. g.assignment.slot) handover.assigned.assignment.slot
+        requires new { (state self.old).is_clean → row_by_number (λ g. g.assignment.slot)
+            handover.assigned.assignment.slot
             (held_by handover.taker.number (state self.old).held.assignments) ≡ None }
         requires outlet { (state self.old).is_clean →
-            IsSome (at (λ u. u.number) handover.assigned.assignment.outlet (state self.old).held.outlets) }
+            IsSome (row_by_number (λ u. u.number) handover.assigned.assignment.outlet (state self.old).held.outlets) }
         requires name { (state self.old).is_clean →
             handover.assigned ≡ with_name (state self.old).held.outlets handover.assigned.assignment }
         ensures writes { Writes (state self.old) (state self.new) result
-            (changed (HandsOver handover) (state self.old).held) };
+            (office_with (HandsOver handover) (state self.old).held) };
 
     /// Puts a quote of the collector, over the one of its slot and month if there is one. The caller owes that the
     /// collector is registered and has the slot, and that the receipt is above all others of the collector.
-    fn put_quote(&mut self, bearer: Bearer, quote: Quote) -> Result<(), StoreFault>
+    fn put_quote(&mut self, registration: Registration, quote: Quote) -> Result<(), StoreFault>
         requires known { (state self.old).is_clean →
-            IsSome (at (λ b. b.number) bearer.number (state self.old).held.collectors) }
+            IsSome (row_by_number (λ b. b.number) registration.number (state self.old).held.collectors) }
         requires slot { (state self.old).is_clean →
-            IsSome (at (λ a. a.assignment.slot) quote.slot (own_part bearer.number (state self.old).held).assignments) }
+            IsSome (row_by_number (λ a. a.assignment.slot) quote.slot
+            (own_part registration.number (state self.old).held).assignments) }
         requires receipt { (state self.old).is_clean →
-            greatest_receipt (held_by bearer.number (state self.old).held.quotes) < quote.receipt }
+            greatest_receipt (held_by registration.number (state self.old).held.quotes) < quote.receipt }
         ensures writes { Writes (state self.old) (state self.new) result
-            (changed (Quotes bearer quote) (state self.old).held) };
+            (office_with (Quotes registration quote) (state self.old).held) };
 
     /// Puts a release. The caller owes that there is none of its month and revision, where the releases are in order.
     fn put_release(&mut self, release: Release) -> Result<(), StoreFault>
@@ -256,7 +265,7 @@ pub trait Book: Groups {
             IsInOrder release_cmp release_key (state self.old).held.releases →
             row_at release_cmp release_key (release.month, release.revision) (state self.old).held.releases ≡ None }
         ensures writes { Writes (state self.old) (state self.new) result
-            (changed (Freezes release) (state self.old).held) };
+            (office_with (Freezes release) (state self.old).held) };
 
     // what is said of the groups is said of the office
     ghost groups_are: { (b : Self) → IsOffice (Self.holds b) (state b) };

@@ -1,8 +1,8 @@
 //! A book whose n-th call fails.
-use crate::bearer::Bearer;
 use crate::book::{Book, Parts, StoreFault};
 use crate::given::Given;
 use crate::outlet::Outlet;
+use crate::registration::Registration;
 use crate::series_move::SeriesMove;
 use cpi_codes::{Code, CollectorId, Key, Moment, Month, OutletId, Slot};
 use cpi_index::{ChainedLevel, FrozenQuote, GroupRow};
@@ -130,14 +130,14 @@ impl<B: Book> Book for FailBook<B> {
 
     ghost sound_is = { λ f s. B.sound_is f.inner s };
 
-    fn bearer_of(&mut self, key: Key) -> Result<Option<Bearer>, StoreFault> {
+    fn registration_of(&mut self, key: Key) -> Result<Option<Registration>, StoreFault> {
         self.count()?;
-        self.inner.bearer_of(key)
+        self.inner.registration_of(key)
     }
 
-    fn bearer_at(&mut self, number: CollectorId) -> Result<Option<Bearer>, StoreFault> {
+    fn registration_at(&mut self, number: CollectorId) -> Result<Option<Registration>, StoreFault> {
         self.count()?;
-        self.inner.bearer_at(number)
+        self.inner.registration_at(number)
     }
 
     fn collector_of(&mut self, key: Key) -> Result<Option<CollectorId>, StoreFault> {
@@ -224,9 +224,9 @@ impl<B: Book> Book for FailBook<B> {
         self.inner.put_calendar(row)
     }
 
-    fn put_collector(&mut self, bearer: Bearer) -> Result<(), StoreFault> {
+    fn put_collector(&mut self, registration: Registration) -> Result<(), StoreFault> {
         self.count()?;
-        self.inner.put_collector(bearer)
+        self.inner.put_collector(registration)
     }
 
     fn put_outlet(&mut self, outlet: Outlet) -> Result<(), StoreFault> {
@@ -234,9 +234,13 @@ impl<B: Book> Book for FailBook<B> {
         self.inner.put_outlet(outlet)
     }
 
-    fn put_assignment(&mut self, bearer: Bearer, assigned: Assigned) -> Result<(), StoreFault> {
+    fn put_assignment(
+        &mut self,
+        registration: Registration,
+        assigned: Assigned,
+    ) -> Result<(), StoreFault> {
         self.count()?;
-        self.inner.put_assignment(bearer, assigned)
+        self.inner.put_assignment(registration, assigned)
     }
 
     fn put_handover(&mut self, handover: SeriesMove) -> Result<(), StoreFault> {
@@ -244,9 +248,9 @@ impl<B: Book> Book for FailBook<B> {
         self.inner.put_handover(handover)
     }
 
-    fn put_quote(&mut self, bearer: Bearer, quote: Quote) -> Result<(), StoreFault> {
+    fn put_quote(&mut self, registration: Registration, quote: Quote) -> Result<(), StoreFault> {
         self.count()?;
-        self.inner.put_quote(bearer, quote)
+        self.inner.put_quote(registration, quote)
     }
 
     fn put_release(&mut self, release: Release) -> Result<(), StoreFault> {

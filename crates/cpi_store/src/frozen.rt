@@ -6,10 +6,10 @@ ghost use Rattle.cpi_codes.specs.declared.series.SeriesId.{SeriesId};
 ghost use Rattle.cpi_rows.specs.Held.{held_cmp};
 ghost use Rattle.cpi_rows.specs.Keyed.{IsInOrder};
 ghost use Rattle.std.specs.Ordering.{nat_cmp};
-ghost use Rattle.cpi_index.specs.Series.{is_by_series, frozen_serial};
+ghost use Rattle.cpi_index.specs.Series.{are_by_series, frozen_serial};
 ghost use Rattle.cpi_store.specs.Office.{stored_rows};
 ghost use Rattle.cpi_store.specs.Series.{by_series, is_handed_over, last_handed_over, last_known};
-ghost use Rattle.cpi_store.specs.Holders.{all_given, all_quotes, own_given, own_rows, quote_of_series};
+ghost use Rattle.cpi_store.specs.Holders.{all_given, quotes_of_holders, own_given, own_rows, quote_of_series};
 ghost use Rattle.cpi_store.specs.Holders.{rows_of_holders};
 
 use crate::holder::Holder;
@@ -32,8 +32,8 @@ pub fn month_rows(
     requires order { IsInOrder nat_cmp (λ h. h.number) holders.now }
     requires by_slot { IsInOrder (held_cmp nat_cmp) (λ t. (t.collector, t.slot)) taken.now }
     ensures { let given = all_given taken.now holders.now in
-        let rows = by_series (stored_rows month (all_quotes holders.now) given) in
-        IfOk result (λ found. is_by_series frozen_serial rows ≡ true → found.items ≡ rows) }
+        let rows = by_series (stored_rows month (quotes_of_holders holders.now) given) in
+        IfOk result (λ found. are_by_series frozen_serial rows ≡ true → found.items ≡ rows) }
 {
     let ends = series_ends(alloc, taken, holders)?;
     let mut found = rows_of(alloc, month, taken, holders, &ends)?;

@@ -1,7 +1,7 @@
 //! Collectors, each with what the collector has.
 ghost use Rattle.std.specs.Prelude.{◌≡◌, []};
 
-use crate::bearer::Bearer;
+use crate::registration::Registration;
 use cpi_codes::{CollectorId, Key};
 use cpi_rows::Keyed;
 use cpi_survey::Own;
@@ -17,13 +17,18 @@ pub struct Holder {
 
 impl Holder {
     /// A collector who has nothing yet.
-    pub fn new(alloc: Global, bearer: Bearer) -> Holder
+    pub fn new(alloc: Global, registration: Registration) -> Holder
         ensures { result
-            ≡ record { number = bearer.number; key = bearer.key; own = record { assignments = []; quotes = [] } } }
+            ≡ record {
+              number = registration.number;
+              key = registration.key;
+              own = record
+                  { assignments = []; quotes = [] };
+            } }
     {
         Holder {
-            number: bearer.number,
-            key: bearer.key,
+            number: registration.number,
+            key: registration.key,
             own: Own::new(alloc),
         }
     }

@@ -2,18 +2,19 @@
 ghost use Rattle.std.specs.Prelude.{◌≡◌, ◌<◌, List, map, OnOk, OnErr, IsOk, IsSome, None, Some};
 ghost use Rattle.std.specs.BTreeMap.{IsUnchanged, Updates};
 ghost use Rattle.std.specs.Ordering.{nat_cmp};
-ghost use Rattle.cpi_rows.specs.Keyed.{row_at, at, put, put_by, IsInOrder};
+ghost use Rattle.cpi_rows.specs.Keyed.{row_at, row_by_number, with_row, put_by, IsInOrder};
 ghost use Rattle.cpi_rows.specs.Held.{held_by, held_cmp, held_key};
 ghost use Rattle.cpi_survey.specs.Quote.{greatest_receipt, quote_cmp, quote_key};
 ghost use Rattle.cpi_store.specs.Office.{put_quote, hand_over};
 ghost use Rattle.cpi_store.specs.Outlet.{with_name};
 ghost use Rattle.cpi_store.specs.declared.outlet.Outlet.{Outlet};
-ghost use Rattle.cpi_store.specs.Holders.{collectors_of, all_assignments, all_given, all_quotes, assignment_until};
+ghost use Rattle.cpi_store.specs.Holders.{collectors_of, all_assignments, all_given, quotes_of_holders};
+ghost use Rattle.cpi_store.specs.Holders.{assignment_until};
 ghost use Rattle.cpi_store.specs.Holders.{named_by, ArePlaced, IsGiven};
 ghost use Rattle.std.specs.List.{AllByRecursion};
 
-use crate::bearer::Bearer;
 use crate::holder::Holder;
+use crate::registration::Registration;
 use crate::series_move::SeriesMove;
 use crate::taken_over::TakenOver;
 use cpi_codes::{CollectorId, Key, Month, Slot};
@@ -30,12 +31,12 @@ pub fn put_quote_of(
 ) -> Result<(), AllocError>
     requires order { IsInOrder nat_cmp (λ h. h.number) holders.old.items }
     requires known { IsSome (row_at nat_cmp (λ h. h.number) collector holders.old.items) }
-    requires receipt { greatest_receipt (held_by collector (all_quotes holders.old.items)) < quote.receipt }
-    ensures ok { OnOk result (all_quotes holders.new.items ≡
-        put_quote collector quote (all_quotes holders.old.items)) }
+    requires receipt { greatest_receipt (held_by collector (quotes_of_holders holders.old.items)) < quote.receipt }
+    ensures ok { OnOk result (quotes_of_holders holders.new.items ≡
+        put_quote collector quote (quotes_of_holders holders.old.items)) }
     ensures err { OnErr result (holders.new.items ≡ holders.old.items) }
     ensures replaced { IsSome (row_at quote_cmp quote_key (quote.slot, quote.month)
-        (held_by collector (all_quotes holders.old.items)))
+        (held_by collector (quotes_of_holders holders.old.items)))
         → IsOk result }
     ensures collectors { collectors_of holders.new.items ≡ collectors_of holders.old.items }
     ensures assignments { all_assignments holders.new.items ≡ all_assignments holders.old.items }
@@ -61,13 +62,14 @@ pub fn put_assignment_of(
     requires order { IsInOrder nat_cmp (λ h. h.number) holders.old.items }
     requires known { IsSome (row_at nat_cmp (λ h. h.number) collector holders.old.items) }
     ensures ok { OnOk result (all_assignments holders.new.items ≡
-        put (held_cmp nat_cmp) (held_key (λ a. a.slot)) (collector, assigned.assignment)
+        with_row (held_cmp nat_cmp) (held_key (λ a. a.slot)) (collector, assigned.assignment)
         (all_assignments holders.old.items)) }
     ensures err { OnErr result (holders.new.items ≡ holders.old.items) }
     ensures collectors { collectors_of holders.new.items ≡ collectors_of holders.old.items }
-    ensures quotes { all_quotes holders.new.items ≡ all_quotes holders.old.items }
+    ensures quotes { quotes_of_holders holders.new.items ≡ quotes_of_holders holders.old.items }
     ensures order { IsInOrder nat_cmp (λ h. h.number) holders.new.items }
-    ensures placed { (outlets : List Outlet) → IsSome (at (λ u. u.number) assigned.assignment.outlet outlets) →
+    ensures placed { (outlets : List Outlet) → IsSome
+        (row_by_number (λ u. u.number) assigned.assignment.outlet outlets) →
         ArePlaced outlets (map (λ h. h.own.assignments) holders.old.items) →
         ArePlaced outlets (map (λ h. h.own.assignments) holders.new.items) }
     ensures names { (outlets : List Outlet) → assigned ≡ with_name outlets assigned.assignment →
@@ -96,7 +98,7 @@ fn end_assignment_of(
     ensures assignments { all_assignments holders.new.items ≡
         map (assignment_until collector slot last_month) (all_assignments holders.old.items) }
     ensures collectors { collectors_of holders.new.items ≡ collectors_of holders.old.items }
-    ensures quotes { all_quotes holders.new.items ≡ all_quotes holders.old.items }
+    ensures quotes { quotes_of_holders holders.new.items ≡ quotes_of_holders holders.old.items }
     ensures order { IsInOrder nat_cmp (λ h. h.number) holders.new.items }
     ensures placed { (outlets : List Outlet) →
         ArePlaced outlets (map (λ h. h.own.assignments) holders.old.items) →
@@ -124,20 +126,21 @@ pub fn hand_over_in(
     requires by_slot { IsInOrder (held_cmp nat_cmp) (λ t. (t.collector, t.slot)) taken.old.items }
     requires given { AllByRecursion (IsGiven (all_assignments holders.old.items)) taken.old.items }
     requires known { IsSome (row_at nat_cmp (λ h. h.number) handover.taker.number holders.old.items) }
-    requires stands { IsSome (at (λ a. a.slot) handover.ended.assignment.slot
+    requires stands { IsSome (row_by_number (λ a. a.slot) handover.ended.assignment.slot
         (held_by handover.former.number (all_assignments holders.old.items))) }
-    requires new { at (λ a. a.slot) handover.assigned.assignment.slot
+    requires new { row_by_number (λ a. a.slot) handover.assigned.assignment.slot
         (held_by handover.taker.number (all_assignments holders.old.items)) ≡ None }
     ensures ok { OnOk result (all_given taken.new.items holders.new.items ≡
         hand_over handover (all_given taken.old.items holders.old.items)) }
     ensures err_holders { OnErr result (holders.new.items ≡ holders.old.items) }
     ensures err_taken { OnErr result (taken.new.items ≡ taken.old.items) }
     ensures collectors { collectors_of holders.new.items ≡ collectors_of holders.old.items }
-    ensures quotes { all_quotes holders.new.items ≡ all_quotes holders.old.items }
+    ensures quotes { quotes_of_holders holders.new.items ≡ quotes_of_holders holders.old.items }
     ensures order { IsInOrder nat_cmp (λ h. h.number) holders.new.items }
     ensures by_slot { IsInOrder (held_cmp nat_cmp) (λ t. (t.collector, t.slot)) taken.new.items }
     ensures given { AllByRecursion (IsGiven (all_assignments holders.new.items)) taken.new.items }
-    ensures placed { (outlets : List Outlet) → IsSome (at (λ u. u.number) handover.assigned.assignment.outlet outlets) →
+    ensures placed { (outlets : List Outlet) → IsSome
+        (row_by_number (λ u. u.number) handover.assigned.assignment.outlet outlets) →
         ArePlaced outlets (map (λ h. h.own.assignments) holders.old.items) →
         ArePlaced outlets (map (λ h. h.own.assignments) holders.new.items) }
     ensures names { (outlets : List Outlet) → handover.assigned ≡ with_name outlets handover.assigned.assignment →
@@ -164,13 +167,14 @@ fn pass_on(holders: &mut Vec<Holder>, handover: SeriesMove) -> Result<(), AllocE
     ensures ok { OnOk result (all_assignments holders.new.items ≡
         map (assignment_until handover.former.number handover.ended.assignment.slot
         handover.ended.assignment.last_month)
-        (put (held_cmp nat_cmp) (held_key (λ a. a.slot)) (handover.taker.number, handover.assigned.assignment)
+        (with_row (held_cmp nat_cmp) (held_key (λ a. a.slot)) (handover.taker.number, handover.assigned.assignment)
         (all_assignments holders.old.items))) }
     ensures err { OnErr result (holders.new.items ≡ holders.old.items) }
     ensures collectors { collectors_of holders.new.items ≡ collectors_of holders.old.items }
-    ensures quotes { all_quotes holders.new.items ≡ all_quotes holders.old.items }
+    ensures quotes { quotes_of_holders holders.new.items ≡ quotes_of_holders holders.old.items }
     ensures order { IsInOrder nat_cmp (λ h. h.number) holders.new.items }
-    ensures placed { (outlets : List Outlet) → IsSome (at (λ u. u.number) handover.assigned.assignment.outlet outlets) →
+    ensures placed { (outlets : List Outlet) → IsSome
+        (row_by_number (λ u. u.number) handover.assigned.assignment.outlet outlets) →
         ArePlaced outlets (map (λ h. h.own.assignments) holders.old.items) →
         ArePlaced outlets (map (λ h. h.own.assignments) holders.new.items) }
     ensures names { (outlets : List Outlet) → handover.assigned ≡ with_name outlets handover.assigned.assignment →
@@ -191,18 +195,18 @@ fn pass_on(holders: &mut Vec<Holder>, handover: SeriesMove) -> Result<(), AllocE
 /// as before.
 pub fn put_holder(
     holders: &mut Vec<Holder>,
-    bearers: &mut BTreeMap<Key, Bearer>,
+    registrations: &mut BTreeMap<Key, Registration>,
     holder: Holder,
 ) -> Result<(), AllocError>
     requires order { IsInOrder nat_cmp (λ h. h.number) holders.old.items }
-    requires new { at (λ h. h.number) holder.number holders.old.items ≡ None }
+    requires new { row_by_number (λ h. h.number) holder.number holders.old.items ≡ None }
     ensures holders { OnOk result (holders.new.items ≡ put_by (λ h. h.number) holder holders.old.items) }
-    ensures bearers { OnOk result (Updates nat_cmp bearers.old bearers.new holder.key
+    ensures registrations { OnOk result (Updates nat_cmp registrations.old registrations.new holder.key
         (Some (record { number = holder.number; key = holder.key }))) }
     ensures err_holders { OnErr result (holders.new.items ≡ holders.old.items) }
-    ensures err_bearers { OnErr result (IsUnchanged bearers.old bearers.new) }
+    ensures err_registrations { OnErr result (IsUnchanged registrations.old registrations.new) }
 {
-    let bearer = Bearer {
+    let registration = Registration {
         number: holder.number,
         key: holder.key,
     };
@@ -210,7 +214,7 @@ pub fn put_holder(
         Ok(_) => unreachable!(),
         Err(at) => {
             holders.reserve(1)?;
-            bearers.insert(holder.key, bearer)?;
+            registrations.insert(holder.key, registration)?;
             Ok(holders.insert(at, holder)?)
         }
     }

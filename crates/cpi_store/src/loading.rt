@@ -5,14 +5,14 @@ ghost use Rattle.std.specs.Ordering.{nat_cmp};
 ghost use Rattle.cpi_rows.specs.Keyed.{IsInOrder};
 ghost use Rattle.cpi_rows.specs.Held.{held_cmp, held_key};
 ghost use Rattle.cpi_survey.specs.Quote.{quote_cmp, quote_key};
-ghost use Rattle.cpi_store.specs.Bearer.{bearer_of};
+ghost use Rattle.cpi_store.specs.Registration.{registration_of};
 ghost use Rattle.cpi_store.specs.Loading.{HaveRows, taken_row, taken_rows};
 
-use crate::bearer::Bearer;
 use crate::held::{HeldGiven, HeldQuote};
 use crate::holder::Holder;
 use crate::outlet::Outlet;
 use crate::own_rows::own_of;
+use crate::registration::Registration;
 use crate::runs::{given_from, quotes_from};
 use crate::survey::Survey;
 use crate::taken_over::TakenOver;
@@ -31,34 +31,34 @@ impl Survey {
     pub fn from_rows(
         alloc: Global,
         public: Public,
-        bearers: Vec<Bearer>,
+        registrations: Vec<Registration>,
         outlets: RowsByKey<Outlet>,
         given: &[HeldGiven],
         quotes: &[HeldQuote],
     ) -> Option<Survey>
-        requires bearers { IsInOrder nat_cmp (λ b. b.number) bearers.items }
+        requires registrations { IsInOrder nat_cmp (λ b. b.number) registrations.items }
         requires given { IsInOrder (held_cmp nat_cmp) (held_key (λ g. g.assignment.slot)) given.now }
         requires quotes { IsInOrder (held_cmp quote_cmp) (held_key quote_key) quotes.now }
         ensures { IfSome result (λ s. s ≡ record {
           items = public.items;
           plans = public.plans;
           calendar = public.calendar;
-          collectors = bearers.items;
+          collectors = registrations.items;
           outlets = outlets;
           assignments = given.now;
           quotes = quotes.now;
           releases = [];
         }) }
     {
-        let by_key = by_key(alloc, &bearers)?;
+        let by_key = by_key(alloc, &registrations)?;
         let taken = taken_of(alloc, given).ok()?;
-        let holders = holders_of(alloc, &outlets, &bearers, given, quotes)?;
+        let holders = holders_of(alloc, &outlets, &registrations, given, quotes)?;
         Some(Survey {
             public,
             holders,
             taken,
             outlets,
-            bearers: by_key,
+            registrations: by_key,
             nobody: Own::new(alloc),
             alloc,
         })
@@ -66,15 +66,15 @@ impl Survey {
 }
 
 /// The collectors by the key that each bears; none where two bear one key, or where memory was refused.
-fn by_key(alloc: Global, bearers: &[Bearer]) -> Option<BTreeMap<Key, Bearer>>
-    ensures { IfSome result (λ found. (key : ℕ) → get nat_cmp found key ≡ bearer_of key bearers.now) }
+fn by_key(alloc: Global, registrations: &[Registration]) -> Option<BTreeMap<Key, Registration>>
+    ensures { IfSome result (λ found. (key : ℕ) → get nat_cmp found key ≡ registration_of key registrations.now) }
 {
     let mut found = BTreeMap::new(alloc);
-    'bearers: for bearer in bearers {
-        if found.contains_key(&bearer.key) {
+    'registrations: for registration in registrations {
+        if found.contains_key(&registration.key) {
             return None;
         }
-        found.insert(bearer.key, *bearer).ok()?;
+        found.insert(registration.key, *registration).ok()?;
     }
     Some(found)
 }
@@ -107,27 +107,27 @@ fn taken_one(row: &HeldGiven) -> Option<TakenOver>
 fn holders_of(
     alloc: Global,
     outlets: &RowsByKey<Outlet>,
-    bearers: &[Bearer],
+    registrations: &[Registration],
     given: &[HeldGiven],
     quotes: &[HeldQuote],
 ) -> Option<Vec<Holder>>
     requires given { IsInOrder (held_cmp nat_cmp) (held_key (λ g. g.assignment.slot)) given.now }
     requires quotes { IsInOrder (held_cmp quote_cmp) (held_key quote_key) quotes.now }
-    ensures { IfSome result (λ holders. HaveRows outlets.now bearers.now given.now quotes.now holders.items) }
+    ensures { IfSome result (λ holders. HaveRows outlets.now registrations.now given.now quotes.now holders.items) }
 {
     let mut holders = Vec::new(alloc);
     let mut given_at = 0;
     let mut quotes_at = 0;
-    'bearers: for bearer in bearers {
-        let own_given = given_from(alloc, given, given_at, bearer.number)?;
-        let own_quotes = quotes_from(alloc, quotes, quotes_at, bearer.number)?;
+    'registrations: for registration in registrations {
+        let own_given = given_from(alloc, given, given_at, registration.number)?;
+        let own_quotes = quotes_from(alloc, quotes, quotes_at, registration.number)?;
         given_at += own_given.len();
         quotes_at += own_quotes.len();
         let own = own_of(alloc, outlets, &own_given, own_quotes)?;
         holders
             .push(Holder {
-                number: bearer.number,
-                key: bearer.key,
+                number: registration.number,
+                key: registration.key,
                 own,
             })
             .ok()?;

@@ -3,7 +3,7 @@ ghost use Rattle.std.specs.Prelude.{◌≡◌, None, Some, IfOk, map, option_map
 ghost use Rattle.std.specs.Option.{option_copied};
 ghost use Rattle.cpi_release.specs.FrozenMonths.{frozen_months};
 ghost use Rattle.cpi_release.specs.PublishedTables.{frozen_month_of, published_until};
-ghost use Rattle.cpi_store.specs.Tables.{table_until, wanted};
+ghost use Rattle.cpi_store.specs.Tables.{table_until, is_wanted};
 
 use cpi_codes::{Moment, Month};
 use cpi_release::{FrozenMonth, Level, Release, Revision};
@@ -40,7 +40,7 @@ pub fn published_months(
 
 /// Whether the release is of the month, and its table is published by the moment.
 fn is_due(release: &Release, month: Month, until: Moment) -> bool
-    ensures { result ≡ wanted month None until release.now }
+    ensures { result ≡ is_wanted month None until release.now }
 {
     release.publishes <= until && release.month == month
 }

@@ -4,7 +4,7 @@ ghost use Rattle.std.specs.Ordering.{nat_cmp};
 ghost use Rattle.cpi_rows.specs.Keyed.{IsInOrder};
 ghost use Rattle.cpi_rows.specs.Held.{held_cmp, held_key};
 ghost use Rattle.cpi_survey.specs.Quote.{quote_cmp, quote_key};
-ghost use Rattle.cpi_store.specs.Loading.{beside};
+ghost use Rattle.cpi_store.specs.Loading.{rows_with_number};
 
 use crate::given::Given;
 use crate::held::{HeldGiven, HeldQuote};
@@ -21,7 +21,8 @@ pub fn given_from(
 ) -> Option<Vec<Given>>
     requires place { from ≤ length rows.now }
     requires order { IsInOrder (held_cmp nat_cmp) (held_key (λ g. g.assignment.slot)) rows.now }
-    ensures rows { IfSome result (λ own. beside collector own.items ≡ take (vec_len own) (drop from rows.now)) }
+    ensures rows { IfSome result (λ own. rows_with_number collector own.items ≡ take (vec_len own)
+        (drop from rows.now)) }
     ensures within { IfSome result (λ own. from + vec_len own ≤ length rows.now) }
     ensures order { IfSome result (λ own. IsInOrder nat_cmp (λ g. g.assignment.slot) own.items) }
 {
@@ -45,7 +46,8 @@ pub fn quotes_from(
 ) -> Option<Vec<Quote>>
     requires place { from ≤ length rows.now }
     requires order { IsInOrder (held_cmp quote_cmp) (held_key quote_key) rows.now }
-    ensures rows { IfSome result (λ own. beside collector own.items ≡ take (vec_len own) (drop from rows.now)) }
+    ensures rows { IfSome result (λ own. rows_with_number collector own.items ≡ take (vec_len own)
+        (drop from rows.now)) }
     ensures within { IfSome result (λ own. from + vec_len own ≤ length rows.now) }
     ensures order { IfSome result (λ own. IsInOrder quote_cmp quote_key own.items) }
 {

@@ -1,11 +1,11 @@
 //! The survey of an office, in memory.
-use crate::bearer::Bearer;
 use crate::book::Parts;
 use crate::frozen::month_rows;
 use crate::given::Given;
 use crate::holder::Holder;
 use crate::holders::{hand_over_in, put_assignment_of, put_holder, put_quote_of};
 use crate::outlet::Outlet;
+use crate::registration::Registration;
 use crate::series_move::SeriesMove;
 use crate::taken_over::{TakenOver, series_in};
 use cpi_codes::{CollectorId, Key, Month, OutletId, Slot};
@@ -34,7 +34,7 @@ pub struct Survey {
     pub(crate) taken: Vec<TakenOver>,
     pub(crate) outlets: RowsByKey<Outlet>,
     // the holders, by the key that each bears
-    pub(crate) bearers: BTreeMap<Key, Bearer>,
+    pub(crate) registrations: BTreeMap<Key, Registration>,
     // what a number that nobody has, has
     pub(crate) nobody: Own,
     pub(crate) alloc: Global,
@@ -47,7 +47,7 @@ impl Model for Survey {
     ghost use Rattle.std.specs.List.{AllByRecursion};
     ghost use Rattle.cpi_rows.specs.Keyed.{IsInOrder};
     ghost use Rattle.cpi_rows.specs.Held.{held_cmp};
-    ghost use Rattle.cpi_store.specs.Bearer.{bearer_of};
+    ghost use Rattle.cpi_store.specs.Registration.{registration_of};
     ghost use Rattle.cpi_store.specs.Office.{Office};
     ghost use Rattle.cpi_store.specs.Holders.{ArePlaced, IsGiven, all_assignments, collectors_of, named_by, office_of};
 
@@ -57,7 +57,7 @@ impl Model for Survey {
 
     ghost invariant = { λ s. record {
       holders : IsInOrder nat_cmp (λ h. h.number) s.holders.items;
-      bearers : (key : ℕ) → get nat_cmp s.bearers key ≡ bearer_of key (collectors_of s.holders.items);
+      registrations : (key : ℕ) → get nat_cmp s.registrations key ≡ registration_of key (collectors_of s.holders.items);
       outlets : IsInOrder nat_cmp (λ u. u.number) s.outlets;
       taken : IsInOrder (held_cmp nat_cmp) (λ t. (t.collector, t.slot)) s.taken.items;
       given : AllByRecursion (IsGiven (all_assignments s.holders.items)) s.taken.items;
@@ -72,11 +72,11 @@ impl Survey {
     ghost use Rattle.std.specs.Prelude.{◌≡◌, true, IfOk};
     ghost use Rattle.std.specs.Option.{option_copied};
     ghost use Rattle.cpi_codes.specs.Month.{year_of};
-    ghost use Rattle.cpi_rows.specs.Keyed.{at};
+    ghost use Rattle.cpi_rows.specs.Keyed.{row_by_number};
     ghost use Rattle.cpi_rows.specs.Held.{held_by};
-    ghost use Rattle.cpi_index.specs.Series.{is_by_series, frozen_serial};
-    ghost use Rattle.cpi_store.specs.Bearer.{bearer_of};
-    ghost use Rattle.cpi_store.specs.Office.{empty_office, public_part, own_part, month_rows};
+    ghost use Rattle.cpi_index.specs.Series.{are_by_series, frozen_serial};
+    ghost use Rattle.cpi_store.specs.Registration.{registration_of};
+    ghost use Rattle.cpi_store.specs.Office.{empty_office, public_part, own_part, quotes_of_month};
 
     /// An office that has nothing, which takes no memory yet. Its calls take their memory from this allocator.
     pub fn new(alloc: Global) -> Survey
@@ -87,25 +87,25 @@ impl Survey {
             holders: Vec::new(alloc),
             taken: Vec::new(alloc),
             outlets: RowsByKey::new(alloc),
-            bearers: BTreeMap::new(alloc),
+            registrations: BTreeMap::new(alloc),
             nobody: Own::new(alloc),
             alloc,
         }
     }
 
     /// The collector who bears the key; none where nobody does.
-    pub fn bearer_of(&self, key: Key) -> Option<Bearer>
-        ensures { result ≡ bearer_of key self.now.collectors }
+    pub fn registration_of(&self, key: Key) -> Option<Registration>
+        ensures { result ≡ registration_of key self.now.collectors }
     {
-        self.bearers.get(&key).copied()
+        self.registrations.get(&key).copied()
     }
 
     /// The collector with the number; none where the number isn't registered.
-    pub fn bearer_at(&self, number: CollectorId) -> Option<Bearer>
-        ensures { result ≡ at (λ b. b.number) number self.now.collectors }
+    pub fn registration_at(&self, number: CollectorId) -> Option<Registration>
+        ensures { result ≡ row_by_number (λ b. b.number) number self.now.collectors }
     {
         match find_row(&self.holders, &number) {
-            Some(holder) => Some(Bearer {
+            Some(holder) => Some(Registration {
                 number: holder.number,
                 key: holder.key,
             }),
@@ -115,7 +115,7 @@ impl Survey {
 
     /// The outlet with the number; none where there is no such outlet.
     pub fn outlet(&self, number: OutletId) -> Option<&Outlet>
-        ensures { option_copied result ≡ at (λ u. u.number) number self.now.outlets }
+        ensures { option_copied result ≡ row_by_number (λ u. u.number) number self.now.outlets }
     {
         self.outlets.find(&number)
     }
@@ -129,7 +129,7 @@ impl Survey {
 
     /// The plan of the month's year, if there is one.
     pub fn plan_of(&self, month: Month) -> Option<&YearPlan>
-        ensures { option_copied result ≡ at (λ p. p.year) (year_of month) self.now.plans }
+        ensures { option_copied result ≡ row_by_number (λ p. p.year) (year_of month) self.now.plans }
     {
         find_row(self.public.plans(), &month.year())
     }
@@ -157,7 +157,7 @@ impl Survey {
 
     /// What the collector's slot was given, with its series; none where the collector has no such slot.
     pub fn given(&self, collector: CollectorId, slot: Slot) -> Option<Given>
-        ensures { result ≡ at (λ g. g.assignment.slot) slot (held_by collector self.now.assignments) }
+        ensures { result ≡ row_by_number (λ g. g.assignment.slot) slot (held_by collector self.now.assignments) }
     {
         match self.own(collector).assigned(slot) {
             Some(assigned) => Some(Given {
@@ -171,8 +171,8 @@ impl Survey {
     /// The stored quotes of the month by series, each with the item and the last month of its series, where no series
     /// has two in the month.
     pub fn month_rows(&self, month: Month) -> Result<Vec<FrozenQuote>, AllocError>
-        ensures { IfOk result (λ found. is_by_series frozen_serial (month_rows month self.now) ≡ true →
-            found.items ≡ month_rows month self.now) }
+        ensures { IfOk result (λ found. are_by_series frozen_serial (quotes_of_month month self.now) ≡ true →
+            found.items ≡ quotes_of_month month self.now) }
     {
         month_rows(self.alloc, month, &self.taken, &self.holders)
     }
@@ -180,12 +180,12 @@ impl Survey {
 
 impl Survey {
     ghost use Rattle.std.specs.Prelude.{◌≡◌, OnErr, OnOk, IsOk, IsSome};
-    ghost use Rattle.cpi_rows.specs.Keyed.{at};
-    ghost use Rattle.cpi_store.specs.Office.{changed, PutsItem, PutsPlan, PutsCalendar};
+    ghost use Rattle.cpi_rows.specs.Keyed.{row_by_number};
+    ghost use Rattle.cpi_store.specs.Office.{office_with, PutsItem, PutsPlan, PutsCalendar};
 
     /// Puts an item, over the one with its code if there is one.
     pub fn put_item(&mut self, item: Item) -> Result<(), AllocError>
-        ensures ok { OnOk result (self.new ≡ changed (PutsItem item) self.old) }
+        ensures ok { OnOk result (self.new ≡ office_with (PutsItem item) self.old) }
         ensures err { OnErr result (self.new ≡ self.old) }
     {
         self.public.put_item(item)
@@ -193,18 +193,18 @@ impl Survey {
 
     /// Puts a year's plan, over the one that stands if there is one, which takes no memory.
     pub fn put_plan(&mut self, plan: YearPlan) -> Result<(), AllocError>
-        ensures ok { OnOk result (self.new ≡ changed (PutsPlan plan) self.old) }
+        ensures ok { OnOk result (self.new ≡ office_with (PutsPlan plan) self.old) }
         ensures err { OnErr result (self.new ≡ self.old) }
-        ensures replaced { IsSome (at (λ y. y.year) plan.year self.old.plans) → IsOk result }
+        ensures replaced { IsSome (row_by_number (λ y. y.year) plan.year self.old.plans) → IsOk result }
     {
         self.public.put_plan(plan)
     }
 
     /// Puts a month's calendar row, over the one that stands if there is one, which takes no memory.
     pub fn put_calendar(&mut self, row: CalendarRow) -> Result<(), AllocError>
-        ensures ok { OnOk result (self.new ≡ changed (PutsCalendar row) self.old) }
+        ensures ok { OnOk result (self.new ≡ office_with (PutsCalendar row) self.old) }
         ensures err { OnErr result (self.new ≡ self.old) }
-        ensures replaced { IsSome (at (λ r. r.month) row.month self.old.calendar) → IsOk result }
+        ensures replaced { IsSome (row_by_number (λ r. r.month) row.month self.old.calendar) → IsOk result }
     {
         self.public.put_calendar(row)
     }
@@ -212,30 +212,30 @@ impl Survey {
 
 impl Survey {
     ghost use Rattle.std.specs.Prelude.{◌≡◌, ◌<◌, None, OnErr, OnOk, IsOk, IsSome};
-    ghost use Rattle.cpi_rows.specs.Keyed.{at, row_at};
+    ghost use Rattle.cpi_rows.specs.Keyed.{row_by_number, row_at};
     ghost use Rattle.cpi_rows.specs.Held.{held_by};
     ghost use Rattle.cpi_survey.specs.Quote.{greatest_receipt, quote_cmp, quote_key};
-    ghost use Rattle.cpi_store.specs.Bearer.{bearer_of};
+    ghost use Rattle.cpi_store.specs.Registration.{registration_of};
     ghost use Rattle.cpi_store.specs.Outlet.{with_name};
-    ghost use Rattle.cpi_store.specs.Office.{changed, Registers, PutsOutlet, Assigns, HandsOver, Quotes};
+    ghost use Rattle.cpi_store.specs.Office.{office_with, Registers, PutsOutlet, Assigns, HandsOver, Quotes};
 
     /// Puts a new collector, who has nothing yet. The caller owes that nobody has the number, and that nobody bears
     /// the key.
-    pub fn put_collector(&mut self, bearer: Bearer) -> Result<(), AllocError>
-        requires number { at (λ b. b.number) bearer.number self.old.collectors ≡ None }
-        requires key { bearer_of bearer.key self.old.collectors ≡ None }
-        ensures ok { OnOk result (self.new ≡ changed (Registers bearer) self.old) }
+    pub fn put_collector(&mut self, registration: Registration) -> Result<(), AllocError>
+        requires number { row_by_number (λ b. b.number) registration.number self.old.collectors ≡ None }
+        requires key { registration_of registration.key self.old.collectors ≡ None }
+        ensures ok { OnOk result (self.new ≡ office_with (Registers registration) self.old) }
         ensures err { OnErr result (self.new ≡ self.old) }
     {
-        let holder = Holder::new(self.alloc, bearer);
-        put_holder(&mut self.holders, &mut self.bearers, holder)?;
+        let holder = Holder::new(self.alloc, registration);
+        put_holder(&mut self.holders, &mut self.registrations, holder)?;
         Ok(())
     }
 
     /// Puts a new outlet. The caller owes that no outlet has its number.
     pub fn put_outlet(&mut self, outlet: Outlet) -> Result<(), AllocError>
-        requires new { at (λ u. u.number) outlet.number self.old.outlets ≡ None }
-        ensures ok { OnOk result (self.new ≡ changed (PutsOutlet outlet) self.old) }
+        requires new { row_by_number (λ u. u.number) outlet.number self.old.outlets ≡ None }
+        ensures ok { OnOk result (self.new ≡ office_with (PutsOutlet outlet) self.old) }
         ensures err { OnErr result (self.new ≡ self.old) }
     {
         self.outlets.put(outlet)?;
@@ -245,16 +245,21 @@ impl Survey {
     /// Puts a new assignment of the collector, as a series of its own, with the name of its outlet. The caller owes
     /// that the collector is registered, that the collector's slot is free, that the outlet is there, and that the name
     /// is the outlet's.
-    pub fn put_assignment(&mut self, bearer: Bearer, assigned: Assigned) -> Result<(), AllocError>
-        requires known { IsSome (at (λ b. b.number) bearer.number self.old.collectors) }
-        requires new { at (λ g. g.assignment.slot) assigned.assignment.slot (held_by bearer.number self.old.assignments)
+    pub fn put_assignment(
+        &mut self,
+        registration: Registration,
+        assigned: Assigned,
+    ) -> Result<(), AllocError>
+        requires known { IsSome (row_by_number (λ b. b.number) registration.number self.old.collectors) }
+        requires new { row_by_number (λ g. g.assignment.slot) assigned.assignment.slot
+            (held_by registration.number self.old.assignments)
             ≡ None }
-        requires outlet { IsSome (at (λ u. u.number) assigned.assignment.outlet self.old.outlets) }
+        requires outlet { IsSome (row_by_number (λ u. u.number) assigned.assignment.outlet self.old.outlets) }
         requires name { assigned ≡ with_name self.old.outlets assigned.assignment }
-        ensures ok { OnOk result (self.new ≡ changed (Assigns bearer assigned) self.old) }
+        ensures ok { OnOk result (self.new ≡ office_with (Assigns registration assigned) self.old) }
         ensures err { OnErr result (self.new ≡ self.old) }
     {
-        put_assignment_of(&mut self.holders, bearer.number, assigned)?;
+        put_assignment_of(&mut self.holders, registration.number, assigned)?;
         Ok(())
     }
 
@@ -262,14 +267,14 @@ impl Survey {
     /// or neither. The caller owes that the taker is registered, that the former assignment is there, that the new slot
     /// is free, that the outlet is there, and that the name is its own.
     pub fn put_handover(&mut self, handover: SeriesMove) -> Result<(), AllocError>
-        requires taker { IsSome (at (λ b. b.number) handover.taker.number self.old.collectors) }
-        requires stands { IsSome (at (λ g. g.assignment.slot) handover.ended.assignment.slot
+        requires taker { IsSome (row_by_number (λ b. b.number) handover.taker.number self.old.collectors) }
+        requires stands { IsSome (row_by_number (λ g. g.assignment.slot) handover.ended.assignment.slot
             (held_by handover.former.number self.old.assignments)) }
-        requires new { at (λ g. g.assignment.slot) handover.assigned.assignment.slot
+        requires new { row_by_number (λ g. g.assignment.slot) handover.assigned.assignment.slot
             (held_by handover.taker.number self.old.assignments) ≡ None }
-        requires outlet { IsSome (at (λ u. u.number) handover.assigned.assignment.outlet self.old.outlets) }
+        requires outlet { IsSome (row_by_number (λ u. u.number) handover.assigned.assignment.outlet self.old.outlets) }
         requires name { handover.assigned ≡ with_name self.old.outlets handover.assigned.assignment }
-        ensures ok { OnOk result (self.new ≡ changed (HandsOver handover) self.old) }
+        ensures ok { OnOk result (self.new ≡ office_with (HandsOver handover) self.old) }
         ensures err { OnErr result (self.new ≡ self.old) }
     {
         hand_over_in(&mut self.holders, &mut self.taken, handover)?;
@@ -278,15 +283,15 @@ impl Survey {
 
     /// Puts a quote of the collector, over the one of its slot and month if there is one, which takes no memory. The
     /// caller owes that the collector is registered, and that the receipt is above all others of the collector.
-    pub fn put_quote(&mut self, bearer: Bearer, quote: Quote) -> Result<(), AllocError>
-        requires known { IsSome (at (λ b. b.number) bearer.number self.old.collectors) }
-        requires receipt { greatest_receipt (held_by bearer.number self.old.quotes) < quote.receipt }
-        ensures ok { OnOk result (self.new ≡ changed (Quotes bearer quote) self.old) }
+    pub fn put_quote(&mut self, registration: Registration, quote: Quote) -> Result<(), AllocError>
+        requires known { IsSome (row_by_number (λ b. b.number) registration.number self.old.collectors) }
+        requires receipt { greatest_receipt (held_by registration.number self.old.quotes) < quote.receipt }
+        ensures ok { OnOk result (self.new ≡ office_with (Quotes registration quote) self.old) }
         ensures err { OnErr result (self.new ≡ self.old) }
         ensures replaced { IsSome (row_at quote_cmp quote_key (quote.slot, quote.month)
-            (held_by bearer.number self.old.quotes)) → IsOk result }
+            (held_by registration.number self.old.quotes)) → IsOk result }
     {
-        put_quote_of(&mut self.holders, bearer.number, quote)?;
+        put_quote_of(&mut self.holders, registration.number, quote)?;
         Ok(())
     }
 }

@@ -3,7 +3,7 @@ ghost use Rattle.std.specs.Prelude.{◌≡◌};
 ghost use Rattle.std.specs.Ordering.{nat_cmp};
 ghost use Rattle.cpi_rows.specs.Keyed.{IsInOrder};
 ghost use Rattle.cpi_rows.specs.Held.{held_cmp};
-ghost use Rattle.cpi_store.specs.Series.{series_in as named_in};
+ghost use Rattle.cpi_store.specs.Series.{series_named_in};
 
 use crate::series_move::SeriesMove;
 use cpi_codes::{CollectorId, SeriesId, Slot};
@@ -47,7 +47,7 @@ impl Keyed for TakenOver {
 /// The series of a slot: the one that it took over, or else the one that it names.
 pub fn series_in(taken: &[TakenOver], collector: CollectorId, slot: Slot) -> SeriesId
     requires { IsInOrder (held_cmp nat_cmp) (λ t. (t.collector, t.slot)) taken.now }
-    ensures { result ≡ named_in taken.now collector slot }
+    ensures { result ≡ series_named_in taken.now collector slot }
 {
     match find_row(taken, &(collector, slot)) {
         Some(found) => found.series,

@@ -1,8 +1,8 @@
 //! The office in memory: its survey and its releases.
-use crate::bearer::Bearer;
 use crate::book::{Book, Parts, StoreFault};
 use crate::given::Given;
 use crate::outlet::Outlet;
+use crate::registration::Registration;
 use crate::releases::{frozen_months, published_months, revision_until, table_until};
 use crate::series_move::SeriesMove;
 use crate::survey::Survey;
@@ -10,7 +10,7 @@ use cpi_codes::{Code, CollectorId, Key, Moment, Month, OutletId, Slot, Year};
 use cpi_index::{ChainedLevel, FrozenQuote, GroupRow};
 use cpi_plan::{CalendarRow, Item, YearPlan};
 use cpi_release::{
-    Failures, FrozenMonth, GroupFault, Groups, KeptSamples, Level, Release, Revision, level_in,
+    CachedSamples, Failures, FrozenMonth, GroupFault, Groups, Level, Release, Revision, level_in,
     month_groups,
 };
 use cpi_rows::{Rows, put_row};
@@ -27,14 +27,14 @@ pub struct VecBook {
     releases: Vec<Release>,
     failed: Failures,
     // the samples of the month that is being frozen; none once anything is written
-    samples: KeptSamples,
+    samples: CachedSamples,
     alloc: Global,
 }
 
 impl Model for VecBook {
     ghost use Rattle.cpi_rows.specs.Keyed.{IsInOrder};
     ghost use Rattle.cpi_release.specs.FrozenMonths.{release_cmp, release_key};
-    ghost use Rattle.cpi_release.specs.KeptSamples.{AreKept};
+    ghost use Rattle.cpi_release.specs.CachedSamples.{AreSamplesCached};
     ghost use Rattle.cpi_store.specs.Office.{with_releases};
     ghost use Rattle.cpi_store.specs.Holders.{Kept};
     ghost use Rattle.cpi_store.specs.Sources.{office_sources};
@@ -45,7 +45,7 @@ impl Model for VecBook {
 
     ghost invariant = { λ b. record {
       releases : IsInOrder release_cmp release_key b.releases.items;
-      kept : AreKept (office_sources (with_releases b.releases.items b.survey)) b.samples;
+      kept : AreSamplesCached (office_sources (with_releases b.releases.items b.survey)) b.samples;
     } };
 }
 
@@ -61,7 +61,7 @@ impl VecBook {
             survey: Survey::new(alloc),
             releases: Vec::new(alloc),
             failed: Failures::none(),
-            samples: KeptSamples::none(),
+            samples: CachedSamples::none(),
             alloc,
         }
     }
@@ -69,7 +69,7 @@ impl VecBook {
 
 impl VecBook {
     ghost use Rattle.std.specs.Prelude.{◌≡◌, ◌≤◌, IfOk};
-    ghost use Rattle.cpi_release.specs.KeptSamples.{IsFit};
+    ghost use Rattle.cpi_release.specs.CachedSamples.{IsFit};
     ghost use Rattle.cpi_release.specs.GroupCalls.{group_of};
     ghost use Rattle.cpi_store.specs.Sources.{office_sources};
 
@@ -94,7 +94,7 @@ impl Groups for VecBook {
     ghost use Rattle.cpi_store.specs.Office.{Office};
     ghost use Rattle.cpi_store.specs.Sources.{office_sources};
     ghost use Rattle.cpi_store.specs.Holders.{kept_state};
-    ghost use Rattle.cpi_release.specs.KeptSamples.{IsFit};
+    ghost use Rattle.cpi_release.specs.CachedSamples.{IsFit};
 
     ghost Held = { Office };
 
@@ -120,11 +120,11 @@ impl Groups for VecBook {
 
 impl Book for VecBook {
     ghost use Rattle.std.specs.Prelude.{◌≡◌, ◌<◌, ⊤, refl, IsOk, IsSome};
-    ghost use Rattle.cpi_rows.specs.Keyed.{row_at, at};
+    ghost use Rattle.cpi_rows.specs.Keyed.{row_at, row_by_number};
     ghost use Rattle.cpi_rows.specs.Held.{held_by};
     ghost use Rattle.cpi_survey.specs.Quote.{greatest_receipt, quote_cmp, quote_key};
-    ghost use Rattle.cpi_store.specs.Office.{changed, PutsPlan, PutsCalendar, Quotes};
-    ghost use Rattle.cpi_store.specs.Bearer.{bearer_of, collector_of, collector_key};
+    ghost use Rattle.cpi_store.specs.Office.{office_with, PutsPlan, PutsCalendar, Quotes};
+    ghost use Rattle.cpi_store.specs.Registration.{registration_of, collector_of, collector_key};
     ghost use Rattle.cpi_release.specs.State.{Reads};
     ghost use Rattle.cpi_store.specs.Calls.{Writes};
     ghost use Rattle.cpi_store.specs.Holders.{kept_state};
@@ -141,20 +141,20 @@ impl Book for VecBook {
 
     ghost sound_is = { λ b s. s };
 
-    fn bearer_of(&mut self, key: Key) -> Result<Option<Bearer>, StoreFault>
+    fn registration_of(&mut self, key: Key) -> Result<Option<Registration>, StoreFault>
         ensures reads { Reads (kept_state self.old) (kept_state self.new) result (λ found.
-            found ≡ bearer_of key self.old.office.collectors) }
+            found ≡ registration_of key self.old.office.collectors) }
         ensures always { IsOk result }
     {
-        Ok(self.survey.bearer_of(key))
+        Ok(self.survey.registration_of(key))
     }
 
-    fn bearer_at(&mut self, number: CollectorId) -> Result<Option<Bearer>, StoreFault>
+    fn registration_at(&mut self, number: CollectorId) -> Result<Option<Registration>, StoreFault>
         ensures reads { Reads (kept_state self.old) (kept_state self.new) result (λ found.
-            found ≡ at (λ b. b.number) number self.old.office.collectors) }
+            found ≡ row_by_number (λ b. b.number) number self.old.office.collectors) }
         ensures always { IsOk result }
     {
-        Ok(self.survey.bearer_at(number))
+        Ok(self.survey.registration_at(number))
     }
 
     fn collector_of(&mut self, key: Key) -> Result<Option<CollectorId>, StoreFault>
@@ -162,7 +162,11 @@ impl Book for VecBook {
             found ≡ collector_of key self.old.office.collectors) }
         ensures always { IsOk result }
     {
-        Ok(self.survey.bearer_of(key).map(|bearer| bearer.number))
+        Ok(
+            self.survey
+                .registration_of(key)
+                .map(|registration| registration.number),
+        )
     }
 
     fn collector_key(&mut self, number: CollectorId) -> Result<Option<Key>, StoreFault>
@@ -170,7 +174,11 @@ impl Book for VecBook {
             found ≡ collector_key number self.old.office.collectors) }
         ensures always { IsOk result }
     {
-        Ok(self.survey.bearer_at(number).map(|bearer| bearer.key))
+        Ok(
+            self.survey
+                .registration_at(number)
+                .map(|registration| registration.key),
+        )
     }
 
     fn outlet(&mut self, number: OutletId) -> Result<Option<&Outlet>, StoreFault> {
@@ -241,8 +249,8 @@ impl Book for VecBook {
 
     fn put_plan(&mut self, plan: YearPlan) -> Result<(), StoreFault>
         ensures writes { Writes (kept_state self.old) (kept_state self.new) result
-            (changed (PutsPlan plan) self.old.office) }
-        ensures replaced { IsSome (at (λ y. y.year) plan.year self.old.office.plans) → IsOk result }
+            (office_with (PutsPlan plan) self.old.office) }
+        ensures replaced { IsSome (row_by_number (λ y. y.year) plan.year self.old.office.plans) → IsOk result }
     {
         self.samples.clear();
         match self.survey.put_plan(plan) {
@@ -253,8 +261,8 @@ impl Book for VecBook {
 
     fn put_calendar(&mut self, row: CalendarRow) -> Result<(), StoreFault>
         ensures writes { Writes (kept_state self.old) (kept_state self.new) result
-            (changed (PutsCalendar row) self.old.office) }
-        ensures replaced { IsSome (at (λ r. r.month) row.month self.old.office.calendar) → IsOk result }
+            (office_with (PutsCalendar row) self.old.office) }
+        ensures replaced { IsSome (row_by_number (λ r. r.month) row.month self.old.office.calendar) → IsOk result }
     {
         self.samples.clear();
         match self.survey.put_calendar(row) {
@@ -263,9 +271,9 @@ impl Book for VecBook {
         }
     }
 
-    fn put_collector(&mut self, bearer: Bearer) -> Result<(), StoreFault> {
+    fn put_collector(&mut self, registration: Registration) -> Result<(), StoreFault> {
         self.samples.clear();
-        match self.survey.put_collector(bearer) {
+        match self.survey.put_collector(registration) {
             Ok(()) => Ok(()),
             Err(_) => Err(self.failed.counted(StoreFault)),
         }
@@ -279,9 +287,13 @@ impl Book for VecBook {
         }
     }
 
-    fn put_assignment(&mut self, bearer: Bearer, assigned: Assigned) -> Result<(), StoreFault> {
+    fn put_assignment(
+        &mut self,
+        registration: Registration,
+        assigned: Assigned,
+    ) -> Result<(), StoreFault> {
         self.samples.clear();
-        match self.survey.put_assignment(bearer, assigned) {
+        match self.survey.put_assignment(registration, assigned) {
             Ok(()) => Ok(()),
             Err(_) => Err(self.failed.counted(StoreFault)),
         }
@@ -295,17 +307,17 @@ impl Book for VecBook {
         }
     }
 
-    fn put_quote(&mut self, bearer: Bearer, quote: Quote) -> Result<(), StoreFault>
-        requires known { IsSome (at (λ b. b.number) bearer.number self.old.office.collectors) }
-        requires receipt { greatest_receipt (held_by bearer.number self.old.office.quotes) < quote.receipt }
+    fn put_quote(&mut self, registration: Registration, quote: Quote) -> Result<(), StoreFault>
+        requires known { IsSome (row_by_number (λ b. b.number) registration.number self.old.office.collectors) }
+        requires receipt { greatest_receipt (held_by registration.number self.old.office.quotes) < quote.receipt }
         ensures writes { Writes (kept_state self.old) (kept_state self.new) result
-            (changed (Quotes bearer quote) self.old.office) }
+            (office_with (Quotes registration quote) self.old.office) }
         ensures replaced { IsSome (row_at quote_cmp quote_key (quote.slot, quote.month)
-            (held_by bearer.number self.old.office.quotes)) →
+            (held_by registration.number self.old.office.quotes)) →
             IsOk result }
     {
         self.samples.clear();
-        match self.survey.put_quote(bearer, quote) {
+        match self.survey.put_quote(registration, quote) {
             Ok(()) => Ok(()),
             Err(_) => Err(self.failed.counted(StoreFault)),
         }

@@ -12,16 +12,16 @@ use Rattle.std.proofs.lemmas.Grind.{flat_map-append}
 use Rattle.std.proofs.lemmas.List.{append-nil, map-append, take-append-drop, take_more}
 use Rattle.std.proofs.lemmas.List.Elements.{filter-append}
 use Rattle.std.proofs.lemmas.Map.Keys.{Less-from_sorted, sorted_tail}
-use Rattle.cpi_rows.specs.Keyed.{put, row_at, at, IsInOrder, IsPlace}
+use Rattle.cpi_rows.specs.Keyed.{with_row, row_at, row_by_number, IsInOrder, IsPlace}
 use Rattle.cpi_rows.specs.Held.{held_cmp, held_key}
-use Rattle.cpi_rows.specs.Gathered.{gathered, rows_in}
+use Rattle.cpi_rows.specs.Gathered.{rows_with_holders, rows_in}
 use Rattle.cpi_rows.proofs.Gathered.{held_gathered, put_gathered}
 use Rattle.cpi_rows.proofs.Places.{none_in_order, put_at_gap, put_at_row, put_in_order, row_found}
 use Rattle.cpi_survey.specs.declared.assignment.Assignment.{Assignment}
 use Rattle.cpi_survey.specs.declared.slot_quotes.SlotQuotes.{SlotQuotes}
 use Rattle.cpi_survey.specs.Quote.{QuoteRow, quote_cmp, quote_key}
 use Rattle.cpi_survey.specs.LastPrice.{is_earlier, last_price, observed_before, or_copied, price_in}
-use Rattle.cpi_survey.specs.Slots.{AreBySlot, AreOfSlot, all_quotes, is_in_slot}
+use Rattle.cpi_survey.specs.Slots.{AreBySlot, AreOfSlot, quotes_of_slots, is_in_slot}
 use Rattle.cpi_survey.proofs.Latest.{latest_filter}
 
 abbrev slot_of : SlotQuotes → ℕ
@@ -36,7 +36,7 @@ second r = r.1
 -- ---- each quote beside its slot
 
 abbrev beside : List SlotQuotes → List (ℕ × QuoteRow)
-beside ss = gathered slot_of own_quotes ss
+beside ss = rows_with_holders slot_of own_quotes ss
 
 abbrev IsOwn : ℕ × QuoteRow → Type 0
 IsOwn r = r.1.slot ≡ r.0
@@ -45,7 +45,7 @@ named : (n : ℕ) (qs : List QuoteRow) → map second (map (λ q. (n, q)) qs) �
 named n [] = refl
 named n (q ∷ qs) = ap (λ ys. q ∷ ys) (named n qs)
 
-beside_all : (ss : List SlotQuotes) → map second (beside ss) ≡ all_quotes ss
+beside_all : (ss : List SlotQuotes) → map second (beside ss) ≡ quotes_of_slots ss
 beside_all [] = refl
 beside_all (s ∷ ss) =
     map-append second (map (λ q. (s.slot, q)) s.quotes.items) (beside ss)
@@ -75,32 +75,34 @@ sifted p t agree (r ∷ rs) own = by (t r.1) refl (sifted p t agree rs own.1)
 -- ---- what a slot has of all
 
 of_slot : (slot : ℕ) (ss : List SlotQuotes) → AreBySlot ss →
-    filter (is_in_slot slot) (all_quotes ss) ≡ rows_in own_quotes (at slot_of slot ss)
+    filter (is_in_slot slot) (quotes_of_slots ss) ≡ rows_in own_quotes (row_by_number slot_of slot ss)
 of_slot slot ss kept =
     ap (filter (is_in_slot slot)) (sym (beside_all ss))
     ∙ sym (sifted (λ r. r.0 == slot) (is_in_slot slot) (λ r own. ap (λ n. n == slot) (sym own)) (beside ss)
     (beside_own ss kept.own))
     ∙ held_gathered quote_cmp quote_key slot_of own_quotes slot ss kept.order
 
-pub quotes_found : (slot : ℕ) (ss : List SlotQuotes) (s : SlotQuotes) → AreBySlot ss → at slot_of slot ss ≡ Some s →
-    s.quotes.items ≡ filter (is_in_slot slot) (all_quotes ss)
+pub quotes_found : (slot : ℕ) (ss : List SlotQuotes) (s : SlotQuotes) → AreBySlot ss → row_by_number slot_of slot ss
+    ≡ Some s →
+    s.quotes.items ≡ filter (is_in_slot slot) (quotes_of_slots ss)
 quotes_found slot ss s kept found = sym (of_slot slot ss kept ∙ ap (rows_in own_quotes) found)
 
-pub quotes_missing : (slot : ℕ) (ss : List SlotQuotes) → AreBySlot ss → at slot_of slot ss ≡ None →
-    [] ≡ filter (is_in_slot slot) (all_quotes ss)
+pub quotes_missing : (slot : ℕ) (ss : List SlotQuotes) → AreBySlot ss → row_by_number slot_of slot ss ≡ None →
+    [] ≡ filter (is_in_slot slot) (quotes_of_slots ss)
 quotes_missing slot ss kept none = sym (of_slot slot ss kept ∙ ap (rows_in own_quotes) none)
 
 -- what is found is one of them
 found_all : (P : SlotQuotes → Type 0) (slot : ℕ) (s : SlotQuotes) (ss : List SlotQuotes) → AllByRecursion P ss →
-    at slot_of slot ss ≡ Some s → P s
+    row_by_number slot_of slot ss ≡ Some s → P s
 found_all P slot s [] all found = let wrong : None ≡ Some s = found in cc
 found_all P slot s (x ∷ ss) all found = by (is_eq (nat_cmp x.slot slot)) refl (found_all P slot s ss all.1)
   where
-    by : (t : Bool) → is_eq (nat_cmp x.slot slot) ≡ t → (at slot_of slot ss ≡ Some s → P s) → P s
+    by : (t : Bool) → is_eq (nat_cmp x.slot slot) ≡ t → (row_by_number slot_of slot ss ≡ Some s → P s) → P s
     by true e rest = let same : Some x ≡ Some s = rw e at found in let here : x ≡ s = cc in rw (← here) all.0
     by false e rest = rest (rw e at found)
 
-pub order_found : (slot : ℕ) (ss : List SlotQuotes) (s : SlotQuotes) → AreBySlot ss → at slot_of slot ss ≡ Some s →
+pub order_found : (slot : ℕ) (ss : List SlotQuotes) (s : SlotQuotes) → AreBySlot ss → row_by_number slot_of slot ss
+    ≡ Some s →
     IsInOrder quote_cmp quote_key s.quotes.items
 order_found slot ss s kept found = (found_all AreOfSlot slot s ss kept.own found).order
 
@@ -165,7 +167,7 @@ level : (q : QuoteRow) (r : ℕ × QuoteRow) → IsOwn r →
 level q r own = rw (sym own) (once (nat_cmp r.1.slot q.slot) (nat_cmp r.1.month q.month))
 
 put_beside : (q : QuoteRow) (rs : List (ℕ × QuoteRow)) → AllByRecursion IsOwn rs →
-    map second (put (held_cmp quote_cmp) (held_key quote_key) (q.slot, q) rs) ≡ put quote_cmp quote_key q
+    map second (with_row (held_cmp quote_cmp) (held_key quote_key) (q.slot, q) rs) ≡ with_row quote_cmp quote_key q
     (map second rs)
 put_beside q rs own =
     map-append second (filter (λ r. is_lt (held_cmp quote_cmp (held_key quote_key r) (q.slot, quote_key q))) rs)
@@ -216,12 +218,13 @@ module _ (ss : List SlotQuotes) (kept : AreBySlot ss) (slot : ℕ) (i : ℕ)
 
   -- a month that stands among all, stands in the slot
   pub row_standing : (month : ℕ) → row_at quote_cmp quote_key (slot, month) s.quotes.items ≡ row_at quote_cmp
-      quote_key (slot, month) (all_quotes ss)
+      quote_key (slot, month) (quotes_of_slots ss)
   row_standing month =
-      let found : at slot_of slot ss ≡ Some s = row_found nat_cmp_total slot_of ss kept.order slot i s place.0
+      let found : row_by_number slot_of slot ss ≡ Some s = row_found nat_cmp_total slot_of ss kept.order slot i
+      s place.0
       (place.1 s) ∙ ap Some (sym stands) in
       ap (row_at quote_cmp quote_key (slot, month)) (quotes_found slot ss s kept found)
-      ∙ row_of_slot (slot, month) (all_quotes ss)
+      ∙ row_of_slot (slot, month) (quotes_of_slots ss)
 
   module _ (after : SlotQuotes) (same : after.slot ≡ s.slot) where
     slots_set : IsInOrder nat_cmp slot_of (set ss i after)
@@ -230,7 +233,7 @@ module _ (ss : List SlotQuotes) (kept : AreBySlot ss) (slot : ℕ) (i : ℕ)
         (put_in_order nat_cmp_total slot_of ss after kept.order)
 
     -- where nothing changed
-    pub quotes_same : after.quotes.items ≡ s.quotes.items → all_quotes (set ss i after) ≡ all_quotes ss
+    pub quotes_same : after.quotes.items ≡ s.quotes.items → quotes_of_slots (set ss i after) ≡ quotes_of_slots ss
     quotes_same e = set_same own_quotes ss i after s (e ∙ ap own_quotes stands)
       where
         set_same : {X Y : Type 0} (f : X → List Y) (xs : List X) (j : ℕ) (y d : X) → f y ≡ f (get_or xs j d) →
@@ -246,17 +249,18 @@ module _ (ss : List SlotQuotes) (kept : AreBySlot ss) (slot : ℕ) (i : ℕ)
           kept.own;
     }
 
-    module _ (q : QuoteRow) (its : q.slot ≡ slot) (e : after.quotes.items ≡ put quote_cmp quote_key q s.quotes.items)
+    module _ (q : QuoteRow) (its : q.slot ≡ slot) (e : after.quotes.items ≡ with_row quote_cmp quote_key q
+        s.quotes.items)
       where
-        pub quotes_put : all_quotes (set ss i after) ≡ put quote_cmp quote_key q (all_quotes ss)
+        pub quotes_put : quotes_of_slots (set ss i after) ≡ with_row quote_cmp quote_key q (quotes_of_slots ss)
         quotes_put =
             let slot_there : slot_of (get_or ss i s) ≡ q.slot = ap slot_of (sym stands) ∙ slot_is ∙ sym its in
             sym (beside_all (set ss i after))
             ∙ ap (map second) (put_gathered quote_cmp quote_key slot_of own_quotes q after ss i s kept.order place.0
-            (same ∙ ap slot_of stands) (e ∙ ap (λ g. put quote_cmp quote_key q (own_quotes g)) stands)
-            ∙ ap (λ n. put (held_cmp quote_cmp) (held_key quote_key) (n, q) (beside ss)) slot_there)
+            (same ∙ ap slot_of stands) (e ∙ ap (λ g. with_row quote_cmp quote_key q (own_quotes g)) stands)
+            ∙ ap (λ n. with_row (held_cmp quote_cmp) (held_key quote_key) (n, q) (beside ss)) slot_there)
             ∙ put_beside q (beside ss) (beside_own ss kept.own)
-            ∙ ap (put quote_cmp quote_key q) (beside_all ss)
+            ∙ ap (with_row quote_cmp quote_key q) (beside_all ss)
 
         pub slots_put : IsInOrder quote_cmp quote_key after.quotes.items → AreBySlot (set ss i after)
         slots_put order = record {
@@ -286,8 +290,8 @@ all_insert P x [] ys here all = (here, all)
 all_insert P x (y ∷ xs) ys here all = (all.0, all_insert P x xs ys here all.1)
 
 module _ (ss : List SlotQuotes) (kept : AreBySlot ss) (i : ℕ) (s : SlotQuotes) (none : s.quotes.items ≡ []) where
-  pub quotes_added : all_quotes (insert ss i s) ≡ all_quotes ss
-  quotes_added = passed_over own_quotes s (take i ss) (drop i ss) none ∙ ap all_quotes (take-append-drop i ss)
+  pub quotes_added : quotes_of_slots (insert ss i s) ≡ quotes_of_slots ss
+  quotes_added = passed_over own_quotes s (take i ss) (drop i ss) none ∙ ap quotes_of_slots (take-append-drop i ss)
 
   pub slots_added : IsPlace nat_cmp slot_of s.slot ss (Err i) → AreBySlot (insert ss i s)
   slots_added place = record {
@@ -299,13 +303,13 @@ module _ (ss : List SlotQuotes) (kept : AreBySlot ss) (i : ℕ) (s : SlotQuotes)
 
 -- a slot that has a quote is found
 pub slot_known : (k : ℕ × ℕ) (ss : List SlotQuotes) → AreBySlot ss →
-    IsSome (row_at quote_cmp quote_key k (all_quotes ss)) → IsSome (at slot_of k.0 ss)
-slot_known k ss kept some = by (at slot_of k.0 ss) refl
+    IsSome (row_at quote_cmp quote_key k (quotes_of_slots ss)) → IsSome (row_by_number slot_of k.0 ss)
+slot_known k ss kept some = by (row_by_number slot_of k.0 ss) refl
   where
-    by : (w : Option SlotQuotes) → at slot_of k.0 ss ≡ w → IsSome (at slot_of k.0 ss)
+    by : (w : Option SlotQuotes) → row_by_number slot_of k.0 ss ≡ w → IsSome (row_by_number slot_of k.0 ss)
     by (Some s) e = rw e refl
     by None e =
-        let none : row_at quote_cmp quote_key k (all_quotes ss) ≡ None = sym (row_of_slot k (all_quotes ss))
+        let none : row_at quote_cmp quote_key k (quotes_of_slots ss) ≡ None = sym (row_of_slot k (quotes_of_slots ss))
         ∙ ap (row_at quote_cmp quote_key k) (sym (quotes_missing k.0 ss kept e)) in
         let wrong : false ≡ true = rw none at some in cc
 
@@ -316,7 +320,7 @@ none_by_slot = record { order = none_in_order nat_cmp slot_of; own = tt }
 
 -- the next of quotes in order is put behind those before it
 put_behind : (qs : List QuoteRow) (i : ℕ) (d : QuoteRow) → IsInOrder quote_cmp quote_key qs → i < length qs →
-    put quote_cmp quote_key (get_or qs i d) (take i qs) ≡ take i qs ++ get_or qs i d ∷ []
+    with_row quote_cmp quote_key (get_or qs i d) (take i qs) ≡ take i qs ++ get_or qs i d ∷ []
 put_behind [] i d sorted lt = absurd (omega arith)
 put_behind (q ∷ qs) zero d sorted lt = refl
 put_behind (q ∷ qs) (suc i) d sorted lt =
@@ -325,17 +329,17 @@ put_behind (q ∷ qs) (suc i) d sorted lt =
     rw (ap is_lt less, ap is_gt less) (ap (λ ys. q ∷ ys) (put_behind qs i d (sorted_tail _ q qs sorted) (omega arith)))
 
 pub put_next : (qs : List QuoteRow) (i : ℕ) (q : QuoteRow) → IsInOrder quote_cmp quote_key qs → i < length qs →
-    q ≡ get_or qs i q → put quote_cmp quote_key q (take i qs) ≡ take (i + 1) qs
-put_next qs i q sorted lt stands = ap (λ x. put quote_cmp quote_key x (take i qs)) stands
+    q ≡ get_or qs i q → with_row quote_cmp quote_key q (take i qs) ≡ take (i + 1) qs
+put_next qs i q sorted lt stands = ap (λ x. with_row quote_cmp quote_key x (take i qs)) stands
     ∙ put_behind qs i q sorted lt ∙ sym (take_more qs i q lt)
 
 -- one slot more
 pub filter_next : (p : QuoteRow → Bool) (ss : List SlotQuotes) (i : ℕ) (s : SlotQuotes) → i < length ss →
-    s ≡ get_or ss i s → filter p (all_quotes (take (i + 1) ss)) ≡ filter p (all_quotes (take i ss))
+    s ≡ get_or ss i s → filter p (quotes_of_slots (take (i + 1) ss)) ≡ filter p (quotes_of_slots (take i ss))
     ++ filter p s.quotes.items
 filter_next p ss i s lt stands =
-    ap (λ xs. filter p (all_quotes xs)) (take_more ss i s lt)
+    ap (λ xs. filter p (quotes_of_slots xs)) (take_more ss i s lt)
     ∙ ap (filter p) (flat_map-append own_quotes (take i ss) (get_or ss i s ∷ []))
-    ∙ filter-append p (all_quotes (take i ss)) (own_quotes (get_or ss i s) ++ [])
-    ∙ ap (λ ys. filter p (all_quotes (take i ss)) ++ filter p ys)
+    ∙ filter-append p (quotes_of_slots (take i ss)) (own_quotes (get_or ss i s) ++ [])
+    ∙ ap (λ ys. filter p (quotes_of_slots (take i ss)) ++ filter p ys)
     (append-nil (own_quotes (get_or ss i s)) ∙ ap own_quotes (sym stands))

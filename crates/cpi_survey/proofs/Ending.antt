@@ -9,7 +9,7 @@ use Rattle.std.proofs.lemmas.Map.Keys.{Less-from_sorted}
 use Rattle.cpi_rows.specs.Keyed.{IsInOrder, IsPlace}
 use Rattle.cpi_rows.proofs.Places.{put_at_row, put_in_order}
 use Rattle.cpi_survey.specs.declared.assignment.Assigned.{Assigned}
-use Rattle.cpi_survey.specs.Assignment.{ended, ended_one, until}
+use Rattle.cpi_survey.specs.Assignment.{with_last_month, ended_one, until}
 
 abbrev pub slot_of : Assigned → ℕ
 slot_of a = a.assignment.slot
@@ -27,7 +27,7 @@ module _ (slot last_month : ℕ) where
 
   -- where no assignment is of the slot, none ends
   none_ends : (rows : List Assigned) → ((j : ℕ) (d : Assigned) → j < length rows → slot_of (get_or rows j d) ≢ slot) →
-      rows ≡ ended slot last_month rows
+      rows ≡ with_last_month slot last_month rows
   none_ends [] others = refl
   none_ends (a ∷ rows) others =
       let first = stays a (others 0 a (omega arith)) in
@@ -37,7 +37,7 @@ module _ (slot last_month : ℕ) where
   -- where one alone is of the slot, that one ends
   one_ends : (rows : List Assigned) (i : ℕ) (a : Assigned) → i < length rows → a ≡ get_or rows i a → slot_of a ≡ slot →
       ((j : ℕ) (d : Assigned) → j ≢ i → j < length rows → slot_of (get_or rows j d) ≢ slot) →
-      set rows i (assigned_until last_month a) ≡ ended slot last_month rows
+      set rows i (assigned_until last_month a) ≡ with_last_month slot last_month rows
   one_ends [] i a in_range is same others = absurd (omega arith)
   one_ends (b ∷ rows) zero a in_range is same others =
       let first = ends a same in
@@ -69,7 +69,7 @@ slots_differ rows sorted i j d i_in j_in other = elim (cases_lt i j) [
 -- to give the assignment at the place of the slot another last month ends that of the slot
 pub ended_at_row : (rows : List Assigned) → IsInOrder nat_cmp slot_of rows → (slot last_month i : ℕ) (a : Assigned) →
     IsPlace nat_cmp slot_of slot rows (Ok i) → a ≡ get_or rows i a →
-    set rows i (assigned_until last_month a) ≡ ended slot last_month rows
+    set rows i (assigned_until last_month a) ≡ with_last_month slot last_month rows
 ended_at_row rows sorted slot last_month i a place is =
     let at_place : (d : Assigned) → slot_of (get_or rows i d) ≡ slot =
     λ d. ranked (slot_of (get_or rows i d)) slot Equal (sym (place.1 d)) in
@@ -78,7 +78,7 @@ ended_at_row rows sorted slot last_month i a place is =
 
 -- where the slot has no place, nothing ends
 pub ended_at_gap : (rows : List Assigned) (slot last_month i : ℕ) → IsPlace nat_cmp slot_of slot rows (Err i) →
-    rows ≡ ended slot last_month rows
+    rows ≡ with_last_month slot last_month rows
 ended_at_gap rows slot last_month i place = none_ends slot last_month rows (λ j d lt. elim (cases_lt j i) [
   | inl below ↦ below_differs _ _ (place.1 j d below)
   | inr above ↦ above_differs _ _ (place.2 j d above lt)

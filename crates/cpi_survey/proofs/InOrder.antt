@@ -15,16 +15,17 @@ use Rattle.cpi_survey.specs.Quote.{QuoteRow, greatest_receipt}
 use Rattle.cpi_survey.specs.Entry.{EntryRow}
 use Rattle.cpi_survey.specs.Public.{PublicPart, item_of, calendar_of}
 use Rattle.cpi_survey.specs.Own.{OwnPart, assignment_of, quote_of}
-use Rattle.cpi_survey.specs.Decision.{against_last, checked, check_of, once_checked, with_receipt, over_quote, in_month}
-use Rattle.cpi_survey.specs.Decision.{in_slot, decided}
-use Rattle.cpi_survey.specs.Decision.{given, unless_again, unless_refused, unless_outside, in_order}
+use Rattle.cpi_survey.specs.Decision.{against_last, price_check, check_of, once_checked, with_receipt, over_quote}
+use Rattle.cpi_survey.specs.Decision.{in_month}
+use Rattle.cpi_survey.specs.Decision.{in_slot, entry_decision}
+use Rattle.cpi_survey.specs.Decision.{if_found, unless_again, unless_refused, unless_outside, decision_in_order}
 
 abbrev Answer : Type 0
 Answer = Result Decision Refusal
 
 -- the lines of the price
 price_in_order : (entry : EntryRow) (item : Option Item) (last : Option ℕ) (greatest : ℕ) →
-    once_checked entry (checked entry item last) greatest
+    once_checked entry (price_check entry item last) greatest
     ≡ cond (is_replacement entry.mark && is_none last) (Err NoLastPrice)
     (unless_outside entry item last (with_receipt entry greatest))
 price_in_order entry item None greatest = by (is_replacement entry.mark)
@@ -65,7 +66,7 @@ module _ (now : ℕ) (entry : EntryRow) (public : PublicPart) (own : OwnPart) wh
 
   month_in_order : (a : Assigned) (row : Option CalendarPart) →
       in_month now entry row a.assignment (check_of entry public own a.assignment)
-      (greatest_receipt own.quotes) ≡ given row UnknownMonth (of_row a)
+      (greatest_receipt own.quotes) ≡ if_found row UnknownMonth (of_row a)
   month_in_order a None = refl
   month_in_order a (Some row) =
       window_in_order (is_active entry.month a.assignment) (nat_lt now row.opens) (nat_le row.closes now) _ _
@@ -75,16 +76,16 @@ module _ (now : ℕ) (entry : EntryRow) (public : PublicPart) (own : OwnPart) wh
   quote_in_order : (a : Assigned) (quote : Option QuoteRow) →
       over_quote now entry (calendar_of entry.month public) a.assignment quote
       (check_of entry public own a.assignment) (greatest_receipt own.quotes)
-      ≡ unless_again quote entry (given (calendar_of entry.month public) UnknownMonth (of_row a))
+      ≡ unless_again quote entry (if_found (calendar_of entry.month public) UnknownMonth (of_row a))
   quote_in_order a None = month_in_order a (calendar_of entry.month public)
   quote_in_order a (Some quote) = rw (month_in_order a (calendar_of entry.month public)) refl
 
   slot_in_order : (a : Option Assigned) → in_slot now entry public a own
-      ≡ given a UnknownSlot (λ a. unless_again (quote_of entry.slot entry.month own) entry
-      (given (calendar_of entry.month public) UnknownMonth (of_row a)))
+      ≡ if_found a UnknownSlot (λ a. unless_again (quote_of entry.slot entry.month own) entry
+      (if_found (calendar_of entry.month public) UnknownMonth (of_row a)))
   slot_in_order None = refl
   slot_in_order (Some a) = quote_in_order a (quote_of entry.slot entry.month own)
 
 pub decided_in_order : (now : ℕ) (entry : EntryRow) (public : PublicPart) (own : OwnPart) →
-    decided now entry public own ≡ in_order now entry public own
+    entry_decision now entry public own ≡ decision_in_order now entry public own
 decided_in_order now entry public own = slot_in_order now entry public own (assignment_of entry.slot own)

@@ -17,7 +17,7 @@ use Rattle.std.proofs.lemmas.Map.Keys.{sorted_head, sorted_tail, Less-from_sorte
 use Rattle.cpi_rows.specs.Keyed.{IsInOrder, IsPlace}
 use Rattle.cpi_survey.specs.Mark.{observed_price}
 use Rattle.cpi_survey.specs.Quote.{QuoteRow, quote_cmp, quote_key}
-use Rattle.cpi_survey.specs.LastPrice.{latest, is_earlier}
+use Rattle.cpi_survey.specs.LastPrice.{latest_quote, is_earlier}
 
 pub quote_order : IsTotalOrder quote_cmp
 quote_order = then_total (on_total (λ (k : ℕ × ℕ). k.0) nat_cmp_total) (on_total (λ (k : ℕ × ℕ). k.1) nat_cmp_total)
@@ -36,28 +36,29 @@ below_key a b less = by (nat_cmp a.0 b.0) (nat_cmp a.1 b.1) refl refl
 
 module _ (passes : QuoteRow → Bool) where
   -- where none passes there is no latest
-  pub latest_none : (qs : List QuoteRow) → AllByRecursion (λ q. passes q ≡ false) qs → latest passes qs ≡ None
+  pub latest_none : (qs : List QuoteRow) → AllByRecursion (λ q. passes q ≡ false) qs → latest_quote passes qs ≡ None
   latest_none [] all = refl
   latest_none (q ∷ qs) all = rw all.0 (latest_none qs all.1)
 
   -- rows that cannot pass may be left out
   pub latest_filter : (keeps : QuoteRow → Bool) → ((q : QuoteRow) → keeps q ≡ false → passes q ≡ false) →
-      (qs : List QuoteRow) → latest passes qs ≡ latest passes (filter keeps qs)
+      (qs : List QuoteRow) → latest_quote passes qs ≡ latest_quote passes (filter keeps qs)
   latest_filter keeps out [] = refl
   latest_filter keeps out (q ∷ qs) = by (keeps q) refl (latest_filter keeps out qs)
     where
-      by : (s : Bool) → keeps q ≡ s → latest passes qs ≡ latest passes (filter keeps qs) →
-          latest passes (q ∷ qs) ≡ latest passes (filter keeps (q ∷ qs))
+      by : (s : Bool) → keeps q ≡ s → latest_quote passes qs ≡ latest_quote passes (filter keeps qs) →
+          latest_quote passes (q ∷ qs) ≡ latest_quote passes (filter keeps (q ∷ qs))
       by true e rest = rw (e, rest) refl
       by false e rest = rw (e, out q e) rest
 
   -- a last row that passes, of no earlier month than the others that pass, is the latest
   pub latest_last : (qs : List QuoteRow) (q : QuoteRow) → passes q ≡ true →
-      AllByRecursion (λ x. passes x ≡ true → x.month ≤ q.month) qs → latest passes (qs ++ q ∷ []) ≡ Some q
+      AllByRecursion (λ x. passes x ≡ true → x.month ≤ q.month) qs → latest_quote passes (qs ++ q ∷ []) ≡ Some q
   latest_last [] q e all = rw e refl
   latest_last (x ∷ qs) q e all = by (passes x) refl (latest_last qs q e all.1)
     where
-      by : (s : Bool) → passes x ≡ s → latest passes (qs ++ q ∷ []) ≡ Some q → latest passes (x ∷ qs ++ q ∷ []) ≡ Some q
+      by : (s : Bool) → passes x ≡ s → latest_quote passes (qs ++ q ∷ []) ≡ Some q → latest_quote passes
+          (x ∷ qs ++ q ∷ []) ≡ Some q
       by true p rest = rw (p, rest, le-ltb q.month x.month (all.0 p)) refl
       by false p rest = rw (p, rest) refl
 
@@ -127,14 +128,14 @@ not_below slot month q e = false_from_ne_true (is_earlier slot month q) (λ pass
 pub record Starts (slot month : ℕ) (qs earlier : List QuoteRow) : Type 0 where
   pub order : IsInOrder quote_cmp quote_key earlier
   pub below : AllByRecursion (λ q. quote_cmp (quote_key q) (slot, month) ≡ Less) earlier
-  pub latest : latest (is_earlier slot month) qs ≡ latest (is_earlier slot month) earlier
+  pub latest_quote : latest_quote (is_earlier slot month) qs ≡ latest_quote (is_earlier slot month) earlier
 
 pub starts : (slot month : ℕ) (qs earlier : List QuoteRow) → IsInOrder quote_cmp quote_key qs →
     earlier ≡ filter (is_below (slot, month)) qs → Starts slot month qs earlier
 starts slot month qs earlier sorted is = record {
   order = rw is (IsStrictlySortedBy-filter _ _ qs sorted);
   below = rw is (all_below (slot, month) qs);
-  latest = rw is (latest_filter (is_earlier slot month) (is_below (slot, month)) (not_below slot month) qs);
+  latest_quote = rw is (latest_filter (is_earlier slot month) (is_below (slot, month)) (not_below slot month) qs);
 }
 
 -- ---- the last row
@@ -167,13 +168,13 @@ sorted_front c [] x sorted = tt
 sorted_front c (y ∷ xs) x sorted = (front_all (λ z. c y z ≡ Less) xs x sorted.0, sorted_front c xs x sorted.1)
 
 latest_front : (passes : QuoteRow → Bool) (qs : List QuoteRow) (q : QuoteRow) → passes q ≡ false →
-    latest passes (qs ++ q ∷ []) ≡ latest passes qs
+    latest_quote passes (qs ++ q ∷ []) ≡ latest_quote passes qs
 latest_front passes [] q e = rw e refl
 latest_front passes (x ∷ qs) q e = rw (latest_front passes qs q e) refl
 
 -- a last row in which no price was observed may be left out
 pub without_last : (slot month : ℕ) (qs : List QuoteRow) (q : QuoteRow) → observed_price q.mark ≡ None →
-    latest (is_earlier slot month) (qs ++ q ∷ []) ≡ latest (is_earlier slot month) qs
+    latest_quote (is_earlier slot month) (qs ++ q ∷ []) ≡ latest_quote (is_earlier slot month) qs
 without_last slot month qs q none = latest_front (is_earlier slot month) qs q
     (by (q.slot == slot && nat_lt q.month month))
   where
@@ -193,7 +194,7 @@ front_below k qs q all = front_all (λ q. quote_cmp (quote_key q) k ≡ Less) qs
 -- a last row of another slot: the slot has none
 pub latest_other : (slot month : ℕ) (qs : List QuoteRow) (q : QuoteRow) →
     IsInOrder quote_cmp quote_key (qs ++ q ∷ []) → AllByRecursion (λ q. quote_cmp (quote_key q) (slot, month) ≡ Less)
-    (qs ++ q ∷ []) → q.slot ≢ slot → latest (is_earlier slot month) (qs ++ q ∷ []) ≡ None
+    (qs ++ q ∷ []) → q.slot ≢ slot → latest_quote (is_earlier slot month) (qs ++ q ∷ []) ≡ None
 latest_other slot month qs q sorted below other =
     latest_none (is_earlier slot month) (qs ++ q ∷ []) (none qs (below_last qs q sorted))
   where
@@ -213,7 +214,7 @@ latest_other slot month qs q sorted below other =
 -- a last row of the slot in which a price was observed is the latest
 pub latest_own : (slot month : ℕ) (qs : List QuoteRow) (q : QuoteRow) → IsInOrder quote_cmp quote_key (qs ++ q ∷ []) →
     AllByRecursion (λ q. quote_cmp (quote_key q) (slot, month) ≡ Less) (qs ++ q ∷ []) → q.slot ≡ slot →
-    is_some (observed_price q.mark) ≡ true → latest (is_earlier slot month) (qs ++ q ∷ []) ≡ Some q
+    is_some (observed_price q.mark) ≡ true → latest_quote (is_earlier slot month) (qs ++ q ∷ []) ≡ Some q
 latest_own slot month qs q sorted below own observed =
     latest_last (is_earlier slot month) qs q passes (no_later qs (below_last qs q sorted))
   where

@@ -2,7 +2,7 @@
 use Rattle.std.proofs.Common.{◌≡◌, ◌<◌, ◌≤◌, Bool, true, false, List, [], ◌∷◌, ◌++◌, max, refl, arith}
 use Rattle.std.specs.Prelude.{filter}
 use Rattle.std.specs.Ordering.{is_lt, is_gt}
-use Rattle.cpi_rows.specs.Keyed.{put}
+use Rattle.cpi_rows.specs.Keyed.{with_row}
 use Rattle.cpi_survey.specs.Quote.{QuoteRow}
 use Rattle.cpi_survey.specs.Quote.{greatest_receipt, quote_cmp, quote_key}
 
@@ -21,7 +21,7 @@ greatest_filter p (x ∷ xs) = by (p x) refl (greatest_filter p xs)
     by false e rest = rw e (omega arith)
 
 pub greatest_put : (q : QuoteRow) (qs : List QuoteRow) → greatest_receipt qs < q.receipt →
-    q.receipt ≡ greatest_receipt (put quote_cmp quote_key q qs)
+    q.receipt ≡ greatest_receipt (with_row quote_cmp quote_key q qs)
 greatest_put q qs new =
     let front = filter (λ r. is_lt (quote_cmp (quote_key r) (quote_key q))) qs in
     let back = filter (λ r. is_gt (quote_cmp (quote_key r) (quote_key q))) qs in

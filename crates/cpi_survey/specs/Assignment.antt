@@ -27,5 +27,5 @@ abbrev pub ended_one : ℕ → ℕ → Assigned → Assigned
 ended_one slot last_month a =
     if a.assignment.slot == slot then record a { assignment = until last_month a.assignment } else a
 
-abbrev pub ended : ℕ → ℕ → List Assigned → List Assigned
-ended slot last_month assignments = map (ended_one slot last_month) assignments
+abbrev pub with_last_month : ℕ → ℕ → List Assigned → List Assigned
+with_last_month slot last_month assignments = map (ended_one slot last_month) assignments

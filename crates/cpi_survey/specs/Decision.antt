@@ -33,9 +33,9 @@ against_last (Some item) last None = Ok tt
 against_last (Some item) last (Some price) = by_verdict last (verdict item last price)
 
 -- a replacement needs a last price; a price that isn't confirmed is checked against the last one, if there is one
-abbrev pub checked : EntryRow → Option Item → Option ℕ → Result (Unit {0}) Refusal
-checked entry item None = if is_replacement entry.mark then Err NoLastPrice else Ok tt
-checked entry item (Some last) = if entry.confirm then Ok tt else against_last item last (checked_price entry.mark)
+abbrev pub price_check : EntryRow → Option Item → Option ℕ → Result (Unit {0}) Refusal
+price_check entry item None = if is_replacement entry.mark then Err NoLastPrice else Ok tt
+price_check entry item (Some last) = if entry.confirm then Ok tt else against_last item last (checked_price entry.mark)
 
 -- the next receipt
 abbrev pub with_receipt : EntryRow → ℕ → Result Decision Refusal
@@ -74,7 +74,7 @@ over_quote now entry row a (Some quote) check greatest =
 -- what speaks against the price of an entry: the item is that of the assignment, the last price that of the assignment
 -- before the month
 abbrev pub check_of : EntryRow → PublicPart → OwnPart → Assignment → Result (Unit {0}) Refusal
-check_of entry public own a = checked entry (item_of a.item public) (last_price a entry.month own.quotes)
+check_of entry public own a = price_check entry (item_of a.item public) (last_price a entry.month own.quotes)
 
 abbrev pub in_slot : ℕ → EntryRow → PublicPart → Option Assigned → OwnPart → Result Decision Refusal
 in_slot now entry public None own = Err UnknownSlot
@@ -83,14 +83,14 @@ in_slot now entry public (Some a) own =
     (check_of entry public own a.assignment) (greatest_receipt own.quotes)
 
 -- how an entry is decided: the stored receipt of an equal quote, a refusal, or a new quote
-abbrev pub decided : ℕ → EntryRow → PublicPart → OwnPart → Result Decision Refusal
-decided now entry public own = in_slot now entry public (assignment_of entry.slot own) own
+abbrev pub entry_decision : ℕ → EntryRow → PublicPart → OwnPart → Result Decision Refusal
+entry_decision now entry public own = in_slot now entry public (assignment_of entry.slot own) own
 
 -- ---- the order, as a list
 -- refused where there is none
-abbrev pub given : {X : Type 0} → Option X → Refusal → (X → Result Decision Refusal) → Result Decision Refusal
-given None refusal next = Err refusal
-given (Some x) refusal next = next x
+abbrev pub if_found : {X : Type 0} → Option X → Refusal → (X → Result Decision Refusal) → Result Decision Refusal
+if_found None refusal next = Err refusal
+if_found (Some x) refusal next = next x
 
 -- the stored receipt, where the stored quote has the same mark with the same value
 abbrev pub unless_again : Option QuoteRow → EntryRow → Result Decision Refusal → Result Decision Refusal
@@ -118,11 +118,11 @@ next_quote entry own = record {
 }
 
 -- the first line that holds is the answer; where none does, the entry is stored with the next receipt
-abbrev pub in_order : ℕ → EntryRow → PublicPart → OwnPart → Result Decision Refusal
-in_order now entry public own =
-    given (assignment_of entry.slot own) UnknownSlot (λ a.
+abbrev pub decision_in_order : ℕ → EntryRow → PublicPart → OwnPart → Result Decision Refusal
+decision_in_order now entry public own =
+    if_found (assignment_of entry.slot own) UnknownSlot (λ a.
     unless_again (quote_of entry.slot entry.month own) entry (
-    given (calendar_of entry.month public) UnknownMonth (λ row.
+    if_found (calendar_of entry.month public) UnknownMonth (λ row.
     let last = last_price a.assignment entry.month own.quotes in
     if not (is_active entry.month a.assignment) then Err NotActive else
     if nat_lt now row.opens then Err NotOpen else

@@ -15,16 +15,16 @@ later_of None q = Some q
 later_of (Some found) q = if nat_lt found.month q.month then Some q else Some found
 
 -- the quote of the greatest month, of those that pass
-abbrev pub latest : (QuoteRow → Bool) → List QuoteRow → Option QuoteRow
-latest passes [] = None
-latest passes (q ∷ qs) = if passes q then later_of (latest passes qs) q else latest passes qs
+abbrev pub latest_quote : (QuoteRow → Bool) → List QuoteRow → Option QuoteRow
+latest_quote passes [] = None
+latest_quote passes (q ∷ qs) = if passes q then later_of (latest_quote passes qs) q else latest_quote passes qs
 
 abbrev pub price_in : Option QuoteRow → Option ℕ
 price_in found = option_and_then (λ q. observed_price q.mark) found
 
 -- the price that was observed last: that of the greatest earlier month among the quotes of the slot
 abbrev pub observed_before : ℕ → ℕ → List QuoteRow → Option ℕ
-observed_before slot month quotes = price_in (latest (is_earlier slot month) quotes)
+observed_before slot month quotes = price_in (latest_quote (is_earlier slot month) quotes)
 
 abbrev pub or_copied : Option ℕ → Option ℕ → Option ℕ
 or_copied None copied = copied

@@ -1,6 +1,6 @@
 -- What everybody may see.
 use Rattle.std.specs.Prelude.{ℕ, List, Option}
-use Rattle.cpi_rows.specs.Keyed.{at}
+use Rattle.cpi_rows.specs.Keyed.{row_by_number}
 use Rattle.cpi_plan.specs.declared.items.Item.{Item}
 use Rattle.cpi_plan.specs.Plan.{Plan}
 use Rattle.cpi_plan.specs.Calendar.{CalendarPart}
@@ -13,12 +13,12 @@ pub record PublicPart : Type 0 where
 
 -- the item with a code
 abbrev pub item_of : ℕ → PublicPart → Option Item
-item_of code public = at (λ i. i.code) code public.items
+item_of code public = row_by_number (λ i. i.code) code public.items
 
 -- the plan of a year
-abbrev pub plan_of : ℕ → PublicPart → Option Plan
-plan_of year public = at (λ y. y.year) year public.plans
+abbrev pub plan_of_year : ℕ → PublicPart → Option Plan
+plan_of_year year public = row_by_number (λ y. y.year) year public.plans
 
 -- the calendar row of a month
 abbrev pub calendar_of : ℕ → PublicPart → Option CalendarPart
-calendar_of month public = at (λ r. r.month) month public.calendar
+calendar_of month public = row_by_number (λ r. r.month) month public.calendar

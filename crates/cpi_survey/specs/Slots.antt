@@ -7,8 +7,8 @@ use Rattle.cpi_survey.specs.declared.slot_quotes.SlotQuotes.{SlotQuotes}
 use Rattle.cpi_survey.specs.Quote.{QuoteRow, quote_cmp, quote_key}
 
 -- the quotes of all slots, those of one slot after those of the other
-abbrev pub all_quotes : List SlotQuotes → List QuoteRow
-all_quotes slots = flat_map (λ s. s.quotes.items) slots
+abbrev pub quotes_of_slots : List SlotQuotes → List QuoteRow
+quotes_of_slots slots = flat_map (λ s. s.quotes.items) slots
 
 -- a quote of the slot
 abbrev pub is_in_slot : ℕ → QuoteRow → Bool

@@ -25,13 +25,13 @@ work_row month own a item = record {
 }
 
 -- the row of an assignment that is active in the month, if its item is known
-abbrev pub row_of : ℕ → PublicPart → OwnPart → Assigned → Option WorkPart
-row_of month public own a =
+abbrev pub row_of_assignment : ℕ → PublicPart → OwnPart → Assigned → Option WorkPart
+row_of_assignment month public own a =
     if is_active month a.assignment then option_map (work_row month own a) (item_of a.assignment.item public) else None
 
 -- one row for each assignment that is active in the month, by slot
 abbrev pub work_rows : ℕ → PublicPart → OwnPart → List WorkPart
-work_rows month public own = filter_map (row_of month public own) own.assignments
+work_rows month public own = filter_map (row_of_assignment month public own) own.assignments
 
 -- a month without a calendar row is unknown
 abbrev pub in_calendar : Option CalendarPart → List WorkPart → Result (List WorkPart) Refusal

@@ -2,8 +2,8 @@
 ghost use Rattle.std.specs.Prelude.{◌≡◌, ◌<◌, [], IfOk, OnOk, OnErr, IsSome, IsOk};
 ghost use Rattle.std.specs.Ordering.{nat_cmp};
 ghost use Rattle.std.specs.Option.{option_copied};
-ghost use Rattle.cpi_rows.specs.Keyed.{IsInOrder, put, row_at, at};
-ghost use Rattle.cpi_survey.specs.Assignment.{ended};
+ghost use Rattle.cpi_rows.specs.Keyed.{IsInOrder, with_row, row_at, row_by_number};
+ghost use Rattle.cpi_survey.specs.Assignment.{with_last_month};
 ghost use Rattle.cpi_survey.specs.LastPrice.{last_price};
 ghost use Rattle.cpi_survey.specs.Quote.{greatest_receipt, quote_cmp, quote_key};
 ghost use Rattle.cpi_survey.specs.Within.{has_quotes_since, quotes_within};
@@ -34,16 +34,16 @@ impl Model for Own {
     ghost use Rattle.cpi_rows.specs.Keyed.{IsInOrder};
     ghost use Rattle.cpi_survey.specs.Own.{OwnPart};
     ghost use Rattle.cpi_survey.specs.Quote.{greatest_receipt};
-    ghost use Rattle.cpi_survey.specs.Slots.{AreBySlot, all_quotes};
+    ghost use Rattle.cpi_survey.specs.Slots.{AreBySlot, quotes_of_slots};
 
     ghost Value = { OwnPart };
 
-    ghost view = { λ o. record { assignments = o.assignments.items; quotes = all_quotes o.slots.items } };
+    ghost view = { λ o. record { assignments = o.assignments.items; quotes = quotes_of_slots o.slots.items } };
 
     ghost invariant = { λ o. record {
       assignments : IsInOrder nat_cmp (λ a. a.assignment.slot) o.assignments.items;
       slots : AreBySlot o.slots.items;
-      greatest : o.greatest ≡ greatest_receipt (all_quotes o.slots.items);
+      greatest : o.greatest ≡ greatest_receipt (quotes_of_slots o.slots.items);
     } };
 }
 
@@ -89,7 +89,7 @@ impl Own {
     pub fn put_quote(&mut self, quote: Quote) -> Result<(), AllocError>
         requires { greatest_receipt self.old.quotes < quote.receipt }
         ensures ok { OnOk result (self.new ≡ record self.old {
-          quotes = put quote_cmp quote_key quote self.old.quotes;
+          quotes = with_row quote_cmp quote_key quote self.old.quotes;
         }) }
         ensures err { OnErr result (self.new ≡ self.old) }
         ensures replaced { IsSome (row_at quote_cmp quote_key (quote.slot, quote.month) self.old.quotes) → IsOk result }
@@ -105,10 +105,11 @@ impl Own {
     /// that memory was refused; nothing has changed then.
     pub fn put_assignment(&mut self, assigned: Assigned) -> Result<(), AllocError>
         ensures ok { OnOk result (self.new ≡ record self.old {
-          assignments = put nat_cmp (λ a. a.assignment.slot) assigned self.old.assignments;
+          assignments = with_row nat_cmp (λ a. a.assignment.slot) assigned self.old.assignments;
         }) }
         ensures err { OnErr result (self.new ≡ self.old) }
-        ensures replaced { IsSome (at (λ a. a.assignment.slot) assigned.assignment.slot self.old.assignments) →
+        ensures replaced { IsSome (row_by_number (λ a. a.assignment.slot) assigned.assignment.slot
+            self.old.assignments) →
             IsOk result }
         ensures quotes { self.new.quotes ≡ self.old.quotes }
     {
@@ -117,7 +118,7 @@ impl Own {
 
     /// Gives the assignment of the slot another last month. It takes no memory; a slot that wasn't given stays so.
     pub fn end_assignment(&mut self, slot: Slot, last_month: Month)
-        ensures { self.new ≡ record self.old { assignments = ended slot last_month self.old.assignments } }
+        ensures { self.new ≡ record self.old { assignments = with_last_month slot last_month self.old.assignments } }
     {
         if let Ok(at) = place_of(&self.assignments, &slot) {
             self.assignments[at].assignment.last_month = last_month;
@@ -133,7 +134,7 @@ impl Own {
 
     /// The assignment of the slot with its outlet's name, if the slot was given.
     pub fn assigned(&self, slot: Slot) -> Option<&Assigned>
-        ensures { option_copied result ≡ at (λ a. a.assignment.slot) slot self.now.assignments }
+        ensures { option_copied result ≡ row_by_number (λ a. a.assignment.slot) slot self.now.assignments }
     {
         find_row(&self.assignments, &slot)
     }

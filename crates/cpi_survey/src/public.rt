@@ -2,7 +2,7 @@
 ghost use Rattle.std.specs.Prelude.{◌≡◌, IfOk, [], OnOk, OnErr, IsSome, IsOk};
 ghost use Rattle.std.specs.Ordering.{nat_cmp};
 ghost use Rattle.std.specs.Option.{option_copied};
-ghost use Rattle.cpi_rows.specs.Keyed.{IsInOrder, put, row_at, at};
+ghost use Rattle.cpi_rows.specs.Keyed.{IsInOrder, with_row, row_at, row_by_number};
 
 use cpi_codes::{ItemCode, Month, Year};
 use cpi_plan::{CalendarRow, Item, YearPlan};
@@ -63,21 +63,21 @@ impl Public {
 
     /// The item with the code, if there is one.
     pub fn item(&self, code: ItemCode) -> Option<&Item>
-        ensures { option_copied result ≡ at (λ i. i.code) code self.now.items }
+        ensures { option_copied result ≡ row_by_number (λ i. i.code) code self.now.items }
     {
         self.items.find(&code)
     }
 
     /// The plan of the year, if there is one.
     pub fn plan(&self, year: Year) -> Option<&YearPlan>
-        ensures { option_copied result ≡ at (λ y. y.year) year self.now.plans }
+        ensures { option_copied result ≡ row_by_number (λ y. y.year) year self.now.plans }
     {
         find_row(&self.plans, &year.number())
     }
 
     /// The calendar row of the month, if there is one.
     pub fn calendar_row(&self, month: Month) -> Option<&CalendarRow>
-        ensures { option_copied result ≡ at (λ r. r.month) month self.now.calendar }
+        ensures { option_copied result ≡ row_by_number (λ r. r.month) month self.now.calendar }
     {
         find_row(&self.calendar, &month)
     }
@@ -109,7 +109,7 @@ impl Public {
     /// that memory was refused; nothing has changed then.
     pub fn put_item(&mut self, item: Item) -> Result<(), AllocError>
         ensures ok { OnOk result (self.new ≡ record self.old {
-          items = put nat_cmp (λ i. i.code) item self.old.items;
+          items = with_row nat_cmp (λ i. i.code) item self.old.items;
         }) }
         ensures err { OnErr result (self.new ≡ self.old) }
         ensures replaced { IsSome (row_at nat_cmp (λ i. i.code) item.code self.old.items) → IsOk result }
@@ -121,7 +121,7 @@ impl Public {
     /// memory was refused; nothing has changed then.
     pub fn put_plan(&mut self, plan: YearPlan) -> Result<(), AllocError>
         ensures ok { OnOk result (self.new ≡ record self.old {
-          plans = put nat_cmp (λ y. y.year) plan self.old.plans;
+          plans = with_row nat_cmp (λ y. y.year) plan self.old.plans;
         }) }
         ensures err { OnErr result (self.new ≡ self.old) }
         ensures replaced { IsSome (row_at nat_cmp (λ y. y.year) plan.year self.old.plans) → IsOk result }
@@ -133,7 +133,7 @@ impl Public {
     /// says that memory was refused; nothing has changed then.
     pub fn put_calendar(&mut self, row: CalendarRow) -> Result<(), AllocError>
         ensures ok { OnOk result (self.new ≡ record self.old {
-          calendar = put nat_cmp (λ r. r.month) row self.old.calendar;
+          calendar = with_row nat_cmp (λ r. r.month) row self.old.calendar;
         }) }
         ensures err { OnErr result (self.new ≡ self.old) }
         ensures replaced { IsSome (row_at nat_cmp (λ r. r.month) row.month self.old.calendar) → IsOk result }

@@ -1,9 +1,9 @@
 //! Quotes slot by slot.
 ghost use Rattle.std.specs.Prelude.{◌≡◌, IfOk, OnOk, OnErr, IsSome, IsOk, Ok, filter};
 ghost use Rattle.std.specs.Ordering.{nat_cmp};
-ghost use Rattle.cpi_rows.specs.Keyed.{IsInOrder, IsPlace, at, put, row_at};
+ghost use Rattle.cpi_rows.specs.Keyed.{IsInOrder, IsPlace, row_by_number, with_row, row_at};
 ghost use Rattle.cpi_survey.specs.Quote.{quote_cmp, quote_key};
-ghost use Rattle.cpi_survey.specs.Slots.{AreBySlot, all_quotes, is_in_slot};
+ghost use Rattle.cpi_survey.specs.Slots.{AreBySlot, quotes_of_slots, is_in_slot};
 
 use crate::quote::Quote;
 use crate::slot_quotes::SlotQuotes;
@@ -15,7 +15,7 @@ use std::alloc::{AllocError, Global};
 pub fn by_slot(alloc: Global, quotes: &[Quote]) -> Result<Vec<SlotQuotes>, AllocError>
     requires { IsInOrder quote_cmp quote_key quotes.now }
     ensures slots { IfOk result (λ slots. AreBySlot slots.items) }
-    ensures quotes { IfOk result (λ slots. all_quotes slots.items ≡ quotes.now) }
+    ensures quotes { IfOk result (λ slots. quotes_of_slots slots.items ≡ quotes.now) }
 {
     let mut slots = Vec::new(alloc);
     for quote in quotes {
@@ -27,7 +27,7 @@ pub fn by_slot(alloc: Global, quotes: &[Quote]) -> Result<Vec<SlotQuotes>, Alloc
 /// The quotes of a slot, by month: none where the slot has none.
 pub fn quotes_of(slots: &[SlotQuotes], slot: Slot) -> &[Quote]
     requires { AreBySlot slots.now }
-    ensures quotes { result.now ≡ filter (is_in_slot slot) (all_quotes slots.now) }
+    ensures quotes { result.now ≡ filter (is_in_slot slot) (quotes_of_slots slots.now) }
     ensures order { IsInOrder quote_cmp quote_key result.now }
 {
     match find_row(slots, &slot) {
@@ -39,10 +39,11 @@ pub fn quotes_of(slots: &[SlotQuotes], slot: Slot) -> &[Quote]
 /// Puts a quote in its place among those of its slot, over the one of its month if there is one, which takes no memory.
 pub fn put_quote(alloc: Global, slots: &mut Vec<SlotQuotes>, quote: Quote) -> Result<(), AllocError>
     requires { AreBySlot slots.old.items }
-    ensures ok { OnOk result (all_quotes slots.new.items ≡ put quote_cmp quote_key quote (all_quotes slots.old.items)) }
-    ensures err { OnErr result (all_quotes slots.new.items ≡ all_quotes slots.old.items) }
+    ensures ok { OnOk result (quotes_of_slots slots.new.items ≡ with_row quote_cmp quote_key quote
+        (quotes_of_slots slots.old.items)) }
+    ensures err { OnErr result (quotes_of_slots slots.new.items ≡ quotes_of_slots slots.old.items) }
     ensures slots { AreBySlot slots.new.items }
-    ensures replaced { IsSome (row_at quote_cmp quote_key (quote.slot, quote.month) (all_quotes slots.old.items)) →
+    ensures replaced { IsSome (row_at quote_cmp quote_key (quote.slot, quote.month) (quotes_of_slots slots.old.items)) →
         IsOk result }
 {
     let at = place_for(alloc, slots, quote.slot)?;
@@ -53,9 +54,9 @@ pub fn put_quote(alloc: Global, slots: &mut Vec<SlotQuotes>, quote: Quote) -> Re
 fn place_for(alloc: Global, slots: &mut Vec<SlotQuotes>, slot: Slot) -> Result<usize, AllocError>
     requires { AreBySlot slots.old.items }
     ensures place { IfOk result (λ at. IsPlace nat_cmp (λ s. s.slot) slot slots.new.items (Ok at)) }
-    ensures quotes { all_quotes slots.new.items ≡ all_quotes slots.old.items }
+    ensures quotes { quotes_of_slots slots.new.items ≡ quotes_of_slots slots.old.items }
     ensures slots { AreBySlot slots.new.items }
-    ensures known { IsSome (at (λ s. s.slot) slot slots.old.items) → IsOk result }
+    ensures known { IsSome (row_by_number (λ s. s.slot) slot slots.old.items) → IsOk result }
 {
     match place_of(slots, &slot) {
         Ok(at) => Ok(at),

@@ -6,7 +6,8 @@ ghost use Rattle.std.specs.Prelude.{ℕ};
 ghost use Rattle.cpi_survey.specs.Entry.{EntryRow};
 ghost use Rattle.cpi_survey.specs.Own.{OwnPart, quote_of};
 ghost use Rattle.cpi_survey.specs.Public.{PublicPart, calendar_of};
-ghost use Rattle.cpi_survey.specs.Decision.{against_last, check_of, checked, decided, in_order, in_window, over_quote};
+ghost use Rattle.cpi_survey.specs.Decision.{against_last, check_of, price_check, entry_decision, decision_in_order};
+ghost use Rattle.cpi_survey.specs.Decision.{in_window, over_quote};
 ghost use Rattle.cpi_survey.specs.Decision.{with_receipt};
 
 use crate::assignment::Assignment;
@@ -35,7 +36,7 @@ impl Own {
     /// comparable replacement's price that isn't confirmed lies outside the bounds round the last price, and where
     /// all receipts are used up, in this order; else it is to be stored with the next receipt.
     pub fn submit(&self, public: &Public, now: Moment, entry: Entry) -> Result<Decision, Refusal>
-        ensures { result ≡ decided now entry public.now self.now }
+        ensures { result ≡ entry_decision now entry public.now self.now }
     {
         match self.assigned(entry.slot) {
             None => Err(Refusal::UnknownSlot),
@@ -115,7 +116,7 @@ impl Own {
 /// Checks the price of an entry: a replacement needs a last price, and a price that isn't confirmed is checked
 /// against the last one.
 fn checked(entry: Entry, item: Option<&Item>, last: Option<Price>) -> Result<(), Refusal>
-    ensures { result ≡ checked entry (option_copied item.entry) last }
+    ensures { result ≡ price_check entry (option_copied item.entry) last }
 {
     match last {
         None if entry.mark.is_replacement() => Err(Refusal::NoLastPrice),
@@ -157,5 +158,5 @@ fn with_receipt(entry: Entry, greatest: u32) -> Result<Decision, Refusal>
 #[tactic(auto, using(crate::proofs::InOrder::decided_in_order))]
 pub fn entries_are_decided_in_order()
     ensures { (now : ℕ) (entry : EntryRow) (public : PublicPart) (own : OwnPart) →
-        decided now entry public own ≡ in_order now entry public own }
+        entry_decision now entry public own ≡ decision_in_order now entry public own }
 {}

@@ -1,6 +1,6 @@
 //! The quotes from a first month to a last.
 ghost use Rattle.std.specs.Prelude.{◌≡◌, ◌++◌, filter, IfOk, OnOk};
-ghost use Rattle.cpi_survey.specs.Slots.{all_quotes};
+ghost use Rattle.cpi_survey.specs.Slots.{quotes_of_slots};
 ghost use Rattle.cpi_survey.specs.Within.{is_within};
 
 use crate::quote::Quote;
@@ -15,7 +15,7 @@ pub fn quotes_within(
     last: Month,
     slots: &[SlotQuotes],
 ) -> Result<Vec<Quote>, AllocError>
-    ensures { IfOk result (λ found. found.items ≡ filter (is_within first last) (all_quotes slots.now)) }
+    ensures { IfOk result (λ found. found.items ≡ filter (is_within first last) (quotes_of_slots slots.now)) }
 {
     let mut found = Vec::new(alloc);
     for group in slots {

@@ -1,6 +1,6 @@
 //! The work list of a month.
 ghost use Rattle.std.specs.Prelude.{◌≡◌, IfOk};
-ghost use Rattle.cpi_survey.specs.Work.{row_of, work, work_row, work_rows};
+ghost use Rattle.cpi_survey.specs.Work.{row_of_assignment, work, work_row, work_rows};
 
 use crate::assignment::Assigned;
 use crate::own::Own;
@@ -59,7 +59,7 @@ impl Own {
         month: Month,
         assigned: &Assigned,
     ) -> Result<Option<WorkRow>, AllocError>
-        ensures { IfOk result (λ row. row ≡ row_of month public.now self.now assigned.now) }
+        ensures { IfOk result (λ row. row ≡ row_of_assignment month public.now self.now assigned.now) }
     {
         if !assigned.assignment.is_active(month) {
             return Ok(None);

@@ -16,8 +16,8 @@ fn first_refused<B: Book>(book: &mut B) -> Result<Option<usize>, Fail> {
     let slot = Slot::new(1).ok_or("no slot")?;
     let (month, until, rice) = (january()?, at(3000)?, rice()?);
     let refused: [bool; READS] = [
-        book.bearer_of(key).is_err(),
-        book.bearer_at(number).is_err(),
+        book.registration_of(key).is_err(),
+        book.registration_at(number).is_err(),
         book.collector_of(key).is_err(),
         book.collector_key(number).is_err(),
         book.outlet(outlet).is_err(),

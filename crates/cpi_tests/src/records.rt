@@ -98,7 +98,7 @@ pub(crate) fn asked(alloc: Global, record: &str) -> Result<Ask, Fail> {
 /// The number of a reply: a refusal's own; `WANTED` where it is that of an office in which the request is the first of
 /// its kind, and the table is the CSV that is given; else `ANOTHER`.
 pub(crate) fn number_of(reply: &Reply, csv: &str) -> u16 {
-    let is_wanted = match reply {
+    let wanted = match reply {
         Reply::Refused(refusal) => return refusal.number(),
         Reply::Receipt(receipt) => *receipt == 1,
         Reply::Work(rows) => rows.len() == 1,
@@ -107,7 +107,7 @@ pub(crate) fn number_of(reply: &Reply, csv: &str) -> u16 {
         Reply::Table(printed) => printed.as_bytes() == csv.as_bytes(),
         Reply::Done | Reply::Tables(_) => true,
     };
-    if is_wanted { WANTED } else { ANOTHER }
+    if wanted { WANTED } else { ANOTHER }
 }
 
 /// The number of the reply to a record.

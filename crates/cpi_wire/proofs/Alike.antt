@@ -5,14 +5,14 @@ use Rattle.std.proofs.Common.{None, ◌⊎◌, inl, inr}
 use Rattle.cpi_codes.specs.Zone.{ZoneRule}
 use Rattle.cpi_release.specs.State.{State}
 use Rattle.cpi_store.specs.Office.{Office}
-use Rattle.cpi_office.specs.Views.{view}
-use Rattle.cpi_office.specs.Runs.{reply_to, after_one, verdict}
+use Rattle.cpi_office.specs.Projections.{view}
+use Rattle.cpi_office.specs.Runs.{reply_to, after_one, request_verdict}
 use Rattle.cpi_office.specs.Answers.{answer as answer_from}
 use Rattle.cpi_office.specs.Entries.{of_collector}
-use Rattle.cpi_office.specs.Verdicts.{accepted}
-use Rattle.cpi_office.specs.Sights.{seen, build}
+use Rattle.cpi_office.specs.Verdicts.{accepted_changes}
+use Rattle.cpi_office.specs.ProjectedChanges.{sights_of, build}
 use Rattle.cpi_office.specs.Calls.{ServesWhere}
-use Rattle.cpi_office.specs.Calls.{is_failure}
+use Rattle.cpi_office.specs.Calls.{is_failure_of}
 use Rattle.cpi_office.specs.Served.{all_served, NoneFails}
 use Rattle.cpi_store.specs.Sound.{IsSound}
 use Rattle.cpi_office.specs.declared.caller.Caller.{Caller}
@@ -22,14 +22,14 @@ use Rattle.cpi_office.specs.declared.request.Request.{Request}
 use Rattle.cpi_office.specs.declared.reply.Reply.{Reply}
 use Rattle.cpi_office.specs.declared.reply.Reply.TheVariants.{Refused}
 use Rattle.cpi_office.specs.declared.refusal.Refusal.TheVariants.{Unavailable}
-use Rattle.cpi_office.proofs.Rebuilt.{rebuilt, next_sound, sound_runs}
+use Rattle.cpi_office.proofs.RebuiltProjections.{rebuilt, next_sound, sound_runs}
 use Rattle.cpi_wire.specs.Answer.{Answer}
 use Rattle.cpi_wire.specs.Answer as answer
 use Rattle.cpi_wire.specs.declared.asks.Ask.{Ask}
 use Rattle.cpi_wire.specs.declared.asks.Ask.TheVariants as ask
 use Rattle.cpi_wire.specs.Answers.{Answers, RowsAnswer}
 use Rattle.cpi_wire.specs.Input.{Record}
-use Rattle.cpi_wire.specs.Laws.{requests, replies_of}
+use Rattle.cpi_wire.specs.Laws.{requests_of_records, replies_of}
 use Rattle.cpi_wire.specs.Lines.{IsFrom, moment_of, IsTold, all_replies, seen_before, LinesAreAlike}
 use Rattle.cpi_wire.specs.Record.{ask_of}
 use Rattle.cpi_wire.specs.Rows.{answer_line}
@@ -46,19 +46,21 @@ module _ (t : ℕ) (k : Caller) (other : k ≢ Desk) (o u : Office) (same : view
       by (Collector key) h e = ap (answer_from t (Collector key) r) e
       by Desk h e = absurd (h refl)
 
-  accepted-alike : (r : Request) → accepted (verdict t k r o) ≡ accepted (verdict t k r u)
+  accepted-alike : (r : Request) → accepted_changes (request_verdict t k r o) ≡ accepted_changes
+      (request_verdict t k r u)
   accepted-alike r = by k other same
     where
-      by : (c : Caller) → c ≢ Desk → view c t o ≡ view c t u → accepted (verdict t c r o) ≡ accepted (verdict t c r u)
+      by : (c : Caller) → c ≢ Desk → view c t o ≡ view c t u → accepted_changes (request_verdict t c r o) ≡
+          accepted_changes (request_verdict t c r u)
       by Public h e = refl
-      by (Collector key) h e = ap (λ v. accepted (of_collector key t r v)) e
+      by (Collector key) h e = ap (λ v. accepted_changes (of_collector key t r v)) e
       by Desk h e = absurd (h refl)
 
   view-alike : (r : Request) → IsSound o → IsSound u → view k t (after_one t k r o) ≡ view k t (after_one t k r u)
   view-alike r s z =
       let a : Asking = record { now = t; caller = k; request = r } in
       rebuilt (a ∷ []) o k t s
-      ∙ ap₂ (λ v c. build v (seen k t (c ++ []))) same (accepted-alike r)
+      ∙ ap₂ (λ v c. build v (sights_of k t (c ++ []))) same (accepted-alike r)
       ∙ sym (rebuilt (a ∷ []) u k t z)
 
 -- ---- one request over a book
@@ -68,7 +70,7 @@ module _ {B : Type 0} (state : B → State Office) where
   pub is-served : (t : ℕ) (k : Caller) (r : Request) (p q : B) (reply : Reply)
       → ServesWhere (state p) (state q) (IsSound (state p).held) reply (reply_to t k r (state p).held)
       (after_one t k r (state p).held)
-      → (state q).is_clean → IsSound (state p).held → IsFalse (is_failure reply)
+      → (state q).is_clean → IsSound (state p).held → IsFalse (is_failure_of reply)
       → (reply ≡ reply_to t k r (state p).held) × ((state q).held ≡ after_one t k r (state p).held)
   is-served t k r p q reply serves clean sound fair = by (serves.served clean sound)
     where
@@ -76,7 +78,7 @@ module _ {B : Type 0} (state : B → State Office) where
           ⊎ ((reply ≡ Refused Unavailable) × ((state q).held ≡ (state p).held))
           → (reply ≡ reply_to t k r (state p).held) × ((state q).held ≡ after_one t k r (state p).held)
       by (inl h) = h
-      by (inr h) = absurd (true≢false (sym (ap is_failure h.0) ∙ fair))
+      by (inr h) = absurd (true≢false (sym (ap is_failure_of h.0) ∙ fair))
 
   rows-clean : (t : ℕ) (k : Caller) (p q : B) (rows : List (Option Request)) (rs : List Reply) →
       RowsAnswer state t k p rows rs q → (state q).is_clean → (state p).is_clean
@@ -105,7 +107,7 @@ module _ {B : Type 0} (state : B → State Office) where
   meets zone k start row told is =
       let ran = are_a_run state zone start is.mid is.rows is.replies is.before in
       let run = ran.run (record-clean is.mid is.end (ask_of zone row) told is.one is.clean) is.sound in
-      let front = all_served (requests zone is.rows) (replies_of zone is.rows is.replies) in (
+      let front = all_served (requests_of_records zone is.rows) (replies_of zone is.rows is.replies) in (
         subst IsSound (sym run.office) (sound_runs front (state start).held is.sound),
         ap (view k (moment_of (ask_of zone row))) run.office
             ∙ rebuilt front (state start).held k (moment_of (ask_of zone row)) is.sound,

@@ -4,7 +4,7 @@ use Rattle.std.proofs.lemmas.List.{append-nil}
 use Rattle.cpi_codes.specs.Following.{◌>>=◌}
 use Rattle.cpi_codes.specs.declared.codes.Code.{Code}
 use Rattle.cpi_wire.specs.Arguments.{Text}
-use Rattle.cpi_wire.specs.Values.{elementary_code}
+use Rattle.cpi_wire.specs.Values.{spelled_elementary_code}
 use Rattle.cpi_wire.specs.Words.{elementary_codes}
 
 -- codes that were found, and others behind them
@@ -20,7 +20,8 @@ pub behind-all : (found : List Code) → behind found (Some []) ≡ Some found
 behind-all found = ap (λ codes. Some codes) (append-nil found)
 
 -- one code more
-pub behind-more : (found : List Code) (text : Text) (code : Code) (texts : List Text) → elementary_code text ≡ Some code
+pub behind-more : (found : List Code) (text : Text) (code : Code) (texts : List Text) → spelled_elementary_code text ≡
+    Some code
     → behind found (elementary_codes (text ∷ texts)) ≡ behind (found ++ code ∷ []) (elementary_codes texts)
 behind-more found text code texts e = rw e (by (elementary_codes texts))
   where
@@ -30,6 +31,6 @@ behind-more found text code texts e = rw e (by (elementary_codes texts))
     by (Some codes) = ap (λ all. Some all) (sym (append_assoc found (code ∷ []) codes))
 
 -- a text that writes none
-pub behind-bad : (found : List Code) (text : Text) (texts : List Text) → elementary_code text ≡ None
+pub behind-bad : (found : List Code) (text : Text) (texts : List Text) → spelled_elementary_code text ≡ None
     → behind found (elementary_codes (text ∷ texts)) ≡ None
 behind-bad found text texts e = rw e refl

@@ -15,7 +15,7 @@ use Rattle.cpi_office.specs.declared.refusal.Refusal.{Refusal}
 use Rattle.cpi_office.specs.declared.refusal.Refusal.TheVariants as refusal
 use Rattle.cpi_office.specs.declared.reply.Reply.{Reply}
 use Rattle.cpi_office.specs.declared.reply.Reply.TheVariants as reply
-use Rattle.cpi_wire.specs.Line.{data_of, quote_data, mark_value, item_data, price_data, mark_data, receipt_data}
+use Rattle.cpi_wire.specs.Line.{data_of, quote_data, value_of_mark, item_data, price_data, mark_data, receipt_data}
 use Rattle.cpi_wire.specs.Line.{work_row_data, frozen_month_data}
 use Rattle.cpi_wire.specs.Refusals.{plan_fault_data, index_fault_data, refusal_data}
 
@@ -24,7 +24,7 @@ none-of : {X : Type 0} (f : X → Data) → ((x : X) → has_float (f x) ≡ fal
 none-of f h [] = refl
 none-of f h (x ∷ xs) = rw (h x) (none-of f h xs)
 
-value-none : (m : Mark) → has_float (mark_value m) ≡ false
+value-none : (m : Mark) → has_float (value_of_mark m) ≡ false
 value-none (Price p) = refl
 value-none (Missing r) = refl
 value-none (Comparable p) = refl

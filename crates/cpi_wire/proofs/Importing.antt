@@ -14,9 +14,9 @@ use Rattle.cpi_office.specs.declared.refusal.Refusal.TheVariants.{BadRequest}
 use Rattle.cpi_wire.specs.declared.asks.Ask.{Ask}
 use Rattle.cpi_wire.specs.declared.asks.Ask.TheVariants as ask
 use Rattle.cpi_wire.specs.Answer as answer
-use Rattle.cpi_office.specs.Calls.{is_failure}
+use Rattle.cpi_office.specs.Calls.{is_failure_of}
 use Rattle.cpi_wire.specs.Answers.{Begins, FirstRowsAnswer, IsServed, RowAnswers, RowsAnswer, Tells, some_fails}
-use Rattle.cpi_wire.specs.Line.{data_of, line_of}
+use Rattle.cpi_wire.specs.Line.{data_of, line_of_reply}
 use Rattle.cpi_wire.specs.Rows.{added_text, rows_line}
 use Rattle.cpi_wire.proofs.Answered.{in-turn-more}
 
@@ -64,11 +64,12 @@ unfolding serde_json_on_literals
 line-joined rs = ap (λ ys. codes "{\"rows\":[" ++ ys) (ended rs)
 
 -- whether some reply fails, and one more
-fails-more : (rs : List Reply) (r : Reply) → some_fails (rs ++ r ∷ []) ≡ (some_fails rs || is_failure r)
-fails-more [] r = elim (is_failure r) as (λ b. (b || false) ≡ b) [ true ↦ refl | false ↦ refl ]
+fails-more : (rs : List Reply) (r : Reply) → some_fails (rs ++ r ∷ []) ≡ (some_fails rs || is_failure_of r)
+fails-more [] r = elim (is_failure_of r) as (λ b. (b || false) ≡ b) [ true ↦ refl | false ↦ refl ]
 fails-more (x ∷ rs) r =
-    ap (λ b. is_failure x || b) (fails-more rs r)
-    ∙ elim (is_failure x) as (λ b. (b || (some_fails rs || is_failure r)) ≡ ((b || some_fails rs) || is_failure r))
+    ap (λ b. is_failure_of x || b) (fails-more rs r)
+    ∙ elim (is_failure_of x) as (λ b. (b || (some_fails rs || is_failure_of r)) ≡
+    ((b || some_fails rs) || is_failure_of r))
     [ true ↦ refl | false ↦ refl ]
 
 -- ---- the rows
@@ -119,7 +120,7 @@ module _ {B : Type 0} (state : B → State Office) (now : ℕ) (caller : Caller)
       (line told : List ℕ) (row : Option Request) (reply : Reply)
       → RowsSoFar old rows rest is_first failed line mid → rest ≡ row ∷ more
       → RowAnswers state now caller mid row reply new
-      → told ≡ line ++ added_text is_first reply → fails ≡ is_failure reply
+      → told ≡ line ++ added_text is_first reply → fails ≡ is_failure_of reply
       → RowsSoFar old rows more false (failed || fails) told new
   so-far-more old mid new rows rest more is_first failed fails line told row reply so_far next one text same = record {
     front = so_far.front ++ row ∷ [];
@@ -171,7 +172,7 @@ module _ {B : Type 0} (state : B → State Office) (now : ℕ) (caller : Caller)
   }
 
   pub tells-one : (old new : B) (request : Request) (reply : Reply) (line : List ℕ)
-      → IsServed state now caller old request reply new → line ≡ line_of reply
+      → IsServed state now caller old request reply new → line ≡ line_of_reply reply
       → Tells state old (ask.One now caller request) line new
   tells-one old new request reply line one text = record { told = answer.One reply; answers = one; line_is = text }
 
@@ -182,7 +183,8 @@ module _ {B : Type 0} (state : B → State Office) (now : ℕ) (caller : Caller)
   tells-rows old new rows line failed told = record { told = answer.Rows told.0; answers = told.1; line_is = told.2 }
 
 module _ {B : Type 0} (state : B → State Office) where
-  pub tells-bad : (old : B) (line : List ℕ) → line ≡ line_of (Refused BadRequest) → Tells state old ask.Bad line old
+  pub tells-bad : (old : B) (line : List ℕ) → line ≡ line_of_reply (Refused BadRequest) → Tells state old
+      ask.Bad line old
   tells-bad old line text = record { told = answer.One (Refused BadRequest); answers = (refl, refl); line_is = text }
 
   -- nothing was carried out

@@ -9,8 +9,8 @@ use Rattle.cpi_plan.specs.declared.plan_rows.Place.{Place}
 use Rattle.cpi_wire.specs.declared.plan_rows.PlanRow.{PlanRow}
 use Rattle.cpi_wire.specs.declared.plan_rows.PlanRow.TheVariants as row
 use Rattle.cpi_wire.specs.Input.{Record, AreFirst, records_of}
-use Rattle.cpi_wire.specs.PlanBody.{titles_of, weights_of, places_of, references_of, told_by, plan_rows, body_of}
-use Rattle.cpi_wire.specs.PlanRows.{plan_row}
+use Rattle.cpi_wire.specs.PlanBody.{titles_of, weights_of_rows, places_of, references_of, told_by, plan_rows, body_of}
+use Rattle.cpi_wire.specs.PlanRows.{spelled_plan_row}
 use Rattle.cpi_codes.specs.Following.{◌>>=◌}
 
 -- ---- one row more
@@ -19,7 +19,7 @@ title-more : (rows : List PlanRow) (t : Title) →
     told_by (rows ++ row.Title t ∷ []) ≡ record {
       titles = titles_of rows ++ t ∷ [];
       weights =
-          weights_of rows;
+          weights_of_rows rows;
       places = places_of rows;
       references = references_of rows;
     }
@@ -40,7 +40,7 @@ title-more (row.Reference m ∷ rows) t = ap (λ (b : PlanBody).
 weight-more : (rows : List PlanRow) (v : Weight) →
     told_by (rows ++ row.Weight v ∷ []) ≡ record {
       titles = titles_of rows;
-      weights = weights_of rows
+      weights = weights_of_rows rows
           ++ v ∷ [];
       places = places_of rows;
       references = references_of rows;
@@ -62,7 +62,7 @@ weight-more (row.Reference m ∷ rows) v = ap (λ (b : PlanBody).
 place-more : (rows : List PlanRow) (q : Place) →
     told_by (rows ++ row.Place q ∷ []) ≡ record {
       titles = titles_of rows;
-      weights = weights_of rows;
+      weights = weights_of_rows rows;
       places =
           places_of rows ++ q ∷ [];
       references = references_of rows;
@@ -84,7 +84,7 @@ place-more (row.Reference m ∷ rows) q = ap (λ (b : PlanBody).
 reference-more : (rows : List PlanRow) (n : ℕ) →
     told_by (rows ++ row.Reference n ∷ []) ≡ record {
       titles = titles_of rows;
-      weights = weights_of rows;
+      weights = weights_of_rows rows;
       places =
           places_of rows;
       references = references_of rows ++ n ∷ [];
@@ -152,7 +152,8 @@ rows-append [] ys = none (plan_rows ys)
     none : (o : Option (List PlanRow)) → o ≡ both (Some []) o
     none None = refl
     none (Some rows) = refl
-rows-append (x ∷ xs) ys = by (plan_row x) (plan_rows xs) (plan_rows ys) (plan_rows (xs ++ ys)) (rows-append xs ys)
+rows-append (x ∷ xs) ys = by (spelled_plan_row x) (plan_rows xs) (plan_rows ys) (plan_rows (xs ++ ys))
+    (rows-append xs ys)
   where
     by : (p : Option PlanRow) (o q r : Option (List PlanRow)) → r ≡ both o q
         → (p >>= λ first. r >>= λ rows. Some (first ∷ rows)) ≡ both (p >>= λ first. o >>= λ rows. Some (first ∷ rows)) q
@@ -162,7 +163,7 @@ rows-append (x ∷ xs) ys = by (plan_row x) (plan_rows xs) (plan_rows ys) (plan_
     by (Some first) (Some rows) (Some more) r e = rw e refl
 
 pub rows-more : (given : List Record) (rows : List PlanRow) (fields : Record) (one : PlanRow) →
-    plan_rows given ≡ Some rows → plan_row fields ≡ Some one
+    plan_rows given ≡ Some rows → spelled_plan_row fields ≡ Some one
     → plan_rows (given ++ fields ∷ []) ≡ Some (rows ++ one ∷ [])
 unfolding both
 rows-more given rows fields one e f = rows-append given (fields ∷ []) ∙ rw (e, f) refl
@@ -189,7 +190,7 @@ body-long text given first h =
 
 pub body-bad : (text : List ℕ) (given : List Record) (rows : List PlanRow) (fields : Record) →
     AreFirst (given ++ fields ∷ []) text → plan_rows given ≡ Some rows
-    → plan_row fields ≡ None → None ≡ body_of text
+    → spelled_plan_row fields ≡ None → None ≡ body_of text
 unfolding body_of both
 body-bad text given rows fields first e f =
     let all : plan_rows (records_of text) ≡ None = ap plan_rows (first.1 ∙ append_assoc given (fields ∷ []) first.0)

@@ -15,7 +15,7 @@ use Rattle.csv.specs.declared.parser.State.TheVariants as st
 use Rattle.csv.specs.declared.reader.Reader.{Reader}
 use Rattle.csv.specs.declared.reader.Trim.TheVariants as trim
 use Rattle.csv.proofs.ReadFacts.{rows-more, rows-end}
-use Rattle.cpi_wire.specs.Input.{Record, AreFirst, records_of, IsAt, TakesNext}
+use Rattle.cpi_wire.specs.Input.{Record, AreFirst, records_of, IsAt, TakesRecord}
 
 -- a step that ends a record leaves the machine outside one
 abbrev EndsWell : State × Action → Type 0
@@ -166,6 +166,6 @@ at-end rem (Some xs) rows a b f h r =
 
 pub takes_next : {R : Type 0} (rem : R → Option (List ℕ)) (a b : Reader R) (f : Record) (found : Bool)
     → (a.trim ≡ trim.None → Ready a → ReadRecord rem a b found f) → (found ≡ true → ReadsOn a b) →
-    TakesNext rem a b f found
+    TakesRecord rem a b f found
 takes_next rem a b f true read on = λ input rows h. at-next rem input rows a b f h (read h.trim h.ready) (on refl)
 takes_next rem a b f false read on = λ input rows h. at-end rem input rows a b f h (read h.trim h.ready)

@@ -5,7 +5,7 @@ use Rattle.std.proofs.lemmas.List.{append-nil}
 use Rattle.cpi_codes.specs.Zone.{ZoneRule}
 use Rattle.cpi_release.specs.State.{State}
 use Rattle.cpi_store.specs.Office.{Office}
-use Rattle.cpi_office.specs.Served.{Ran}
+use Rattle.cpi_office.specs.Served.{RunOverBook}
 use Rattle.cpi_office.proofs.Served.{ran_more}
 use Rattle.cpi_office.specs.declared.caller.Caller.{Caller}
 use Rattle.cpi_office.specs.declared.request.Ask.{Ask as Asking}
@@ -19,12 +19,13 @@ use Rattle.cpi_wire.specs.Answers.{Answers, RowsAnswer}
 use Rattle.cpi_wire.specs.Input.{Record}
 use Rattle.cpi_wire.specs.Record.{ask_of}
 use Rattle.cpi_wire.specs.Records.{AnswersAll}
-use Rattle.cpi_wire.specs.Laws.{AreARun, asked, replied, rows_asked, rows_replied, requests, replies_of}
+use Rattle.cpi_wire.specs.Laws.{AreRecordsOfARun, requests_of_record, replies_of_record, rows_asked, rows_replied}
+use Rattle.cpi_wire.specs.Laws.{requests_of_records, replies_of}
 
 module _ {B : Type 0} (state : B → State Office) where
   -- a run over a book, with a reply for each request
   abbrev pub IsRunSoFar : B → B → List Asking → List Reply → Type 0
-  IsRunSoFar start new front told = (length told ≡ length front) × Ran (state start) (state new) front told
+  IsRunSoFar start new front told = (length told ≡ length front) × RunOverBook (state start) (state new) front told
 
   pub run-none : (old : B) → IsRunSoFar old old [] []
   run-none old = (
@@ -64,7 +65,7 @@ module _ {B : Type 0} (state : B → State Office) where
   -- one record more
   pub run-one : (start old new : B) (front : List Asking) (told : List Reply) (k : Ask) (reply : Answer)
       → IsRunSoFar start old front told → Answers state old k reply new
-      → IsRunSoFar start new (front ++ asked k) (told ++ replied k reply)
+      → IsRunSoFar start new (front ++ requests_of_record k) (told ++ replies_of_record k reply)
   run-one start old new front told ask.Bad (answer.One reply) ran a = rw (append-nil front, append-nil told, a.1) ran
   run-one start old new front told ask.Bad (answer.Rows replies) ran a = absurd a
   run-one start old new front told (ask.One t k r) (answer.One reply) ran a =
@@ -81,16 +82,20 @@ module _ {B : Type 0} (state : B → State Office) where
   run-all : (zone : ZoneRule) (start old new : B) (front : List Asking) (told : List Reply) (rows : List Record)
       (replies : List Answer)
       → IsRunSoFar start old front told → AnswersAll zone state old rows replies new
-      → IsRunSoFar start new (front ++ requests zone rows) (told ++ replies_of zone rows replies)
+      → IsRunSoFar start new (front ++ requests_of_records zone rows) (told ++ replies_of zone rows replies)
   run-all zone start old new front told [] [] ran a = rw (append-nil front, append-nil told, a) ran
   run-all zone start old new front told [] (p ∷ ps) ran a = absurd a
   run-all zone start old new front told (q ∷ qs) [] ran a = absurd a
   run-all zone start old new front told (q ∷ qs) (p ∷ ps) ran a =
       let k = ask_of zone q in
-      let more = run-all zone start a.0 new (front ++ asked k) (told ++ replied k p) qs ps
+      let more = run-all zone start a.0 new (front ++ requests_of_record k) (told ++ replies_of_record k p) qs ps
       (run-one start old a.0 front told k p ran a.1) a.2 in
-      rw (append_assoc front (asked k) (requests zone qs), append_assoc told (replied k p) (replies_of zone qs ps)) at
+      rw (
+        append_assoc front (requests_of_record k) (requests_of_records zone qs),
+        append_assoc told
+            (replies_of_record k p) (replies_of zone qs ps),
+      ) at
       more
 
-  pub are_a_run : AreARun state
+  pub are_a_run : AreRecordsOfARun state
   are_a_run zone old new rows replies a = (run-all zone old old new [] [] rows replies (run-none old) a).1

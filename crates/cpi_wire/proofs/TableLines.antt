@@ -14,7 +14,7 @@ use Rattle.cpi_office.proofs.ComputedTables.{tables_are_told, run_tables}
 use Rattle.cpi_wire.specs.Answer.{Answer}
 use Rattle.cpi_wire.specs.Answer as answer
 use Rattle.cpi_wire.specs.Answers.{Answers}
-use Rattle.cpi_wire.specs.Laws.{requests, replies_of}
+use Rattle.cpi_wire.specs.Laws.{requests_of_records, replies_of}
 use Rattle.cpi_wire.specs.Lines.{all_replies}
 use Rattle.cpi_wire.specs.Record.{ask_of}
 use Rattle.cpi_wire.specs.Rows.{answer_line}
@@ -43,5 +43,5 @@ module _ {B : Type 0} (state : B → State Office) where
 
   pub replays_tell_tables : ReplaysTellTables state
   replays_tell_tables zone old new rows answers a clean s =
-      run_tables (state old).held (state new).held (requests zone rows) (replies_of zone rows answers) s
+      run_tables (state old).held (state new).held (requests_of_records zone rows) (replies_of zone rows answers) s
       ((are_a_run state zone old new rows answers a).run clean s)

@@ -6,8 +6,8 @@ use Rattle.std.specs.Bool.{⊤}
 use Rattle.cpi_codes.specs.Zone.{ZoneRule}
 use Rattle.cpi_release.specs.State.{State}
 use Rattle.cpi_store.specs.Office.{Office}
-use Rattle.cpi_office.specs.Alone.{is_bearer, is_other, without_others as requests_without}
-use Rattle.cpi_office.specs.Told.{replies_to, IsWhole}
+use Rattle.cpi_office.specs.NonInterference.{is_registration, is_other, requests_without}
+use Rattle.cpi_office.specs.NonInterferenceOfRuns.{replies_to, IsWholeRun}
 use Rattle.cpi_office.specs.declared.caller.Caller.{Caller}
 use Rattle.cpi_office.specs.declared.caller.Caller.TheVariants.{Public, Collector, Desk}
 use Rattle.cpi_office.specs.declared.request.Ask.{Ask as Asking}
@@ -15,15 +15,16 @@ use Rattle.cpi_office.specs.declared.request.Request.{Request}
 use Rattle.cpi_office.specs.declared.reply.Reply.{Reply}
 use Rattle.cpi_office.specs.declared.reply.Reply.TheVariants.{Refused}
 use Rattle.cpi_office.specs.declared.refusal.Refusal.TheVariants.{BadRequest}
-use Rattle.cpi_office.proofs.Told.{runs_tell_alike}
+use Rattle.cpi_office.proofs.NonInterferenceOfRuns.{runs_tell_alike}
 use Rattle.cpi_wire.specs.Answer.{Answer}
 use Rattle.cpi_wire.specs.Answer as answer
 use Rattle.cpi_wire.specs.declared.asks.Ask.{Ask}
 use Rattle.cpi_wire.specs.declared.asks.Ask.TheVariants as ask
 use Rattle.cpi_wire.specs.Answers.{Answers, RowsAnswer}
 use Rattle.cpi_wire.specs.Input.{Record}
-use Rattle.cpi_wire.specs.Laws.{asked, replied, rows_asked, rows_replied, requests, replies_of}
-use Rattle.cpi_wire.specs.Lines.{is_own, is_others, without_others, own_answers, IsReplayed, ReplaysTellAlike}
+use Rattle.cpi_wire.specs.Laws.{requests_of_record, replies_of_record, rows_asked, rows_replied, requests_of_records}
+use Rattle.cpi_wire.specs.Laws.{replies_of}
+use Rattle.cpi_wire.specs.Lines.{is_own, is_others, records_without, own_answers, IsReplayed, ReplaysTellAlike}
 use Rattle.cpi_wire.specs.Record.{ask_of}
 use Rattle.cpi_wire.specs.Records.{AnswersAll}
 use Rattle.cpi_wire.specs.Rows.{answer_line}
@@ -112,16 +113,16 @@ own-fit key (k ∷ ks) (a ∷ ans) h = by (is_own key k) (own-fit key ks ans h.1
 abbrev all_told : List Ask → List Answer → List Reply
 all_told [] ans = []
 all_told (k ∷ ks) [] = []
-all_told (k ∷ ks) (a ∷ ans) = replied k a ++ all_told ks ans
+all_told (k ∷ ks) (a ∷ ans) = replies_of_record k a ++ all_told ks ans
 
 abbrev all_asked : List Ask → List Asking
 all_asked [] = []
-all_asked (k ∷ ks) = asked k ++ all_asked ks
+all_asked (k ∷ ks) = requests_of_record k ++ all_asked ks
 
 -- ---- the replies that stand beside the collector's requests are those to the collector's records
 
 module _ (key : ℕ) (t : ℕ) (c : Caller) (more : List Asking) (rest : List Reply) where
-  rows-own : is_bearer key c ≡ true → (rows : List (Option Request)) (rs : List Reply) → Fit rows rs
+  rows-own : is_registration key c ≡ true → (rows : List (Option Request)) (rs : List Reply) → Fit rows rs
       → replies_to key (rows_asked t c rows ++ more) (rows_replied rows rs ++ rest) ≡ rows_replied rows rs
       ++ replies_to key more rest
   rows-own e [] [] h = refl
@@ -130,7 +131,7 @@ module _ (key : ℕ) (t : ℕ) (c : Caller) (more : List Asking) (rest : List Re
   rows-own e (None ∷ rows) (r ∷ rs) h = rows-own e rows rs h.1
   rows-own e (Some q ∷ rows) (r ∷ rs) h = rw e (ap (λ (z : List Reply). r ∷ z) (rows-own e rows rs h))
 
-  rows-not : is_bearer key c ≡ false → (rows : List (Option Request)) (rs : List Reply) → Fit rows rs
+  rows-not : is_registration key c ≡ false → (rows : List (Option Request)) (rs : List Reply) → Fit rows rs
       → replies_to key (rows_asked t c rows ++ more) (rows_replied rows rs ++ rest) ≡ replies_to key more rest
   rows-not e [] [] h = refl
   rows-not e [] (r ∷ rs) h = absurd h
@@ -140,7 +141,8 @@ module _ (key : ℕ) (t : ℕ) (c : Caller) (more : List Asking) (rest : List Re
 
 record-own : (key : ℕ) (k : Ask) (a : Answer) (more : List Asking) (rest : List Reply) → FitsAnswer k a →
     is_own key k ≡ true
-    → replies_to key (asked k ++ more) (replied k a ++ rest) ≡ replied k a ++ replies_to key more rest
+    → replies_to key (requests_of_record k ++ more) (replies_of_record k a ++ rest) ≡ replies_of_record k a ++
+    replies_to key more rest
 record-own key ask.Bad a more rest h e = absurd (true≢false (sym e))
 record-own key (ask.One t c q) (answer.One r) more rest h e = rw e refl
 record-own key (ask.One t c q) (answer.Rows rs) more rest h e = absurd h
@@ -149,7 +151,7 @@ record-own key (ask.Import t c rows) (answer.Rows rs) more rest h e = rows-own k
 
 record-not : (key : ℕ) (k : Ask) (a : Answer) (more : List Asking) (rest : List Reply) → FitsAnswer k a →
     is_own key k ≡ false
-    → replies_to key (asked k ++ more) (replied k a ++ rest) ≡ replies_to key more rest
+    → replies_to key (requests_of_record k ++ more) (replies_of_record k a ++ rest) ≡ replies_to key more rest
 record-not key ask.Bad (answer.One r) more rest h e = refl
 record-not key ask.Bad (answer.Rows rs) more rest h e = absurd h
 record-not key (ask.One t c q) (answer.One r) more rest h e = rw e refl
@@ -166,11 +168,11 @@ told-own key (k ∷ ks) (a ∷ ans) h = by (is_own key k) refl (told-own key ks 
   where
     by : (mine : Bool) → is_own key k ≡ mine → replies_to key (all_asked ks) (all_told ks ans) ≡ all_told
         (own_asks key ks) (own key ks ans)
-        → replies_to key (asked k ++ all_asked ks) (replied k a ++ all_told ks ans)
+        → replies_to key (requests_of_record k ++ all_asked ks) (replies_of_record k a ++ all_told ks ans)
         ≡ all_told (if mine then k ∷ own_asks key ks else own_asks key ks)
         ((if mine then a ∷ [] else []) ++ own key ks ans)
     by true e rest = record-own key k a (all_asked ks) (all_told ks ans) h.0 e
-        ∙ ap (λ (z : List Reply). replied k a ++ z) rest
+        ∙ ap (λ (z : List Reply). replies_of_record k a ++ z) rest
     by false e rest = record-not key k a (all_asked ks) (all_told ks ans) h.0 e ∙ rest
 
 -- ---- what is told has one reading
@@ -193,8 +195,8 @@ rows-same (None ∷ rows) (r ∷ rs) (s ∷ ss) x y f g e =
 rows-same (Some q ∷ rows) (r ∷ rs) (s ∷ ss) x y f g e =
     let rest = rows-same rows rs ss x y f g (tails r s _ _ e) in (ap₂ (λ z zs. z ∷ zs) (heads r s _ _ e) rest.0, rest.1)
 
-record-same : (k : Ask) (a b : Answer) (x y : List Reply) → FitsAnswer k a → FitsAnswer k b → replied k a
-    ++ x ≡ replied k b ++ y → (a ≡ b) × (x ≡ y)
+record-same : (k : Ask) (a b : Answer) (x y : List Reply) → FitsAnswer k a → FitsAnswer k b → replies_of_record k a
+    ++ x ≡ replies_of_record k b ++ y → (a ≡ b) × (x ≡ y)
 record-same ask.Bad (answer.One r) (answer.One s) x y f g e = (ap answer.One (f ∙ sym g), e)
 record-same ask.Bad (answer.One r) (answer.Rows ss) x y f g e = absurd g
 record-same ask.Bad (answer.Rows rs) b x y f g e = absurd f
@@ -219,15 +221,16 @@ told-same (k ∷ ks) (a ∷ ans) (b ∷ bs) f g e =
 
 -- ---- records and their requests
 
-asked-is : (zone : ZoneRule) (rows : List Record) → requests zone rows ≡ all_asked (map (ask_of zone) rows)
+asked-is : (zone : ZoneRule) (rows : List Record) → requests_of_records zone rows ≡ all_asked (map (ask_of zone) rows)
 asked-is zone [] = refl
-asked-is zone (row ∷ rows) = ap (λ (z : List Asking). asked (ask_of zone row) ++ z) (asked-is zone rows)
+asked-is zone (row ∷ rows) = ap (λ (z : List Asking). requests_of_record (ask_of zone row) ++ z) (asked-is zone rows)
 
 told-is : (zone : ZoneRule) (rows : List Record) (ans : List Answer) →
     replies_of zone rows ans ≡ all_told (map (ask_of zone) rows) ans
 told-is zone [] ans = refl
 told-is zone (row ∷ rows) [] = refl
-told-is zone (row ∷ rows) (a ∷ ans) = ap (λ (z : List Reply). replied (ask_of zone row) a ++ z) (told-is zone rows ans)
+told-is zone (row ∷ rows) (a ∷ ans) = ap (λ (z : List Reply). replies_of_record (ask_of zone row) a ++ z)
+    (told-is zone rows ans)
 
 rows-length : (t : ℕ) (c : Caller) (rows : List (Option Request)) (rs : List Reply) → Fit rows rs →
     length (rows_replied rows rs) ≡ length (rows_asked t c rows)
@@ -237,7 +240,7 @@ rows-length t c (row ∷ rows) [] h = absurd h
 rows-length t c (None ∷ rows) (r ∷ rs) h = rows-length t c rows rs h.1
 rows-length t c (Some q ∷ rows) (r ∷ rs) h = let e = rows-length t c rows rs h in omega (arith, e)
 
-record-length : (k : Ask) (a : Answer) → FitsAnswer k a → length (replied k a) ≡ length (asked k)
+record-length : (k : Ask) (a : Answer) → FitsAnswer k a → length (replies_of_record k a) ≡ length (requests_of_record k)
 record-length ask.Bad a h = refl
 record-length (ask.One t c q) (answer.One r) h = refl
 record-length (ask.One t c q) (answer.Rows rs) h = absurd h
@@ -248,8 +251,9 @@ told-length : (ks : List Ask) (ans : List Answer) → AllFit ks ans → length (
 told-length [] [] h = refl
 told-length [] (a ∷ ans) h = absurd h
 told-length (k ∷ ks) [] h = absurd h
-told-length (k ∷ ks) (a ∷ ans) h = length-append (replied k a) (all_told ks ans)
-    ∙ ap₂ (λ m n. m + n) (record-length k a h.0) (told-length ks ans h.1) ∙ sym (length-append (asked k) (all_asked ks))
+told-length (k ∷ ks) (a ∷ ans) h = length-append (replies_of_record k a) (all_told ks ans)
+    ∙ ap₂ (λ m n. m + n) (record-length k a h.0) (told-length ks ans h.1) ∙ sym
+    (length-append (requests_of_record k) (all_asked ks))
 
 -- ---- without other collectors
 
@@ -273,13 +277,13 @@ own-not-others key (ask.Import t Desk rows) e = refl
 
 -- the collector's records stand among those that are left
 own-left : (zone : ZoneRule) (key : ℕ) (rows : List Record) →
-    own_asks key (map (ask_of zone) (without_others zone key rows)) ≡ own_asks key (map (ask_of zone) rows)
+    own_asks key (map (ask_of zone) (records_without zone key rows)) ≡ own_asks key (map (ask_of zone) rows)
 own-left zone key [] = refl
 own-left zone key (row ∷ rows) = by (is_others key (ask_of zone row)) refl (own-left zone key rows)
   where
     by : (b : Bool) → is_others key (ask_of zone row) ≡ b →
-        own_asks key (map (ask_of zone) (without_others zone key rows)) ≡ own_asks key (map (ask_of zone) rows)
-        → own_asks key (map (ask_of zone) (if not b then row ∷ without_others zone key rows else without_others zone
+        own_asks key (map (ask_of zone) (records_without zone key rows)) ≡ own_asks key (map (ask_of zone) rows)
+        → own_asks key (map (ask_of zone) (if not b then row ∷ records_without zone key rows else records_without zone
         key rows)) ≡ own_asks key (ask_of zone row ∷ map (ask_of zone) rows)
     by true e rest = rest ∙ rw (own-not-others key (ask_of zone row) e) refl
     by false e rest = ap (λ (z : List Ask). if is_own key (ask_of zone row) then ask_of zone row ∷ z else z) rest
@@ -300,29 +304,31 @@ rows-gone key t c (None ∷ rows) more e = rows-gone key t c rows more e
 rows-gone key t c (Some q ∷ rows) more e = rw e (rows-gone key t c rows more e)
 
 record-kept : (key : ℕ) (k : Ask) (more : List Asking) → is_others key k ≡ false →
-    requests_without key (asked k ++ more) ≡ asked k ++ requests_without key more
+    requests_without key (requests_of_record k ++ more) ≡ requests_of_record k ++ requests_without key more
 record-kept key ask.Bad more e = refl
 record-kept key (ask.One t c q) more e = rw e refl
 record-kept key (ask.Import t c rows) more e = rows-kept key t c rows more e
 
 record-gone : (key : ℕ) (k : Ask) (more : List Asking) → is_others key k ≡ true →
-    requests_without key (asked k ++ more) ≡ requests_without key more
+    requests_without key (requests_of_record k ++ more) ≡ requests_without key more
 record-gone key ask.Bad more e = refl
 record-gone key (ask.One t c q) more e = rw e refl
 record-gone key (ask.Import t c rows) more e = rows-gone key t c rows more e
 
 left-requests : (zone : ZoneRule) (key : ℕ) (rows : List Record) →
-    requests_without key (requests zone rows) ≡ requests zone (without_others zone key rows)
+    requests_without key (requests_of_records zone rows) ≡ requests_of_records zone (records_without zone key rows)
 left-requests zone key [] = refl
 left-requests zone key (row ∷ rows) = by (is_others key (ask_of zone row)) refl (left-requests zone key rows)
   where
-    by : (b : Bool) → is_others key (ask_of zone row) ≡ b → requests_without key (requests zone rows) ≡ requests zone
-        (without_others zone key rows)
-        → requests_without key (asked (ask_of zone row) ++ requests zone rows) ≡ requests zone
-        (if not b then row ∷ without_others zone key rows else without_others zone key rows)
-    by true e rest = record-gone key (ask_of zone row) (requests zone rows) e ∙ rest
-    by false e rest = record-kept key (ask_of zone row) (requests zone rows) e
-        ∙ ap (λ (z : List Asking). asked (ask_of zone row) ++ z) rest
+    by : (b : Bool) → is_others key (ask_of zone row) ≡ b → requests_without key (requests_of_records zone rows) ≡
+        requests_of_records zone
+        (records_without zone key rows)
+        → requests_without key (requests_of_record (ask_of zone row) ++ requests_of_records zone rows) ≡
+        requests_of_records zone
+        (if not b then row ∷ records_without zone key rows else records_without zone key rows)
+    by true e rest = record-gone key (ask_of zone row) (requests_of_records zone rows) e ∙ rest
+    by false e rest = record-kept key (ask_of zone row) (requests_of_records zone rows) e
+        ∙ ap (λ (z : List Asking). requests_of_record (ask_of zone row) ++ z) rest
 
 -- ---- the law
 
@@ -332,7 +338,7 @@ module _ {B : Type 0} (state : B → State Office) (zone : ZoneRule) (old new : 
   fits : AllFit (map (ask_of zone) rows) ans
   fits = all-fit state zone old new rows ans is.each
 
-  whole : IsWhole (state old) (state new) (requests zone rows) (replies_of zone rows ans)
+  whole : IsWholeRun (state old) (state new) (requests_of_records zone rows) (replies_of zone rows ans)
   whole = record {
     ran = are_a_run state zone old new rows ans is.each;
     clean = is.clean;
@@ -342,7 +348,7 @@ module _ {B : Type 0} (state : B → State Office) (zone : ZoneRule) (old new : 
     served = is.served;
   }
 
-  told-to : (key : ℕ) → replies_to key (requests zone rows) (replies_of zone rows ans) ≡ all_told
+  told-to : (key : ℕ) → replies_to key (requests_of_records zone rows) (replies_of zone rows ans) ≡ all_told
       (own_asks key (map (ask_of zone) rows)) (own key (map (ask_of zone) rows) ans)
   told-to key = ap₂ (replies_to key) (asked-is zone rows) (told-is zone rows ans)
       ∙ told-own key (map (ask_of zone) rows) ans fits
@@ -354,8 +360,8 @@ replays_tell_alike state state' zone key old new old' new' rows others ans bs is
     let yours = map (ask_of zone) others in
     let asks : own_asks key mine ≡ own_asks key yours =
     sym (own-left zone key rows) ∙ ap (λ z. own_asks key (map (ask_of zone) z)) same ∙ own-left zone key others in
-    let left = left-requests zone key rows ∙ ap (requests zone) same ∙ sym (left-requests zone key others) in
-    let alike = runs_tell_alike state state' key (requests zone rows) (requests zone others)
+    let left = left-requests zone key rows ∙ ap (requests_of_records zone) same ∙ sym (left-requests zone key others) in
+    let alike = runs_tell_alike state state' key (requests_of_records zone rows) (requests_of_records zone others)
     (replies_of zone rows ans) (replies_of zone others bs)
     old new old' new' (whole state zone old new rows ans is) (whole state' zone old' new' others bs is') start
     is.none_passes_on is'.none_passes_on left in

@@ -4,7 +4,7 @@ use Rattle.std.specs.List.{list_any}
 use Rattle.cpi_release.specs.State.{State}
 use Rattle.cpi_store.specs.Office.{Office}
 use Rattle.cpi_store.specs.Sound.{IsSound}
-use Rattle.cpi_office.specs.Calls.{ServesWhere, is_failure}
+use Rattle.cpi_office.specs.Calls.{ServesWhere, is_failure_of}
 use Rattle.cpi_office.specs.Runs.{reply_to, after_one}
 use Rattle.cpi_office.specs.declared.caller.Caller.{Caller}
 use Rattle.cpi_office.specs.declared.request.Request.{Request}
@@ -27,7 +27,7 @@ InTurn {B} step old (x ∷ xs) (y ∷ ys) new = (mid : B) × step old x y mid ×
 
 -- one of the replies says that the office is unavailable
 abbrev pub some_fails : List Reply → Bool
-some_fails replies = list_any is_failure replies
+some_fails replies = list_any is_failure_of replies
 
 -- over a book of this state
 module _ {B : Type 0} (state : B → State Office) where

@@ -8,7 +8,7 @@ use Rattle.cpi_office.specs.declared.refusal.Refusal.TheVariants.{PlanFault, Ind
 use Rattle.cpi_office.specs.declared.reply.Reply.TheVariants.{Refused}
 use Rattle.cpi_wire.specs.Line.{data_of}
 use Rattle.cpi_wire.specs.PlanBody.{body_of}
-use Rattle.cpi_wire.specs.Refusals.{numbered, numbered_at}
+use Rattle.cpi_wire.specs.Refusals.{fault_by_number, numbered_at}
 
 abbrev pub line : List ℕ → List ℕ
 line words = words ++ 10 ∷ []
@@ -51,5 +51,5 @@ NoReferences =
 -- ---- faults
 abbrev pub ReferenceFaults : Type 0
 ReferenceFaults =
-    (data_of (Refused (PlanFault plan.Reference)) ≡ numbered 10 44)
+    (data_of (Refused (PlanFault plan.Reference)) ≡ fault_by_number 10 44)
     × (data_of (Refused (Index (index.NoReference packed_rice))) ≡ numbered_at packed_rice 5 49)

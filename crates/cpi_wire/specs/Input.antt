@@ -31,9 +31,9 @@ pub record IsAt {R : Type 0} (rem : R → Option (List ℕ)) (input : Option (Li
   pub reached : IfSome input (λ xs. HasGiven rem xs rows s)
 
 -- the reader gave one record more, or had given all of them
-abbrev pub TakesNext : {R : Type 0} (rem : R → Option (List ℕ)) (old new : Reader R) (row : Record) (found : Bool)
+abbrev pub TakesRecord : {R : Type 0} (rem : R → Option (List ℕ)) (old new : Reader R) (row : Record) (found : Bool)
     → Type 0
-TakesNext rem old new row true =
+TakesRecord rem old new row true =
     (input : Option (List ℕ)) (rows : List Record) → IsAt rem input rows old → IsAt rem input (rows ++ row ∷ []) new
-TakesNext rem old new row false =
+TakesRecord rem old new row false =
     (input : Option (List ℕ)) (rows : List Record) → IsAt rem input rows old → IfSome input (λ xs. rows ≡ records_of xs)

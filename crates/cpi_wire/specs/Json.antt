@@ -6,12 +6,12 @@ use Rattle.serde_json.specs.View.{items_of}
 abbrev pub int : ℕ → Data
 int n = number (unsigned n)
 
-abbrev pub text : List ℕ → Data
-text s = string s
+abbrev pub text_value : List ℕ → Data
+text_value s = string s
 
 abbrev pub list : List Data → Data
 list ds = array (items_of ds)
 
 -- an object of one member
-abbrev pub only : List ℕ → Data → Data
-only key d = object (member key d no_members)
+abbrev pub object_of_one : List ℕ → Data → Data
+object_of_one key d = object (member key d no_members)

@@ -3,7 +3,7 @@ use Rattle.std.specs.Prelude.{ℕ, List, [], ◌∷◌, ◌++◌, Option, Some, 
 use Rattle.cpi_codes.specs.Zone.{ZoneRule}
 use Rattle.cpi_release.specs.State.{State}
 use Rattle.cpi_store.specs.Office.{Office}
-use Rattle.cpi_office.specs.Served.{Ran}
+use Rattle.cpi_office.specs.Served.{RunOverBook}
 use Rattle.cpi_office.specs.declared.caller.Caller.{Caller}
 use Rattle.cpi_office.specs.declared.request.Ask.{Ask as Asking}
 use Rattle.cpi_office.specs.declared.request.Request.{Request}
@@ -29,30 +29,31 @@ rows_replied (None ∷ rows) (reply ∷ replies) = rows_replied rows replies
 rows_replied (Some r ∷ rows) (reply ∷ replies) = reply ∷ rows_replied rows replies
 
 -- the requests of a record
-abbrev pub asked : Ask → List Asking
-asked ask.Bad = []
-asked (ask.One t k r) = record { now = t; caller = k; request = r } ∷ []
-asked (ask.Import t k rows) = rows_asked t k rows
+abbrev pub requests_of_record : Ask → List Asking
+requests_of_record ask.Bad = []
+requests_of_record (ask.One t k r) = record { now = t; caller = k; request = r } ∷ []
+requests_of_record (ask.Import t k rows) = rows_asked t k rows
 
 -- their replies
-abbrev pub replied : Ask → Answer → List Reply
-replied ask.Bad told = []
-replied (ask.One t k r) (answer.One reply) = reply ∷ []
-replied (ask.One t k r) (answer.Rows replies) = []
-replied (ask.Import t k rows) (answer.One reply) = []
-replied (ask.Import t k rows) (answer.Rows replies) = rows_replied rows replies
+abbrev pub replies_of_record : Ask → Answer → List Reply
+replies_of_record ask.Bad told = []
+replies_of_record (ask.One t k r) (answer.One reply) = reply ∷ []
+replies_of_record (ask.One t k r) (answer.Rows replies) = []
+replies_of_record (ask.Import t k rows) (answer.One reply) = []
+replies_of_record (ask.Import t k rows) (answer.Rows replies) = rows_replied rows replies
 
-abbrev pub requests : ZoneRule → List Record → List Asking
-requests zone [] = []
-requests zone (row ∷ rows) = asked (ask_of zone row) ++ requests zone rows
+abbrev pub requests_of_records : ZoneRule → List Record → List Asking
+requests_of_records zone [] = []
+requests_of_records zone (row ∷ rows) = requests_of_record (ask_of zone row) ++ requests_of_records zone rows
 
 abbrev pub replies_of : ZoneRule → List Record → List Answer → List Reply
 replies_of zone [] replies = []
 replies_of zone (row ∷ rows) [] = []
-replies_of zone (row ∷ rows) (reply ∷ replies) = replied (ask_of zone row) reply ++ replies_of zone rows replies
+replies_of zone (row ∷ rows) (reply ∷ replies) = replies_of_record (ask_of zone row) reply ++ replies_of zone
+    rows replies
 
 -- records that were answered in turn are a run of their requests
-abbrev pub AreARun : {B : Type 0} → (B → State Office) → Type 0
-AreARun {B} state = (zone : ZoneRule) (old new : B) (rows : List Record) (replies : List Answer)
+abbrev pub AreRecordsOfARun : {B : Type 0} → (B → State Office) → Type 0
+AreRecordsOfARun {B} state = (zone : ZoneRule) (old new : B) (rows : List Record) (replies : List Answer)
     → AnswersAll zone state old rows replies new →
-    Ran (state old) (state new) (requests zone rows) (replies_of zone rows replies)
+    RunOverBook (state old) (state new) (requests_of_records zone rows) (replies_of zone rows replies)

@@ -3,12 +3,12 @@ use Rattle.std.specs.Prelude.{◌≡◌, ◌≢◌, ⊤, ℕ, Bool, false, not, 
 use Rattle.cpi_codes.specs.Zone.{ZoneRule}
 use Rattle.cpi_release.specs.State.{State}
 use Rattle.cpi_store.specs.Office.{Office}
-use Rattle.cpi_office.specs.Views.{view}
+use Rattle.cpi_office.specs.Projections.{view}
 use Rattle.cpi_office.specs.Runs.{trace}
-use Rattle.cpi_office.specs.Sights.{Sight, seen}
+use Rattle.cpi_office.specs.ProjectedChanges.{Sight, sights_of}
 use Rattle.cpi_office.specs.Served.{all_served, NoneFails}
 use Rattle.cpi_store.specs.Sound.{IsSound}
-use Rattle.cpi_office.specs.Alone.{is_bearer, is_other, NonePassesOn}
+use Rattle.cpi_office.specs.NonInterference.{is_registration, is_other, NonePassesOn}
 use Rattle.cpi_office.specs.declared.caller.Caller.{Caller}
 use Rattle.cpi_office.specs.declared.caller.Caller.TheVariants.{Desk}
 use Rattle.cpi_office.specs.declared.reply.Reply.{Reply}
@@ -18,7 +18,7 @@ use Rattle.cpi_wire.specs.declared.asks.Ask.{Ask}
 use Rattle.cpi_wire.specs.declared.asks.Ask.TheVariants as ask
 use Rattle.cpi_wire.specs.Answers.{Answers}
 use Rattle.cpi_wire.specs.Input.{Record}
-use Rattle.cpi_wire.specs.Laws.{requests, replies_of}
+use Rattle.cpi_wire.specs.Laws.{requests_of_records, replies_of}
 use Rattle.cpi_wire.specs.Record.{ask_of}
 use Rattle.cpi_wire.specs.Records.{AnswersAll}
 use Rattle.cpi_wire.specs.Rows.{answer_line}
@@ -58,8 +58,8 @@ module _ {B : Type 0} (state : B → State Office) where
   abbrev pub seen_before : (zone : ZoneRule) (k : Caller) (start : B) (row : Record) (told : Answer)
       → IsTold zone k start row told → List Sight
   seen_before zone k start row told is =
-      let served = all_served (requests zone is.rows) (replies_of zone is.rows is.replies) in
-      seen k (moment_of (ask_of zone row)) (trace served (state start).held)
+      let served = all_served (requests_of_records zone is.rows) (replies_of zone is.rows is.replies) in
+      sights_of k (moment_of (ask_of zone row)) (trace served (state start).held)
 
 -- Two replays under one zone, over books of any two kinds: where they show a collector, or the public, the same at the
 -- moment of a record, at the start and of what was accepted since, the same record of that caller is told in the same
@@ -77,8 +77,8 @@ LinesAreAlike {B} {C} state state' =
 
 abbrev pub is_own : ℕ → Ask → Bool
 is_own key ask.Bad = false
-is_own key (ask.One t c r) = is_bearer key c
-is_own key (ask.Import t c rows) = is_bearer key c
+is_own key (ask.One t c r) = is_registration key c
+is_own key (ask.Import t c rows) = is_registration key c
 
 -- the record comes from a collector with another key
 abbrev pub is_others : ℕ → Ask → Bool
@@ -86,8 +86,8 @@ is_others key ask.Bad = false
 is_others key (ask.One t c r) = is_other key c
 is_others key (ask.Import t c rows) = is_other key c
 
-abbrev pub without_others : ZoneRule → ℕ → List Record → List Record
-without_others zone key rows = filter (λ row. not (is_others key (ask_of zone row))) rows
+abbrev pub records_without : ZoneRule → ℕ → List Record → List Record
+records_without zone key rows = filter (λ row. not (is_others key (ask_of zone row))) rows
 
 -- what the records that come with the key were answered, in order
 abbrev pub own_answers : ZoneRule → ℕ → List Record → List Answer → List Answer
@@ -106,7 +106,7 @@ module _ {B : Type 0} (state : B → State Office) where
     pub each : AnswersAll zone state old rows answers new
     pub clean : (state new).is_clean
     pub sound : IsSound (state old).held
-    pub none_passes_on : NonePassesOn (requests zone rows)
+    pub none_passes_on : NonePassesOn (requests_of_records zone rows)
     pub served : NoneFails (replies_of zone rows answers)
 
 -- Two replays under one zone without a freeze or a hand-over, over books of any two kinds that hold the same lists:
@@ -116,5 +116,5 @@ ReplaysTellAlike {B} {C} state state' =
     (zone : ZoneRule) (key : ℕ) (old new : B) (old' new' : C)
     (rows others : List Record) (answers answers' : List Answer) →
     IsReplayed state zone old new rows answers → IsReplayed state' zone old' new' others answers' →
-    (state old).held ≡ (state' old').held → without_others zone key rows ≡ without_others zone key others →
+    (state old).held ≡ (state' old').held → records_without zone key rows ≡ records_without zone key others →
     lines_to zone key rows answers ≡ lines_to zone key others answers'

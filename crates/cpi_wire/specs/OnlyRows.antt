@@ -3,10 +3,10 @@ use Rattle.std.specs.Prelude.{List, [], ◌∷◌, Option, Some, None}
 use Rattle.cpi_wire.specs.Arguments.{Text}
 use Rattle.cpi_wire.specs.Input.{Record, records_of}
 
-abbrev pub only : List Record → Option Record
-only [] = None
-only (row ∷ []) = Some row
-only (row ∷ other ∷ rows) = None
+abbrev pub only_record : List Record → Option Record
+only_record [] = None
+only_record (row ∷ []) = Some row
+only_record (row ∷ other ∷ rows) = None
 
-unfoldable pub only_row : Text → Option Record
-only_row text = only (records_of text)
+unfoldable pub only_row_of : Text → Option Record
+only_row_of text = only_record (records_of text)

@@ -9,7 +9,7 @@ use Rattle.cpi_wire.specs.declared.plan_rows.PlanRow.{PlanRow}
 use Rattle.cpi_wire.specs.declared.plan_rows.PlanRow.TheVariants as row
 use Rattle.cpi_wire.specs.Arguments.{Text}
 use Rattle.cpi_wire.specs.Input.{Record, records_of}
-use Rattle.cpi_wire.specs.PlanRows.{plan_row}
+use Rattle.cpi_wire.specs.PlanRows.{spelled_plan_row}
 use Rattle.cpi_codes.specs.Following.{◌>>=◌}
 
 abbrev pub titles_of : List PlanRow → List Title
@@ -19,12 +19,12 @@ titles_of (row.Weight w ∷ rows) = titles_of rows
 titles_of (row.Place p ∷ rows) = titles_of rows
 titles_of (row.Reference m ∷ rows) = titles_of rows
 
-abbrev pub weights_of : List PlanRow → List Weight
-weights_of [] = []
-weights_of (row.Title t ∷ rows) = weights_of rows
-weights_of (row.Weight w ∷ rows) = w ∷ weights_of rows
-weights_of (row.Place p ∷ rows) = weights_of rows
-weights_of (row.Reference m ∷ rows) = weights_of rows
+abbrev pub weights_of_rows : List PlanRow → List Weight
+weights_of_rows [] = []
+weights_of_rows (row.Title t ∷ rows) = weights_of_rows rows
+weights_of_rows (row.Weight w ∷ rows) = w ∷ weights_of_rows rows
+weights_of_rows (row.Place p ∷ rows) = weights_of_rows rows
+weights_of_rows (row.Reference m ∷ rows) = weights_of_rows rows
 
 abbrev pub places_of : List PlanRow → List Place
 places_of [] = []
@@ -45,7 +45,7 @@ references_of (row.Reference m ∷ rows) = m ∷ references_of rows
 abbrev pub told_by : List PlanRow → PlanBody
 told_by rows = record {
   titles = titles_of rows;
-  weights = weights_of rows;
+  weights = weights_of_rows rows;
   places = places_of rows;
   references = references_of rows;
 }
@@ -54,16 +54,16 @@ told_by rows = record {
 abbrev pub plan_rows : List Record → Option (List PlanRow)
 plan_rows [] = Some []
 plan_rows (fields ∷ more) = do
-  first ← plan_row fields
+  first ← spelled_plan_row fields
   rows ← plan_rows more
   Some (first ∷ rows)
 
 -- a record is a row more of the body, or of no form
 abbrev pub AddsRow : PlanBody → PlanBody → Record → Bool → Type 0
 AddsRow old new fields true =
-    (row : PlanRow) × (plan_row fields ≡ Some row)
+    (row : PlanRow) × (spelled_plan_row fields ≡ Some row)
     × ((rows : List PlanRow) → old ≡ told_by rows → new ≡ told_by (rows ++ row ∷ []))
-AddsRow old new fields false = plan_row fields ≡ None
+AddsRow old new fields false = spelled_plan_row fields ≡ None
 
 -- the body of at most 20,000 rows
 unfoldable pub body_of : Text → Option PlanBody

@@ -1,7 +1,7 @@
 -- What is told of a refusal.
 use Rattle.std.specs.Prelude.{ℕ, codes, nat_le, if◌then◌else◌}
 use Rattle.serde_json.specs.Data.{Data, object, no_members, member}
-use Rattle.cpi_codes.specs.CodeText.{text as code_text}
+use Rattle.cpi_codes.specs.CodeText.{code_text}
 use Rattle.cpi_codes.specs.declared.codes.Code.{Code}
 use Rattle.cpi_plan.specs.declared.plan_faults.PlanFault.{PlanFault}
 use Rattle.cpi_plan.specs.declared.plan_faults.PlanFault.TheVariants as plan
@@ -9,49 +9,49 @@ use Rattle.cpi_index.specs.declared.fault.IndexFault.{IndexFault}
 use Rattle.cpi_index.specs.declared.fault.IndexFault.TheVariants as index
 use Rattle.cpi_office.specs.declared.refusal.Refusal.{Refusal}
 use Rattle.cpi_office.specs.declared.refusal.Refusal.TheVariants as refusal
-use Rattle.cpi_office.specs.Refusal.{number_of}
-use Rattle.cpi_wire.specs.Json.{int, text, only}
+use Rattle.cpi_office.specs.Refusal.{refusal_number}
+use Rattle.cpi_wire.specs.Json.{int, text_value, object_of_one}
 
-abbrev pub plan_fault_number : PlanFault → ℕ
-plan_fault_number plan.DuplicateCode = 1
-plan_fault_number plan.NotElementary = 2
-plan_fault_number plan.ZeroWeight = 3
-plan_fault_number (plan.WeightSum found) = 4
-plan_fault_number (plan.TitleMissing code) = 5
-plan_fault_number plan.UnknownItem = 6
-plan_fault_number plan.ItemTwice = 7
-plan_fault_number plan.UnknownAggregate = 8
-plan_fault_number plan.NoMemory = 9
-plan_fault_number plan.Reference = 10
+abbrev pub number_of_plan_fault : PlanFault → ℕ
+number_of_plan_fault plan.DuplicateCode = 1
+number_of_plan_fault plan.NotElementary = 2
+number_of_plan_fault plan.ZeroWeight = 3
+number_of_plan_fault (plan.WeightSum found) = 4
+number_of_plan_fault (plan.TitleMissing code) = 5
+number_of_plan_fault plan.UnknownItem = 6
+number_of_plan_fault plan.ItemTwice = 7
+number_of_plan_fault plan.UnknownAggregate = 8
+number_of_plan_fault plan.NoMemory = 9
+number_of_plan_fault plan.Reference = 10
 
 -- a sum of weights, as far as 64 bits tell it: no record sends more
-abbrev pub told_sum : ℕ → ℕ
-told_sum found = if nat_le found 18446744073709551615 then found else 18446744073709551615
+abbrev pub sum_in_refusal : ℕ → ℕ
+sum_in_refusal found = if nat_le found 18446744073709551615 then found else 18446744073709551615
 
 -- the fault of a refusal by its number
-abbrev pub numbered : ℕ → ℕ → Data
-numbered fault why = object (member (codes "fault") (int fault) (member (codes "refused") (int why) no_members))
+abbrev pub fault_by_number : ℕ → ℕ → Data
+fault_by_number fault why = object (member (codes "fault") (int fault) (member (codes "refused") (int why) no_members))
 
 -- and with the code where it lies
 abbrev pub numbered_at : Code → ℕ → ℕ → Data
 numbered_at code fault why =
-    object (member (codes "code") (text (code_text code))
+    object (member (codes "code") (text_value (code_text code))
     (member (codes "fault") (int fault) (member (codes "refused") (int why) no_members)))
 
 -- a fault of a plan: a wrong sum with that sum, a missing title with its code
 abbrev pub plan_fault_data : PlanFault → Data
 plan_fault_data (plan.WeightSum found) =
     object (member (codes "fault") (int 4)
-    (member (codes "found") (int (told_sum found)) (member (codes "refused") (int 44) no_members)))
+    (member (codes "found") (int (sum_in_refusal found)) (member (codes "refused") (int 44) no_members)))
 plan_fault_data (plan.TitleMissing code) = numbered_at code 5 44
-plan_fault_data fault = numbered (plan_fault_number fault) 44
+plan_fault_data fault = fault_by_number (number_of_plan_fault fault) 44
 
 -- what a month's index lacks, with the code where it lacks it
 abbrev pub index_fault_data : IndexFault → Data
 index_fault_data (index.NoSample code) = numbered_at code 1 49
 index_fault_data (index.NoMatch code) = numbered_at code 2 49
 index_fault_data (index.OutOfRange code) = numbered_at code 3 49
-index_fault_data index.NoMemory = numbered 4 49
+index_fault_data index.NoMemory = fault_by_number 4 49
 index_fault_data (index.NoReference code) = numbered_at code 5 49
 
 -- a refusal is told by its number; a price outside its bounds also with these and the last price, and a fault of a plan
@@ -62,4 +62,4 @@ refusal_data (refusal.OutOfTolerance last low high) =
     (member (codes "low") (int low) (member (codes "refused") (int 26) no_members))))
 refusal_data (refusal.PlanFault fault) = plan_fault_data fault
 refusal_data (refusal.Index fault) = index_fault_data fault
-refusal_data why = only (codes "refused") (int (number_of why))
+refusal_data why = object_of_one (codes "refused") (int (refusal_number why))

@@ -5,12 +5,12 @@ use Rattle.serde_json.specs.Written.{comma_if, compact_text}
 use Rattle.cpi_office.specs.declared.reply.Reply.{Reply}
 use Rattle.cpi_wire.specs.Answer.{Answer}
 use Rattle.cpi_wire.specs.Answer as answer
-use Rattle.cpi_wire.specs.Json.{list, only}
-use Rattle.cpi_wire.specs.Line.{data_of, line_of}
+use Rattle.cpi_wire.specs.Json.{list, object_of_one}
+use Rattle.cpi_wire.specs.Line.{data_of, line_of_reply}
 
 -- the replies to the rows of an import, in one list
 abbrev pub rows_data : List Reply → Data
-rows_data replies = only (codes "rows") (list (map data_of replies))
+rows_data replies = object_of_one (codes "rows") (list (map data_of replies))
 
 -- without spaces
 abbrev pub rows_line : List Reply → List ℕ
@@ -21,5 +21,5 @@ abbrev pub added_text : Bool → Reply → List ℕ
 added_text is_first reply = comma_if (not is_first) ++ compact_text (data_of reply)
 
 abbrev pub answer_line : Answer → List ℕ
-answer_line (answer.One reply) = line_of reply
+answer_line (answer.One reply) = line_of_reply reply
 answer_line (answer.Rows replies) = rows_line replies

@@ -10,8 +10,8 @@ use Rattle.cpi_office.specs.declared.caller.Caller.{Caller}
 use Rattle.cpi_office.specs.declared.request.Request.TheVariants.{Table}
 use Rattle.cpi_wire.specs.Answer.{Answer}
 use Rattle.cpi_wire.specs.Input.{Record}
-use Rattle.cpi_wire.specs.Laws.{requests, replies_of}
-use Rattle.cpi_wire.specs.Line.{line_of}
+use Rattle.cpi_wire.specs.Laws.{requests_of_records, replies_of}
+use Rattle.cpi_wire.specs.Line.{line_of_reply}
 use Rattle.cpi_wire.specs.Lines.{IsTold}
 use Rattle.cpi_wire.specs.Record.{ask_of}
 use Rattle.cpi_wire.specs.Records.{AnswersAll}
@@ -26,11 +26,11 @@ TableLinesAreComputed {B} state =
     (zone : ZoneRule) (k : Caller) (row : Record) (told : Answer) (start : B) (is : IsTold state zone k start row told)
     (now month : ℕ) (form : Form) (revision : Option ℕ) →
     ask_of zone row ≡ ask.One now k (Table month form revision) → IsKnown k (state is.mid).held →
-    answer_line told ≡ line_of (computed_reply now month form revision (state is.mid).held)
+    answer_line told ≡ line_of_reply (computed_reply now month form revision (state is.mid).held)
 
 -- All replies of a replay to requests for tables, the rows of its imports among them, are so.
 abbrev pub ReplaysTellTables : {B : Type 0} → (B → State Office) → Type 0
 ReplaysTellTables {B} state =
     (zone : ZoneRule) (old new : B) (rows : List Record) (answers : List Answer) →
     AnswersAll zone state old rows answers new → (state new).is_clean → IsSound (state old).held →
-    TellTables (state old).held (requests zone rows) (replies_of zone rows answers)
+    TellTables (state old).held (requests_of_records zone rows) (replies_of zone rows answers)

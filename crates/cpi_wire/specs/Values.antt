@@ -1,14 +1,14 @@
 -- The value of one field.
 use Rattle.std.specs.Prelude.{ℕ, if◌then◌else◌, Option, Some, None, bytes_eq, codes}
 use Rattle.std.specs.Result.{result_ok}
-use Rattle.cpi_codes.specs.Number.{number_of}
+use Rattle.cpi_codes.specs.Number.{number_in}
 use Rattle.cpi_codes.specs.Clock.{moment_in}
 use Rattle.cpi_codes.specs.Following.{◌>>=◌}
 use Rattle.cpi_codes.specs.Zone.{ZoneRule}
 use Rattle.cpi_codes.specs.Month.{month_of}
-use Rattle.cpi_codes.specs.Name.{is_name}
-use Rattle.cpi_codes.specs.CodeOf.{code_of}
-use Rattle.cpi_codes.specs.CodeOrder.{is_elementary}
+use Rattle.cpi_codes.specs.Name.{is_text_of_name}
+use Rattle.cpi_codes.specs.CodeOf.{spelled_code}
+use Rattle.cpi_codes.specs.CodeOrder.{is_code_elementary}
 use Rattle.cpi_codes.specs.declared.codes.Code.{Code}
 use Rattle.cpi_release.specs.declared.form.Form.{Form}
 use Rattle.cpi_release.specs.declared.form.Form.TheVariants as form
@@ -19,7 +19,7 @@ use Rattle.cpi_survey.specs.declared.mark.Reason.TheVariants.{Stock, Closed, Gon
 use Rattle.cpi_wire.specs.Arguments.{Text}
 
 abbrev pub moment : Text → Option ℕ
-moment text = number_of 0 9999999999 text
+moment text = number_in 0 9999999999 text
 
 -- a value, or another where there is none
 abbrev pub or_else : {A : Type 0} → Option A → Option A → Option A
@@ -27,61 +27,61 @@ or_else None other = other
 or_else (Some x) other = Some x
 
 -- a moment as a number, or as the civil text that a clock shows then
-abbrev pub time : ZoneRule → Text → Option ℕ
-time zone text = or_else (moment text) (moment_in zone text)
+abbrev pub spelled_time : ZoneRule → Text → Option ℕ
+spelled_time zone text = or_else (moment text) (moment_in zone text)
 
-abbrev pub month : Text → Option ℕ
-month text = result_ok (month_of text)
+abbrev pub spelled_month : Text → Option ℕ
+spelled_month text = result_ok (month_of text)
 
-abbrev pub collector : Text → Option ℕ
-collector text = number_of 1 9999 text
+abbrev pub spelled_collector : Text → Option ℕ
+spelled_collector text = number_in 1 9999 text
 
 abbrev pub slot : Text → Option ℕ
-slot text = number_of 1 400 text
+slot text = number_in 1 400 text
 
-abbrev pub outlet : Text → Option ℕ
-outlet text = number_of 1 999999 text
+abbrev pub spelled_outlet : Text → Option ℕ
+spelled_outlet text = number_in 1 999999 text
 
 abbrev pub year : Text → Option ℕ
-year text = number_of 2000 2199 text
+year text = number_in 2000 2199 text
 
 abbrev pub price : Text → Option ℕ
-price text = number_of 1 100000000 text
+price text = number_in 1 100000000 text
 
 abbrev pub low_tolerance : Text → Option ℕ
-low_tolerance text = number_of 1 1000 text
+low_tolerance text = number_in 1 1000 text
 
 abbrev pub high_tolerance : Text → Option ℕ
-high_tolerance text = number_of 1000 10000 text
+high_tolerance text = number_in 1000 10000 text
 
 -- parts per million
-abbrev pub weight : Text → Option ℕ
-weight text = number_of 0 1000000 text
+abbrev pub spelled_weight : Text → Option ℕ
+spelled_weight text = number_in 0 1000000 text
 
-abbrev pub name : Text → Option Text
-name text = if is_name text then Some text else None
+abbrev pub spelled_name : Text → Option Text
+spelled_name text = if is_text_of_name text then Some text else None
 
 -- the code of an elementary aggregate
-abbrev pub elementary_code : Text → Option Code
-elementary_code text = code_of text >>= λ code. if is_elementary code then Some code else None
+abbrev pub spelled_elementary_code : Text → Option Code
+spelled_elementary_code text = spelled_code text >>= λ code. if is_code_elementary code then Some code else None
 
 -- the form of a printed table
-abbrev pub form_of : Text → Option Form
-form_of text =
+abbrev pub spelled_form : Text → Option Form
+spelled_form text =
     if bytes_eq text (codes "text") then Some form.Text
     else if bytes_eq text (codes "csv") then Some form.Csv
     else None
 
 abbrev pub revision : Text → Option ℕ
-revision text = number_of 1 9 text
+revision text = number_in 1 9 text
 
 -- the edition of a table: that of a revision, or the latest, which has none, where no field names one
 abbrev pub edition : Option Text → Option (Option ℕ)
 edition None = Some None
 edition (Some text) = revision text >>= λ r. Some (Some r)
 
-abbrev pub reason : Text → Option Reason
-reason text =
+abbrev pub spelled_reason : Text → Option Reason
+spelled_reason text =
     if bytes_eq text (codes "stock") then Some Stock
     else if bytes_eq text (codes "closed") then Some Closed
     else if bytes_eq text (codes "gone") then Some Gone
@@ -89,10 +89,10 @@ reason text =
     else None
 
 -- a price, a reason why there is none, or the price of a replacement
-abbrev pub mark_of : Text → Text → Option Mark
-mark_of kind value =
+abbrev pub spelled_mark : Text → Text → Option Mark
+spelled_mark kind value =
     if bytes_eq kind (codes "price") then (price value >>= λ p. Some (Price p))
-    else if bytes_eq kind (codes "missing") then (reason value >>= λ r. Some (Missing r))
+    else if bytes_eq kind (codes "missing") then (spelled_reason value >>= λ r. Some (Missing r))
     else if bytes_eq kind (codes "comparable") then (price value >>= λ p. Some (Comparable p))
     else if bytes_eq kind (codes "other") then (price value >>= λ p. Some (Other p))
     else None

@@ -12,10 +12,12 @@ use Rattle.cpi_office.specs.declared.request.Request.{Request}
 use Rattle.cpi_office.specs.declared.request.Request.TheVariants as request
 use Rattle.cpi_wire.specs.declared.words.Word.{Word}
 use Rattle.cpi_wire.specs.declared.words.Word.TheVariants as word
-use Rattle.cpi_wire.specs.Arguments.{Text, none, one, two, two_or_three, four, four_and_confirm, five, six}
+use Rattle.cpi_wire.specs.Arguments.{Text, none, exactly_one, exactly_two, exactly_two_or_three, exactly_four}
+use Rattle.cpi_wire.specs.Arguments.{exactly_four_and_confirm, exactly_five, exactly_six}
 use Rattle.cpi_wire.specs.PlanBody.{body_of}
-use Rattle.cpi_wire.specs.Values.{time, year, month, collector, slot, outlet, low_tolerance, high_tolerance}
-use Rattle.cpi_wire.specs.Values.{name, mark_of, form_of, edition, elementary_code}
+use Rattle.cpi_wire.specs.Values.{spelled_time, year, spelled_month, spelled_collector, slot, spelled_outlet}
+use Rattle.cpi_wire.specs.Values.{low_tolerance, high_tolerance}
+use Rattle.cpi_wire.specs.Values.{spelled_name, spelled_mark, spelled_form, edition, spelled_elementary_code}
 
 -- a row of the calendar opens before it closes, and is published no earlier
 abbrev pub calendar_row : ℕ → ℕ → ℕ → ℕ → Option CalendarPart
@@ -25,11 +27,11 @@ calendar_row m opens closes publishes =
     else None
 
 -- an assignment whose first month isn't after its last
-abbrev pub in_order : NewAssignment → Option NewAssignment
-in_order a = if nat_lt a.last_month a.first_month then None else Some a
+abbrev pub assignment_in_order : NewAssignment → Option NewAssignment
+assignment_in_order a = if nat_lt a.last_month a.first_month then None else Some a
 
-abbrev pub word_of : Text → Word
-word_of text =
+abbrev pub spelled_word : Text → Word
+spelled_word text =
     if bytes_eq text (codes "quote") then word.Quote
     else if bytes_eq text (codes "quotes") then word.Quotes
     else if bytes_eq text (codes "work") then word.Work
@@ -51,85 +53,85 @@ items_request arguments = none arguments >>= λ _. Some request.Items
 
 abbrev pub quotes_request : List Text → Option Request
 quotes_request arguments = do
-  a ← two arguments
-  first ← month a.0
-  last ← month a.1
+  a ← exactly_two arguments
+  first ← spelled_month a.0
+  last ← spelled_month a.1
   Some (request.Quotes first last)
 
 abbrev pub work_request : List Text → Option Request
 work_request arguments = do
-  a ← one arguments
-  m ← month a
+  a ← exactly_one arguments
+  m ← spelled_month a
   Some (request.Work m)
 
 abbrev pub quote_request : List Text → Option Request
 quote_request arguments = do
-  a ← four_and_confirm arguments
+  a ← exactly_four_and_confirm arguments
   s ← slot a.0
-  m ← month a.1
-  k ← mark_of a.2 a.3
+  m ← spelled_month a.1
+  k ← spelled_mark a.2 a.3
   Some (request.Submit (record { slot = s; month = m; mark = k; confirm = a.4 }))
 
 abbrev pub item_request : List Text → Option Request
 item_request arguments = do
-  a ← five arguments
+  a ← exactly_five arguments
   c ← item_code_of a.0
-  t ← name a.1
-  u ← name a.2
+  t ← spelled_name a.1
+  u ← spelled_name a.2
   l ← low_tolerance a.3
   h ← high_tolerance a.4
   Some (request.PutItem (record { code = c; text = t; unit = u; low = l; high = h }))
 
 abbrev pub outlet_request : List Text → Option Request
 outlet_request arguments = do
-  a ← two arguments
-  o ← outlet a.0
-  n ← name a.1
+  a ← exactly_two arguments
+  o ← spelled_outlet a.0
+  n ← spelled_name a.1
   Some (request.PutOutlet (record { number = o; name = n }))
 
 abbrev pub collector_request : List Text → Option Request
 collector_request arguments = do
-  a ← two arguments
-  c ← collector a.0
+  a ← exactly_two arguments
+  c ← spelled_collector a.0
   k ← key_of a.1
   Some (request.Register (record { number = c; key = k }))
 
 abbrev pub assign_request : List Text → Option Request
 assign_request arguments = do
-  a ← six arguments
-  c ← collector a.0
+  a ← exactly_six arguments
+  c ← spelled_collector a.0
   s ← slot a.1
-  o ← outlet a.2
+  o ← spelled_outlet a.2
   i ← item_code_of a.3
-  first ← month a.4
-  last ← month a.5
-  assignment ← in_order (record { slot = s; outlet = o; item = i; first_month = first; last_month = last })
+  first ← spelled_month a.4
+  last ← spelled_month a.5
+  assignment ← assignment_in_order (record { slot = s; outlet = o; item = i; first_month = first; last_month = last })
   Some (request.Assign c assignment)
 
 -- a collector's slot, the slot of the collector who takes its series over, and the month from which on
 abbrev pub hand_over_request : List Text → Option Request
 hand_over_request arguments = do
-  a ← five arguments
-  c ← collector a.0
+  a ← exactly_five arguments
+  c ← spelled_collector a.0
   s ← slot a.1
-  d ← collector a.2
+  d ← spelled_collector a.2
   n ← slot a.3
-  m ← month a.4
+  m ← spelled_month a.4
   Some (request.HandOver (record { from = c; slot = s; to = d; new_slot = n; month = m }))
 
 abbrev pub calendar_request : ZoneRule → List Text → Option Request
 calendar_request zone arguments = do
-  a ← four arguments
-  m ← month a.0
-  opens ← time zone a.1
-  closes ← time zone a.2
-  publishes ← time zone a.3
+  a ← exactly_four arguments
+  m ← spelled_month a.0
+  opens ← spelled_time zone a.1
+  closes ← spelled_time zone a.2
+  publishes ← spelled_time zone a.3
   row ← calendar_row m opens closes publishes
   Some (request.PutCalendar row)
 
 abbrev pub plan_request : List Text → Option Request
 plan_request arguments = do
-  a ← two arguments
+  a ← exactly_two arguments
   y ← year a.0
   b ← body_of a.1
   Some (request.PutPlan y b)
@@ -140,9 +142,9 @@ tables_request arguments = none arguments >>= λ _. Some request.Tables
 -- a month, a form, and a revision where it isn't the latest that is asked for
 abbrev pub table_request : List Text → Option Request
 table_request arguments = do
-  a ← two_or_three arguments
-  m ← month a.0
-  f ← form_of a.1
+  a ← exactly_two_or_three arguments
+  m ← spelled_month a.0
+  f ← spelled_form a.1
   e ← edition a.2
   Some (request.Table m f e)
 
@@ -150,7 +152,7 @@ table_request arguments = do
 abbrev pub elementary_codes : List Text → Option (List Code)
 elementary_codes [] = Some []
 elementary_codes (text ∷ texts) = do
-  code ← elementary_code text
+  code ← spelled_elementary_code text
   more ← elementary_codes texts
   Some (code ∷ more)
 
@@ -158,24 +160,24 @@ elementary_codes (text ∷ texts) = do
 abbrev pub freeze_request : List Text → Option Request
 freeze_request [] = None
 freeze_request (first ∷ more) = do
-  m ← month first
+  m ← spelled_month first
   carry ← elementary_codes more
   Some (request.Freeze m carry)
 
 -- the request of a word with its arguments, where civil times are those of the clock
-abbrev pub request_of : ZoneRule → Word → List Text → Option Request
-request_of zone word.Items arguments = items_request arguments
-request_of zone word.Quotes arguments = quotes_request arguments
-request_of zone word.Work arguments = work_request arguments
-request_of zone word.Quote arguments = quote_request arguments
-request_of zone word.Item arguments = item_request arguments
-request_of zone word.Outlet arguments = outlet_request arguments
-request_of zone word.Collector arguments = collector_request arguments
-request_of zone word.Assign arguments = assign_request arguments
-request_of zone word.HandOver arguments = hand_over_request arguments
-request_of zone word.Calendar arguments = calendar_request zone arguments
-request_of zone word.Plan arguments = plan_request arguments
-request_of zone word.Tables arguments = tables_request arguments
-request_of zone word.Table arguments = table_request arguments
-request_of zone word.Freeze arguments = freeze_request arguments
-request_of zone word.Unknown arguments = None
+abbrev pub spelled_request : ZoneRule → Word → List Text → Option Request
+spelled_request zone word.Items arguments = items_request arguments
+spelled_request zone word.Quotes arguments = quotes_request arguments
+spelled_request zone word.Work arguments = work_request arguments
+spelled_request zone word.Quote arguments = quote_request arguments
+spelled_request zone word.Item arguments = item_request arguments
+spelled_request zone word.Outlet arguments = outlet_request arguments
+spelled_request zone word.Collector arguments = collector_request arguments
+spelled_request zone word.Assign arguments = assign_request arguments
+spelled_request zone word.HandOver arguments = hand_over_request arguments
+spelled_request zone word.Calendar arguments = calendar_request zone arguments
+spelled_request zone word.Plan arguments = plan_request arguments
+spelled_request zone word.Tables arguments = tables_request arguments
+spelled_request zone word.Table arguments = table_request arguments
+spelled_request zone word.Freeze arguments = freeze_request arguments
+spelled_request zone word.Unknown arguments = None

@@ -1,6 +1,6 @@
 //! Carrying out what a record asks, and the line of what it is answered.
 ghost use Rattle.std.specs.Prelude.{◌≡◌, ◌++◌, List, IfOk, OnOk, OnErr};
-ghost use Rattle.cpi_office.specs.Calls.{is_failure as is_failure_of};
+ghost use Rattle.cpi_office.specs.Calls.{is_failure_of};
 ghost use Rattle.cpi_office.specs.declared.reply.Reply.{Reply};
 ghost use Rattle.cpi_wire.specs.Answers.{Begins, FirstRowsAnswer, RowAnswers, RowsAnswer, Tells, some_fails};
 ghost use Rattle.cpi_wire.specs.Rows.{added_text, rows_line};

@@ -1,9 +1,9 @@
 //! So many arguments, and no more.
 ghost use Rattle.std.specs.Prelude.{◌≡◌, map, option_map};
-ghost use Rattle.cpi_wire.specs.Arguments.{none, one as exactly_one, two as exactly_two};
-ghost use Rattle.cpi_wire.specs.Arguments.{two_or_three as exactly_two_or_three, four as exactly_four};
-ghost use Rattle.cpi_wire.specs.Arguments.{four_and_confirm as exactly_four_and_confirm, is_confirm};
-ghost use Rattle.cpi_wire.specs.Arguments.{five as exactly_five, six as exactly_six};
+ghost use Rattle.cpi_wire.specs.Arguments.{none, exactly_one, exactly_two};
+ghost use Rattle.cpi_wire.specs.Arguments.{exactly_two_or_three, exactly_four};
+ghost use Rattle.cpi_wire.specs.Arguments.{exactly_four_and_confirm, is_confirm};
+ghost use Rattle.cpi_wire.specs.Arguments.{exactly_five, exactly_six};
 
 pub(crate) fn no_more(arguments: &[&[u8]]) -> Option<()>
     ensures { result ≡ none (map (λ a. a.now) arguments.now) }

@@ -1,7 +1,7 @@
 //! The rows of an import's body.
 ghost use Rattle.std.specs.Prelude.{◌≡◌, map, IfOk};
 ghost use Rattle.csv.specs.Records.{fields_of};
-ghost use Rattle.cpi_wire.specs.Import.{row_request as row_asks, rows_of};
+ghost use Rattle.cpi_wire.specs.Import.{row_asks, rows_of_body};
 
 use crate::fields::field_list;
 use crate::input::{next_row, record_reader};
@@ -46,7 +46,7 @@ pub fn import_rows(
     zone: &Zone,
     body: &[u8],
 ) -> Result<Option<ImportRows>, AllocError>
-    ensures { IfOk result (λ rows. rows ≡ rows_of zone.now body.now) }
+    ensures { IfOk result (λ rows. rows ≡ rows_of_body zone.now body.now) }
 {
     let mut reader = record_reader(alloc, body);
     let mut row = ByteRecord::new(alloc);

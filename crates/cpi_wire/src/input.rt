@@ -1,7 +1,7 @@
 //! The records of an input, one after the other.
 ghost use Rattle.std.specs.Prelude.{◌≡◌, ◌≢◌, [], IfOk, IfErr};
 ghost use Rattle.csv.specs.Records.{fields_of};
-ghost use Rattle.cpi_wire.specs.Input.{IsAt, TakesNext};
+ghost use Rattle.cpi_wire.specs.Input.{IsAt, TakesRecord};
 
 use crate::fault::WireFault;
 use csv::{ByteRecord, Error, ErrorKind, Reader, ReaderBuilder};
@@ -33,7 +33,7 @@ pub(crate) fn next_record<R: Read>(
     reader: &mut Reader<R>,
     row: &mut ByteRecord,
 ) -> Result<bool, WireFault>
-    ensures ok { IfOk result (λ found. TakesNext R.remaining reader.old reader.new (fields_of row.new) found) }
+    ensures ok { IfOk result (λ found. TakesRecord R.remaining reader.old reader.new (fields_of row.new) found) }
     ensures err { IfErr result (λ e. e ≢ WireFault.Write) }
 {
     match reader.read_byte_record(row) {
@@ -47,7 +47,7 @@ pub(crate) fn next_row<R: Read>(
     reader: &mut Reader<R>,
     row: &mut ByteRecord,
 ) -> Result<bool, AllocError>
-    ensures { IfOk result (λ found. TakesNext R.remaining reader.old reader.new (fields_of row.new) found) }
+    ensures { IfOk result (λ found. TakesRecord R.remaining reader.old reader.new (fields_of row.new) found) }
 {
     match next_record(reader, row) {
         Ok(found) => Ok(found),

@@ -1,5 +1,5 @@
 //! What holds of the definitions.
-ghost use Rattle.cpi_wire.specs.Laws.{AreARun};
+ghost use Rattle.cpi_wire.specs.Laws.{AreRecordsOfARun};
 ghost use Rattle.cpi_wire.specs.Lines.{LinesAreAlike, ReplaysTellAlike};
 ghost use Rattle.cpi_wire.specs.TableLines.{TableLinesAreComputed, ReplaysTellTables};
 
@@ -8,7 +8,7 @@ use cpi_store::Book;
 /// Records that were answered in turn are a run of the requests in them: the records of no form are left out, and
 /// what they were told.
 pub fn records_are_a_run<B: Book>()
-    ensures { AreARun B.state }
+    ensures { AreRecordsOfARun B.state }
 {}
 
 /// What a collector, or the public, is told of a record is the same bytes in two replays under one zone, over books of

@@ -4,8 +4,8 @@ ghost use Rattle.std.specs.Option.{option_copied};
 ghost use Rattle.std.specs.String.{string_bytes};
 ghost use Rattle.serde_json.specs.View.{view};
 ghost use Rattle.serde_json.specs.Written.{compact_text};
-ghost use Rattle.cpi_wire.specs.Line.{data_of, line_of, reason_name, mark_name as name_of_mark};
-ghost use Rattle.cpi_wire.specs.Line.{mark_value as value_of_mark, quote_data, item_data, item_text};
+ghost use Rattle.cpi_wire.specs.Line.{data_of, line_of_reply, reason_name, name_of_mark};
+ghost use Rattle.cpi_wire.specs.Line.{value_of_mark, quote_data, item_data, item_text};
 ghost use Rattle.cpi_wire.specs.Line.{price_data, mark_data, receipt_data, outlet_fields, item_fields};
 ghost use Rattle.cpi_wire.specs.Line.{price_fields, work_row_data, quotes_data, items_data, work_data};
 ghost use Rattle.cpi_wire.specs.Line.{frozen_month_data, tables_data, table_data};
@@ -229,7 +229,7 @@ pub(crate) fn reply_text(alloc: Global, reply: &Reply) -> Result<Vec<u8>, AllocE
 
 /// The line of a reply: one JSON text without spaces, its keys in byte order, and a line feed.
 pub fn reply_line(alloc: Global, reply: &Reply) -> Result<Vec<u8>, AllocError>
-    ensures { IfOk result (λ line. line.items ≡ line_of reply.now) }
+    ensures { IfOk result (λ line. line.items ≡ line_of_reply reply.now) }
 {
     let mut line = reply_text(alloc, reply)?;
     line.push(b'\n')?;

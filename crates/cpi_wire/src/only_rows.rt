@@ -1,7 +1,7 @@
 //! The row of a text that has one row.
 ghost use Rattle.std.specs.Prelude.{◌≡◌, IfOk, option_map};
 ghost use Rattle.csv.specs.Records.{fields_of};
-ghost use Rattle.cpi_wire.specs.OnlyRows.{only_row as only_row_of};
+ghost use Rattle.cpi_wire.specs.OnlyRows.{only_row_of};
 
 use crate::input::{next_row, record_reader};
 use csv::ByteRecord;

@@ -1,8 +1,8 @@
 //! The rows of a plan's body.
 ghost use Rattle.std.specs.Prelude.{◌≡◌, map, IfOk};
-ghost use Rattle.cpi_wire.specs.PlanRows.{title_row, weight_row, place_row, reference_row};
-ghost use Rattle.cpi_wire.specs.PlanRows.{month_row as spelled_month_row, code_row as spelled_code_row};
-ghost use Rattle.cpi_wire.specs.PlanRows.{plan_row as spelled_row};
+ghost use Rattle.cpi_wire.specs.PlanRows.{title_row, weight_row, place_row, spelled_reference_row};
+ghost use Rattle.cpi_wire.specs.PlanRows.{spelled_month_row, spelled_code_row};
+ghost use Rattle.cpi_wire.specs.PlanRows.{spelled_plan_row};
 
 use crate::arguments::two_or_three;
 use crate::values::{code_of, month_of, name_of, weight_of};
@@ -48,7 +48,7 @@ fn place_of(item: &[u8], code: &[u8]) -> Option<PlanRow>
 }
 
 fn reference_of(month: &[u8]) -> Option<PlanRow>
-    ensures { result ≡ reference_row month.now }
+    ensures { result ≡ spelled_reference_row month.now }
 {
     let month = month_of(month)?;
     Some(PlanRow::Reference(month))
@@ -88,7 +88,7 @@ fn code_row(
 /// The row that the fields write: `T`, a code and its title; `W`, a code and its weight up to 1,000,000; `I`, an item
 /// and the code where it is placed; or `R` and a month that the weights refer to. None where they are of no such form.
 pub(crate) fn plan_row(alloc: Global, fields: &[&[u8]]) -> Result<Option<PlanRow>, AllocError>
-    ensures { IfOk result (λ row. row ≡ spelled_row (map (λ f. f.now) fields.now)) }
+    ensures { IfOk result (λ row. row ≡ spelled_plan_row (map (λ f. f.now) fields.now)) }
 {
     match two_or_three(fields) {
         Some((letter, first, Some(second))) => code_row(alloc, letter, first, second),

@@ -1,7 +1,7 @@
 //! From the fields of a record to what it asks.
 ghost use Rattle.std.specs.Prelude.{◌≡◌, map, IfOk};
-ghost use Rattle.cpi_wire.specs.Record.{caller_of as spelled_caller, import_of as spelled_import};
-ghost use Rattle.cpi_wire.specs.Record.{asks as spelled_asks, parts as spelled_parts, ask_of};
+ghost use Rattle.cpi_wire.specs.Record.{spelled_caller, spelled_import};
+ghost use Rattle.cpi_wire.specs.Record.{spelled_asks, spelled_parts, ask_of};
 
 use crate::arguments::one;
 use crate::asks::Ask;

@@ -1,7 +1,7 @@
 //! What is told of a refusal.
 ghost use Rattle.std.specs.Prelude.{◌≡◌, IfOk};
 ghost use Rattle.serde_json.specs.View.{view};
-ghost use Rattle.cpi_wire.specs.Refusals.{plan_fault_number as number_of_plan_fault, told_sum as sum_told};
+ghost use Rattle.cpi_wire.specs.Refusals.{number_of_plan_fault, sum_in_refusal};
 ghost use Rattle.cpi_wire.specs.Refusals.{numbered_at, plan_fault_data, index_fault_data, refusal_data};
 
 use cpi_codes::Code;
@@ -31,7 +31,7 @@ fn plan_fault_number(fault: PlanFault) -> u8
 
 // A sum of weights, as far as 64 bits tell it.
 fn told_sum(found: u128) -> u64
-    ensures { result ≡ sum_told found }
+    ensures { result ≡ sum_in_refusal found }
 {
     if found <= u128::from(u64::MAX) {
         found as u64

@@ -1,10 +1,10 @@
 //! The value of one field.
 ghost use Rattle.std.specs.Prelude.{◌≡◌, IfOk};
-ghost use Rattle.cpi_codes.specs.CodeOf.{code_of as spelled_code};
-ghost use Rattle.cpi_wire.specs.Values.{time as spelled_time, month as spelled_month, name as spelled_name};
-ghost use Rattle.cpi_wire.specs.Values.{weight as spelled_weight, mark_of as spelled_mark};
-ghost use Rattle.cpi_wire.specs.Values.{reason as spelled_reason, elementary_code as spelled_elementary_code};
-ghost use Rattle.cpi_wire.specs.Values.{form_of as spelled_form};
+ghost use Rattle.cpi_codes.specs.CodeOf.{spelled_code};
+ghost use Rattle.cpi_wire.specs.Values.{spelled_time, spelled_month, spelled_name};
+ghost use Rattle.cpi_wire.specs.Values.{spelled_weight, spelled_mark};
+ghost use Rattle.cpi_wire.specs.Values.{spelled_reason, spelled_elementary_code};
+ghost use Rattle.cpi_wire.specs.Values.{spelled_form};
 
 use cpi_codes::{Code, Moment, Month, Name, NameFault, Price, Zone, moment_at, number_of};
 use cpi_release::Form;

@@ -1,11 +1,11 @@
 //! The words of requests, each with its arguments.
 ghost use Rattle.std.specs.Prelude.{◌≡◌, map, IfOk};
-ghost use Rattle.cpi_wire.specs.Words.{word_of as spelled_word, items_request, work_request, quotes_request};
+ghost use Rattle.cpi_wire.specs.Words.{spelled_word, items_request, work_request, quotes_request};
 ghost use Rattle.cpi_wire.specs.Words.{quote_request, item_request, outlet_request, collector_request};
 ghost use Rattle.cpi_wire.specs.Words.{assign_request, hand_over_request, calendar_request};
 ghost use Rattle.cpi_wire.specs.Words.{plan_request, tables_request};
 ghost use Rattle.cpi_wire.specs.Words.{table_request, elementary_codes, freeze_request};
-ghost use Rattle.cpi_wire.specs.Words.{request_of as spelled_request};
+ghost use Rattle.cpi_wire.specs.Words.{spelled_request};
 
 use crate::arguments::{five, four, four_and_confirm, no_more, one, six, two, two_or_three};
 use crate::plan_body::plan_body;
@@ -15,7 +15,7 @@ use cpi_office::{Edition, HandOver, NewAssignment, Request};
 use cpi_plan::{CalendarRow, HighTolerance, Item, LowTolerance};
 use cpi_release::Revision;
 use cpi_rows::Rows;
-use cpi_store::{Bearer, Outlet};
+use cpi_store::{Outlet, Registration};
 use cpi_survey::Entry;
 use std::alloc::{AllocError, Global};
 
@@ -120,7 +120,7 @@ fn collector_of(arguments: &[&[u8]]) -> Option<Request>
     let (number, key) = two(arguments)?;
     let number = CollectorId::parse(number)?;
     let key = Key::parse(key)?;
-    Some(Request::Register(Bearer { number, key }))
+    Some(Request::Register(Registration { number, key }))
 }
 
 fn calendar_of(zone: &Zone, arguments: &[&[u8]]) -> Option<Request>

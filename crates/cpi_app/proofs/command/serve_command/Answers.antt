@@ -5,7 +5,8 @@ use Rattle.cpi_app.proofs.command.serve_command.Goals as goal
 
 pub returns-clause-app : goal.returns-clause-app
 returns-clause-app c =
-    let one = c.in_ok-arg.ensures.shape (search rules) ∙ ap₂ with_rule c.subcommand.ensures.app c.required.ensures.rule in
+    let one = c.in_ok-arg.ensures.shape (search rules) ∙ ap₂ with_rule c.subcommand.ensures.app
+    c.required.ensures.rule in
     let two = c.in_ok-arg-2.ensures.shape (search rules) ∙ ap₂ with_rule one c.number.ensures.rule in
     let three = c.in_ok-arg-3.ensures.shape c.in_ok-either.ensures.local
     ∙ ap₂ with_rule two c.in_ok-either.ensures.rule in

@@ -1,10 +1,10 @@
 use Rattle.std.proofs.Common.{arith}
-use Rattle.cpi_codes.specs.Key.{is_key_digit}
+use Rattle.cpi_codes.specs.Key.{is_digit_of_key}
 use Rattle.cpi_codes.proofs.Digits.{passes-at, key-more, power-more, power-le}
 use Rattle.cpi_codes.proofs.keys.value_of.Goals as goal
 
 pub digit_of-requires : goal.digit_of-requires
-digit_of-requires c = passes-at is_key_digit c.args.digits.now c.loop-digit.digit-index c.loop-digit-test.true
+digit_of-requires c = passes-at is_digit_of_key c.args.digits.now c.loop-digit.digit-index c.loop-digit-test.true
     c.requires.digits
 
 pub overflow_mul-value : goal.overflow_mul-value

@@ -1,8 +1,8 @@
 use Rattle.std.proofs.Common.{◌≡◌, ◌+◌, ◌≤◌, take, false, sym, ap, ◌∙◌, cond, arith}
 use Rattle.std.proofs.lemmas.List.{take_all}
-use Rattle.cpi_codes.specs.CodeText.{is_at_or_below}
+use Rattle.cpi_codes.specs.CodeText.{is_code_at_or_below}
 use Rattle.cpi_codes.specs.declared.codes.Code.{Code}
-use Rattle.cpi_plan.specs.Plan.{has_zero}
+use Rattle.cpi_plan.specs.Plan.{has_zero_weight}
 use Rattle.cpi_plan.specs.Sums.{sum_at, weight_under}
 use Rattle.cpi_plan.proofs.UnderLemmas.{weighs, weight_more, amount_fits}
 use Rattle.cpi_index.proofs.WeightLemmas.{positive_more}
@@ -19,19 +19,19 @@ loop-weight-preserved c =
     let old = c.loop-weight.sums in
     let new = c.add_path.new.sums in
     let amount : c.from.result ≡ w.parts = cc in
-    let step : (q : Code) → sum_at new q ≡ sum_at old q + cond (is_at_or_below q w.code) w.parts 0 = λ q.
+    let step : (q : Code) → sum_at new q ≡ sum_at old q + cond (is_code_at_or_below q w.code) w.parts 0 = λ q.
     c.in_ok-add_path.ensures q
-    ∙ ap (λ z. sum_at old q + cond (is_at_or_below q z) c.from.result 0) c.code.ensures
-    ∙ ap (λ m. sum_at old q + cond (is_at_or_below q w.code) m 0) amount in
+    ∙ ap (λ z. sum_at old q + cond (is_code_at_or_below q z) c.from.result 0) c.code.ensures
+    ∙ ap (λ m. sum_at old q + cond (is_code_at_or_below q w.code) m 0) amount in
     let least : 1 ≤ w.parts = omega (arith, c.parts.ensures.value, c.parts.ensures.range.0) in
     let most : w.parts ≤ 1000000000 = omega (arith, c.parts.ensures.value, c.parts.ensures.range.1) in
     record {
       so_far = λ q.
           step q
-          ∙ ap (λ m. m + cond (is_at_or_below q w.code) w.parts 0) (inv.so_far q)
+          ∙ ap (λ m. m + cond (is_code_at_or_below q w.code) w.parts 0) (inv.so_far q)
           ∙ sym (weight_more q ws i w h is);
       positive = positive_more ws i w h is least inv.positive;
-      most = λ q. omega (arith, step q, amount_fits (is_at_or_below q w.code) w.parts 1000000000 most, inv.most q);
+      most = λ q. omega (arith, step q, amount_fits (is_code_at_or_below q w.code) w.parts 1000000000 most, inv.most q);
     }
 
 pub returns-clause-least : goal.returns-clause-least
@@ -39,5 +39,5 @@ returns-clause-least c = λ q node.
     let ws = c.args.weights.now in
     let all : take c.loop-weight.weight-index ws ≡ ws =
     take_all c.loop-weight.weight-index ws c.loop-weight-test.false in
-    let positive : has_zero ws ≡ false = sym (ap has_zero all) ∙ c.loop-weight.invariant.positive in
+    let positive : has_zero_weight ws ≡ false = sym (ap has_zero_weight all) ∙ c.loop-weight.invariant.positive in
     omega (arith, c.loop-weight.invariant.so_far q, ap (weight_under q) all, (weighs q ws positive).1 node)

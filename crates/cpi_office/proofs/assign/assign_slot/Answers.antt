@@ -1,11 +1,11 @@
 use Rattle.std.proofs.Common.{rules, sym, ap, ◌∙◌}
-use Rattle.cpi_rows.specs.Keyed.{at}
+use Rattle.cpi_rows.specs.Keyed.{row_by_number}
 use Rattle.cpi_rows.specs.Held.{held_by}
 use Rattle.cpi_store.specs.Office.{Office}
-use Rattle.cpi_store.specs.declared.bearer.Bearer.{Bearer}
+use Rattle.cpi_store.specs.declared.registration.Registration.{Registration}
 use Rattle.cpi_store.specs.declared.given.Given.{Given}
 use Rattle.cpi_office.specs.Assigning.{slot_given}
-use Rattle.cpi_office.specs.Named.{again_reply, is_first}
+use Rattle.cpi_office.specs.Named.{again_reply, is_first_series}
 use Rattle.cpi_office.specs.Verdicts.{verdict_reply, with_verdict}
 use Rattle.cpi_office.specs.declared.reply.Reply.{Reply}
 use Rattle.cpi_office.proofs.Calls.{serves_after}
@@ -34,9 +34,9 @@ returns-in-Ok-Same-default g c =
     let a = c.args.assignment in
     let o = old.held in
     let reads = c.in-Ok-Same-default.ensures in
-    let said : Office → Reply = λ u. again_reply (is_first n a.slot
-    (at (λ (g : Given). g.assignment.slot) a.slot (held_by n u.assignments)))
-    (at (λ (b : Bearer). b.number) n u.collectors) in
+    let said : Office → Reply = λ u. again_reply (is_first_series n a.slot
+    (row_by_number (λ (g : Given). g.assignment.slot) a.slot (held_by n u.assignments)))
+    (row_by_number (λ (b : Registration). b.number) n u.collectors) in
     serves_after old mid new c.assign_again.result (said mid.held) (verdict_reply (slot_given n a o)) mid.held
     (with_verdict (slot_given n a o) o)
     reads reads.stays c.assign_again.ensures

@@ -1,6 +1,6 @@
 use Rattle.std.proofs.Common.{sym, ap, ◌∙◌}
 use Rattle.std.proofs.lemmas.Bool.{false≢true}
-use Rattle.cpi_office.specs.Turned.{is_turned_away}
+use Rattle.cpi_office.specs.Authorization.{is_turned_away}
 use Rattle.cpi_office.proofs.Failures.{plan_judges, frozen_judges, handed_judges}
 use Rattle.cpi_office.specs.Assigning.{assigned_in}
 use Rattle.cpi_office.specs.Replacing.{planned_in, scheduled_in, body_judged}

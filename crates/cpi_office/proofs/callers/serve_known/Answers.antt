@@ -1,11 +1,11 @@
 use Rattle.std.proofs.Common.{Some, refl, sym, ◌∙◌}
-use Rattle.cpi_survey.specs.Decision.{decided}
+use Rattle.cpi_survey.specs.Decision.{entry_decision}
 use Rattle.cpi_store.specs.Office.{public_part, own_part}
-use Rattle.cpi_office.specs.Known.{collector_view}
+use Rattle.cpi_office.specs.Authentication.{collector_view}
 use Rattle.cpi_office.specs.declared.request.Request.TheVariants as request
 use Rattle.cpi_office.proofs.Failures.{decision_own, work_own, table_own}
 use Rattle.cpi_release.specs.PublishedTables.{asked_table}
-use Rattle.cpi_office.proofs.Turned.{told_itself, turned_is}
+use Rattle.cpi_office.proofs.Authorization.{told_itself, turned_is}
 use Rattle.cpi_office.proofs.callers.serve_known.Goals.{in-Items, in-Tables, in-Table, in-Submit, in-Work, in-Quotes}
 use Rattle.cpi_office.proofs.callers.serve_known.Goals.{in_default}
 use Rattle.cpi_office.proofs.callers.serve_known.Goals as goal
@@ -13,8 +13,8 @@ use Rattle.cpi_office.proofs.callers.serve_known.Goals as goal
 pub returns-clause-turns : goal.returns-clause-turns
 returns-clause-turns g c = λ turned.
     let o = (g.B.Book.state c.args.book.now).held in
-    let v = collector_view c.args.now o (Some c.args.bearer) in
-    let own = own_part c.args.bearer.number o in
+    let v = collector_view c.args.now o (Some c.args.registration) in
+    let own = own_part c.args.registration.number o in
     let now = c.args.now in
     let r = c.args.request in
     elim c.match-request.branch [
@@ -24,7 +24,7 @@ returns-clause-turns g c = λ turned.
           w.in-Table.is (table_own w.in-Table.form w.in-Table.month
           (asked_table w.in-Table.month w.in-Table.edition v.tables)).1 turned
       | in-Submit w ↦ told_itself now r (request.Submit w.in-Submit.entry) v own w.in-Submit.is
-          (decision_own (decided now w.in-Submit.entry (public_part o) own)).1 turned
+          (decision_own (entry_decision now w.in-Submit.entry (public_part o) own)).1 turned
       | in-Work w ↦ told_itself now r (request.Work w.in-Work.month) v own w.in-Work.is
           (work_own w.in-Work.month (public_part o) own).1 turned
       | in-Quotes w ↦ told_itself now r (request.Quotes w.in-Quotes.first w.in-Quotes.last) v own w.in-Quotes.is refl

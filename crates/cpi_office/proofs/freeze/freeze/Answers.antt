@@ -1,7 +1,8 @@
 use Rattle.std.proofs.Common.{◌≡◌, Ok, Err, inl, sym, ap, ◌∙◌, subst}
-use Rattle.cpi_release.specs.FrozenMonths.{frozen_months, is_next}
+use Rattle.cpi_release.specs.FrozenMonths.{frozen_months, is_next_month}
 use Rattle.cpi_store.specs.Sound.{IsSound}
-use Rattle.cpi_office.specs.Freezing.{frozen, freeze_judged_in, freeze_verdict, judged_release, release_verdict}
+use Rattle.cpi_office.specs.Freezing.{verdict_of_freeze, freeze_judged_in, freeze_verdict, judged_release}
+use Rattle.cpi_office.specs.Freezing.{release_verdict}
 use Rattle.cpi_office.specs.Verdicts.{verdict_reply, with_verdict}
 use Rattle.cpi_office.proofs.Calls.{refused_where, serves_where_after}
 use Rattle.cpi_office.proofs.Judged.{judged_few, judged_month, judged_follows}
@@ -15,7 +16,7 @@ release-requires g c = record {
       let judged = sym (reads.shown clean) ∙ c.in-Ok-Ok.field-0-is in
       let same = judged_month c.args.now c.args.month c.as_slice.result.now o.releases o.calendar o.plans
       c.in-Ok-Ok.row judged in
-      rw (reads.keeps.kept clean) (ap (λ k. is_next k (frozen_months o.releases)) same
+      rw (reads.keeps.kept clean) (ap (λ k. is_next_month k (frozen_months o.releases)) same
       ∙ judged_follows c.args.now c.args.month c.as_slice.result.now o.releases o.calendar o.plans c.in-Ok-Ok.row
       judged);
   few = λ clean.
@@ -34,7 +35,7 @@ returns-in-Ok-Err g c =
     let refusal = c.in-Ok-Err.refusal in
     let reads = c.in-Ok-Err.ensures in
     let listed : c.as_slice.result.now ≡ carry = c.as_slice.ensures in
-    refused_where (IsSound o) old (g.B.Book.state c.judge.new.book) refusal (frozen now c.args.month carry o)
+    refused_where (IsSound o) old (g.B.Book.state c.judge.new.book) refusal (verdict_of_freeze now c.args.month carry o)
     reads.keeps (λ _. reads.stays) reads.count (λ clean _.
     let judged : freeze_judged_in now c.args.month carry o ≡ Err refusal =
     ap (λ codes. freeze_judged_in now c.args.month codes o) (sym listed) ∙ sym (reads.shown clean)
@@ -54,16 +55,16 @@ returns-in-Ok-Ok g c =
     let listed : c.as_slice.result.now ≡ carry = c.as_slice.ensures in
     serves_where_after (IsSound o) (IsSound mid.held) old mid new c.release.result
     (verdict_reply (release_verdict (judged_release now carry mid.held row)))
-    (verdict_reply (frozen now c.args.month carry o))
+    (verdict_reply (verdict_of_freeze now c.args.month carry o))
     (with_verdict (release_verdict (judged_release now carry mid.held row)) mid.held)
-    (with_verdict (frozen now c.args.month carry o) o)
+    (with_verdict (verdict_of_freeze now c.args.month carry o) o)
     reads reads.stays c.release.ensures
     (λ clean.
     let kept = reads.keeps.kept clean in
     let judged : freeze_judged_in now c.args.month carry o ≡ Ok row =
     ap (λ codes. freeze_judged_in now c.args.month codes o) (sym listed) ∙ sym (reads.shown clean)
     ∙ c.in-Ok-Ok.field-0-is in
-    let verdict : release_verdict (judged_release now carry o row) ≡ frozen now c.args.month carry o =
+    let verdict : release_verdict (judged_release now carry o row) ≡ verdict_of_freeze now c.args.month carry o =
     ap (freeze_verdict (judged_release now carry o)) (sym judged) in (
       λ sound. subst IsSound (sym kept) sound,
       ap (λ u. verdict_reply (release_verdict (judged_release now carry u row))) kept ∙ ap verdict_reply verdict,

@@ -1,14 +1,14 @@
 use Rattle.std.proofs.Common.{◌≡◌, ◌≤◌, IfOk, Option, sym, true, ap, ◌∙◌, subst, arith}
 use Rattle.std.proofs.lemmas.Result.{IfErr-weaker}
 use Rattle.std.specs.Option.{option_copied}
-use Rattle.cpi_index.specs.Series.{is_by_series, frozen_serial}
+use Rattle.cpi_index.specs.Series.{are_by_series, frozen_serial}
 use Rattle.cpi_plan.specs.Plan.{Plan}
-use Rattle.cpi_release.specs.KeptSamples.{IsFit}
-use Rattle.cpi_release.specs.FrozenMonths.{frozen_months, next_revision, plan_for}
+use Rattle.cpi_release.specs.CachedSamples.{IsFit}
+use Rattle.cpi_release.specs.FrozenMonths.{frozen_months, revision_to_give, plan_for}
 use Rattle.cpi_release.specs.declared.release.Release.{Release}
 use Rattle.cpi_release.specs.GroupCalls.{Sources}
-use Rattle.cpi_release.specs.Releasing.{Freeze, fault_of, released}
-use Rattle.cpi_store.specs.Office.{Office, month_rows}
+use Rattle.cpi_release.specs.Releasing.{Freeze, fault_of, release_of_month}
+use Rattle.cpi_store.specs.Office.{Office, quotes_of_month}
 use Rattle.cpi_store.specs.Sources.{office_sources}
 use Rattle.cpi_store.proofs.History.{quotes_by_series, sources_fit}
 use Rattle.cpi_release.proofs.PassLemmas.{keeps_more, stays_more}
@@ -36,10 +36,10 @@ returns g c =
     let month : c.month-month.result ≡ row.month = c.month-month.ensures in
     let clean1 = λ (clean : new.is_clean). stored.keeps.was_clean (made.was_clean clean) in
     let based = λ (clean : new.is_clean). rw (c.in-Ok-Some.field-0-is) at (planned.shown (clean1 clean)) in
-    let revision : new.is_clean → c.in-Ok-Some.basis.revision ≡ next_revision row.month (frozen_months o.releases) =
-    λ clean. (based clean).1 (subst (λ m. next_revision m (frozen_months o.releases) ≤ 9) (sym month)
+    let revision : new.is_clean → c.in-Ok-Some.basis.revision ≡ revision_to_give row.month (frozen_months o.releases) =
+    λ clean. (based clean).1 (subst (λ m. revision_to_give m (frozen_months o.releases) ≤ 9) (sym month)
     (c.requires.few (planned.keeps.was_clean (clean1 clean))))
-    ∙ ap (λ m. next_revision m (frozen_months o.releases)) month in
+    ∙ ap (λ m. revision_to_give m (frozen_months o.releases)) month in
     record {
       keeps = keeps_more old mid new read read_stays made;
       stays = λ apart. stays_more old mid new read_stays made (office_stays one two (groups.stays apart));
@@ -58,10 +58,10 @@ returns g c =
           let frozen : Freeze = frozen_with c.args.now row c.args.carry o in
           let plan : option_copied c.as_ref.result ≡ wanted = c.as_ref.ensures.value ∙ (based clean).0
           ∙ ap (plan_for o.plans (frozen_months o.releases)) month in
-          let rows : c.in-Ok.rows.items ≡ month_rows row.month o =
-          stored.shown clean2 (subst (λ (u : Office). is_by_series frozen_serial
-          (month_rows c.month-month.result u) ≡ true) (sym same1) (quotes_by_series o sound c.month-month.result))
-          ∙ ap (λ (u : Office). month_rows c.month-month.result u) same1 ∙ ap (λ m. month_rows m o) month in
+          let rows : c.in-Ok.rows.items ≡ quotes_of_month row.month o =
+          stored.shown clean2 (subst (λ (u : Office). are_by_series frozen_serial
+          (quotes_of_month c.month-month.result u) ≡ true) (sym same1) (quotes_by_series o sound c.month-month.result))
+          ∙ ap (λ (u : Office). quotes_of_month c.month-month.result u) same1 ∙ ap (λ m. quotes_of_month m o) month in
           let asks : Freeze = record {
             month = c.month-month.result;
             revision = c.in-Ok-Some.basis.revision;
@@ -90,7 +90,8 @@ returns g c =
           let next = c.requires.next (planned.keeps.was_clean (clean1 clean)) in
           let asked = asked_back s (office_sources o) (option_copied c.as_ref.result) wanted asks frozen read plan is
           (asked_for o sound c.args.now row c.args.carry next) in
-          made_is (fault_of wanted o.releases frozen) (released wanted o.releases frozen) c.compute_by_group.result
+          made_is (fault_of wanted o.releases frozen) (release_of_month wanted o.releases frozen)
+          c.compute_by_group.result
           (moved_to s (office_sources o) (option_copied c.as_ref.result) wanted asks frozen
           c.compute_by_group.result read plan is (groups.exact (two.clean clean) fit asked));
     }

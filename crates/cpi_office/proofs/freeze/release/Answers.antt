@@ -1,6 +1,6 @@
 use Rattle.std.proofs.Common.{rules, ◌≡◌, None, sym, ap, subst, ◌∙◌}
 use Rattle.cpi_rows.specs.Keyed.{row_at, IsInOrder}
-use Rattle.cpi_release.specs.FrozenMonths.{release_cmp, release_key, frozen_months, next_revision}
+use Rattle.cpi_release.specs.FrozenMonths.{release_cmp, release_key, frozen_months, revision_to_give}
 use Rattle.cpi_store.specs.Office.{Office}
 use Rattle.cpi_store.specs.Sound.{IsSound}
 use Rattle.cpi_store.proofs.Released.{none_follows}
@@ -30,11 +30,11 @@ put_release-requires g c = record {
       let ordered : IsInOrder release_cmp release_key o.releases =
       subst (λ (u : Office). IsInOrder release_cmp release_key u.releases) kept sorted in
       let month : c.in-Ok.release.month ≡ c.args.row.month = search rules in
-      let revision : c.in-Ok.release.revision ≡ next_revision c.args.row.month (frozen_months o.releases) =
+      let revision : c.in-Ok.release.revision ≡ revision_to_give c.args.row.month (frozen_months o.releases) =
       search rules in
       let none : row_at release_cmp release_key (
         c.args.row.month,
-        next_revision c.args.row.month (frozen_months o.releases),
+        revision_to_give c.args.row.month (frozen_months o.releases),
       ) o.releases ≡ None =
       none_follows c.args.row.month o.releases ordered (c.requires.next was) in
       subst (λ (u : Office). row_at release_cmp release_key

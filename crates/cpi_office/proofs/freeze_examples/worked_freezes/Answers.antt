@@ -24,8 +24,8 @@ pub returns-clause-reopened : goal.returns-clause-reopened
 unfolding digits
 returns-clause-reopened c = refl
 
-pub returns-clause-kept_frozen : goal.returns-clause-kept_frozen
-returns-clause-kept_frozen c = refl
+pub returns-clause-cached_frozen : goal.returns-clause-cached_frozen
+returns-clause-cached_frozen c = refl
 
 pub returns-clause-backwards : goal.returns-clause-backwards
 returns-clause-backwards c = refl

@@ -17,8 +17,8 @@ returns-clause-refusals c = refl
 pub returns-clause-later_quotes : goal.returns-clause-later_quotes
 returns-clause-later_quotes c = refl
 
-pub returns-clause-kept_months : goal.returns-clause-kept_months
-returns-clause-kept_months c = refl
+pub returns-clause-cached_months : goal.returns-clause-cached_months
+returns-clause-cached_months c = refl
 
 pub returns-clause-not_assigned : goal.returns-clause-not_assigned
 returns-clause-not_assigned c = refl

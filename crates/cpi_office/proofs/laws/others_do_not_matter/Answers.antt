@@ -1,5 +1,5 @@
-use Rattle.cpi_office.proofs.Alone.{others_do_not_matter}
-use Rattle.cpi_office.proofs.Told.{others_may_differ}
+use Rattle.cpi_office.proofs.NonInterference.{others_do_not_matter}
+use Rattle.cpi_office.proofs.NonInterferenceOfRuns.{others_may_differ}
 use Rattle.cpi_office.proofs.laws.others_do_not_matter.Goals as goal
 
 pub returns-clause-alone : goal.returns-clause-alone

@@ -1,4 +1,4 @@
-use Rattle.cpi_office.proofs.AnsweredAlike.{replies_are_alike}
+use Rattle.cpi_office.proofs.NonInterferenceBetweenOffices.{replies_are_alike}
 use Rattle.cpi_office.proofs.laws.replies_are_alike.Goals as goal
 
 pub returns : goal.returns

@@ -1,4 +1,4 @@
-use Rattle.cpi_office.proofs.Told.{runs_tell_alike}
+use Rattle.cpi_office.proofs.NonInterferenceOfRuns.{runs_tell_alike}
 use Rattle.cpi_office.proofs.laws.runs_tell_alike.Goals as goal
 
 pub returns : goal.returns

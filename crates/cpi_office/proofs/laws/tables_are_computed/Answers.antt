@@ -1,8 +1,8 @@
 use Rattle.cpi_store.proofs.History.{releases_computed, releases_sound, sources_fit}
 use Rattle.cpi_store.proofs.Stored.{frozen_are_stored}
 use Rattle.cpi_office.proofs.ComputedTables.{tables_are_told}
-use Rattle.cpi_office.proofs.Asked.{judged_is_owed}
-use Rattle.cpi_office.proofs.Rebuilt.{releases_stay}
+use Rattle.cpi_office.proofs.FreezePreconditions.{judged_is_owed}
+use Rattle.cpi_office.proofs.RebuiltProjections.{releases_stay}
 use Rattle.cpi_office.proofs.laws.tables_are_computed.Goals as goal
 
 pub returns-clause-computed : goal.returns-clause-computed

@@ -1,4 +1,4 @@
-use Rattle.cpi_office.proofs.Rebuilt.{sound_runs, rebuilt, changes_are_enough, alike, replies_from_views}
+use Rattle.cpi_office.proofs.RebuiltProjections.{sound_runs, rebuilt, changes_are_enough, alike, replies_from_views}
 use Rattle.cpi_office.proofs.laws.views_are_rebuilt.Goals as goal
 
 pub returns-clause-sound : goal.returns-clause-sound

@@ -1,5 +1,5 @@
 use Rattle.std.proofs.Common.{sym, ◌∙◌}
-use Rattle.cpi_office.specs.Replacing.{sent}
+use Rattle.cpi_office.specs.Replacing.{sent_body}
 use Rattle.cpi_office.proofs.PlanItems.{judged_known}
 use Rattle.cpi_office.proofs.plans.put_plan.Goals as goal
 
@@ -9,6 +9,6 @@ store_plan-requires g c = record {
       let reads = c.in-Ok-Ok-Ok.ensures in
       let o = (g.B.Book.state c.args.book.now).held in
       let plan = c.in-Ok-Ok-Ok.plan in
-      rw (reads.keeps.kept clean) (judged_known c.args.year (sent o.items c.args.body) o.plans plan _
+      rw (reads.keeps.kept clean) (judged_known c.args.year (sent_body o.items c.args.body) o.plans plan _
       (sym (rw c.in-Ok-Ok-Ok.field-0-is at (reads.shown clean)) ∙ c.in-Ok-Ok-Ok.field-0-0-is));
 }

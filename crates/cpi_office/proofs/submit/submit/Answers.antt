@@ -7,4 +7,4 @@ carry_out-requires-clause-new g c = λ clean.
     let reads = c.in-Ok.ensures in
     let o = (g.B.Book.state c.args.book.now).held in
     rw (reads.keeps.kept clean, reads.shown clean)
-    (decided_new c.args.now c.args.entry (public_part o) (own_part c.args.bearer.number o))
+    (decided_new c.args.now c.args.entry (public_part o) (own_part c.args.registration.number o))

@@ -4,7 +4,7 @@ use Rattle.std.specs.declared.alloc.AllocError.{AllocError}
 use Rattle.cpi_release.specs.PublishedTables.{PublishedTable, printed_bytes, published_until}
 use Rattle.cpi_store.specs.Tables.{table_until}
 use Rattle.cpi_store.specs.Office.{Office}
-use Rattle.cpi_office.specs.Answers.{bytes_of}
+use Rattle.cpi_office.specs.Answers.{table_bytes}
 use Rattle.cpi_office.proofs.Tabled.{reads_then, same_reads, if_printed, named_bytes, latest_bytes}
 use Rattle.cpi_office.proofs.tables.read_table.Goals as goal
 
@@ -20,10 +20,10 @@ returns-in-Some g c =
     let levels : Option (List ℕ) = option_map (printed_bytes form month revision)
     (option_map (λ (t : PublishedTable). t.levels)
     (table_until month (Some revision) c.args.now old.held.releases)) in
-    let wanted : Option (List ℕ) = option_map (bytes_of form month)
+    let wanted : Option (List ℕ) = option_map (table_bytes form month)
     (table_until month c.args.edition c.args.now old.held.releases) in
     let same : levels ≡ wanted = named_bytes month tables form revision
-    ∙ ap (λ e. option_map (bytes_of form month) (table_until month e c.args.now old.held.releases)) (sym asked) in
+    ∙ ap (λ e. option_map (table_bytes form month) (table_until month e c.args.now old.held.releases)) (sym asked) in
     same_reads old new (λ (found : Result (Option (List ℕ)) AllocError). IfOk found (λ printed. printed ≡ levels))
     (λ (found : Result (Option (List ℕ)) AllocError). IfOk found (λ printed. printed ≡ wanted))
     c.print_revision.result c.print_revision.ensures
@@ -43,7 +43,7 @@ returns-in-Some-2 g c =
     let tables = published_until c.args.now old.held.releases in
     let levels : Office → Option (List ℕ) = λ o. option_map (printed_bytes form month latest)
     (option_map (λ (t : PublishedTable). t.levels) (table_until month (Some latest) c.args.now o.releases)) in
-    let wanted : Option (List ℕ) = option_map (bytes_of form month)
+    let wanted : Option (List ℕ) = option_map (table_bytes form month)
     (table_until month c.args.edition c.args.now old.held.releases) in
     reads_then old mid new first.keeps first.stays first.count
     (λ (found : Result (Option (List ℕ)) AllocError). IfOk found (λ printed. printed ≡ levels mid.held))
@@ -55,5 +55,5 @@ returns-in-Some-2 g c =
     (table_until month None c.args.now old.held.releases) = sym c.in-Some-2.is ∙ first.shown was in
     let same : levels mid.held ≡ wanted =
     ap levels (first.keeps.kept was) ∙ named_bytes month tables form latest ∙ latest_bytes month tables form latest is
-    ∙ ap (λ e. option_map (bytes_of form month) (table_until month e c.args.now old.held.releases)) (sym asked) in
+    ∙ ap (λ e. option_map (table_bytes form month) (table_until month e c.args.now old.held.releases)) (sym asked) in
     if_printed found (levels mid.held) wanted same shown)

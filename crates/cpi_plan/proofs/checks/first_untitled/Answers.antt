@@ -6,7 +6,7 @@ use Rattle.std.specs.Map.{keys_of}
 use Rattle.std.specs.Map.Iter.{deref_pair}
 use Rattle.std.proofs.lemmas.Map.Iter.{btree_map_turn, rest_more}
 use Rattle.std.proofs.lemmas.Map.Keys.{sorted_tail}
-use Rattle.cpi_codes.specs.CodeOrder.{code_cmp, is_same}
+use Rattle.cpi_codes.specs.CodeOrder.{code_cmp, is_same_code}
 use Rattle.cpi_codes.specs.contracts.codes.CodeOrd.TheImpl.Laws.{total-law}
 use Rattle.cpi_plan.specs.Sums.{sum_at}
 use Rattle.cpi_plan.specs.Steps.{is_without}
@@ -25,7 +25,7 @@ returns-then-lacks_title c =
     (c.in-Some.code, c.in-Some.weight) c.in-Some.is c.next.ensures.steps in
     let value : sum_at c.args.sums.now k ≡ v = ap (λ o. unwrap_or o 0) turn.1 in
     let here : is_without c.args.sums.now c.args.titles.now k ≡ true =
-    ap (λ n. nat_lt 0 n && not (list_any (λ t. is_same t.code k) c.args.titles.now)) value
+    ap (λ n. nat_lt 0 n && not (list_any (λ t. is_same_code t.code k) c.args.titles.now)) value
     ∙ sym c.lacks_title.ensures ∙ c.if-lacks_title.true in
     first_at c.args.sums.now c.args.titles.now k v c.next.new.self
     (subst (λ es. IsStrictlySortedBy code_cmp (keys_of es)) rest c.loop-code.invariant.rising)
@@ -43,7 +43,7 @@ loop-code-preserved c =
     (c.in-Some.code, c.in-Some.weight) c.in-Some.is c.next.ensures.steps in
     let value : sum_at c.args.sums.now k ≡ v = ap (λ o. unwrap_or o 0) turn.1 in
     let here : is_without c.args.sums.now c.args.titles.now k ≡ false =
-    ap (λ n. nat_lt 0 n && not (list_any (λ t. is_same t.code k) c.args.titles.now)) value
+    ap (λ n. nat_lt 0 n && not (list_any (λ t. is_same_code t.code k) c.args.titles.now)) value
     ∙ sym c.lacks_title.ensures ∙ c.if-lacks_title.false in
     record {
       rising = sorted_tail code_cmp k (keys_of c.next.new.self)

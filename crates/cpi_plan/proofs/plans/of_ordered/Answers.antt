@@ -3,14 +3,15 @@ use Rattle.std.specs.BTreeMap.{BTreeMap}
 use Rattle.std.specs.List.{list_any, list_all}
 use Rattle.std.specs.List.Sorted.{IsPermutation}
 use Rattle.std.proofs.lemmas.List.Sorted.{IsPermutation-refl, list_any-IsPermutation}
-use Rattle.cpi_codes.specs.CodeOrder.{code_cmp, is_same, is_elementary}
+use Rattle.cpi_codes.specs.CodeOrder.{code_cmp, is_same_code, is_code_elementary}
 use Rattle.std.specs.Ordering.{nat_cmp}
 use Rattle.std.proofs.lemmas.Cmp.{nat_cmp_total as item-law}
 use Rattle.cpi_rows.specs.Keyed.{IsInOrder, row_at}
 use Rattle.cpi_plan.specs.Sums.{sum_at}
 use Rattle.cpi_plan.specs.Steps.{nodes_with}
 use Rattle.cpi_codes.specs.declared.codes.Code.{Code}
-use Rattle.cpi_plan.specs.Plan.{Body, IsBuilt, IsPlan, are_elementary, has_unknown, has_unplaced, has_fit_reference}
+use Rattle.cpi_plan.specs.Plan.{Body, IsBuilt, IsPlan, are_all_elementary, has_unknown_item, has_unplaced_item}
+use Rattle.cpi_plan.specs.Plan.{has_fit_reference}
 use Rattle.cpi_plan.specs.Plan.{reference_in, is_fit_reference}
 use Rattle.cpi_plan.specs.declared.plan_faults.PlanFault.TheVariants.{Reference}
 use Rattle.cpi_plan.specs.Weighing.{IsWeighed}
@@ -57,7 +58,7 @@ returns-then-not-branch c =
     let weighed = of_rows c.args.year c.args.known_items.now c.args.references.items c.in_ok-sums.sums _
     c.args.titles.items _ c.args.weights.items _ c.args.places.items c.deref.ensures.value c.deref-2.ensures.value
     c.deref-3.ensures.value (c.in_ok-sums.ensures c.args.year c.args.known_items.now c.args.references.items) in
-    let known : has_unknown c.args.known_items.now c.args.places.items ≡ false = search rules in
+    let known : has_unknown_item c.args.known_items.now c.args.places.items ≡ false = search rules in
     ((weighed.0, known), search rules)
 
 pub returns-then-has_unplaced : goal.returns-then-has_unplaced
@@ -68,13 +69,13 @@ returns-then-has_unplaced c =
     let weighed = of_rows c.args.year c.args.known_items.now c.args.references.items c.in_ok-sums.sums _
     c.args.titles.items _ c.args.weights.items _ c.args.places.items c.deref.ensures.value c.deref-2.ensures.value
     c.deref-3.ensures.value (c.in_ok-sums.ensures c.args.year c.args.known_items.now c.args.references.items) in
-    let known : has_unknown c.args.known_items.now sent ≡ false = search rules in
+    let known : has_unknown_item c.args.known_items.now sent ≡ false = search rules in
     let moved : IsPermutation sent places = search rules in
     let sorted : IsInOrder nat_cmp (λ p. p.item) places = search rules in
     let items_once = once_from_order item-law (λ p. p.item) sent places moved sorted in
-    let place_moved = list_any-IsPermutation (λ p. not (list_any (λ w. is_same w.code p.aggregate) weights)) sent
+    let place_moved = list_any-IsPermutation (λ p. not (list_any (λ w. is_same_code w.code p.aggregate) weights)) sent
     places moved in
-    let unplaced : has_unplaced weights places ≡ true = search rules in
+    let unplaced : has_unplaced_item weights places ≡ true = search rules in
     (((weighed.0, known), items_once), place_moved ∙ unplaced)
 
 pub returns-in_err-reference : goal.returns-in_err-reference
@@ -85,13 +86,13 @@ returns-in_err-reference c =
     let weighed = of_rows c.args.year c.args.known_items.now c.args.references.items c.in_ok-sums.sums _
     c.args.titles.items _ c.args.weights.items _ c.args.places.items c.deref.ensures.value c.deref-2.ensures.value
     c.deref-3.ensures.value (c.in_ok-sums.ensures c.args.year c.args.known_items.now c.args.references.items) in
-    let known : has_unknown c.args.known_items.now sent ≡ false = search rules in
+    let known : has_unknown_item c.args.known_items.now sent ≡ false = search rules in
     let moved : IsPermutation sent places = search rules in
     let sorted : IsInOrder nat_cmp (λ p. p.item) places = search rules in
     let items_once = once_from_order item-law (λ p. p.item) sent places moved sorted in
-    let place_moved = list_any-IsPermutation (λ p. not (list_any (λ w. is_same w.code p.aggregate) weights)) sent
+    let place_moved = list_any-IsPermutation (λ p. not (list_any (λ w. is_same_code w.code p.aggregate) weights)) sent
     places moved in
-    let placed : has_unplaced weights places ≡ false = search rules in
+    let placed : has_unplaced_item weights places ≡ false = search rules in
     let unfit : has_fit_reference c.args.year c.args.references.items ≡ false = search rules in
     let fault : c.from_residual-in_err-reference.result ≡ Err Reference = search rules in
     let body : Body = record {
@@ -124,11 +125,11 @@ invariant_of-result c =
     let passed = weighed.0 in
     let moved : IsPermutation sent places = search rules in
     let sorted : IsInOrder nat_cmp (λ p. p.item) places = search rules in
-    let placed : has_unplaced weights places ≡ false = search rules in
+    let placed : has_unplaced_item weights places ≡ false = search rules in
     let made : c.in_ok-nodes.nodes.items ≡ nodes_with (sum_at sums) titles = search rules in
-    let elementary : are_elementary weights places ≡ true =
-    ap (λ b. list_all (λ w. is_elementary w.code) weights && b)
-    (sym (all_moved (λ p. is_elementary p.aggregate) sent places moved)) ∙ passed.0.0.0.1 in
+    let elementary : are_all_elementary weights places ≡ true =
+    ap (λ b. list_all (λ w. is_code_elementary w.code) weights && b)
+    (sym (all_moved (λ p. is_code_elementary p.aggregate) sent places moved)) ∙ passed.0.0.0.1 in
     let fit : has_fit_reference c.args.year c.args.references.items ≡ true = search rules in
     let is : c.in_ok-reference.reference ≡ reference_in c.args.references.items = search rules in
     let referred : is_fit_reference c.args.year c.in_ok-reference.reference ≡ true =
@@ -148,13 +149,13 @@ returns c =
     let weighed = of_rows c.args.year c.args.known_items.now c.args.references.items c.in_ok-sums.sums _
     c.args.titles.items _ c.args.weights.items _ c.args.places.items c.deref.ensures.value c.deref-2.ensures.value
     c.deref-3.ensures.value (c.in_ok-sums.ensures c.args.year c.args.known_items.now c.args.references.items) in
-    let known : has_unknown c.args.known_items.now sent ≡ false = search rules in
+    let known : has_unknown_item c.args.known_items.now sent ≡ false = search rules in
     let moved : IsPermutation sent places = search rules in
     let sorted : IsInOrder nat_cmp (λ p. p.item) places = search rules in
     let items_once = once_from_order item-law (λ p. p.item) sent places moved sorted in
-    let place_moved = list_any-IsPermutation (λ p. not (list_any (λ w. is_same w.code p.aggregate) weights)) sent
+    let place_moved = list_any-IsPermutation (λ p. not (list_any (λ w. is_same_code w.code p.aggregate) weights)) sent
     places moved in
-    let placed : has_unplaced weights places ≡ false = search rules in
+    let placed : has_unplaced_item weights places ≡ false = search rules in
     let fit : has_fit_reference c.args.year c.args.references.items ≡ true = search rules in
     let is : c.in_ok-reference.reference ≡ reference_in c.args.references.items = search rules in
     let made : c.in_ok-nodes.nodes.items ≡ nodes_with (sum_at sums) titles = search rules in (

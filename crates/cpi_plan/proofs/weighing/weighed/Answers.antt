@@ -2,8 +2,8 @@ use Rattle.std.proofs.Common.{◌≡◌, sym, ◌∙◌, true, false, rules}
 use Rattle.std.proofs.lemmas.List.Sorted.{IsPermutation-refl}
 use Rattle.cpi_codes.specs.declared.codes.Code.{Code}
 use Rattle.cpi_plan.specs.Sums.{sum_at, weight_under}
-use Rattle.cpi_plan.specs.Steps.{IsFirst, is_without}
-use Rattle.cpi_plan.specs.Plan.{are_elementary, has_zero, total, is_untitled}
+use Rattle.cpi_plan.specs.Steps.{IsFirstCode, is_without}
+use Rattle.cpi_plan.specs.Plan.{are_all_elementary, has_zero_weight, total_weight, is_untitled}
 use Rattle.cpi_plan.proofs.BuiltLemmas.{codes_once}
 use Rattle.cpi_plan.proofs.NodeLemmas.{first_is, without_untitled}
 use Rattle.cpi_plan.proofs.weighing.weighed.Goals as goal
@@ -33,11 +33,11 @@ returns-in-Some c =
     let sums = c.in_ok-sums.sums in
     let once = codes_once _ _ _ _ (IsPermutation-refl titles) (IsPermutation-refl weights) c.requires.titles_in_order
     c.requires.weights_in_order in
-    let elementary : are_elementary weights c.args.places.now ≡ true = search rules in
-    let positive : has_zero weights ≡ false = search rules in
-    let whole : total weights ≡ 1000000 = search rules in
+    let elementary : are_all_elementary weights c.args.places.now ≡ true = search rules in
+    let positive : has_zero_weight weights ≡ false = search rules in
+    let whole : total_weight weights ≡ 1000000 = search rules in
     let kept : (q : Code) → sum_at sums q ≡ weight_under q weights = search rules in
-    let first : IsFirst (is_without sums titles) c.in-Some.code = search rules in
+    let first : IsFirstCode (is_without sums titles) c.in-Some.code = search rules in
     λ year known references. (
       (((once, elementary), positive), whole),
       first_is sums weights kept positive titles c.in-Some.code first,
@@ -50,9 +50,9 @@ returns c =
     let sums = c.in_ok-sums.sums in
     let once = codes_once _ _ _ _ (IsPermutation-refl titles) (IsPermutation-refl weights) c.requires.titles_in_order
     c.requires.weights_in_order in
-    let elementary : are_elementary weights c.args.places.now ≡ true = search rules in
-    let positive : has_zero weights ≡ false = search rules in
-    let whole : total weights ≡ 1000000 = search rules in
+    let elementary : are_all_elementary weights c.args.places.now ≡ true = search rules in
+    let positive : has_zero_weight weights ≡ false = search rules in
+    let whole : total_weight weights ≡ 1000000 = search rules in
     let kept : (q : Code) → sum_at sums q ≡ weight_under q weights = search rules in
     let none : (q : Code) → is_without sums titles q ≡ false = search rules in
     let titled : (q : Code) → is_untitled titles weights q ≡ false =

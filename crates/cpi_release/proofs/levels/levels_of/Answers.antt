@@ -1,10 +1,10 @@
 use Rattle.std.proofs.Common.{rules, arith, ◌≡◌, ◌<◌, ◌++◌, ◌∷◌, [], not, length, get_or, sym, ap, ◌∙◌, refl}
-use Rattle.cpi_codes.specs.CodeOrder.{is_elementary}
+use Rattle.cpi_codes.specs.CodeOrder.{is_code_elementary}
 use Rattle.cpi_plan.specs.Sums.{sum_at, weight_under}
 use Rattle.cpi_index.specs.Level.{is_level}
 use Rattle.cpi_index.specs.Weights.{with_weights}
 use Rattle.cpi_index.proofs.WeightLemmas.{count_kept, all_kept, few_weights}
-use Rattle.cpi_release.specs.MonthTable.{is_level_out, level_row}
+use Rattle.cpi_release.specs.MonthTable.{is_node_out, level_row}
 use Rattle.cpi_release.proofs.PassLemmas.{keeps_more, stays_more}
 use Rattle.cpi_release.proofs.LevelLemmas.{made_step, find_step, first_out, limit_is, within_is, level_is, row_is}
 use Rattle.cpi_release.proofs.LevelLemmas.{level_outside, level_inside, sum_within}
@@ -12,7 +12,7 @@ use Rattle.cpi_release.proofs.levels.levels_of.Goals as goal
 
 pub weights_under-requires-clause-elementary : goal.weights_under-requires-clause-elementary
 weights_under-requires-clause-elementary g c =
-    sym (all_kept is_elementary c.args.plan.now.weights c.args.weights.now c.requires.codes)
+    sym (all_kept is_code_elementary c.args.plan.now.weights c.args.weights.now c.requires.codes)
     ∙ c.nodes-nodes.ensures.kept.elementary
 
 pub weights_under-requires-clause-few : goal.weights_under-requires-clause-few
@@ -80,7 +80,7 @@ returns-in_default-row-clause-exact g c = λ clean sound late rows s other.
     c.unwrap_or-sum.result c.in-Some.within sum c.in-Some.ensures.1 in
     let level = level_is used releases c.args.month rows c.args.pass.now s n c.node_weight-weight.result weight
     c.in-Some.within c.in-Ok-levels_before.before.link within (b sound late).0 in
-    first_out (is_level_out used releases c.args.month rows) c.nodes-nodes.result.now plan.nodes i n
+    first_out (is_node_out used releases c.args.month rows) c.nodes-nodes.result.now plan.nodes i n
     c.loop-node-test.true c.node-item.is c.nodes-nodes.ensures.value
     (ap (λ z. not (is_level z)) (sym level) ∙ level_outside _ (rw c.in_default-row.is at c.in-Ok-row_of.ensures))
     (inv.exact was sound late rows s).1
@@ -126,7 +126,7 @@ loop-node-preserved g c =
             made_step (level_row used releases c.args.month rows) nodes i n c.loop-node.levels.items
                 c.push.new.self.items c.in-Some-row.level c.loop-node-test.true c.node-item.is pushed row
                 (inv.exact was sound late rows s).0,
-            find_step (is_level_out used releases c.args.month rows) nodes i n c.loop-node-test.true c.node-item.is
+            find_step (is_node_out used releases c.args.month rows) nodes i n c.loop-node-test.true c.node-item.is
                 (ap (λ z. not (is_level z)) (sym level) ∙ level_inside _ made.0) (inv.exact was sound late rows s).1,
           );
     }

@@ -1,6 +1,6 @@
 use Rattle.std.proofs.Common.{rules, arith, ◌≡◌, ◌++◌, ◌∷◌, []}
 use Rattle.cpi_index.specs.Weights.{with_levels}
-use Rattle.cpi_release.specs.Releases.{level_at}
+use Rattle.cpi_release.specs.Releases.{level_at_month}
 use Rattle.cpi_release.proofs.PassLemmas.{keeps_more, stays_more}
 use Rattle.cpi_release.proofs.LevelLemmas.{made_step}
 use Rattle.cpi_release.proofs.InUse.{kept_step}
@@ -25,7 +25,7 @@ loop-weight-preserved g c =
       exact = λ clean sound.
           let was = read.keeps.was_clean clean in
           let shown = rw (c.in-Ok.is, inv.keeps.kept was) at (read.shown clean) in
-          made_step (with_levels (level_at releases c.args.link) (level_at releases c.args.reference))
+          made_step (with_levels (level_at_month releases c.args.link) (level_at_month releases c.args.reference))
           c.weights-weights.result.now i w c.loop-weight.rows.items c.push.new.self.items c.in-Ok.levels
           c.loop-weight-test.true c.weight-item.is pushed (shown sound) (inv.exact was sound);
     }

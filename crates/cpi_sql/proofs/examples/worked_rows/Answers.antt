@@ -1,13 +1,13 @@
 use lib.Utf8.{encode}
 use Rattle.std.proofs.Common.{refl}
-use Rattle.cpi_codes.specs.CodeOf.{code_of}
+use Rattle.cpi_codes.specs.CodeOf.{spelled_code}
 use Rattle.cpi_codes.specs.ItemCode.{item_code_of}
-use Rattle.cpi_codes.specs.Name.{is_name}
+use Rattle.cpi_codes.specs.Name.{is_text_of_name}
 use Rattle.std.specs.Str.{is_utf8, chars}
 use Rattle.cpi_sql.proofs.examples.worked_rows.Goals as goal
 
 pub returns-clause-items : goal.returns-clause-items
-unfolding item_code_of is_name is_utf8 chars encode
+unfolding item_code_of is_text_of_name is_utf8 chars encode
 returns-clause-items c = (refl, refl, refl)
 
 pub returns-clause-calendar : goal.returns-clause-calendar
@@ -24,11 +24,11 @@ unfolding item_code_of
 returns-clause-assignments c = (refl, refl, refl, refl, refl, refl, refl, refl, refl)
 
 pub returns-clause-nodes : goal.returns-clause-nodes
-unfolding code_of is_name is_utf8 chars encode
+unfolding spelled_code is_text_of_name is_utf8 chars encode
 returns-clause-nodes c = (refl, refl)
 
 pub returns-clause-headers : goal.returns-clause-headers
-unfolding code_of
+unfolding spelled_code
 returns-clause-headers c = (refl, refl, refl)
 
 pub returns-clause-frozen : goal.returns-clause-frozen
@@ -40,13 +40,13 @@ unfolding item_code_of
 returns-clause-carried c = (refl, refl, refl)
 
 pub returns-clause-levels : goal.returns-clause-levels
-unfolding code_of is_name is_utf8 chars encode
+unfolding spelled_code is_text_of_name is_utf8 chars encode
 returns-clause-levels c = (refl, refl, refl, refl, refl)
 
 pub returns-clause-weights : goal.returns-clause-weights
-unfolding code_of is_name is_utf8 chars encode
+unfolding spelled_code is_text_of_name is_utf8 chars encode
 returns-clause-weights c = (refl, refl, refl, refl)
 
 pub returns-clause-sums : goal.returns-clause-sums
-unfolding code_of is_name is_utf8 chars encode
+unfolding spelled_code is_text_of_name is_utf8 chars encode
 returns-clause-sums c = (refl, refl, refl, refl, refl)

@@ -12,26 +12,26 @@ use Rattle.cpi_sql_open.proofs.inspect.read_all_small.Goals as goal
 
 pub returns-in_err-_outlets-clause-look : goal.returns-in_err-_outlets-clause-look
 returns-in_err-_outlets-clause-look g c = looks_on IsOfOffice _ (state g.S.Store c.read_all.new.conn) _
-    c.read_all.ensures.found c.in_ok-_bearers.ensures.open c.read_all-2.ensures.found
+    c.read_all.ensures.found c.in_ok-_registrations.ensures.open c.read_all-2.ensures.found
 
 pub returns-in_err-_items-clause-look : goal.returns-in_err-_items-clause-look
 returns-in_err-_items-clause-look g c = looks_on IsOfOffice _ (state g.S.Store c.read_all-2.new.conn) _
     (looks_on IsOfOffice _ (state g.S.Store c.read_all.new.conn) _
-    c.read_all.ensures.found c.in_ok-_bearers.ensures.open c.read_all-2.ensures.found)
+    c.read_all.ensures.found c.in_ok-_registrations.ensures.open c.read_all-2.ensures.found)
     c.in_ok-_outlets.ensures.open c.read_all-3.ensures.found
 
 pub returns-in_err-_calendar-clause-look : goal.returns-in_err-_calendar-clause-look
 returns-in_err-_calendar-clause-look g c = looks_on IsOfOffice _ (state g.S.Store c.read_all-3.new.conn) _
     (looks_on IsOfOffice _ (state g.S.Store c.read_all-2.new.conn) _
     (looks_on IsOfOffice _ (state g.S.Store c.read_all.new.conn) _
-    c.read_all.ensures.found c.in_ok-_bearers.ensures.open c.read_all-2.ensures.found)
+    c.read_all.ensures.found c.in_ok-_registrations.ensures.open c.read_all-2.ensures.found)
     c.in_ok-_outlets.ensures.open c.read_all-3.ensures.found) c.in_ok-_items.ensures.open c.read_all-4.ensures.found
 
 pub returns-clause-look : goal.returns-clause-look
 returns-clause-look g c = looks_on IsOfOffice _ (state g.S.Store c.read_all-3.new.conn) _
     (looks_on IsOfOffice _ (state g.S.Store c.read_all-2.new.conn) _
     (looks_on IsOfOffice _ (state g.S.Store c.read_all.new.conn) _
-    c.read_all.ensures.found c.in_ok-_bearers.ensures.open c.read_all-2.ensures.found)
+    c.read_all.ensures.found c.in_ok-_registrations.ensures.open c.read_all-2.ensures.found)
     c.in_ok-_outlets.ensures.open c.read_all-3.ensures.found) c.in_ok-_items.ensures.open c.read_all-4.ensures.found
 
 pub returns-clause-whole : goal.returns-clause-whole
@@ -52,7 +52,7 @@ returns-clause-whole g c = λ clean alone has.
     let has_3 = schema_after IsOfOffice s_2 s_3 kept_3 has_2 in
     let both_3 = kept_then start s_2 s_3 both_2 kept_3 in
     record {
-      collectors = c.in_ok-_bearers.ensures.whole clean_1 has;
+      collectors = c.in_ok-_registrations.ensures.whole clean_1 has;
       outlets = subst (λ (d : Database). IsWhole nat_cmp (λ u. u.number) outlet_in (d.trees 3)) kept_1.now
           (c.in_ok-_outlets.ensures.whole clean_2 has_1);
       items = subst (λ (d : Database). IsWhole nat_cmp (λ i. i.code) item_in (d.trees 4)) both_2.now

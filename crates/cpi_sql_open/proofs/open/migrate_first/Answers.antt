@@ -69,9 +69,11 @@ leaves a b c test finds moves = survives_then a b c _ _ _ (λ _ db none. absurd 
 pub returns-in_err-migrate-clause-crash : goal.returns-in_err-migrate-clause-crash
 returns-in_err-migrate-clause-crash g c =
     leaves (state g.S.Store c.args.conn.now) (state g.S.Store c.test_first.new.conn)
-    (state g.S.Store c.migrate.new.conn) c.test_first.ensures.test c.in_ok-test_first.ensures.found c.migrate.ensures.crash
+    (state g.S.Store c.migrate.new.conn) c.test_first.ensures.test c.in_ok-test_first.ensures.found
+    c.migrate.ensures.crash
 
 pub returns-clause-crash : goal.returns-clause-crash
 returns-clause-crash g c =
     leaves (state g.S.Store c.args.conn.now) (state g.S.Store c.test_first.new.conn)
-    (state g.S.Store c.migrate.new.conn) c.test_first.ensures.test c.in_ok-test_first.ensures.found c.migrate.ensures.crash
+    (state g.S.Store c.migrate.new.conn) c.test_first.ensures.test c.in_ok-test_first.ensures.found
+    c.migrate.ensures.crash

@@ -1,6 +1,6 @@
 use Rattle.std.proofs.Common.{subst}
 use Rattle.sqlite.specs.Held.{state}
-use Rattle.cpi_sql_open.specs.Said.{Says}
+use Rattle.cpi_sql_open.specs.Said.{SaysVersion}
 use Rattle.cpi_sql_open.proofs.Undone.{query_keeps}
 use Rattle.cpi_sql_open.proofs.version.look.Goals as goal
 
@@ -18,5 +18,5 @@ pub returns-clause-shown : goal.returns-clause-shown
 returns-clause-shown g c = λ disk. (
   c.in_ok-rows.rows.items,
   c.in_ok-rows.ensures.ok disk,
-  subst (Says c.said.result) c.deref.ensures.value c.said.ensures,
+  subst (SaysVersion c.said.result) c.deref.ensures.value c.said.ensures,
 )

@@ -1,7 +1,7 @@
 use Rattle.std.proofs.Common.{rules, ◌≡◌, subst}
 use Rattle.sqlite.specs.Held.{state}
 use Rattle.sqlite.specs.State.{HasCleanDisk}
-use Rattle.cpi_sql_open.specs.Said.{Says}
+use Rattle.cpi_sql_open.specs.Said.{SaysVersion}
 use Rattle.cpi_sql_open.proofs.NumberedLemmas.{second_found}
 use Rattle.cpi_sql_rows.proofs.Whole.{if_ok}
 use Rattle.cpi_sql_open.proofs.version.read_version.Goals as goal
@@ -14,7 +14,7 @@ returns-clause-second g c = λ clean.
     let disk : HasCleanDisk looked = search rules in
     let start : begun.now ≡ s.now = search rules in
     if_ok c.look-found.result _ _ (c.look-found.ensures.shown disk)
-    (λ v it is has. second_found s begun looked it.0 start has it.1 (subst (λ w. Says w it.0) is it.2))
+    (λ v it is has. second_found s begun looked it.0 start has it.1 (subst (λ w. SaysVersion w it.0) is it.2))
 
 pub returns-clause-other : goal.returns-clause-other
 returns-clause-other g c = λ clean.
@@ -24,7 +24,7 @@ returns-clause-other g c = λ clean.
     let disk : HasCleanDisk looked = search rules in
     let start : begun.now ≡ s.now = search rules in
     if_ok c.look-found.result _ _ (c.look-found.ensures.shown disk) (λ v it is.
-    let said = subst (λ w. Says w it.0) is it.2 in (
+    let said = subst (λ w. SaysVersion w it.0) is it.2 in (
       c.transaction-tx.result.conn.now,
       c.look-found.new.tx.conn.now,
       start,

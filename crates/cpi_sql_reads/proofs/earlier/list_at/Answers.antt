@@ -3,7 +3,7 @@ use Rattle.sqlite.specs.Held.{state}
 use Rattle.cpi_rows.proofs.Found.{row_key}
 use Rattle.cpi_release.specs.FrozenMonths.{release_cmp}
 use Rattle.cpi_sql_rows.specs.Lists.{headers_in}
-use Rattle.cpi_sql_reads.specs.Headers.{has_release}
+use Rattle.cpi_sql_reads.specs.Headers.{holds_release}
 use Rattle.cpi_sql_reads.specs.ReleaseLists.{list_key}
 use Rattle.cpi_sql_reads.proofs.HeaderLists.{kept_is, key_is, list_read}
 use Rattle.cpi_sql_reads.proofs.earlier.list_at.Goals as goal
@@ -24,8 +24,8 @@ pub returns-clause-read : goal.returns-clause-read
 returns-clause-read g c = λ clean has is stand.
     let trees = (state g.S.Store c.args.conn.now).now.trees in
     let yes : c.has_release.result ≡ true = search rules in
-    let there : has_release c.args.month c.args.revision (headers_in (trees 26)) ≡ true =
-    ap (has_release c.args.month c.args.revision) (sym is) ∙ sym c.has_release.ensures ∙ yes in
+    let there : holds_release c.args.month c.args.revision (headers_in (trees 26)) ≡ true =
+    ap (holds_release c.args.month c.args.revision) (sym is) ∙ sym c.has_release.ensures ∙ yes in
     rw (c.new.ensures, c.of.ensures) (list_read trees g.T.ReleaseRow.table g.T.ReleaseRow.listed_by
     g.met.T.ReleaseRow.of_releases c.args.month c.args.revision there c.in_ok-rows.rows.items
     (c.in_ok-rows.ensures.read clean has) (c.in_ok-rows.ensures.stand clean has))

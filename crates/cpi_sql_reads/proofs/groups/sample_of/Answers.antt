@@ -4,9 +4,9 @@ use Rattle.sqlite.specs.Held.{state}
 use Rattle.sqlite.specs.Tree.{Trees}
 use Rattle.cpi_codes.specs.Month.{year_of}
 use Rattle.cpi_plan.specs.Plan.{Plan}
-use Rattle.cpi_rows.specs.Keyed.{at}
+use Rattle.cpi_rows.specs.Keyed.{row_by_number}
 use Rattle.cpi_release.specs.GroupCalls.{Sources}
-use Rattle.cpi_release.specs.KeptSamples.{AreKept, Samples, kept_month}
+use Rattle.cpi_release.specs.CachedSamples.{AreSamplesCached, Samples, kept_month}
 use Rattle.cpi_store.specs.Sources.{office_sources}
 use Rattle.cpi_store.specs.Office.{Office}
 use Rattle.cpi_sql_rows.specs.Lists.{office_in}
@@ -14,7 +14,8 @@ use Rattle.cpi_sql_reads.specs.Samples.{AreSamplesOf, SamplesTaken}
 use Rattle.cpi_sql_reads.proofs.groups.sample_of.Goals as goal
 
 -- samples of the tables are those of the office in them
-are_kept : (trees : Trees) (k : Option Samples) → AreSamplesOf trees k → AreKept (office_sources (office_in trees)) k
+are_kept : (trees : Trees) (k : Option Samples) → AreSamplesOf trees k → AreSamplesCached
+    (office_sources (office_in trees)) k
 are_kept trees None stand = tt
 are_kept trees (Some k) stand = stand.0
 
@@ -28,8 +29,10 @@ pub returns-in-Some-clause-read : goal.returns-in-Some-clause-read
 returns-in-Some-clause-read g c = λ clean has is kept stood stand fit late.
     let trees = (state g.S.Store c.args.conn.now).now.trees in
     let s : Sources = office_sources (office_in trees) in
-    let plan : option_copied c.plan_of-plan.result ≡ at (λ (p : Plan). p.year) (year_of c.args.month) s.plans =
-    c.plan_of-plan.ensures ∙ ap (λ (o : Office). at (λ (p : Plan). p.year) (year_of c.args.month) o.plans) stood in
+    let plan : option_copied c.plan_of-plan.result ≡ row_by_number (λ (p : Plan). p.year) (year_of c.args.month)
+    s.plans =
+    c.plan_of-plan.ensures ∙ ap (λ (o : Office). row_by_number (λ (p : Plan). p.year) (year_of c.args.month)
+    o.plans) stood in
     let found = rw c.in-Some.is at c.in-Ok.ensures.rows in
     found s plan (are_kept trees c.args.samples.now stand) fit late
 
@@ -41,6 +44,8 @@ returns-in-Some-clause-taken g c = λ clean has is kept stood stand.
 pub returns-in-Ok-keep-clause-read : goal.returns-in-Ok-keep-clause-read
 returns-in-Ok-keep-clause-read g c = λ clean has is kept stood stand fit late.
     let s : Sources = office_sources (office_in (state g.S.Store c.args.conn.now).now.trees) in
-    let plan : option_copied c.plan_of-plan.result ≡ at (λ (p : Plan). p.year) (year_of c.args.month) s.plans =
-    c.plan_of-plan.ensures ∙ ap (λ (o : Office). at (λ (p : Plan). p.year) (year_of c.args.month) o.plans) stood in
+    let plan : option_copied c.plan_of-plan.result ≡ row_by_number (λ (p : Plan). p.year) (year_of c.args.month)
+    s.plans =
+    c.plan_of-plan.ensures ∙ ap (λ (o : Office). row_by_number (λ (p : Plan). p.year) (year_of c.args.month)
+    o.plans) stood in
     c.in-Ok-keep.ensures.rows s plan (c.in_ok-groups.ensures.read clean has is kept stood) fit late

@@ -8,10 +8,10 @@ use Rattle.cpi_release.specs.GroupCalls.{Sources}
 use Rattle.cpi_release.specs.Releases.{carried_of, frozen_of}
 use Rattle.cpi_store.specs.Sources.{office_sources}
 use Rattle.cpi_sql_rows.specs.HeldTables.{carried_table}
-use Rattle.cpi_sql_rows.specs.Lists.{carried_in, frozen_in, office_in, releases_in}
+use Rattle.cpi_sql_rows.specs.Lists.{carried_in_row, frozen_in, office_in, releases_in}
 use Rattle.cpi_sql_rows.proofs.FoundTables.{on_any}
 use Rattle.cpi_sql_rows.proofs.Whole.{if_ok}
-use Rattle.cpi_sql_reads.specs.Earlier.{AreEarlier, carried_rows}
+use Rattle.cpi_sql_reads.specs.Earlier.{AreEarlier, rows_of_list}
 use Rattle.cpi_sql_reads.specs.Headers.{LatestStands}
 use Rattle.cpi_sql_reads.specs.ReleaseLists.{IsLatest}
 use Rattle.cpi_sql_reads.specs.declared.groups.EarlierLists.{EarlierLists}
@@ -69,7 +69,7 @@ returns-clause-stand g c = λ clean has is kept link last.
     let are = c.in_ok-earlier.ensures.read clean has is kept in
     let before = before_latest trees c.args.link c.args.last c.in_ok-earlier.earlier are in
     on_any c.map_err.result _ (record {
-      link_carried = subst (λ m. LatestStands carried_in 30 m trees) link are.link_carried.stand;
+      link_carried = subst (λ m. LatestStands carried_in_row 30 m trees) link are.link_carried.stand;
       link_frozen = subst (λ m. LatestStands frozen_in 28 m trees) link are.link_frozen.stand;
-      last_carried = subst (λ m. LatestStands carried_in 30 m trees) last before.stand;
+      last_carried = subst (λ m. LatestStands carried_in_row 30 m trees) last before.stand;
     })

@@ -2,7 +2,7 @@ use Rattle.std.proofs.Common.{◌≡◌, ◌∙◌}
 use Rattle.sqlite.specs.Held.{state}
 use Rattle.cpi_rows.specs.Held.{held_by}
 use Rattle.cpi_plan.specs.Stored.{plan_from}
-use Rattle.cpi_sql_rows.specs.Lists.{if_whole, nodes_in, place_in, places_in, reference_of, reference_row}
+use Rattle.cpi_sql_rows.specs.Lists.{if_whole, nodes_in, place_in_row, places_in, reference_of, reference_month_in_row}
 use Rattle.cpi_sql_rows.specs.Lists.{references_in}
 use Rattle.cpi_sql_rows.specs.Shelf.{AllStandFor, year_in}
 use Rattle.cpi_sql_rows.proofs.Whole.{if_ok}
@@ -50,7 +50,8 @@ returns-clause-taken g c = λ clean has.
     let before = c.in_ok-references.ensures.look.still.clean clean in
     if_ok c.made.result _ _ c.made.ensures (λ p e. record {
       nodes = c.in_ok-nodes.ensures.stand (two.still.clean before) has;
-      places = later one (λ t. AllStandFor (year_in 1) place_in year (t 8)) two c.in_ok-places.ensures.stand before has;
-      references = later (looks_both one two) (λ t. AllStandFor (year_in 0) reference_row year (t 34))
+      places = later one (λ t. AllStandFor (year_in 1) place_in_row year (t 8)) two c.in_ok-places.ensures.stand
+          before has;
+      references = later (looks_both one two) (λ t. AllStandFor (year_in 0) reference_month_in_row year (t 34))
           c.in_ok-references.ensures.look c.in_ok-references.ensures.stand clean has;
     })

@@ -4,7 +4,7 @@ use Rattle.sqlite.specs.Held.{state}
 use Rattle.sqlite.specs.Values.{bound}
 use Rattle.sqlite.specs.State.{HasCleanDisk, Shown, Survives, CommitsShowing}
 use Rattle.sqlite.proofs.StateLemmas.{survives_then}
-use Rattle.cpi_sql_rows.specs.Read.{AreRead, Asked}
+use Rattle.cpi_sql_rows.specs.Read.{AreRead, QueryLeaves}
 use Rattle.cpi_sql_rows.proofs.Asking.{asked_open, asked_same}
 use Rattle.cpi_sql_rows.proofs.Streaming.{IsUnderWay, at_end, failed_asked, one_more, read_more, still_asked, way_asked}
 use Rattle.cpi_sql_rows.proofs.stored.gather.Goals as goal
@@ -33,7 +33,7 @@ returns-in_err-row-clause-asked g c =
     let moved = c.next.follows.holds-at-none in
     let now = c.next.follows.lender-at-none.conn.now in
     let old = c.args.conn.now in
-    let it : Asked c.args.text.now (bound c.args.params.now) (state g.S.Store old) (state g.S.Store now) =
+    let it : QueryLeaves c.args.text.now (bound c.args.params.now) (state g.S.Store old) (state g.S.Store now) =
     failed_asked g.S.Store _ _ old c.rows.rows.conn.now c.rows.invariant.1
     (λ disk. let way = c.rows.invariant.2 disk in (way.0, way.1)) now moved.survives _
     (λ was alone. c.settle.ensures.committed was alone)
@@ -46,7 +46,7 @@ returns-in_default-clause-asked g c =
     let moved = c.next.follows.holds-at-none in
     let now = c.next.follows.lender-at-none.conn.now in
     let old = c.args.conn.now in
-    let it : Asked c.args.text.now (bound c.args.params.now) (state g.S.Store old) (state g.S.Store now) =
+    let it : QueryLeaves c.args.text.now (bound c.args.params.now) (state g.S.Store old) (state g.S.Store now) =
     still_asked g.S.Store _ _ old c.rows.rows.conn.now c.rows.invariant.1
     (λ disk. let way = c.rows.invariant.2 disk in (way.0, way.1)) now moved.survives
     (λ disk. rw (c.in_ok-row.was) at (moved.same disk)) in
@@ -81,7 +81,7 @@ returns-in_err-x-clause-asked g c =
     let moved = c.next.follows.holds-at-none in
     let now = c.next.follows.lender-at-none.conn.now in
     let old = c.args.conn.now in
-    let it : Asked c.args.text.now (bound c.args.params.now) (state g.S.Store old) (state g.S.Store now) =
+    let it : QueryLeaves c.args.text.now (bound c.args.params.now) (state g.S.Store old) (state g.S.Store now) =
     still_asked g.S.Store _ _ old c.rows.rows.conn.now c.rows.invariant.1
     (λ disk. let way = c.rows.invariant.2 disk in (way.0, way.1)) now moved.survives
     (λ disk. rw (c.in_ok-row.was) at (moved.same disk)) in
@@ -93,7 +93,7 @@ returns-in_err-map_err-clause-asked g c =
     let moved = c.next.follows.holds-at-none in
     let now = c.next.follows.lender-at-none.conn.now in
     let old = c.args.conn.now in
-    let it : Asked c.args.text.now (bound c.args.params.now) (state g.S.Store old) (state g.S.Store now) =
+    let it : QueryLeaves c.args.text.now (bound c.args.params.now) (state g.S.Store old) (state g.S.Store now) =
     still_asked g.S.Store _ _ old c.rows.rows.conn.now c.rows.invariant.1
     (λ disk. let way = c.rows.invariant.2 disk in (way.0, way.1)) now moved.survives
     (λ disk. rw (c.in_ok-row.was) at (moved.same disk)) in
@@ -128,7 +128,7 @@ pub returns-clause-asked : goal.returns-clause-asked
 returns-clause-asked g c =
     let now = c.rows.rows.conn.now in
     let old = c.args.conn.now in
-    let it : Asked c.args.text.now (bound c.args.params.now) (state g.S.Store old) (state g.S.Store now) =
+    let it : QueryLeaves c.args.text.now (bound c.args.params.now) (state g.S.Store old) (state g.S.Store now) =
     way_asked g.S.Store _ _ old now c.rows.invariant.1
     (λ disk. let way = c.rows.invariant.2 disk in (way.0, way.1)) in
     search rules

@@ -1,6 +1,6 @@
 use Rattle.std.proofs.Common.{◌∙◌, ap}
 use Rattle.sqlite.specs.Held.{state}
-use Rattle.cpi_sql_rows.specs.Lists.{codes_of}
+use Rattle.cpi_sql_rows.specs.Lists.{spelled_codes}
 use Rattle.cpi_sql_rows.specs.ReleaseRows.{carry_text}
 use Rattle.cpi_sql_rows.proofs.ReleaseRows.{carry_read}
 use Rattle.cpi_sql_writes.specs.ReleaseSteps.{header_of}
@@ -12,7 +12,7 @@ returns-clause-added g c =
     header_added (state g.S.Store c.args.tx.now.conn.now) (state g.S.Store c.run_inside.new.tx.conn.now)
     c.run_inside.result c.args.numbers.month c.args.numbers.revision c.as_str.result.now
     (header_of c.args.release.now) c.moment_value-frozen_at.ensures.range c.moment_value-publishes.ensures.range
-    (ap codes_of (c.as_str.ensures.value ∙ c.in_ok-carry.ensures ∙ ap carry_text c.as_slice.ensures)
+    (ap spelled_codes (c.as_str.ensures.value ∙ c.in_ok-carry.ensures ∙ ap carry_text c.as_slice.ensures)
     ∙ carry_read c.args.release.now.carry)
     (rw (
       c.params-to_sql.ensures,

@@ -22,4 +22,4 @@ returns-clause-written g c =
       c.as_str.ensures.value,
       copied_bound columns.copied,
     ) at c.put_row.ensures in
-    assignment_written old new c.put_row.result c.args.bearer c.args.assigned.now columns is runs
+    assignment_written old new c.put_row.result c.args.registration c.args.assigned.now columns is runs

@@ -1,7 +1,7 @@
 use Rattle.std.proofs.Common.{◌≡◌, Some, pos, refl}
 use Rattle.std.specs.String.{string_bytes}
 use Rattle.sqlite.specs.declared.types.Value.TheVariants.{Int, Text}
-use Rattle.cpi_sql_rows.specs.Lists.{item_of}
+use Rattle.cpi_sql_rows.specs.Lists.{item_of_values}
 use Rattle.cpi_sql_writes.proofs.RowWrites.{item_written}
 use Rattle.sqlite.specs.Held.{state}
 use Rattle.cpi_sql_writes.proofs.writes.put_item.Goals as goal
@@ -11,7 +11,7 @@ returns-clause-written g c =
     let old = state g.S.Store c.args.conn.now in
     let new = state g.S.Store c.put_row.new.conn in
     let item = c.args.item.now in
-    let is : item_of (Text (string_bytes c.in_ok-code.code)) (Text item.text) (Text item.unit)
+    let is : item_of_values (Text (string_bytes c.in_ok-code.code)) (Text item.text) (Text item.unit)
     (Int (pos c.low_number-low.result)) (Int (pos c.high_number-high.result)) ≡ Some item = rw (
       c.in_ok-code.ensures,
       c.name_text-text.ensures.name,

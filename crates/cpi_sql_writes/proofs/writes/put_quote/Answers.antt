@@ -5,7 +5,7 @@ use Rattle.cpi_sql_writes.proofs.writes.put_quote.Goals as goal
 
 pub returns-clause-written : goal.returns-clause-written
 returns-clause-written g c = rw (← c.quote.view_is) (quote_written (state g.S.Store c.args.conn.now)
-    (state g.S.Store c.put_row.new.conn) c.put_row.result c.args.bearer (record {
+    (state g.S.Store c.put_row.new.conn) c.put_row.result c.args.registration (record {
       slot = c.quote.inside.slot;
       month = c.quote.inside.month;
       mark = c.quote.inside.mark;

@@ -3,7 +3,7 @@ use Rattle.std.specs.Ordering.{nat_cmp}
 use Rattle.std.proofs.lemmas.Cmp.{nat_cmp_total}
 use Rattle.cpi_rows.specs.Keyed.{IsPlace, row_at}
 use Rattle.cpi_rows.proofs.Places.{missing_at_gap}
-use Rattle.cpi_survey.specs.Assignment.{ended}
+use Rattle.cpi_survey.specs.Assignment.{with_last_month}
 use Rattle.cpi_survey.specs.Own.{OwnPart}
 use Rattle.cpi_store.specs.declared.holder.Holder.{Holder}
 use Rattle.cpi_store.proofs.Ended.{all_ended, all_stay, none_apart, placed_ended, names_ended}
@@ -22,7 +22,7 @@ returns-in-Ok-clause-assignments c =
     all_ended c.args.collector c.args.slot c.args.last_month hs c.in-Ok.at _ h c.requires.order place.0 number
     (ap (λ (g : Holder). g.number) found ∙ number)
     (ap (λ (o : OwnPart). o.assignments) c.end_assignment.ensures
-    ∙ ap (λ (g : Holder). ended c.args.slot c.args.last_month g.own.assignments) found)
+    ∙ ap (λ (g : Holder). with_last_month c.args.slot c.args.last_month g.own.assignments) found)
 
 pub returns-in-Ok-clause-collectors : goal.returns-in-Ok-clause-collectors
 returns-in-Ok-clause-collectors c =

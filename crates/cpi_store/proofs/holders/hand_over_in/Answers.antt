@@ -2,7 +2,7 @@ use Rattle.std.proofs.Common.{◌≡◌, map, Some, None, get_or, sym, ap, ◌�
 use Rattle.std.specs.Prelude.{insert}
 use Rattle.std.specs.Ordering.{nat_cmp}
 use Rattle.cpi_rows.specs.Held.{held_cmp}
-use Rattle.cpi_rows.specs.Keyed.{IsPlace, put}
+use Rattle.cpi_rows.specs.Keyed.{IsPlace, with_row}
 use Rattle.cpi_rows.proofs.Places.{put_at_gap, row_found}
 use Rattle.cpi_store.specs.Holders.{all_assignments, all_given}
 use Rattle.cpi_store.specs.Series.{given_in}
@@ -16,7 +16,7 @@ abbrev new_over : SeriesMove → TakenOver
 new_over h = record { collector = h.taker.number; slot = h.assigned.assignment.slot; series = h.ended.series }
 
 -- the new slot is put among those that took a series over
-inserted : (c : goal.In_ok-insert-in-Err) → c.insert.new.self.items ≡ put (held_cmp nat_cmp) taken_key
+inserted : (c : goal.In_ok-insert-in-Err) → c.insert.new.self.items ≡ with_row (held_cmp nat_cmp) taken_key
     (new_over c.args.handover) c.args.taken.now.items
 inserted c =
     let taken = c.args.taken.now.items in
@@ -52,7 +52,7 @@ pub returns-clause-ok : goal.returns-clause-ok
 returns-clause-ok c =
     let rows = all_assignments c.args.holders.now.items in
     ap (λ taken. all_given taken c.pass_on.new.holders.items) (inserted c)
-    ∙ ap (map (given_in (put (held_cmp nat_cmp) taken_key (new_over c.args.handover) c.args.taken.now.items)))
+    ∙ ap (map (given_in (with_row (held_cmp nat_cmp) taken_key (new_over c.args.handover) c.args.taken.now.items)))
     c.in_ok-pass_on-in-Err.ensures.ok
     ∙ given_handed c.args.handover c.args.taken.now.items c.requires.by_slot rows c.requires.stands c.requires.new
 

@@ -4,7 +4,7 @@ use Rattle.std.specs.Option.{option_copied}
 use Rattle.std.proofs.lemmas.List.{take_more}
 use Rattle.cpi_release.specs.PublishedTables.{PublishedTable}
 use Rattle.cpi_release.specs.declared.release.Release.{Release}
-use Rattle.cpi_store.specs.Tables.{table_until, wanted}
+use Rattle.cpi_store.specs.Tables.{table_until, is_wanted}
 use Rattle.cpi_store.proofs.PublishedTables.{table_wanted, table_unwanted, wanted_named, wanted_other}
 use Rattle.cpi_store.proofs.releases.table_until.Goals as goal
 use Rattle.cpi_store.proofs.releases.table_until.Goals.{then-eq+then-is_due, else-eq, else-eq-via-then-eq+else-is_due}
@@ -22,7 +22,7 @@ loop-release-preserved c =
     ∙ ap (λ (z : Release). take i rs ++ z ∷ []) (sym c.release-item.is) in
     let told = ap (λ xs. option_map (λ (t : PublishedTable). t.levels) (table_until month (Some revision) until xs))
     more in
-    let kept : wanted month (Some revision) until x ≡ false →
+    let kept : is_wanted month (Some revision) until x ≡ false →
     option_map (λ (t : PublishedTable). t.levels) (table_until month (Some revision) until (take i rs)) ≡
     option_map (λ (t : PublishedTable). t.levels) (table_until month (Some revision) until (take (i + 1) rs)) =
     λ unwanted. sym (told ∙ ap (option_map (λ (t : PublishedTable). t.levels))
@@ -30,7 +30,7 @@ loop-release-preserved c =
     elim c.if-eq.branch [
       | then-eq+then-is_due w ↦
           let named : (x.revision == revision) ≡ true = search rules in
-          let due : wanted month None until x ≡ true = search rules in
+          let due : is_wanted month None until x ≡ true = search rules in
           let is = wanted_named month revision until x named ∙ due in
           ap option_copied w.found-is ∙ sym (told ∙ ap (option_map (λ (t : PublishedTable). t.levels))
           (table_wanted month (Some revision) until (take i rs) x is))
@@ -38,7 +38,7 @@ loop-release-preserved c =
           ap option_copied w.found-is ∙ c.loop-release.invariant ∙ elim w.else-eq.branch [
             | else-eq-via-then-eq+else-is_due v ↦
                 let named : (x.revision == revision) ≡ true = search rules in
-                let due : wanted month None until x ≡ false = search rules in
+                let due : is_wanted month None until x ≡ false = search rules in
                 kept (wanted_named month revision until x named ∙ due)
             | else-eq-via-else-eq v ↦
                 let other : (x.revision == revision) ≡ false = search rules in

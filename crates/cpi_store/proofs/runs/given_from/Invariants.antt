@@ -1,6 +1,6 @@
 use Rattle.std.proofs.Common.{◌≡◌, take}
-use Rattle.cpi_store.specs.Loading.{beside}
+use Rattle.cpi_store.specs.Loading.{rows_with_number}
 use Rattle.cpi_store.proofs.runs.given_from.Given as goal
 
 abbrev pub invariant-rows : goal.invariant-rows
-invariant-rows l = beside l.fn.collector l.own.items ≡ take l.row-index l.next
+invariant-rows l = rows_with_number l.fn.collector l.own.items ≡ take l.row-index l.next

@@ -2,7 +2,7 @@ use Rattle.std.proofs.Common.{◌≡◌, ◌≢◌, ℕ, Some, None, sym, ap, �
 use Rattle.std.proofs.lemmas.Bool.{eqb-true, eqb-false, not-true, not-false}
 use Rattle.std.specs.Prelude.{is_some}
 use Rattle.cpi_survey.specs.Mark.{observed_price}
-use Rattle.cpi_survey.specs.LastPrice.{latest, is_earlier, price_in}
+use Rattle.cpi_survey.specs.LastPrice.{latest_quote, is_earlier, price_in}
 use Rattle.cpi_survey.proofs.Latest.{before_gap, before_row, front_below, front_in_order, latest_other, latest_own}
 use Rattle.cpi_survey.proofs.Latest.{starts, without_last}
 use Rattle.cpi_survey.proofs.last_price.observed_before.Goals as goal
@@ -24,7 +24,7 @@ returns-then-ne c =
     rw (← c.quote.view_is) (eqb-false c.quote.inside.slot c.args.slot
     (not-true _ (sym c.ne.ensures ∙ c.if-ne.true))) in
     let none = latest_other c.args.slot c.args.month _ _ (rw split at kept.order) (rw split at kept.below) differs in
-    sym (ap price_in (kept.latest ∙ ap (latest (is_earlier c.args.slot c.args.month)) split ∙ none))
+    sym (ap price_in (kept.latest ∙ ap (latest_quote (is_earlier c.args.slot c.args.month)) split ∙ none))
 
 pub returns-in-Some-observed_price : goal.returns-in-Some-observed_price
 returns-in-Some-observed_price c =
@@ -37,7 +37,7 @@ returns-in-Some-observed_price c =
     rw (← c.quote.view_is) (sym c.observed_price.ensures ∙ c.in-Some-observed_price.is) in
     let found = latest_own c.args.slot c.args.month _ _ (rw split at kept.order) (rw split at kept.below) same
     (ap is_some price) in
-    sym (ap price_in (kept.latest ∙ ap (latest (is_earlier c.args.slot c.args.month)) split ∙ found) ∙ price)
+    sym (ap price_in (kept.latest ∙ ap (latest_quote (is_earlier c.args.slot c.args.month)) split ∙ found) ∙ price)
 
 pub loop-quote-preserved : goal.loop-quote-preserved
 loop-quote-preserved c =
@@ -49,6 +49,6 @@ loop-quote-preserved c =
     record {
       order = front_in_order _ _ (rw split at kept.order);
       below = front_below k _ _ (rw split at kept.below);
-      latest = kept.latest ∙ ap (latest (is_earlier c.args.slot c.args.month)) split
+      latest_quote = kept.latest ∙ ap (latest_quote (is_earlier c.args.slot c.args.month)) split
           ∙ without_last c.args.slot c.args.month _ _ none;
     }

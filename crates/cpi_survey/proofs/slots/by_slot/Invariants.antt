@@ -1,9 +1,9 @@
 use Rattle.std.proofs.Common.{◌≡◌, take}
-use Rattle.cpi_survey.specs.Slots.{AreBySlot, all_quotes}
+use Rattle.cpi_survey.specs.Slots.{AreBySlot, quotes_of_slots}
 use Rattle.cpi_survey.proofs.slots.by_slot.Given as goal
 
 abbrev pub invariant-loop-quote : goal.invariant-loop-quote
 invariant-loop-quote l = record {
   slots : AreBySlot l.slots.items;
-  quotes : all_quotes l.slots.items ≡ take l.quote-index l.quotes;
+  quotes : quotes_of_slots l.slots.items ≡ take l.quote-index l.quotes;
 }

@@ -1,7 +1,7 @@
 use Rattle.std.proofs.Common.{ap, refl, sym, ◌∙◌}
 use Rattle.std.proofs.lemmas.Bool.{false≢true}
 use Rattle.std.proofs.lemmas.Result.{on_ok_weaker, on_err_weaker}
-use Rattle.cpi_rows.specs.Keyed.{put}
+use Rattle.cpi_rows.specs.Keyed.{with_row}
 use Rattle.cpi_survey.specs.Quote.{QuoteRow, quote_cmp, quote_key}
 use Rattle.cpi_survey.proofs.BySlot.{either, quotes_put, quotes_same, row_standing, slot_known, slots_put, slots_same}
 use Rattle.cpi_survey.proofs.slots.put_quote.Goals as goal
@@ -18,7 +18,7 @@ returns-clause-ok c =
     quotes_put c.place_for.new.slots.items c.place_for.ensures.slots c.quote.inside.slot c.in_ok-at.at
     c.in_ok-at.ensures.place c.index_mut.result.now c.index_mut.ensures.value _ refl
     c.args.quote (ap (λ (q : QuoteRow). q.slot) (sym c.quote.view_is)) done
-    ∙ ap (put quote_cmp quote_key c.args.quote) c.place_for.ensures.quotes) c.put_row.ensures.ok
+    ∙ ap (with_row quote_cmp quote_key c.args.quote) c.place_for.ensures.quotes) c.put_row.ensures.ok
 
 pub returns-clause-err : goal.returns-clause-err
 returns-clause-err c =

@@ -5,7 +5,7 @@ use Rattle.std.proofs.lemmas.Bool.Decides.{nat_tests}
 use Rattle.csv.specs.Records.{fields_of}
 use Rattle.cpi_codes.specs.Zone.{ZoneRule}
 use Rattle.cpi_wire.specs.Input.{Record, AreFirst, records_of}
-use Rattle.cpi_wire.specs.Import.{row_request, rows_of}
+use Rattle.cpi_wire.specs.Import.{row_asks, rows_of_body}
 use Rattle.cpi_wire.proofs.Reading.{at-front}
 use Rattle.cpi_wire.proofs.import.import_rows.Goals as goal
 
@@ -16,14 +16,14 @@ is-more : (n : ℕ) → 20000 < n → nat_lt 20000 n ≡ true
 is-more n h = grind (arith, nat_tests)
 
 few-rows : (zone : ZoneRule) (body : List ℕ) (given : List Record) → given ≡ records_of body → length given ≤ 20000 →
-    Some (map (row_request zone) given) ≡ rows_of zone body
-unfolding rows_of
+    Some (map (row_asks zone) given) ≡ rows_of_body zone body
+unfolding rows_of_body
 few-rows zone body given e h = let t : nat_lt 20000 (length (records_of body)) ≡ false =
     rw (← e) (not-more (length given) h) in rw (t, e) refl
 
 many-rows : (zone : ZoneRule) (body : List ℕ) (given : List Record) → AreFirst given body → 20000 < length given →
-    None ≡ rows_of zone body
-unfolding rows_of
+    None ≡ rows_of_body zone body
+unfolding rows_of_body
 many-rows zone body given first h =
     let t : nat_lt 20000 (length (records_of body)) ≡ true = is-more _ (rw (first.1, length-append) (omega arith)) in
     rw t refl
@@ -46,7 +46,7 @@ loop-preserved c =
         c.in_ok-push.ensures.items,
         inv.2,
         c.in_ok-record_request.ensures,
-        map-append (row_request c.args.zone.now) inv.0 (f ∷ []),
+        map-append (row_asks c.args.zone.now) inv.0 (f ∷ []),
       ) refl,
       let count = inv.3 in rw length-append (omega arith),
     )

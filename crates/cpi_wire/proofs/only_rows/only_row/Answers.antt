@@ -1,21 +1,21 @@
 use Rattle.std.proofs.Common.{◌≡◌, sym, ap, rules, ℕ, List, [], ◌∷◌, Some, None, true, false}
 use Rattle.csv.specs.Records.{fields_of}
 use Rattle.cpi_wire.specs.Input.{Record, AreFirst, records_of}
-use Rattle.cpi_wire.specs.OnlyRows.{only, only_row}
+use Rattle.cpi_wire.specs.OnlyRows.{only_record, only_row_of}
 use Rattle.cpi_wire.proofs.Reading.{at-front}
 use Rattle.cpi_wire.proofs.only_rows.only_row.Goals as goal
 
-no-row : (text : List ℕ) → [] ≡ records_of text → None ≡ only_row text
-unfolding only_row
-no-row text all = ap only all
+no-row : (text : List ℕ) → [] ≡ records_of text → None ≡ only_row_of text
+unfolding only_row_of
+no-row text all = ap only_record all
 
-one-row : (text : List ℕ) (row : Record) → row ∷ [] ≡ records_of text → Some row ≡ only_row text
-unfolding only_row
-one-row text row all = ap only all
+one-row : (text : List ℕ) (row : Record) → row ∷ [] ≡ records_of text → Some row ≡ only_row_of text
+unfolding only_row_of
+one-row text row all = ap only_record all
 
-more-rows : (text : List ℕ) (row other : Record) → AreFirst (row ∷ other ∷ []) text → None ≡ only_row text
-unfolding only_row
-more-rows text row other first = ap only (sym first.1)
+more-rows : (text : List ℕ) (row other : Record) → AreFirst (row ∷ other ∷ []) text → None ≡ only_row_of text
+unfolding only_row_of
+more-rows text row other first = ap only_record (sym first.1)
 
 pub returns-then-not-branch : goal.returns-then-not-branch
 returns-then-not-branch c =

@@ -3,7 +3,7 @@ use Rattle.cpi_office.specs.declared.caller.Caller.TheVariants as caller
 use Rattle.cpi_store.specs.Sound.{IsSound}
 use Rattle.cpi_office.proofs.Calls.{serves_weaker}
 use Rattle.cpi_office.proofs.Stays.{collector_stays}
-use Rattle.cpi_office.proofs.Told.{serves_sound, serves_views, serves_table}
+use Rattle.cpi_office.proofs.NonInterferenceOfRuns.{serves_sound, serves_views, serves_table}
 use Rattle.cpi_office.proofs.office.Office.handle.Goals as goal
 
 pub returns-in-Collector-clause-serves : goal.returns-in-Collector-clause-serves

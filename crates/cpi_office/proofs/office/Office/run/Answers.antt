@@ -7,25 +7,25 @@ use Rattle.cpi_store.specs.Office.{Office}
 use Rattle.cpi_office.specs.Runs.{reply_to, next}
 use Rattle.cpi_office.specs.Calls.{ServesWhere}
 use Rattle.cpi_store.specs.Sound.{IsSound}
-use Rattle.cpi_office.specs.Rebuilt.{AreRebuilt, AreFromViews}
+use Rattle.cpi_office.specs.RebuiltProjections.{AreRebuilt, AreFromViews}
 use Rattle.cpi_store.proofs.History.{releases_computed}
 use Rattle.cpi_office.specs.ComputedTables.{TellTables}
 use Rattle.cpi_office.proofs.RunViews.{run_rebuilt, run_from_views, run_stays}
 use Rattle.cpi_office.proofs.ComputedTables.{run_tables}
-use Rattle.cpi_office.specs.Served.{Ran}
+use Rattle.cpi_office.specs.Served.{RunOverBook}
 use Rattle.cpi_office.specs.declared.request.Ask.{Ask}
 use Rattle.cpi_office.specs.declared.reply.Reply.{Reply}
 use Rattle.cpi_office.proofs.Served.{ran_more, run_sound}
-use Rattle.cpi_office.proofs.Told.{told_alone}
-use Rattle.cpi_office.specs.Told.{AreToldAlone}
+use Rattle.cpi_office.proofs.NonInterferenceOfRuns.{told_alone}
+use Rattle.cpi_office.specs.NonInterferenceOfRuns.{AreToldAlone}
 use Rattle.cpi_office.proofs.office.Office.run.Goals as goal
 
 -- one request more is carried out
 module _ (o u w : State Office) (all front rest later : List Ask) (rs : List Reply) (a : Ask) (r : Reply) where
-  one_more : all ≡ front ++ rest → rest ≡ a ∷ later → length rs ≡ length front → Ran o u front rs →
+  one_more : all ≡ front ++ rest → rest ≡ a ∷ later → length rs ≡ length front → RunOverBook o u front rs →
       ServesWhere u w (IsSound u.held) r (reply_to a.now a.caller a.request u.held) (next a u.held) →
       (all ≡ (front ++ a ∷ []) ++ later) × (length (rs ++ r ∷ []) ≡ length (front ++ a ∷ []))
-      × Ran o w (front ++ a ∷ []) (rs ++ r ∷ [])
+      × RunOverBook o w (front ++ a ∷ []) (rs ++ r ∷ [])
   one_more split head same so_far serves = (
     split ∙ ap (λ ys. front ++ ys) head ∙ sym (append_assoc front (a ∷ []) later),
     length-append rs (r ∷ [])

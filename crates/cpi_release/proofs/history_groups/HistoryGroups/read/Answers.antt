@@ -1,6 +1,6 @@
 use Rattle.std.proofs.Common.{◌≡◌, sym, ap, ◌∙◌, refl, subst}
 use Rattle.cpi_release.specs.GroupCalls.{group_of}
-use Rattle.cpi_release.specs.KeptSamples.{sources_of, sources_in, IsFit}
+use Rattle.cpi_release.specs.CachedSamples.{sources_of, sources_in, IsFit}
 use Rattle.cpi_release.proofs.history_groups.HistoryGroups.read.Goals as goal
 
 pub returns-in-Some-clause-shown : goal.returns-in-Some-clause-shown

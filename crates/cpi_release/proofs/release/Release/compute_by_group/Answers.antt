@@ -1,7 +1,7 @@
 use Rattle.std.proofs.Common.{◌≡◌, Some, sym, ap, ◌∙◌, refl}
 use Rattle.std.specs.Prelude.{IsSome}
 use Rattle.std.specs.Option.{option_copied}
-use Rattle.cpi_release.specs.Releases.{rows_in}
+use Rattle.cpi_release.specs.Releases.{rows_of_bases}
 use Rattle.cpi_release.specs.Releasing.{Freeze}
 use Rattle.cpi_release.proofs.Late.{late}
 use Rattle.cpi_release.proofs.Sound.{year_plan, group_is, can_ask, carry_ordered, is_released}
@@ -21,7 +21,7 @@ returns-in-Err-clause-exact g c = λ clean sound asked.
     asked.quotes in
     let late = late s month has after in
     let made = rw c.deref.ensures.value at (c.in-Err.ensures.exact clean sound late
-    (can_ask s month p frozen has after own) (rows_in p s.releases month frozen) own
+    (can_ask s month p frozen has after own) (rows_of_bases p s.releases month frozen) own
     (carry_ordered s.releases has p month frozen)) in
     rw given made
 
@@ -48,7 +48,7 @@ returns-clause-exact g c = λ clean sound asked.
     asked.quotes in
     let late = late s month has after in
     let made = rw c.deref.ensures.value at (c.in-Ok.ensures.exact clean sound late
-    (can_ask s month p frozen has after own) (rows_in p s.releases month frozen) own
+    (can_ask s month p frozen has after own) (rows_of_bases p s.releases month frozen) own
     (carry_ordered s.releases has p month frozen)) in
     rw given (
       made.0,

@@ -1,7 +1,7 @@
 use Rattle.std.proofs.Common.{◌≡◌, None, sym, ap, ◌∙◌}
 use Rattle.std.specs.Map.{values_of}
 use Rattle.std.proofs.lemmas.Bool.{false≢true}
-use Rattle.cpi_rows.specs.Keyed.{put, row_at}
+use Rattle.cpi_rows.specs.Keyed.{with_row, row_at}
 use Rattle.cpi_rows.proofs.Places.{put_in_order}
 use Rattle.cpi_rows.proofs.ByKey.{lookup_row, stay_under, insert_puts}
 use Rattle.cpi_rows.proofs.by_key.RowsByKey.put.Goals as goal
@@ -19,7 +19,7 @@ pub invariant_of-self-2 : goal.invariant_of-self-2
 invariant_of-self-2 g c =
     let o = g.met.T.Key.Ord.total in
     let es = c.self.inside.rows.entries in
-    let after : values_of c.insert.new.self.entries ≡ put g.T.Key.Ord.cmp g.T.Keyed.key c.args.row (values_of es) =
+    let after : values_of c.insert.new.self.entries ≡ with_row g.T.Key.Ord.cmp g.T.Keyed.key c.args.row (values_of es) =
     rw (c.in_ok-insert.ensures.entries, c.key.ensures)
     (insert_puts o g.T.Keyed.key c.args.row es c.self.invariant.under c.self.invariant.order) in
     record {
@@ -32,16 +32,16 @@ pub returns-clause-ok : goal.returns-clause-ok
 returns-clause-ok g c =
     let o = g.met.T.Key.Ord.total in
     let es = c.self.inside.rows.entries in
-    let after : values_of c.insert.new.self.entries ≡ put g.T.Key.Ord.cmp g.T.Keyed.key c.args.row (values_of es) =
+    let after : values_of c.insert.new.self.entries ≡ with_row g.T.Key.Ord.cmp g.T.Keyed.key c.args.row (values_of es) =
     rw (c.in_ok-insert.ensures.entries, c.key.ensures)
     (insert_puts o g.T.Keyed.key c.args.row es c.self.invariant.under c.self.invariant.order) in
-    after ∙ ap (put g.T.Key.Ord.cmp g.T.Keyed.key c.args.row) c.self.view_is
+    after ∙ ap (with_row g.T.Key.Ord.cmp g.T.Keyed.key c.args.row) c.self.view_is
 
 pub returns-clause-order : goal.returns-clause-order
 returns-clause-order g c =
     let o = g.met.T.Key.Ord.total in
     let es = c.self.inside.rows.entries in
-    let after : values_of c.insert.new.self.entries ≡ put g.T.Key.Ord.cmp g.T.Keyed.key c.args.row (values_of es) =
+    let after : values_of c.insert.new.self.entries ≡ with_row g.T.Key.Ord.cmp g.T.Keyed.key c.args.row (values_of es) =
     rw (c.in_ok-insert.ensures.entries, c.key.ensures)
     (insert_puts o g.T.Keyed.key c.args.row es c.self.invariant.under c.self.invariant.order) in
     rw after (put_in_order o g.T.Keyed.key (values_of es) c.args.row c.self.invariant.order)

@@ -4,7 +4,7 @@ use Rattle.sqlite.specs.Held.{state}
 use Rattle.cpi_release.specs.PublishedTables.{PublishedTable}
 use Rattle.cpi_store.specs.Office.{Office}
 use Rattle.cpi_store.specs.Tables.{table_until}
-use Rattle.cpi_sql_reads.specs.Headers.{has_release, is_there}
+use Rattle.cpi_sql_reads.specs.Headers.{holds_release, is_header_there}
 use Rattle.cpi_sql_rows.specs.Shelf.{IsCleanBook}
 use Rattle.cpi_sql_reads.proofs.HeaderLists.{table_shown, there_has}
 use Rattle.cpi_sql.proofs.Calls.{looks, then_fault, then_read, then_shown}
@@ -21,7 +21,7 @@ returns-then-not-is_there g c =
     let same = rw (← c.self.view_is) at c.in_ok-ready_headers.ensures.now in
     let no : c.is_there.result ≡ false = search rules in
     let told = λ (clean : IsCleanBook now). sym no ∙ c.is_there.ensures
-    ∙ ap (is_there c.args.month c.args.revision c.args.until)
+    ∙ ap (is_header_there c.args.month c.args.revision c.args.until)
     (c.deref.ensures.value ∙ ((c.self.invariant clean).kept.headers ready).read) in (
       (
         refl,
@@ -64,12 +64,12 @@ returns g c =
     let before = λ (clean : IsCleanBook new). c.ready_table-read.ensures.look.still.clean clean in
     let headers = λ (clean : IsCleanBook new). (c.self.invariant (before clean)).kept.headers ready in
     let told = λ (clean : IsCleanBook new). sym yes ∙ c.is_there.ensures
-    ∙ ap (is_there c.args.month c.args.revision c.args.until) (c.deref.ensures.value ∙ (headers clean).read) in
+    ∙ ap (is_header_there c.args.month c.args.revision c.args.until) (c.deref.ensures.value ∙ (headers clean).read) in
     let tables = λ (clean : IsCleanBook new).
     (c.ready_table-read.ensures.kept clean (c.self.invariant (before clean)).tables
     (c.deref-2.ensures.value ∙ (headers clean).read) (c.self.invariant (before clean)).kept.lists).levels in
     let there = on_ok _ c.in_ok-counted.ensures c.ready_table-read.ensures.ready
-    (subst (λ hs. IsTrue (has_release c.args.month c.args.revision hs))
+    (subst (λ hs. IsTrue (holds_release c.args.month c.args.revision hs))
     (c.deref.ensures.value ∙ sym c.deref-2.ensures.value)
     (there_has c.args.month c.args.revision c.args.until _ (sym c.is_there.ensures ∙ yes))) in (
       (

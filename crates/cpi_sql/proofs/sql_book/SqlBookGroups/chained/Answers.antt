@@ -2,9 +2,9 @@ use Rattle.std.proofs.Common.{IsTrue, ap, subst, ◌∙◌}
 use Rattle.std.specs.Prelude.{OnOk}
 use Rattle.sqlite.specs.Effect.{Database}
 use Rattle.sqlite.specs.Held.{state}
-use Rattle.cpi_release.specs.Releases.{level_at}
+use Rattle.cpi_release.specs.Releases.{level_at_month}
 use Rattle.cpi_store.specs.Office.{Office}
-use Rattle.cpi_sql_rows.specs.Lists.{level_in}
+use Rattle.cpi_sql_rows.specs.Lists.{level_in_row}
 use Rattle.cpi_sql_reads.specs.Headers.{LatestStands}
 use Rattle.cpi_sql.proofs.Calls.{looks, then_read}
 use Rattle.cpi_sql.proofs.Counted.{answers, was_ok}
@@ -34,14 +34,14 @@ returns-clause-reads g c =
     let st = c.self.invariant before in
     (rw is at (c.chained_level-found.ensures.read clean st.tables
     (c.deref.ensures.value ∙ (st.kept.headers (ready g c)).read) st.kept.lists))
-    ∙ ap (λ (o : Office). level_at o.releases c.args.month c.args.code) (read.keeps.kept before)))
+    ∙ ap (λ (o : Office). level_at_month o.releases c.args.month c.args.code) (read.keeps.kept before)))
 
 pub returns-clause-rows : goal.returns-clause-rows
 returns-clause-rows g c = λ clean.
     let same = rw (← c.self.view_is) at c.ready_headers.ensures.now in
     let before = c.chained_level-found.ensures.look.still.clean clean in
     let st = c.self.invariant before in
-    subst (λ (d : Database). OnOk c.counted.result (LatestStands level_in 32 c.args.month d.trees)) (same before)
+    subst (λ (d : Database). OnOk c.counted.result (LatestStands level_in_row 32 c.args.month d.trees)) (same before)
     (answers _ _ _ c.counted.ensures
     (c.chained_level-found.ensures.taken clean st.tables (c.deref.ensures.value ∙ (st.kept.headers (ready g c)).read)
     st.kept.lists))

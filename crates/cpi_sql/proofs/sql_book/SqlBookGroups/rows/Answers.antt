@@ -4,7 +4,7 @@ use Rattle.sqlite.specs.Effect.{Database}
 use Rattle.sqlite.specs.Held.{state}
 use Rattle.cpi_codes.specs.Month.{year_of}
 use Rattle.cpi_release.proofs.Late.{late}
-use Rattle.cpi_release.specs.KeptSamples.{IsFit}
+use Rattle.cpi_release.specs.CachedSamples.{IsFit}
 use Rattle.cpi_release.specs.GroupCalls.{IsAfterFrozen, group_of}
 use Rattle.cpi_store.specs.Office.{Office}
 use Rattle.cpi_store.specs.Sources.{office_sources}

@@ -4,8 +4,8 @@ use Rattle.cpi_store.specs.Office.{HandsOver, given_over}
 use Rattle.cpi_sql_rows.specs.Lists.{office_in}
 use Rattle.cpi_sql_rows.specs.Shelf.{HasTables, IsDone}
 use Rattle.cpi_sql_rows.specs.Steps.{outside}
-use Rattle.cpi_sql_rows.specs.Tables.{assignment_2}
-use Rattle.cpi_sql_writes.specs.GivenColumns.{IsFree, PutsGiven}
+use Rattle.cpi_sql_rows.specs.Tables.{table_of_assignments_2}
+use Rattle.cpi_sql_writes.specs.GivenColumns.{IsNumberFree, PutsGiven}
 use Rattle.cpi_sql_writes.proofs.AddedRows.{step_ready}
 use Rattle.cpi_sql_writes.proofs.HandoverOffice.{handed_over, free_after}
 use Rattle.cpi_sql_writes.proofs.Withins.{inside_then, on_given, on_then}
@@ -23,8 +23,8 @@ returns-clause-written g c =
     on_given c.add_given.result (HasTables (outside a)) (IsDone (HandsOver h) (outside a) (outside d)) (λ has.
     let one = first.step clean_b inside h.former.number h.ended c.in_ok-former.ensures
     (record { schema = has.schema; rowids = has.assignment_ids }) in
-    let free = subst (IsFree h.taker.number h.assigned.assignment.slot) (sym (one.rows has.assignments).0)
+    let free = subst (IsNumberFree h.taker.number h.assigned.assignment.slot) (sym (one.rows has.assignments).0)
     (free_after h (office_in a.now.trees).assignments can) in
     on_then c.add_given.result _ _ (next.step clean one.inside) (λ put. handed_over h a b d has can one
     (put h.taker.number (given_over h) c.in_ok-new.ensures free
-    (step_ready assignment_2.tree (PutsGiven h.former.number h.ended) a b one))))))
+    (step_ready table_of_assignments_2.tree (PutsGiven h.former.number h.ended) a b one))))))

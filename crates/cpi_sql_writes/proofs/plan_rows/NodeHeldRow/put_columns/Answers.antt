@@ -1,6 +1,6 @@
 use Rattle.std.specs.String.{string_bytes}
 use Rattle.cpi_sql_rows.specs.Lists.{node_in}
-use Rattle.cpi_sql_rows.specs.Tables.{node}
+use Rattle.cpi_sql_rows.specs.Tables.{table_of_nodes}
 use Rattle.cpi_sql_writes.specs.PlanSteps.{IsYearNumber}
 use Rattle.cpi_sql_writes.proofs.ManyRows.{columns_put}
 use Rattle.cpi_sql_writes.proofs.PlanSteps.{node_columns}
@@ -8,7 +8,7 @@ use Rattle.cpi_sql_writes.proofs.plan_rows.NodeHeldRow.put_columns.Goals as goal
 
 pub returns : goal.returns
 returns c =
-    columns_put node node_in (IsYearNumber c.args.year) c.args.self.now c.args.all.now.items _
+    columns_put table_of_nodes node_in (IsYearNumber c.args.year) c.args.self.now c.args.all.now.items _
     c.extend_from_slice.new.self.items c.extend_from_slice.result c.map_err.result c.extend_from_slice.ensures.items
     c.map_err.ensures.variant
     (rw (

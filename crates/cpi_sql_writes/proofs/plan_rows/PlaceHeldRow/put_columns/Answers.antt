@@ -1,6 +1,6 @@
 use Rattle.std.specs.String.{string_bytes}
-use Rattle.cpi_sql_rows.specs.Lists.{place_in}
-use Rattle.cpi_sql_rows.specs.Tables.{plan_item}
+use Rattle.cpi_sql_rows.specs.Lists.{place_in_row}
+use Rattle.cpi_sql_rows.specs.Tables.{table_of_plan_items}
 use Rattle.cpi_sql_writes.specs.PlanSteps.{IsYearNumber}
 use Rattle.cpi_sql_writes.proofs.ManyRows.{columns_put}
 use Rattle.cpi_sql_writes.proofs.PlanSteps.{place_columns}
@@ -8,7 +8,7 @@ use Rattle.cpi_sql_writes.proofs.plan_rows.PlaceHeldRow.put_columns.Goals as goa
 
 pub returns : goal.returns
 returns c =
-    columns_put plan_item place_in (IsYearNumber c.args.year) c.args.self.now c.args.all.now.items _
+    columns_put table_of_plan_items place_in_row (IsYearNumber c.args.year) c.args.self.now c.args.all.now.items _
     c.extend_from_slice.new.self.items c.extend_from_slice.result c.map_err.result c.extend_from_slice.ensures.items
     c.map_err.ensures.variant
     (rw (

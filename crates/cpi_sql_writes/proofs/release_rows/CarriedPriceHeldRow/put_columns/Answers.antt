@@ -1,8 +1,8 @@
 use Rattle.std.proofs.Common.{Some, ap, ◌∙◌}
 use Rattle.std.specs.String.{string_bytes}
 use Rattle.cpi_codes.specs.declared.series.SeriesId.{SeriesId}
-use Rattle.cpi_sql_rows.specs.Lists.{carried_in}
-use Rattle.cpi_sql_rows.specs.Tables.{carried_2}
+use Rattle.cpi_sql_rows.specs.Lists.{carried_in_row}
+use Rattle.cpi_sql_rows.specs.Tables.{table_of_carried_2}
 use Rattle.cpi_sql_writes.specs.ReleaseSteps.{IsReleaseNumber}
 use Rattle.cpi_sql_writes.proofs.ManyRows.{columns_put}
 use Rattle.cpi_sql_writes.proofs.ReleaseSteps.{carried_columns}
@@ -11,7 +11,7 @@ use Rattle.cpi_sql_writes.proofs.release_rows.CarriedPriceHeldRow.put_columns.Go
 pub returns : goal.returns
 returns c =
     let numbers = c.args.numbers in
-    columns_put carried_2 carried_in (IsReleaseNumber numbers.month numbers.revision) c.args.self.now
+    columns_put table_of_carried_2 carried_in_row (IsReleaseNumber numbers.month numbers.revision) c.args.self.now
     c.args.all.now.items _ c.extend_from_slice.new.self.items c.extend_from_slice.result c.map_err.result
     c.extend_from_slice.ensures.items c.map_err.ensures.variant
     (rw (

@@ -2,7 +2,7 @@ use Rattle.std.proofs.Common.{Some, ap, ◌∙◌}
 use Rattle.std.specs.String.{string_bytes}
 use Rattle.cpi_index.specs.Frozen.{Frozen}
 use Rattle.cpi_sql_rows.specs.Lists.{frozen_in}
-use Rattle.cpi_sql_rows.specs.Tables.{frozen_2}
+use Rattle.cpi_sql_rows.specs.Tables.{table_of_frozen_2}
 use Rattle.cpi_sql_writes.specs.ReleaseSteps.{IsReleaseNumber}
 use Rattle.cpi_sql_writes.proofs.ManyRows.{columns_put}
 use Rattle.cpi_sql_writes.proofs.ReleaseSteps.{frozen_columns}
@@ -11,7 +11,7 @@ use Rattle.cpi_sql_writes.proofs.release_rows.FrozenQuoteHeldRow.put_columns.Goa
 pub returns : goal.returns
 returns c =
     let numbers = c.args.numbers in
-    columns_put frozen_2 frozen_in (IsReleaseNumber numbers.month numbers.revision) c.args.self.now
+    columns_put table_of_frozen_2 frozen_in (IsReleaseNumber numbers.month numbers.revision) c.args.self.now
     c.args.all.now.items _ c.extend_from_slice.new.self.items c.extend_from_slice.result c.map_err.result
     c.extend_from_slice.ensures.items c.map_err.ensures.variant
     (rw (

@@ -1,6 +1,6 @@
 use Rattle.std.specs.String.{string_bytes}
-use Rattle.cpi_sql_rows.specs.Lists.{level_in}
-use Rattle.cpi_sql_rows.specs.Tables.{level_2}
+use Rattle.cpi_sql_rows.specs.Lists.{level_in_row}
+use Rattle.cpi_sql_rows.specs.Tables.{table_of_levels_2}
 use Rattle.cpi_sql_writes.specs.ReleaseSteps.{IsReleaseNumber}
 use Rattle.cpi_sql_writes.proofs.ManyRows.{columns_put}
 use Rattle.cpi_sql_writes.proofs.ReleaseSteps.{bound_annual, level_columns}
@@ -9,7 +9,8 @@ use Rattle.cpi_sql_writes.proofs.release_rows.LevelHeldRow.put_columns.Goals as 
 pub returns : goal.returns
 returns c =
     let numbers = c.args.numbers in
-    columns_put level_2 level_in (IsReleaseNumber numbers.month numbers.revision) c.args.self.now c.args.all.now.items _
+    columns_put table_of_levels_2 level_in_row (IsReleaseNumber numbers.month numbers.revision) c.args.self.now
+    c.args.all.now.items _
     c.extend_from_slice.new.self.items c.extend_from_slice.result c.map_err.result c.extend_from_slice.ensures.items
     c.map_err.ensures.variant
     (rw (

@@ -6,7 +6,7 @@ use Rattle.cpi_store.specs.Office.{Freezes}
 use Rattle.cpi_sql_rows.specs.Lists.{month_at, office_in}
 use Rattle.cpi_sql_rows.specs.Shelf.{HasRowids, HasTables, IsDone}
 use Rattle.cpi_sql_rows.specs.Steps.{outside}
-use Rattle.cpi_sql_writes.specs.ReleaseSteps.{IsNew, ListsStand}
+use Rattle.cpi_sql_writes.specs.ReleaseSteps.{IsNewRevision, ListsStand}
 use Rattle.cpi_sql_writes.specs.Within.{ChangesOffice, LeavesTables, Within}
 use Rattle.cpi_sql_writes.proofs.ReleaseOffice.{release_put}
 use Rattle.cpi_sql_writes.proofs.Withins.{clean_before, inside_then, on_given, on_then, within_as}
@@ -18,7 +18,7 @@ Both r old new = IsDone (Freezes r) (outside old) (outside new) × ListsStand r 
 
 -- where it is new
 abbrev Puts : Release → State → State → Type 0
-Puts r old new = IsNew r (office_in old.now.trees) → HasTables (outside old) → Both r old new
+Puts r old new = IsNewRevision r (office_in old.now.trees) → HasTables (outside old) → Both r old new
 
 put : (g : _) (c : goal.After-replace-3 g) → Within (state g.S.Store c.args.tx.now.conn.now)
     (state g.S.Store c.replace-3.new.tx.conn.now) c.replace-3.result (Puts c.args.self.now)
@@ -58,12 +58,12 @@ pub returns-clause-written : goal.returns-clause-written
 returns-clause-written g c =
     let r = c.args.self.now in
     within_as _ _ c.replace-3.result (Puts r)
-    (λ old new. IsNew r (office_in old.now.trees) → ChangesOffice (Freezes r) old new) (put g c)
+    (λ old new. IsNewRevision r (office_in old.now.trees) → ChangesOffice (Freezes r) old new) (put g c)
     (λ _ both none has. (both none has).0)
 
 pub returns-clause-left : goal.returns-clause-left
 returns-clause-left g c =
     let r = c.args.self.now in
     within_as _ _ c.replace-3.result (Puts r)
-    (λ old new. IsNew r (office_in old.now.trees) → LeavesTables (ListsStand r) old new) (put g c)
+    (λ old new. IsNewRevision r (office_in old.now.trees) → LeavesTables (ListsStand r) old new) (put g c)
     (λ _ both none has. (both none has).1)

@@ -1,11 +1,11 @@
 use Rattle.std.proofs.Common.{◌≡◌, ℕ, List, [], map, sym, ap, ◌∙◌}
 use Rattle.cpi_survey.specs.Quote.{QuoteRow}
-use Rattle.cpi_store.specs.Bearer.{bearer_of}
-use Rattle.cpi_store.specs.Holders.{all_given, all_quotes}
+use Rattle.cpi_store.specs.Registration.{registration_of}
+use Rattle.cpi_store.specs.Holders.{all_given, quotes_of_holders}
 use Rattle.cpi_store.specs.Loading.{HaveRows, taken_rows, without_series}
 use Rattle.cpi_store.specs.Office.{Office}
 use Rattle.cpi_store.specs.Series.{given_in}
-use Rattle.cpi_store.specs.declared.bearer.Bearer.{Bearer}
+use Rattle.cpi_store.specs.declared.registration.Registration.{Registration}
 use Rattle.cpi_store.specs.declared.given.Given.{Given}
 use Rattle.cpi_store.proofs.Loaded.{holders_in_order, ok_found}
 use Rattle.cpi_store.proofs.TakenRows.{given_again, taken_are_given, taken_sorted}
@@ -15,14 +15,15 @@ pub invariant_of-result : goal.invariant_of-result
 invariant_of-result c =
     let hs = c.in_ok-holders.holders.items in
     let given = c.args.given.now in
-    let have : HaveRows c.args.outlets c.args.bearers.items given c.args.quotes.now hs =
+    let have : HaveRows c.args.outlets c.args.registrations.items given c.args.quotes.now hs =
     rw c.deref-2.ensures.value at c.in_ok-holders.ensures in
     let named : c.in_ok-taken.taken.items ≡ taken_rows given =
     ok_found (λ ts. ts.items ≡ taken_rows given) c.taken_of.result c.in_ok-taken.taken c.in_ok-taken.ensures.value
     c.taken_of.ensures in
     record {
-      holders = holders_in_order hs (rw have.collectors c.requires.bearers);
-      bearers = λ key. c.in_ok-by_key.ensures key ∙ ap (bearer_of key) (c.deref.ensures.value ∙ sym have.collectors);
+      holders = holders_in_order hs (rw have.collectors c.requires.registrations);
+      registrations = λ key. c.in_ok-by_key.ensures key ∙ ap (registration_of key)
+          (c.deref.ensures.value ∙ sym have.collectors);
       outlets = rw (← c.outlets.view_is) c.outlets.invariant.order;
       taken = rw named (taken_sorted given c.requires.given);
       given = rw (named, have.assignments) (taken_are_given given);
@@ -36,7 +37,7 @@ returns c =
     let hs = c.in_ok-holders.holders.items in
     let given = c.args.given.now in
     let taken = c.in_ok-taken.taken.items in
-    let have : HaveRows c.args.outlets c.args.bearers.items given c.args.quotes.now hs =
+    let have : HaveRows c.args.outlets c.args.registrations.items given c.args.quotes.now hs =
     rw c.deref-2.ensures.value at c.in_ok-holders.ensures in
     let named : taken ≡ taken_rows given =
     ok_found (λ ts. ts.items ≡ taken_rows given) c.taken_of.result c.in_ok-taken.taken c.in_ok-taken.ensures.value
@@ -45,7 +46,7 @@ returns c =
     ap (map (given_in taken)) have.assignments
     ∙ ap (λ ts. map (given_in ts) (map without_series given)) named
     ∙ given_again given c.requires.given in
-    let office : List Bearer → List (ℕ × Given) → List (ℕ × QuoteRow) → Office = λ cs gs qs. record {
+    let office : List Registration → List (ℕ × Given) → List (ℕ × QuoteRow) → Office = λ cs gs qs. record {
       items = c.args.public.items;
       plans = c.args.public.plans;
       calendar = c.args.public.calendar;
@@ -55,6 +56,6 @@ returns c =
       quotes = qs;
       releases = [];
     } in
-    ap (λ cs. office cs (all_given taken hs) (all_quotes hs)) have.collectors
-    ∙ ap (λ gs. office c.args.bearers.items gs (all_quotes hs)) all
-    ∙ ap (office c.args.bearers.items given) have.quotes
+    ap (λ cs. office cs (all_given taken hs) (quotes_of_holders hs)) have.collectors
+    ∙ ap (λ gs. office c.args.registrations.items gs (quotes_of_holders hs)) all
+    ∙ ap (office c.args.registrations.items given) have.quotes

@@ -7,7 +7,7 @@ use Rattle.cpi_store.proofs.survey.Survey.new.Goals as goal
 pub invariant_of-result : goal.invariant_of-result
 invariant_of-result c = record {
   holders = rw c.new-2.ensures.items (none_in_order nat_cmp (λ h. h.number));
-  bearers = λ key. rw (c.new-2.ensures.items, c.new-5.ensures.empty) refl;
+  registrations = λ key. rw (c.new-2.ensures.items, c.new-5.ensures.empty) refl;
   outlets = rw c.new-4.ensures (none_in_order nat_cmp (λ u. u.number));
   taken = rw c.new-3.ensures.items (none_in_order (held_cmp nat_cmp) (λ t. (t.collector, t.slot)));
   given = rw c.new-3.ensures.items tt;

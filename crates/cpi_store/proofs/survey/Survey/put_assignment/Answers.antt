@@ -2,14 +2,14 @@ use Rattle.std.proofs.Common.{◌≡◌, ℕ, None, List, [], map, ap, ◌∙◌
 use Rattle.std.specs.Prelude.{IsSome}
 use Rattle.std.specs.Ordering.{nat_cmp}
 use Rattle.cpi_rows.specs.Held.{held_by, held_cmp}
-use Rattle.cpi_rows.specs.Keyed.{at, row_at}
+use Rattle.cpi_rows.specs.Keyed.{row_by_number, row_at}
 use Rattle.cpi_survey.specs.Quote.{QuoteRow}
 use Rattle.cpi_survey.specs.declared.assignment.Assignment.{Assignment}
-use Rattle.cpi_store.specs.declared.bearer.Bearer.{Bearer}
+use Rattle.cpi_store.specs.declared.registration.Registration.{Registration}
 use Rattle.cpi_store.specs.declared.given.Given.{Given}
 use Rattle.cpi_store.specs.declared.outlet.Outlet.{Outlet}
-use Rattle.cpi_store.specs.Bearer.{bearer_of}
-use Rattle.cpi_store.specs.Holders.{all_assignments, all_given, all_quotes, collectors_of}
+use Rattle.cpi_store.specs.Registration.{registration_of}
+use Rattle.cpi_store.specs.Holders.{all_assignments, all_given, quotes_of_holders, collectors_of}
 use Rattle.cpi_store.specs.Office.{Office, put_given}
 use Rattle.cpi_store.specs.Outlet.{with_name}
 use Rattle.cpi_store.specs.Series.{first_of_series, given_in}
@@ -21,22 +21,23 @@ use Rattle.cpi_store.proofs.survey.Survey.put_assignment.Goals as goal
 
 pub put_assignment_of-requires-clause-known : goal.put_assignment_of-requires-clause-known
 put_assignment_of-requires-clause-known c =
-    known_holder c.args.bearer.number c.self.inside.holders.items
+    known_holder c.args.registration.number c.self.inside.holders.items
     (rw (ap (λ (o : Office). o.collectors) c.self.view_is) c.requires.known)
 
 pub invariant_of-self-2 : goal.invariant_of-self-2
 invariant_of-self-2 c =
     let i = c.self.inside in
     let rows = all_assignments i.holders.items in
-    let b = c.args.bearer.number in
+    let b = c.args.registration.number in
     let a = c.args.assigned.assignment in
-    let there : IsSome (at (λ (u : Outlet). u.number) a.outlet i.outlets) =
+    let there : IsSome (row_by_number (λ (u : Outlet). u.number) a.outlet i.outlets) =
     rw (ap (λ (o : Office). o.outlets) c.self.view_is) c.requires.outlet in
     let named : c.args.assigned ≡ with_name i.outlets a =
     rw (ap (λ (o : Office). o.outlets) c.self.view_is) c.requires.name in
     record {
       holders = c.put_assignment_of.ensures.order;
-      bearers = λ key. c.self.invariant.bearers key ∙ ap (bearer_of key) (sym c.put_assignment_of.ensures.collectors);
+      registrations = λ key. c.self.invariant.registrations key ∙ ap (registration_of key)
+          (sym c.put_assignment_of.ensures.collectors);
       outlets = c.self.invariant.outlets;
       taken = c.self.invariant.taken;
       given = given_after rows (all_assignments c.put_assignment_of.new.holders.items)
@@ -54,9 +55,9 @@ returns-clause-ok c =
     let new = c.put_assignment_of.new.holders.items in
     let taken = i.taken.items in
     let rows = all_assignments hs in
-    let b = c.args.bearer.number in
+    let b = c.args.registration.number in
     let a = c.args.assigned.assignment in
-    let office : List Bearer → List (ℕ × Given) → List (ℕ × QuoteRow) → Office = λ cs gs qs. record {
+    let office : List Registration → List (ℕ × Given) → List (ℕ × QuoteRow) → Office = λ cs gs qs. record {
       items = i.public.items;
       plans = i.public.plans;
       calendar = i.public.calendar;
@@ -66,17 +67,18 @@ returns-clause-ok c =
       quotes = qs;
       releases = [];
     } in
-    let empty : at (λ (g : Given). g.assignment.slot) a.slot (held_by b (all_given taken hs)) ≡ None =
-    ap (λ (o : Office). at (λ (g : Given). g.assignment.slot) a.slot (held_by b o.assignments)) c.self.view_is
+    let empty : row_by_number (λ (g : Given). g.assignment.slot) a.slot (held_by b (all_given taken hs)) ≡ None =
+    ap (λ (o : Office). row_by_number (λ (g : Given). g.assignment.slot) a.slot (held_by b o.assignments))
+    c.self.view_is
     ∙ c.requires.new in
-    let free : at (λ (a : Assignment). a.slot) a.slot (held_by b rows) ≡ None =
+    let free : row_by_number (λ (a : Assignment). a.slot) a.slot (held_by b rows) ≡ None =
     nothing_given taken b a.slot rows empty in
     let none : row_at (held_cmp nat_cmp) taken_key (b, a.slot) taken ≡ None =
     none_taken b a.slot rows free taken c.self.invariant.given in
     let assigned : all_given taken new ≡ put_given b (first_of_series b a) (all_given taken hs) =
     ap (map (given_in taken)) c.in_ok-put_assignment_of.ensures.ok ∙ given_put taken b a rows none in
     rw (← c.self.view_is)
-    (ap (λ cs. office cs (all_given taken new) (all_quotes new)) c.put_assignment_of.ensures.collectors
-    ∙ ap (λ gs. office (collectors_of hs) gs (all_quotes new)) assigned
+    (ap (λ cs. office cs (all_given taken new) (quotes_of_holders new)) c.put_assignment_of.ensures.collectors
+    ∙ ap (λ gs. office (collectors_of hs) gs (quotes_of_holders new)) assigned
     ∙ ap (office (collectors_of hs) (put_given b (first_of_series b a) (all_given taken hs)))
     c.put_assignment_of.ensures.quotes)

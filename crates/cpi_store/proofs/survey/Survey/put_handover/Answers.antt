@@ -1,6 +1,6 @@
 use Rattle.std.proofs.Common.{ap, ◌∙◌}
 use Rattle.cpi_rows.specs.Held.{held_by}
-use Rattle.cpi_rows.specs.Keyed.{at}
+use Rattle.cpi_rows.specs.Keyed.{row_by_number}
 use Rattle.cpi_store.specs.declared.given.Given.{Given}
 use Rattle.cpi_store.specs.Holders.{all_assignments}
 use Rattle.cpi_store.specs.Office.{Office}
@@ -25,5 +25,5 @@ hand_over_in-requires-clause-new c =
     let h = c.args.handover in
     let slot = h.assigned.assignment.slot in
     nothing_given c.self.inside.taken.items h.taker.number slot (all_assignments c.self.inside.holders.items)
-    (ap (λ (o : Office). at (λ (g : Given). g.assignment.slot) slot (held_by h.taker.number o.assignments))
+    (ap (λ (o : Office). row_by_number (λ (g : Given). g.assignment.slot) slot (held_by h.taker.number o.assignments))
     c.self.view_is ∙ c.requires.new)

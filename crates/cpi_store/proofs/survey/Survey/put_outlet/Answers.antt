@@ -1,6 +1,6 @@
 use Rattle.std.proofs.Common.{◌≡◌, None, [], ap, ◌∙◌}
 use Rattle.std.specs.Prelude.{map}
-use Rattle.cpi_rows.specs.Keyed.{at, put_by}
+use Rattle.cpi_rows.specs.Keyed.{row_by_number, put_by}
 use Rattle.cpi_store.specs.declared.outlet.Outlet.{Outlet}
 use Rattle.cpi_store.specs.declared.holder.Holder.{Holder}
 use Rattle.cpi_store.specs.Holders.{named_by, office_of}
@@ -12,12 +12,12 @@ pub invariant_of-self-2 : goal.invariant_of-self-2
 invariant_of-self-2 c =
     let us = c.self.inside.outlets in
     let lists = map (λ (h : Holder). h.own.assignments) c.self.inside.holders.items in
-    let new : at (λ (u : Outlet). u.number) c.args.outlet.number us ≡ None =
+    let new : row_by_number (λ (u : Outlet). u.number) c.args.outlet.number us ≡ None =
     rw (ap (λ (o : Office). o.outlets) c.self.view_is) c.requires.new in
     let after : c.put.new.self ≡ put_by (λ (u : Outlet). u.number) c.args.outlet us = c.in_ok-put.ensures.ok in
     record {
       holders = c.self.invariant.holders;
-      bearers = c.self.invariant.bearers;
+      registrations = c.self.invariant.registrations;
       outlets = c.put.ensures.order;
       taken = c.self.invariant.taken;
       given = c.self.invariant.given;
@@ -32,7 +32,7 @@ invariant_of-self c =
     let same : c.put.new.self ≡ c.self.inside.outlets = c.in_err-put.ensures.err in
     record {
       holders = c.self.invariant.holders;
-      bearers = c.self.invariant.bearers;
+      registrations = c.self.invariant.registrations;
       outlets = c.put.ensures.order;
       taken = c.self.invariant.taken;
       given = c.self.invariant.given;

@@ -1,5 +1,5 @@
 use Rattle.std.proofs.Common.{◌≡◌, sym, ap, ◌∙◌, subst}
-use Rattle.cpi_release.specs.KeptSamples.{IsFit, AreGroupsOf}
+use Rattle.cpi_release.specs.CachedSamples.{IsFit, AreGroupsOf}
 use Rattle.cpi_release.specs.GroupCalls.{group_of}
 use Rattle.cpi_store.specs.Office.{Office, with_releases}
 use Rattle.cpi_store.specs.Holders.{Kept}

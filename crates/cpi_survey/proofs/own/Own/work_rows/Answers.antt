@@ -3,7 +3,7 @@ use Rattle.std.specs.Prelude.{filter_map}
 use Rattle.std.specs.List.{cons_option}
 use Rattle.std.proofs.lemmas.List.{append-nil, take_more}
 use Rattle.std.proofs.lemmas.List.Elements.{filter_map-append}
-use Rattle.cpi_survey.specs.Work.{row_of}
+use Rattle.cpi_survey.specs.Work.{row_of_assignment}
 use Rattle.cpi_survey.proofs.own.Own.work_rows.Goals.{in-Some+in_ok-push, in_default}
 use Rattle.cpi_survey.proofs.own.Own.work_rows.Goals as goal
 
@@ -16,7 +16,7 @@ one_more h xs i x y lt at is =
 
 pub loop-assigned-preserved : goal.loop-assigned-preserved
 loop-assigned-preserved c =
-    let h = row_of c.args.month c.args.public.now c.args.self.now in
+    let h = row_of_assignment c.args.month c.args.public.now c.args.self.now in
     let before = filter_map h (take c.loop-assigned.assigned-index c.assignments-assigned-items.result.now) in
     let grown = one_more h _ c.loop-assigned.assigned-index c.assigned-item.result c.in_ok-row.field-0
     (omega arith) c.assigned-item.is c.in_ok-row.ensures in

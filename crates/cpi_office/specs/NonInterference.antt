@@ -1,0 +1,59 @@
+-- What one collector is told, whatever other collectors ask: where nothing is passed on by the requests. The table of a
+-- frozen month is made of everybody's quotes, and with a series that is handed over goes its last price.
+use Rattle.std.specs.List.{AllByRecursion}
+use Rattle.std.specs.Prelude.{◌≡◌, ℕ, Bool, true, IsFalse, false, not, ◌==◌, List, [], ◌∷◌, ◌++◌, filter, if◌then◌else◌}
+use Rattle.cpi_store.specs.Office.{Office}
+use Rattle.cpi_office.specs.Runs.{reply_to, next}
+use Rattle.cpi_store.specs.Sound.{IsSound}
+use Rattle.cpi_office.specs.declared.request.Ask.{Ask}
+use Rattle.cpi_office.specs.declared.request.Request.{Request}
+use Rattle.cpi_office.specs.declared.request.Request.TheVariants.{Freeze, HandOver}
+use Rattle.cpi_office.specs.declared.reply.Reply.{Reply}
+use Rattle.cpi_office.specs.declared.caller.Caller.{Caller}
+use Rattle.cpi_office.specs.declared.caller.Caller.TheVariants.{Public, Collector, Desk}
+
+abbrev pub is_registration : ℕ → Caller → Bool
+is_registration key (Collector k) = k == key
+is_registration key Public = false
+is_registration key Desk = false
+
+-- a collector with another key
+abbrev pub is_other : ℕ → Caller → Bool
+is_other key (Collector k) = not (k == key)
+is_other key Public = false
+is_other key Desk = false
+
+abbrev pub requests_without : ℕ → List Ask → List Ask
+requests_without key asks = filter (λ a. not (is_other key a.caller)) asks
+
+-- the replies of a run to the requests that come with the key, in order
+abbrev pub told_to : ℕ → List Ask → Office → List Reply
+told_to key [] o = []
+told_to key (a ∷ asks) o =
+    (if is_registration key a.caller then reply_to a.now a.caller a.request o ∷ [] else []) ++ told_to key asks
+    (next a o)
+
+-- a request by which something of one collector's prices comes to others: a freeze, or a hand-over
+abbrev pub passes_on : Request → Bool
+passes_on (Freeze month carry) = true
+passes_on (HandOver h) = true
+passes_on _ = false
+
+-- neither a freeze nor a hand-over is among the requests
+abbrev pub NonePassesOn : List Ask → Type 0
+NonePassesOn asks = AllByRecursion (λ a. IsFalse (passes_on a.request)) asks
+
+-- Where neither a freeze nor a hand-over is among the requests, a collector is told the same if all requests of all
+-- other collectors are left out.
+abbrev pub OthersDoNotMatter : Type 0
+OthersDoNotMatter =
+    (key : ℕ) (asks : List Ask) (o : Office) → IsSound o → NonePassesOn asks →
+    told_to key asks o ≡ told_to key (requests_without key asks) o
+
+-- Where neither a freeze nor a hand-over is among the requests, a collector is told the same by two lists of requests
+-- that differ in the requests of other collectors alone.
+abbrev pub OthersMayDiffer : Type 0
+OthersMayDiffer =
+    (key : ℕ) (asks others : List Ask) (o : Office) → IsSound o → NonePassesOn asks → NonePassesOn others →
+    requests_without key asks ≡ requests_without key others →
+    told_to key asks o ≡ told_to key others o

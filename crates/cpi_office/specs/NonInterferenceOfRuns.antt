@@ -1,0 +1,41 @@
+-- What one collector is told by runs over books.
+use Rattle.std.specs.Prelude.{◌≡◌, ℕ, List, [], ◌∷◌, ◌++◌, length, if◌then◌else◌}
+use Rattle.cpi_release.specs.State.{State}
+use Rattle.cpi_store.specs.Office.{Office}
+use Rattle.cpi_store.specs.Sound.{IsSound}
+use Rattle.cpi_office.specs.Served.{all_served, all_told, NoneFails, RunOverBook}
+use Rattle.cpi_office.specs.NonInterference.{is_registration, told_to, requests_without, NonePassesOn}
+use Rattle.cpi_office.specs.declared.request.Ask.{Ask}
+use Rattle.cpi_office.specs.declared.reply.Reply.{Reply}
+
+-- the replies that stand beside the requests that come with the key
+abbrev pub replies_to : ℕ → List Ask → List Reply → List Reply
+replies_to key [] rs = []
+replies_to key (a ∷ asks) [] = []
+replies_to key (a ∷ asks) (r ∷ rs) =
+    (if is_registration key a.caller then r ∷ [] else []) ++ replies_to key asks rs
+
+-- Where neither a freeze nor a hand-over is among the requests: those aside that were answered 90, each collector is
+-- told what would be told if all requests of all other collectors were left out.
+abbrev pub AreToldAlone : Office → List Ask → List Reply → Type 0
+AreToldAlone o asks rs =
+    NonePassesOn asks → (key : ℕ) →
+    replies_to key (all_served asks rs) (all_told rs) ≡ told_to key (requests_without key (all_served asks rs)) o
+
+-- a run from a sound office, with a reply to each request and none of them 90
+pub record IsWholeRun (old new : State Office) (asks : List Ask) (rs : List Reply) : Type 0 where
+  pub ran : RunOverBook old new asks rs
+  pub clean : new.is_clean
+  pub sound : IsSound old.held
+  pub each : length rs ≡ length asks
+  pub served : NoneFails rs
+
+-- Two runs over books that hold the same lists, with neither a freeze nor a hand-over among their requests, tell a
+-- collector the same where the requests differ in those of other collectors alone.
+abbrev pub RunsTellAlike : {B C : Type 0} → (B → State Office) → (C → State Office) → Type 0
+RunsTellAlike {B} {C} state state' =
+    (key : ℕ) (asks others : List Ask) (rs ss : List Reply) (old new : B) (old' new' : C) →
+    IsWholeRun (state old) (state new) asks rs → IsWholeRun (state' old') (state' new') others ss →
+    (state old).held ≡ (state' old').held →
+    NonePassesOn asks → NonePassesOn others → requests_without key asks ≡ requests_without key others →
+    replies_to key asks rs ≡ replies_to key others ss
