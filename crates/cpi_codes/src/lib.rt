@@ -11,6 +11,7 @@ mod collectors;
 mod item_codes;
 mod keys;
 mod laws;
+mod limits;
 mod moments;
 mod months;
 mod names;
@@ -34,6 +35,9 @@ pub use laws::{
     item_codes_are_in_byte_order, item_codes_have_one_spelling, keys_have_one_spelling,
     months_are_read_again, months_have_one_spelling, numbers_are_read_again,
     numbers_have_one_spelling,
+};
+pub use limits::{
+    GREATEST_COLLECTOR, GREATEST_OUTLET, GREATEST_PRICE, GREATEST_SLOT, LAST_MOMENT, MOST_SERIES,
 };
 pub use moments::Moment;
 pub use months::{Month, MonthFault};

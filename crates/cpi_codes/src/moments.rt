@@ -2,12 +2,11 @@
 ghost use Rattle.std.specs.Prelude.{◌≡◌, ◌≤◌, SomeIff};
 ghost use Rattle.cpi_codes.specs.Number.{number_in};
 
+use crate::limits::LAST_MOMENT;
 use crate::number::number_of;
 use std::marker::Model;
 
 const LOWEST: u64 = 0;
-
-const HIGHEST: u64 = 9_999_999_999;
 
 /// A moment, in seconds since 1970 UTC, 0 to 9,999,999,999.
 #[derive(Clone, Copy, Debug, PartialEq, Eq, PartialOrd, Ord)]
@@ -17,12 +16,13 @@ pub struct Moment {
 
 impl Model for Moment {
     ghost use Rattle.std.specs.Prelude.{ℕ, ◌≤◌};
+    ghost use Rattle.cpi_codes.specs.declared.limits.TheConstants.{LAST_MOMENT};
 
     ghost Value = { ℕ };
 
     ghost view = { λ x. x.seconds };
 
-    ghost invariant = { λ x. x.seconds ≤ 9999999999 };
+    ghost invariant = { λ x. x.seconds ≤ LAST_MOMENT };
 
     ghost inverse = { λ n. record { seconds = n } };
 }
@@ -30,9 +30,9 @@ impl Model for Moment {
 impl Moment {
     /// The moment so many seconds after 1970 began in UTC; none past 9,999,999,999.
     pub fn new(seconds: u64) -> Option<Moment>
-        ensures { SomeIff result (seconds ≤ 9999999999) seconds }
+        ensures { SomeIff result (seconds ≤ LAST_MOMENT) seconds }
     {
-        if HIGHEST < seconds {
+        if LAST_MOMENT < seconds {
             return None;
         }
         Some(Moment { seconds })
@@ -40,15 +40,15 @@ impl Moment {
 
     /// Reads a number of seconds from 0 to 9,999,999,999, in its one spelling.
     pub fn parse(text: &[u8]) -> Option<Moment>
-        ensures { result ≡ number_in 0 9999999999 text.now }
+        ensures { result ≡ number_in 0 LAST_MOMENT text.now }
     {
-        Moment::new(number_of(text, LOWEST, HIGHEST)?)
+        Moment::new(number_of(text, LOWEST, LAST_MOMENT)?)
     }
 
     /// The seconds since 1970 UTC, 0 to 9,999,999,999.
     pub fn seconds(self) -> u64
         ensures value { result ≡ self }
-        ensures range { result ≤ 9999999999 }
+        ensures range { result ≤ LAST_MOMENT }
     {
         self.seconds
     }

@@ -7,7 +7,7 @@ ghost use Rattle.cpi_codes.specs.Number.{is_number_text, number_in};
 
 /// The number from `low` to `high` that the text writes, in decimal digits and nothing else: without a sign, and
 /// without leading zeros. The text may be of any length.
-#[tactic(auto, unfolding(crate::specs::Number::number_of))]
+#[tactic(auto, unfolding(crate::specs::Number::number_in))]
 pub fn number_of(text: &[u8], low: u64, high: u64) -> Option<u64>
     ensures value { result ≡ number_in low high text.now }
     ensures within { IfSome result (λ n. (low ≤ n) × (n ≤ high)) }

@@ -2,12 +2,11 @@
 ghost use Rattle.std.specs.Prelude.{◌≡◌, ◌≤◌, SomeIff};
 ghost use Rattle.cpi_codes.specs.Number.{number_in};
 
+use crate::limits::GREATEST_PRICE;
 use crate::number::number_of;
 use std::marker::Model;
 
 const LOWEST: u64 = 1;
-
-const HIGHEST: u64 = 100_000_000;
 
 /// A price in minor units of money, 1 to 100,000,000.
 #[derive(Clone, Copy, Debug, PartialEq, Eq, PartialOrd, Ord)]
@@ -17,12 +16,13 @@ pub struct Price {
 
 impl Model for Price {
     ghost use Rattle.std.specs.Prelude.{ℕ, ◌≤◌};
+    ghost use Rattle.cpi_codes.specs.declared.limits.TheConstants.{GREATEST_PRICE};
 
     ghost Value = { ℕ };
 
     ghost view = { λ x. x.units };
 
-    ghost invariant = { λ x. (1 ≤ x.units) × (x.units ≤ 100000000) };
+    ghost invariant = { λ x. (1 ≤ x.units) × (x.units ≤ GREATEST_PRICE) };
 
     ghost inverse = { λ n. record { units = n } };
 }
@@ -30,9 +30,9 @@ impl Model for Price {
 impl Price {
     /// The price of so many minor units; none outside 1 to 100,000,000.
     pub fn new(units: u64) -> Option<Price>
-        ensures { SomeIff result ((1 ≤ units) × (units ≤ 100000000)) units }
+        ensures { SomeIff result ((1 ≤ units) × (units ≤ GREATEST_PRICE)) units }
     {
-        if units < LOWEST || HIGHEST < units {
+        if units < LOWEST || GREATEST_PRICE < units {
             return None;
         }
         Some(Price {
@@ -42,15 +42,15 @@ impl Price {
 
     /// Reads a number from 1 to 100,000,000, in its one spelling.
     pub fn parse(text: &[u8]) -> Option<Price>
-        ensures { result ≡ number_in 1 100000000 text.now }
+        ensures { result ≡ number_in 1 GREATEST_PRICE text.now }
     {
-        Price::new(number_of(text, LOWEST, HIGHEST)?)
+        Price::new(number_of(text, LOWEST, GREATEST_PRICE)?)
     }
 
     /// The minor units, 1 to 100,000,000.
     pub fn units(self) -> u32
         ensures value { result ≡ self }
-        ensures range { (1 ≤ result) × (result ≤ 100000000) }
+        ensures range { (1 ≤ result) × (result ≤ GREATEST_PRICE) }
     {
         self.units
     }

@@ -2,12 +2,11 @@
 ghost use Rattle.std.specs.Prelude.{◌≡◌, ◌≤◌, SomeIff};
 ghost use Rattle.cpi_codes.specs.Number.{number_in};
 
+use crate::limits::GREATEST_SLOT;
 use crate::number::number_of;
 use std::marker::Model;
 
 const LOWEST: u64 = 1;
-
-const HIGHEST: u64 = 400;
 
 /// A slot of a collector, 1 to 400.
 #[derive(Clone, Copy, Debug, PartialEq, Eq, PartialOrd, Ord)]
@@ -17,12 +16,13 @@ pub struct Slot {
 
 impl Model for Slot {
     ghost use Rattle.std.specs.Prelude.{ℕ, ◌≤◌};
+    ghost use Rattle.cpi_codes.specs.declared.limits.TheConstants.{GREATEST_SLOT};
 
     ghost Value = { ℕ };
 
     ghost view = { λ x. x.number };
 
-    ghost invariant = { λ x. (1 ≤ x.number) × (x.number ≤ 400) };
+    ghost invariant = { λ x. (1 ≤ x.number) × (x.number ≤ GREATEST_SLOT) };
 
     ghost inverse = { λ n. record { number = n } };
 }
@@ -30,9 +30,9 @@ impl Model for Slot {
 impl Slot {
     /// The slot of a number; none outside 1 to 400.
     pub fn new(number: u64) -> Option<Slot>
-        ensures { SomeIff result ((1 ≤ number) × (number ≤ 400)) number }
+        ensures { SomeIff result ((1 ≤ number) × (number ≤ GREATEST_SLOT)) number }
     {
-        if number < LOWEST || HIGHEST < number {
+        if number < LOWEST || GREATEST_SLOT < number {
             return None;
         }
         Some(Slot {
@@ -42,15 +42,15 @@ impl Slot {
 
     /// Reads a number from 1 to 400, in its one spelling.
     pub fn parse(text: &[u8]) -> Option<Slot>
-        ensures { result ≡ number_in 1 400 text.now }
+        ensures { result ≡ number_in 1 GREATEST_SLOT text.now }
     {
-        Slot::new(number_of(text, LOWEST, HIGHEST)?)
+        Slot::new(number_of(text, LOWEST, GREATEST_SLOT)?)
     }
 
     /// The number, 1 to 400.
     pub fn number(self) -> u16
         ensures value { result ≡ self }
-        ensures range { (1 ≤ result) × (result ≤ 400) }
+        ensures range { (1 ≤ result) × (result ≤ GREATEST_SLOT) }
     {
         self.number
     }

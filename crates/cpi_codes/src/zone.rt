@@ -3,6 +3,7 @@ ghost use Rattle.std.specs.Prelude.{◌≡◌, ◌↔◌, ◌≤ℤ◌, pos, IsO
 ghost use Rattle.jiff.specs.Placed.{IsPosixZone};
 ghost use Rattle.jiff.specs.Words.{read_whole};
 ghost use Rattle.std.specs.Result.{result_ok};
+ghost use Rattle.cpi_codes.specs.declared.limits.TheConstants.{LAST_MOMENT};
 ghost use Rattle.cpi_codes.specs.Clock.{moment_in};
 ghost use Rattle.cpi_codes.specs.Picked.{PicksAsStated};
 ghost use Rattle.cpi_codes.specs.Zone.{ZoneGives, OneAnswer};
@@ -91,7 +92,7 @@ fn given_at(zone: &Zone, text: &[u8]) -> Result<Moment, MomentFault>
 // The moment so many seconds after 1970 began in UTC, if it is one.
 fn moment_of(second: i64) -> Option<Moment>
     ensures found { IfSome result (λ moment. pos moment ≡ second) }
-    ensures none { IfNone result ((pos 0 ≤ℤ second) × (second ≤ℤ pos 9999999999) → ⊥) }
+    ensures none { IfNone result ((pos 0 ≤ℤ second) × (second ≤ℤ pos LAST_MOMENT) → ⊥) }
 {
     if second < 0 {
         return None;
