@@ -120,7 +120,7 @@ impl YearPlan {
         requires { (2000 ≤ year) × (year ≤ 2199) }
         ensures built { IsBuilt year
             (plan_body_of known_items.now titles.items weights.items places.items references.items) result }
-        ensures plan_or_fault { result ≢ Err NoMemory →
+        ensures planned { result ≢ Err NoMemory →
             result ≡ plan_or_fault year (plan_body_of known_items.now titles.items weights.items places.items
             references.items) }
     {
