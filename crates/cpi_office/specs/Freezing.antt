@@ -87,7 +87,7 @@ frozen_with now row carry o = record {
   revision = revision_to_give row.month (frozen_months o.releases);
   frozen_at = now;
   publishes = row.publishes;
-  verdict_of_freeze = quotes_of_month row.month o;
+  frozen = quotes_of_month row.month o;
   carry = carry;
 }
 

@@ -62,7 +62,7 @@ tables_of s c sound clean = (sound clean).tables
 -- ---- writes
 
 -- a write that failed left the rows as they were
-pub kept_sound : {change : Change} {fits : Office → Type 0} {A E F : Type 0} {f : F} {n m : ℕ} {with_row : Result A E}
+pub kept_sound : {change : Change} {fits : Office → Type 0} {A E F : Type 0} {f : F} {n m : ℕ} {put : Result A E}
     → (old new : State) (c : Caches) → Written change fits old new with_row → IsCounted {F = F} with_row (Err f) n m
     → AreCachesSound old c → AreCachesSound new c
 kept_sound {put = with_row} old new c written counted sound = λ clean.
@@ -151,7 +151,7 @@ module _ (old new : Trees) (r : Release) (none : IsNewRevision r (office_in old)
     levels = stand.levels;
   }
 
-module _ {change : Change} {fits : Office → Type 0} {A E F : Type 0} {u : A} {n m : ℕ} {with_row : Result A E}
+module _ {change : Change} {fits : Office → Type 0} {A E F : Type 0} {u : A} {n m : ℕ} {put : Result A E}
     (old new : State) (c : Caches) (written : Written change fits old new with_row)
     (counted : IsCounted {F = F} with_row (Ok u) n m) (owed : IsCleanBook old → fits (office_in old.now.trees))
     (sound : AreCachesSound old c) where
@@ -186,7 +186,7 @@ module _ {change : Change} {fits : Office → Type 0} {A E F : Type 0} {u : A} {
       }
 
 -- a release: the headers are read again when they are asked for, and its lists are kept
-pub release_sound : {A E F : Type 0} {u : A} {n m : ℕ} {with_row : Result A E} (r : Release) (old new : State)
+pub release_sound : {A E F : Type 0} {u : A} {n m : ℕ} {put : Result A E} (r : Release) (old new : State)
     (c : Caches)
     → Written (Freezes r) (IsNewRevision r) old new with_row → IsCounted {F = F} with_row (Ok u) n m
     → (IsCleanBook old → IsNewRevision r (office_in old.now.trees))

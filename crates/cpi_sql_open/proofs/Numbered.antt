@@ -26,7 +26,7 @@ use Rattle.cpi_sql_open.proofs.Steps.{HaveNumbers, step_taken}
 pub record IsNumbered (trees : List ℕ) (old new : Stage) : Type 0 where
   pub left : IsLeft trees old new
   pub sound : IsSound office_schema new.now.trees
-  pub table_of_version : IsVersion 2 (new.now.trees 0)
+  pub version : IsVersion 2 (new.now.trees 0)
 
 -- what a database lists of itself is its schema
 pub all_there : (trees : Trees) → IsSound office_schema trees → HasAllTables trees
@@ -64,5 +64,5 @@ numbered a b ran inside has one =
     record {
       left = left_then (0 ∷ []) (0 ∷ []) a mid b first.0 second.left;
       sound = second.sound;
-      table_of_version = second.version;
+      version = second.version;
     }

@@ -234,7 +234,7 @@ pub moved_database : (old new : Trees) → AreWhole old → AreOfYears 1 (old ta
     → IsMigrated old new → IsOfficeDatabase new
 moved_database old new whole nodes places m = record {
   tables = m.tables;
-  table_of_version = m.version;
+  version = m.version;
   whole = moved_whole old new m.lists whole;
   years = moved_years old new nodes places m;
 }

@@ -251,7 +251,7 @@ table_written tables change old new writes schema alone all others written offic
         alone = alone;
         office = record {
           tables = all;
-          table_of_version = subst (IsVersion 2) (sym (spared table_of_version.tree (spares_number change)))
+          version = subst (IsVersion 2) (sym (spared table_of_version.tree (spares_number change)))
               was.version;
           whole = record {
             collectors = still_whole _ _ (it Collectors) was.whole.collectors;

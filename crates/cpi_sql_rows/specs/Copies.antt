@@ -58,6 +58,6 @@ pub record HasCopies (old new : Trees) : Type 0 where
   pub assignments : AreCopies assignment_copy (old table_of_assignments.tree) (new table_of_assignments_2.tree)
   pub quotes : AreCopies quote_copy (old table_of_quotes.tree) (new table_of_quotes_2.tree)
   pub headers : AreCopies header_copy (old table_of_releases.tree) (new table_of_releases_2.tree)
-  pub table_of_frozen : AreCopies frozen_copy (old table_of_frozen.tree) (new table_of_frozen_2.tree)
-  pub table_of_carried : AreCopies carried_copy (old table_of_carried.tree) (new table_of_carried_2.tree)
+  pub frozen : AreCopies frozen_copy (old table_of_frozen.tree) (new table_of_frozen_2.tree)
+  pub carried : AreCopies carried_copy (old table_of_carried.tree) (new table_of_carried_2.tree)
   pub levels : AreCopies level_copy (old table_of_levels.tree) (new table_of_levels_2.tree)

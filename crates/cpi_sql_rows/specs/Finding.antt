@@ -69,7 +69,7 @@ pub record ArePlanRows (place : ℕ) (rows : List Row) : Type 0 where
 pub record HavePlanRowids (trees : Trees) : Type 0 where
   pub nodes : HasRowids (trees table_of_nodes.tree)
   pub places : HasRowids (trees table_of_plan_items.tree)
-  pub table_of_calendar : HasRowids (trees table_of_calendar.tree)
+  pub calendar : HasRowids (trees table_of_calendar.tree)
 
 -- the tables of the survey that have rowids of their own
 pub record HaveSurveyRowids (trees : Trees) : Type 0 where
@@ -80,8 +80,8 @@ pub record HaveSurveyRowids (trees : Trees) : Type 0 where
 -- the tables of the releases
 pub record HaveReleaseRowids (trees : Trees) : Type 0 where
   pub headers : HasRowids (trees table_of_releases_2.tree)
-  pub table_of_frozen : HasRowids (trees table_of_frozen_2.tree)
-  pub table_of_carried : HasRowids (trees table_of_carried_2.tree)
+  pub frozen : HasRowids (trees table_of_frozen_2.tree)
+  pub carried : HasRowids (trees table_of_carried_2.tree)
   pub levels : HasRowids (trees table_of_levels_2.tree)
 
 -- the same, in the tables of schema 1 whose rows schema 2 has anew
@@ -92,8 +92,8 @@ pub record HaveFirstSurveyRowids (trees : Trees) : Type 0 where
 -- the tables of the releases of schema 1
 pub record HaveFirstReleaseRowids (trees : Trees) : Type 0 where
   pub headers : HasRowids (trees table_of_releases.tree)
-  pub table_of_frozen : HasRowids (trees table_of_frozen.tree)
-  pub table_of_carried : HasRowids (trees table_of_carried.tree)
+  pub frozen : HasRowids (trees table_of_frozen.tree)
+  pub carried : HasRowids (trees table_of_carried.tree)
   pub levels : HasRowids (trees table_of_levels.tree)
 
 -- the tables of schema 1
@@ -112,8 +112,8 @@ pub record AreCleared (trees : Trees) : Type 0 where
   pub assignments : trees table_of_assignments.tree ≡ []
   pub quotes : trees table_of_quotes.tree ≡ []
   pub headers : trees table_of_releases.tree ≡ []
-  pub table_of_frozen : trees table_of_frozen.tree ≡ []
-  pub table_of_carried : trees table_of_carried.tree ≡ []
+  pub frozen : trees table_of_frozen.tree ≡ []
+  pub carried : trees table_of_carried.tree ≡ []
   pub levels : trees table_of_levels.tree ≡ []
 
 -- the tables that schema 2 took over are as they were
@@ -123,7 +123,7 @@ pub record KeepsLists (old new : Trees) : Type 0 where
   pub items : new table_of_items.tree ≡ old table_of_items.tree
   pub nodes : new table_of_nodes.tree ≡ old table_of_nodes.tree
   pub places : new table_of_plan_items.tree ≡ old table_of_plan_items.tree
-  pub table_of_calendar : new table_of_calendar.tree ≡ old table_of_calendar.tree
+  pub calendar : new table_of_calendar.tree ≡ old table_of_calendar.tree
 
 -- the rows of schema 1, whose number was 1, are in the tables of schema 2, which are all there: each table that both
 -- schemas have is as it was, each that schema 2 has anew holds a copy of every row, and no year has a reference month;
@@ -135,7 +135,7 @@ pub record IsMigrated (old new : Trees) : Type 0 where
   pub copied : HasCopies old new
   pub references : new table_of_plan_refs.tree ≡ []
   pub office : office_in new ≡ first_office_in old
-  pub table_of_version : IsVersion 2 (new table_of_version.tree)
+  pub version : IsVersion 2 (new table_of_version.tree)
   pub cleared : AreCleared new
 
 -- What an open leaves is the database of an office: a new one if there was no table, the tables of schema 2 as they

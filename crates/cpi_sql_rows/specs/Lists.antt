@@ -488,7 +488,7 @@ carried_from number slot table_of_items last ticks knum kden observed imputed =
     and_then (month_from last) (λ l. and_then (priced_from ticks knum kden) (λ p.
     and_then (flag_in_value observed) (λ o. and_then (flag_in_value imputed) (λ u. Some (record {
       series = record { collector = n; slot = s };
-      table_of_items = i;
+      item = i;
       last_month = l;
       ticks = p.ticks;
       knum = p.knum;
@@ -523,7 +523,7 @@ level_from code title weight if_within chained month_change year_change imputed 
       code = c;
       title = t;
       weight = w;
-      if_within = i;
+      within = i;
       chained = l;
       month_change = m;
       year_change = y;
@@ -576,7 +576,7 @@ abbrev pub office_in : Trees → Office
 office_in trees = record {
   items = items_in (trees table_of_items.tree);
   plans = plans_in trees;
-  table_of_calendar = calendar_rows_in (trees table_of_calendar.tree);
+  calendar = calendar_rows_in (trees table_of_calendar.tree);
   collectors = collectors_in (trees table_of_collectors.tree);
   outlets = outlets_in (trees table_of_outlets.tree);
   assignments = assignments_in (trees table_of_assignments_2.tree);

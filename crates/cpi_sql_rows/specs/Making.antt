@@ -33,7 +33,7 @@ HasAllTables trees = IsDatabase (record { schema = office_schema; trees = trees 
 -- and rows of plans that are of years which an office can have; an open of a file asks for these
 pub record IsOfficeDatabase (trees : Trees) : Type 0 where
   pub tables : HasAllTables trees
-  pub table_of_version : IsVersion 2 (trees table_of_version.tree)
+  pub version : IsVersion 2 (trees table_of_version.tree)
   pub whole : AreWhole trees
   pub years : HavePlanYears trees
 
@@ -41,13 +41,13 @@ pub record IsOfficeDatabase (trees : Trees) : Type 0 where
 pub record IsBlank (s : State) : Type 0 where
   pub schema : s.now.schema ≡ office_schema
   pub tables : HasAllTables s.now.trees
-  pub table_of_version : IsVersion 2 (s.now.trees table_of_version.tree)
+  pub version : IsVersion 2 (s.now.trees table_of_version.tree)
   pub collectors : s.now.trees table_of_collectors.tree ≡ []
   pub outlets : s.now.trees table_of_outlets.tree ≡ []
   pub items : s.now.trees table_of_items.tree ≡ []
   pub nodes : s.now.trees table_of_nodes.tree ≡ []
   pub places : s.now.trees table_of_plan_items.tree ≡ []
-  pub table_of_calendar : s.now.trees table_of_calendar.tree ≡ []
+  pub calendar : s.now.trees table_of_calendar.tree ≡ []
   pub assignments : s.now.trees table_of_assignments_2.tree ≡ []
   pub quotes : s.now.trees table_of_quotes_2.tree ≡ []
   pub releases : s.now.trees table_of_releases_2.tree ≡ []

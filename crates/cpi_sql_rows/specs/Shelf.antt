@@ -114,7 +114,7 @@ pub record HasTables (s : State) : Type 0 where
   pub collectors : IsKeyed nat_cmp (λ b. b.number) collector_in (s.now.trees table_of_collectors.tree)
   pub outlets : IsKeyed nat_cmp (λ u. u.number) outlet_in (s.now.trees table_of_outlets.tree)
   pub items : IsKeyed nat_cmp (λ i. i.code) item_in (s.now.trees table_of_items.tree)
-  pub table_of_calendar : IsKeyed nat_cmp (λ r. r.month) calendar_in (s.now.trees table_of_calendar.tree)
+  pub calendar : IsKeyed nat_cmp (λ r. r.month) calendar_in (s.now.trees table_of_calendar.tree)
   pub assignments : IsKeyed (held_cmp nat_cmp) (held_key (λ g. g.assignment.slot)) assignment_in_row
       (s.now.trees table_of_assignments_2.tree)
   pub quotes : IsKeyed (held_cmp quote_cmp) (held_key quote_key) quote_in (s.now.trees table_of_quotes_2.tree)
@@ -162,7 +162,7 @@ pub record WritesTaken (old new : Trees) : Type 0 where
   pub nodes : Takes node_in (old table_of_nodes.tree) (new table_of_nodes.tree)
   pub places : Takes place_in_row (old table_of_plan_items.tree) (new table_of_plan_items.tree)
   pub references : Takes reference_month_in_row (old table_of_plan_refs.tree) (new table_of_plan_refs.tree)
-  pub table_of_calendar : Takes calendar_in (old table_of_calendar.tree) (new table_of_calendar.tree)
+  pub calendar : Takes calendar_in (old table_of_calendar.tree) (new table_of_calendar.tree)
   pub assignments : Takes assignment_in_row (old table_of_assignments_2.tree) (new table_of_assignments_2.tree)
   pub quotes : Takes quote_in (old table_of_quotes_2.tree) (new table_of_quotes_2.tree)
   pub headers : Takes header_in (old table_of_releases_2.tree) (new table_of_releases_2.tree)

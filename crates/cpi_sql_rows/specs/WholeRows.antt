@@ -31,7 +31,7 @@ pub record AreWhole (trees : Trees) : Type 0 where
   pub collectors : IsWhole nat_cmp (λ b. b.number) collector_in (trees table_of_collectors.tree)
   pub outlets : IsWhole nat_cmp (λ u. u.number) outlet_in (trees table_of_outlets.tree)
   pub items : IsWhole nat_cmp (λ i. i.code) item_in (trees table_of_items.tree)
-  pub table_of_calendar : IsWhole nat_cmp (λ r. r.month) calendar_in (trees table_of_calendar.tree)
+  pub calendar : IsWhole nat_cmp (λ r. r.month) calendar_in (trees table_of_calendar.tree)
 
 -- ---- rows of plans
 

@@ -128,14 +128,14 @@ not_below slot month q e = false_from_ne_true (is_earlier slot month q) (λ pass
 pub record Starts (slot month : ℕ) (qs earlier : List QuoteRow) : Type 0 where
   pub order : IsInOrder quote_cmp quote_key earlier
   pub below : AllByRecursion (λ q. quote_cmp (quote_key q) (slot, month) ≡ Less) earlier
-  pub latest_quote : latest_quote (is_earlier slot month) qs ≡ latest_quote (is_earlier slot month) earlier
+  pub latest : latest_quote (is_earlier slot month) qs ≡ latest_quote (is_earlier slot month) earlier
 
 pub starts : (slot month : ℕ) (qs earlier : List QuoteRow) → IsInOrder quote_cmp quote_key qs →
     earlier ≡ filter (is_below (slot, month)) qs → Starts slot month qs earlier
 starts slot month qs earlier sorted is = record {
   order = rw is (IsStrictlySortedBy-filter _ _ qs sorted);
   below = rw is (all_below (slot, month) qs);
-  latest_quote = rw is (latest_filter (is_earlier slot month) (is_below (slot, month)) (not_below slot month) qs);
+  latest = rw is (latest_filter (is_earlier slot month) (is_below (slot, month)) (not_below slot month) qs);
 }
 
 -- ---- the last row

@@ -49,6 +49,6 @@ loop-quote-preserved c =
     record {
       order = front_in_order _ _ (rw split at kept.order);
       below = front_below k _ _ (rw split at kept.below);
-      latest_quote = kept.latest ∙ ap (latest_quote (is_earlier c.args.slot c.args.month)) split
+      latest = kept.latest ∙ ap (latest_quote (is_earlier c.args.slot c.args.month)) split
           ∙ without_last c.args.slot c.args.month _ _ none;
     }

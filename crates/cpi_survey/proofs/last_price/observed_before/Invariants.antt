@@ -10,7 +10,7 @@ abbrev pub invariant-loop-quote : goal.invariant-loop-quote
 invariant-loop-quote l = record {
   order : IsInOrder quote_cmp quote_key l.earlier;
   below : AllByRecursion (λ q. quote_cmp (quote_key q) (l.slot, l.fn.month) ≡ Less) l.earlier;
-  latest_quote : latest_quote (is_earlier l.slot l.fn.month) l.quotes ≡ latest_quote (is_earlier l.slot l.fn.month)
+  latest : latest_quote (is_earlier l.slot l.fn.month) l.quotes ≡ latest_quote (is_earlier l.slot l.fn.month)
       l.earlier;
 }
 
