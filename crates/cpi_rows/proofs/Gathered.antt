@@ -8,7 +8,7 @@ use Rattle.std.specs.Ordering.{nat_cmp, is_lt, is_gt, is_eq, ordering_then, orde
 use Rattle.std.specs.List.{AllByRecursion}
 use Rattle.std.proofs.lemmas.Bool.{eq-eqb}
 use Rattle.std.proofs.lemmas.Bool.Decides.{eqb_tells}
-use Rattle.std.proofs.lemmas.Cmp.{tied_itself, nat_cmp_total, ranked}
+use Rattle.std.proofs.lemmas.Cmp.{tied_itself, nat_cmp_total}
 use Rattle.std.proofs.lemmas.List.Elements.{filter-append}
 use Rattle.std.proofs.lemmas.List.{map-append, append-nil}
 use Rattle.std.proofs.lemmas.Map.Keys.{sorted_head, sorted_tail, Less-from_sorted}
@@ -16,6 +16,7 @@ use Rattle.cpi_rows.specs.Keyed.{with_row, row_at, IsInOrder}
 use Rattle.cpi_rows.specs.Held.{held_cmp, held_key, held_by}
 use Rattle.cpi_rows.specs.Gathered.{rows_with_holders, rows_in}
 use Rattle.cpi_rows.proofs.Held.{held_append}
+use Rattle.cpi_rows.proofs.Truth.{different}
 
 -- a key below all the others stands in none of them
 missing_above : {G : Type 0} (number : G → ℕ) (c : ℕ) (gs : List G) →
@@ -24,14 +25,6 @@ missing_above number c [] all = refl
 missing_above number c (g ∷ gs) all =
     let e : nat_cmp (number g) c ≡ Greater = nat_cmp_total.antisymm (number g) c ∙ ap ordering_reverse all.0 in
     rw (ap is_eq e) (missing_above number c gs all.1)
-
-not_level : (a b : ℕ) → a ≢ b → is_eq (nat_cmp a b) ≡ false
-not_level a b differ = by (nat_cmp a b) refl
-  where
-    by : (s : Ordering) → nat_cmp a b ≡ s → is_eq (nat_cmp a b) ≡ false
-    by Less p = ap is_eq p
-    by Equal p = absurd (differ (ranked a b Equal (sym p)))
-    by Greater p = ap is_eq p
 
 module _ {X : Type 0} where
   -- the rows of one holder, and of another
@@ -68,7 +61,7 @@ module _ {G X K : Type 0} (cmp : K → K → Ordering) (key : X → K) (number :
           let mine : held_by c (named g) ≡ rows g = rw same.1 (held_mine c (rows g)) in
           rw (ap is_eq here, mine, rest, none) (append-nil (rows g))
       by (inr apart) rest above =
-          let other = not_level (number g) c apart.1 in
+          let other = different (number g) c apart.1 in
           rw (other, held_theirs c (number g) (rows g) apart.0) rest
 
   -- one holder's rows against a row of a holder with a greater, the same or a smaller number

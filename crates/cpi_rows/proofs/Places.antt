@@ -243,20 +243,20 @@ module _ {X K : Type 0} {R : K → K → Ordering} (o : IsTotalOrder R) (key : X
   put_same (y ∷ ys) sorted x found = same_more x y ys (R (key y) (key x)) refl (sorted_head _ y ys sorted) found
       (λ f. put_same ys (sorted_tail _ y ys sorted) x f)
 
-  around_more : (k : K) (y : X) (ys : List X) → (s : Ordering) → R (key y) k ≡ s →
+  parted_more : (k : K) (y : X) (ys : List X) → (s : Ordering) → R (key y) k ≡ s →
       AllByRecursion (λ z. R (key y) (key z) ≡ Less) ys → row_at R key k (y ∷ ys) ≡ None →
       (row_at R key k ys ≡ None → filter (λ z. is_lt (R (key z) k)) ys ++ filter (λ z. is_gt (R (key z) k)) ys ≡ ys) →
       filter (λ z. is_lt (R (key z) k)) (y ∷ ys) ++ filter (λ z. is_gt (R (key z) k)) (y ∷ ys) ≡ y ∷ ys
-  around_more k y ys Less e all missing rest = rw (ap is_lt e, ap is_gt e)
+  parted_more k y ys Less e all missing rest = rw (ap is_lt e, ap is_gt e)
       (ap (λ zs. y ∷ zs) (rest (rw (ap is_eq e) at missing)))
-  around_more k y ys Equal e all missing rest = let wrong : Some y ≡ None = rw (ap is_eq e) at missing in cc
-  around_more k y ys Greater e all missing rest =
+  parted_more k y ys Equal e all missing rest = let wrong : Some y ≡ None = rw (ap is_eq e) at missing in cc
+  parted_more k y ys Greater e all missing rest =
       let above = past k y ys Greater e refl all in
       rw (ap is_lt e, ap is_gt e, past_front k ys above, past_back k ys above) refl
 
   -- a key that no row has parts the rows into those below and those above it
-  pub around : (k : K) (rows : List X) → IsInOrder R key rows → row_at R key k rows ≡ None →
+  pub parted : (k : K) (rows : List X) → IsInOrder R key rows → row_at R key k rows ≡ None →
       filter (λ z. is_lt (R (key z) k)) rows ++ filter (λ z. is_gt (R (key z) k)) rows ≡ rows
-  around k [] sorted missing = refl
-  around k (y ∷ ys) sorted missing = around_more k y ys (R (key y) k) refl (sorted_head _ y ys sorted) missing
-      (λ m. around k ys (sorted_tail _ y ys sorted) m)
+  parted k [] sorted missing = refl
+  parted k (y ∷ ys) sorted missing = parted_more k y ys (R (key y) k) refl (sorted_head _ y ys sorted) missing
+      (λ m. parted k ys (sorted_tail _ y ys sorted) m)

@@ -8,11 +8,13 @@ use Rattle.std.specs.Ordering.{nat_cmp, is_lt, is_gt, is_eq, ordering_reverse}
 use Rattle.std.specs.Cmp.{IsTotalOrder}
 use Rattle.std.specs.List.{AllByRecursion}
 use Rattle.std.proofs.lemmas.Bool.{false≢true}
-use Rattle.std.proofs.lemmas.Cmp.{alike_right, nat_cmp_total, ranked, tied_itself}
+use Rattle.std.proofs.lemmas.Cmp.{alike_right, nat_cmp_total, tied_itself}
 use Rattle.std.proofs.lemmas.List.Elements.{filter-append}
 use Rattle.std.proofs.lemmas.List.{map-append}
 use Rattle.std.proofs.lemmas.Map.Keys.{sorted_head, sorted_tail}
 use Rattle.cpi_rows.specs.Keyed.{with_row, row_at, IsInOrder, row_by_number, put_by}
+pub use Rattle.cpi_rows.proofs.Places.{parted}
+pub use Rattle.cpi_rows.proofs.Truth.{different}
 
 -- two filters in either order
 filter-filter : {X : Type 0} (p q : X → Bool) (xs : List X) → filter p (filter q xs) ≡ filter q (filter p xs)
@@ -104,22 +106,6 @@ module _ {X K : Type 0} {R : K → K → Ordering} (o : IsTotalOrder R) (key : X
     above_higher k r ys e all.1,
   )
 
-  -- where no row has the key, the rows below it and those above are all rows
-  pub parted : (k : K) (rows : List X) → IsInOrder R key rows → row_at R key k rows ≡ None →
-      filter (λ r. is_lt (R (key r) k)) rows ++ filter (λ r. is_gt (R (key r) k)) rows ≡ rows
-  parted k [] sorted none = refl
-  parted k (r ∷ rows) sorted none = by (R (key r) k) refl none (parted k rows (sorted_tail c r rows sorted))
-    where
-      by : (s : Ordering) → R (key r) k ≡ s → row_at R key k (r ∷ rows) ≡ None →
-          (row_at R key k rows ≡ None → filter (λ r. is_lt (R (key r) k)) rows
-          ++ filter (λ r. is_gt (R (key r) k)) rows ≡ rows) → filter (λ r. is_lt (R (key r) k)) (r ∷ rows)
-          ++ filter (λ r. is_gt (R (key r) k)) (r ∷ rows) ≡ r ∷ rows
-      by Less e none rest = rw (ap is_lt e, ap is_gt e) (ap (λ ys. r ∷ ys) (rest (rw (ap is_eq e) at none)))
-      by Equal e none rest = let same : Some r ≡ None = rw (ap is_eq e) at none in cc
-      by Greater e none rest =
-          let all = are_above k rows (above_higher k r rows e (sorted_head c r rows sorted)) in
-          rw (ap is_lt e, ap is_gt e, all.none_below, all.all_above) refl
-
   -- a row that stands is put in place of itself
   pub put_standing : (row : X) (rows : List X) → IsInOrder R key rows → row_at R key (key row) rows ≡ Some row →
       with_row R key row rows ≡ rows
@@ -150,7 +136,7 @@ module _ {X K : Type 0} {R : K → K → Ordering} (o : IsTotalOrder R) (key : X
       filter-append p (filter below rows) (row ∷ filter above rows)
       ∙ ap (λ ys. filter p (filter below rows) ++ ys) (filter-skip p row (filter above rows) e)
       ∙ sym (filter-append p (filter below rows) (filter above rows))
-      ∙ ap (filter p) (parted (key row) rows sorted none)
+      ∙ ap (filter p) (parted o key (key row) rows sorted none)
 
   -- a later row has another key than the first
   pub first_apart : (k : K) (x y : X) (rows : List X) → IsInOrder R key (x ∷ rows) → row_at R key k rows ≡ Some y →
@@ -179,7 +165,7 @@ module _ {X K : Type 0} {R : K → K → Ordering} (o : IsTotalOrder R) (key : X
       row_at R key (key row) rows ≡ None → is_eq (R (key row) k) ≡ false →
       row_at R key k (with_row R key row rows) ≡ row_at R key k rows
   row_at-put_other k row rows sorted none e =
-      passed_over k row _ _ e ∙ ap (row_at R key k) (parted (key row) rows sorted none)
+      passed_over k row _ _ e ∙ ap (row_at R key k) (parted o key (key row) rows sorted none)
 
   -- among rows in order, what is put away from a key leaves that key's row, also where it replaces another
   level_apart : (k k' : K) (r : X) → R (key r) k' ≡ Equal → is_eq (R k' k) ≡ false → is_eq (R (key r) k) ≡ false
@@ -272,14 +258,6 @@ module _ {X K : Type 0} {R : K → K → Ordering} (o : IsTotalOrder R) (key : X
       by (Some x) e some = subst IsSome (sym (row_at-put_found k x e)) some
 
 -- ---- lists by a number
-
-pub different : (m n : ℕ) → m ≢ n → is_eq (nat_cmp m n) ≡ false
-different m n h = by (nat_cmp m n) refl
-  where
-    by : (s : Ordering) → nat_cmp m n ≡ s → is_eq (nat_cmp m n) ≡ false
-    by Less e = ap is_eq e
-    by Equal e = absurd (h (ranked m n Equal (sym e)))
-    by Greater e = ap is_eq e
 
 module _ {X : Type 0} (key : X → ℕ) (row : X) (rows : List X) (sorted : IsInOrder nat_cmp key rows)
     (none : row_by_number key (key row) rows ≡ None) where

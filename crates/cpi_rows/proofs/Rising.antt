@@ -1,6 +1,5 @@
 -- Rows whose keys rise are in order, and rows whose keys falter are not.
-use Rattle.std.proofs.Common.{◌≡◌, ℕ, ◌+◌, ◌<◌, ◌≤◌, true, false, List, [], ◌∷◌, length, get_or, sym, ap, ◌∙◌, arith}
-use Rattle.std.proofs.Common.{zero, suc}
+use Rattle.std.proofs.Common.{◌≡◌, ℕ, ◌+◌, ◌<◌, false, List, [], ◌∷◌, length, get_or, sym, ap, ◌∙◌, arith}
 use Rattle.std.specs.declared.cmp.Ordering.{Ordering}
 use Rattle.std.specs.declared.cmp.Ordering.TheVariants.{Less}
 use Rattle.std.specs.Ordering.{is_lt}
@@ -9,6 +8,7 @@ use Rattle.std.specs.List.Sorted.{IsStrictlySortedBy}
 use Rattle.std.proofs.lemmas.List.Elements.{pair_read}
 use Rattle.std.proofs.lemmas.Map.Keys.{sorted_from_all_adjacent, Less-from_sorted}
 use Rattle.cpi_rows.specs.Keyed.{IsInOrder, Falters}
+use Rattle.cpi_rows.proofs.Truth.{no_true_false}
 
 pub by_key_total : {X K : Type 0} {R : K → K → Ordering} → IsTotalOrder R → (key : X → K) →
     IsTotalOrder (λ a b. R (key a) (key b))
@@ -35,13 +35,10 @@ unfolding IsStrictlySortedBy
 rises_whole o key [] h = tt
 rises_whole o key (x ∷ xs) h = sorted_from_all_adjacent (by_key_total o key) (x ∷ xs) x (λ k l. h k x l)
 
-true_false : true ≡ false → ⊥
-true_false e = cc
-
 -- rows in order don't falter
 pub never_falters : {X K : Type 0} (cmp : K → K → Ordering) (key : X → K) (xs : List X) → IsInOrder cmp key xs →
     Falters cmp key xs → ⊥
 never_falters cmp key [] order f = absurd (omega (arith, f.1))
 never_falters cmp key (x ∷ xs) order f =
     let less = Less-from_sorted (λ a b. cmp (key a) (key b)) (x ∷ xs) f.0 (f.0 + 1) x order (omega arith) f.1 in
-    true_false (ap is_lt (sym less) ∙ f.2 x)
+    no_true_false (ap is_lt (sym less) ∙ f.2 x)
