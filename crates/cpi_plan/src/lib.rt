@@ -4,6 +4,7 @@
 mod calendar;
 mod checks;
 mod items;
+mod limits;
 mod once;
 mod plan_bodies;
 mod plan_faults;
@@ -17,6 +18,7 @@ mod weighing;
 
 pub use calendar::CalendarRow;
 pub use items::Item;
+pub use limits::{ALL_PARTS, GREATEST_TOLERANCE, PER_MILLE};
 pub use plan_bodies::PlanBody;
 pub use plan_faults::PlanFault;
 pub use plan_rows::{Node, Place, Title, Weight};
