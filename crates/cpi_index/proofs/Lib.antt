@@ -1,4 +1,4 @@
-pub mod Limits
+pub mod InLimits
 pub mod Merge
 pub mod Steps
 pub mod Kept

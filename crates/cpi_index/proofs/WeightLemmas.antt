@@ -34,6 +34,8 @@ use Rattle.cpi_index.specs.declared.fault.IndexFault.{IndexFault}
 use Rattle.cpi_index.specs.declared.index.NodeIndex.{NodeIndex}
 use Rattle.cpi_index.specs.declared.weight_levels.WeightLevels.{WeightLevels}
 use Rattle.cpi_index.proofs.MeanLemmas.{product_least, product_most}
+use Rattle.cpi_plan.specs.declared.limits.TheConstants.{ALL_PARTS}
+use Rattle.cpi_index.specs.declared.limits.TheConstants.{MOST_INDEX, MOST_WEIGHT_IN_USE}
 
 -- each weight is within the limits of a weight in use
 abbrev pub are_effective : List Weight → Bool
@@ -200,13 +202,13 @@ same_weights (w ∷ ws) (x ∷ xs) l h = rw (h 0 w x (omega arith))
     (same_weights ws xs (omega (arith, l)) (λ k d e m. h (suc k) d e (omega arith)))
 
 -- ---- the limits of each
-pub effective_is : (n : ℕ) → 1 ≤ n → n ≤ 1000000000 → is_effective n ≡ true
+pub effective_is : (n : ℕ) → 1 ≤ n → n ≤ MOST_WEIGHT_IN_USE → is_effective n ≡ true
 effective_is n l m = grind (arith, nat_tests)
 
 pub effective_least : (n : ℕ) → is_effective n ≡ true → 1 ≤ n
 effective_least n h = grind (arith, nat_tests)
 
-pub effective_most : (n : ℕ) → is_effective n ≡ true → n ≤ 1000000000
+pub effective_most : (n : ℕ) → is_effective n ≡ true → n ≤ MOST_WEIGHT_IN_USE
 effective_most n h = grind (arith, nat_tests)
 
 or_first : (a b : Bool) → (a || b) ≡ false → a ≡ false
@@ -231,10 +233,11 @@ few_parts (w ∷ ws) z =
     )
 
 -- a plan has at most a million weights
-pub few_weights : (plan : Plan) → IsPlan plan → length plan.weights ≤ 1000000
+pub few_weights : (plan : Plan) → IsPlan plan → length plan.weights ≤ ALL_PARTS
 few_weights plan kept = omega (arith, few_parts plan.weights kept.positive, kept.whole)
 
-own_parts : (ws : List Weight) → has_zero_weight ws ≡ false → total_weight ws ≤ 1000000000 → are_effective ws ≡ true
+own_parts : (ws : List Weight) → has_zero_weight ws ≡ false → total_weight ws ≤ MOST_WEIGHT_IN_USE →
+    are_effective ws ≡ true
 own_parts [] z l = refl
 own_parts (w ∷ ws) z l =
     let more : total_weight (w ∷ ws) ≡ w.parts + total_weight ws = sum_by-cons (λ (w : Weight). w.parts) w ws in
@@ -304,13 +307,14 @@ pub positive_more : (ws : List Weight) (i : ℕ) (w : Weight) → i < length ws 
 positive_more ws i w l is p z = rw add-one (positive_next ws i w l is p z)
 
 -- ---- the sum at and below a code
-pub under_most : (q : Code) (ws : List Weight) → are_effective ws ≡ true → weight_under q ws ≤ 1000000000 * length ws
+pub under_most : (q : Code) (ws : List Weight) → are_effective ws ≡ true →
+    weight_under q ws ≤ MOST_WEIGHT_IN_USE * length ws
 under_most q [] h = omega arith
 under_most q (w ∷ ws) h =
     omega (
       arith,
       under_cons q w ws (is_code_at_or_below q w.code) refl,
-      amount_fits (is_code_at_or_below q w.code) w.parts 1000000000
+      amount_fits (is_code_at_or_below q w.code) w.parts MOST_WEIGHT_IN_USE
           (effective_most w.parts (and_first (is_effective w.parts) (are_effective ws) h)),
       under_most q ws (and_second (is_effective w.parts) (are_effective ws) h),
     )
@@ -361,7 +365,7 @@ module _ (index : Code → ℕ) (q : Code) where
       by false e f r o = omega arith
 
   pub weighted_most : (ws : List Weight) → ((k : ℕ) (d : Weight) → k < length ws →
-      IsIndex (index (get_or ws k d).code)) → weighted_under index q ws ≤ 10000000000000 * weight_under q ws
+      IsIndex (index (get_or ws k d).code)) → weighted_under index q ws ≤ MOST_INDEX * weight_under q ws
   weighted_most [] h = omega arith
   weighted_most (w ∷ ws) h =
       let rest = weighted_most ws (λ k d l. h (suc k) d (omega (arith, l))) in
@@ -371,7 +375,7 @@ module _ (index : Code → ℕ) (q : Code) where
     where
       by : (b : Bool) → weight_under q (w ∷ ws) ≡ cond b w.parts 0 + weight_under q ws →
           weighted_under index q (w ∷ ws) ≡ cond b (product w) 0 + weighted_under index q ws →
-          weighted_under index q ws ≤ 10000000000000 * weight_under q ws → product w ≤ 10000000000000 * w.parts →
-          weighted_under index q (w ∷ ws) ≤ 10000000000000 * weight_under q (w ∷ ws)
+          weighted_under index q ws ≤ MOST_INDEX * weight_under q ws → product w ≤ MOST_INDEX * w.parts →
+          weighted_under index q (w ∷ ws) ≤ MOST_INDEX * weight_under q (w ∷ ws)
       by true e f r o = omega arith
       by false e f r o = omega arith

@@ -14,16 +14,17 @@ use Rattle.cpi_index.specs.declared.level.NodeLevel.{NodeLevel}
 use Rattle.cpi_index.specs.declared.weight_levels.WeightLevels.{WeightLevels}
 use Rattle.cpi_index.specs.declared.fault.IndexFault.{IndexFault}
 use Rattle.cpi_index.specs.declared.fault.IndexFault.TheVariants.{NoReference, OutOfRange}
+use Rattle.cpi_index.specs.declared.limits.TheConstants.{MOST_WEIGHT_IN_USE, MOST_NODE_WEIGHT}
 
 -- ---- the limits of an aggregate's weight in use, and of the sum of such weights at and below a node
 abbrev pub IsEffective : ℕ → Type 0
-IsEffective n = (1 ≤ n) × (n ≤ 1000000000)
+IsEffective n = (1 ≤ n) × (n ≤ MOST_WEIGHT_IN_USE)
 
 abbrev pub is_effective : ℕ → Bool
-is_effective n = nat_le 1 n && nat_le n 1000000000
+is_effective n = nat_le 1 n && nat_le n MOST_WEIGHT_IN_USE
 
 abbrev pub IsNodeWeight : ℕ → Type 0
-IsNodeWeight n = (1 ≤ n) × (n ≤ 1000000000000000)
+IsNodeWeight n = (1 ≤ n) × (n ≤ MOST_NODE_WEIGHT)
 
 -- ---- one weight, with its aggregate's chained levels in the link month and in the reference month
 abbrev pub lacks_a_level : WeightLevels → Bool

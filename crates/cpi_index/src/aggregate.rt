@@ -6,6 +6,7 @@ ghost use Rattle.cpi_index.specs.Aggregate.{price_to_compare, is_matched, is_mat
 ghost use Rattle.cpi_index.specs.Aggregate.{movement_before, carried_row, are_in_limits};
 ghost use Rattle.cpi_index.specs.Aggregate.{lacks_a_match};
 ghost use Rattle.std.specs.List.{list_all};
+ghost use Rattle.cpi_codes.specs.declared.limits.TheConstants.{MOST_SERIES};
 
 use crate::carried::CarriedPrice;
 use crate::movement::Movement;
@@ -39,7 +40,7 @@ impl GroupRow {
 
 // The movement of the matched rows; none where one of their carried prices is past its limit.
 pub(crate) fn movement(rows: &[GroupRow]) -> Option<Movement>
-    requires { length rows.now ≤ 3999600 }
+    requires { length rows.now ≤ MOST_SERIES }
     ensures { MatchOption result
         (list_all is_matched_in_limits rows.now ≡ false)
         (λ m. (m.current ≡ movement_now rows.now) × (m.previous ≡ movement_before rows.now)) }
@@ -86,7 +87,7 @@ pub(crate) fn lacks_match(rows: &[GroupRow], unchanged: bool) -> bool
 
 // The movement of an aggregate; none where one of its carried prices is outside its limits.
 pub(crate) fn movement_in_limits(rows: &[GroupRow]) -> Option<Movement>
-    requires { length rows.now ≤ 3999600 }
+    requires { length rows.now ≤ MOST_SERIES }
     ensures { MatchOption result
         (are_in_limits rows.now ≡ false)
         (λ m. (are_in_limits rows.now ≡ true) × (m.current ≡ movement_now rows.now)

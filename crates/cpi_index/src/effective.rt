@@ -2,10 +2,9 @@
 ghost use Rattle.std.specs.Prelude.{◌≡◌, SomeIff};
 ghost use Rattle.cpi_index.specs.Weights.{IsEffective};
 
+use crate::limits::MOST_WEIGHT_IN_USE;
 use cpi_codes::Code;
 use std::marker::Model;
-
-const MOST: u128 = 1_000_000_000;
 
 /// The weight in use of an elementary aggregate: 1 to 10^9. A plan's own weights are parts per million; where they are
 /// moved by prices, their sum may be another.
@@ -33,7 +32,7 @@ impl EffectiveWeight {
     pub fn new(code: Code, parts: u128) -> Option<EffectiveWeight>
         ensures { SomeIff result (IsEffective parts) (record { code = code; parts = parts }) }
     {
-        if parts < 1 || MOST < parts {
+        if parts < 1 || MOST_WEIGHT_IN_USE < parts {
             return None;
         }
         Some(EffectiveWeight {

@@ -5,6 +5,8 @@ ghost use Rattle.cpi_index.specs.Series.{are_by_series, row_serial};
 ghost use Rattle.cpi_index.specs.Group.{ticks_now, ticks_base, group_index, has_imputed, lack_of};
 ghost use Rattle.std.specs.Prelude.{true, false, Ok, Err};
 ghost use Rattle.cpi_index.specs.declared.lack.GroupLack.TheVariants.{PriceOutOfRange};
+ghost use Rattle.cpi_index.specs.declared.limits.TheConstants.{MOST_SUM_OF_TICKS};
+ghost use Rattle.cpi_codes.specs.declared.limits.TheConstants.{MOST_SERIES};
 
 use crate::aggregate::{lacks_match, movement};
 use crate::carried::CarriedPrice;
@@ -35,11 +37,11 @@ fn carry_rows(
     rows: &[GroupRow],
     carried: &mut Vec<CarriedPrice>,
 ) -> Result<Option<Sums>, AllocError>
-    requires few { length rows.now ≤ 3999600 }
+    requires few { length rows.now ≤ MOST_SERIES }
     ensures { IfOk result (λ o. MatchOption o (are_in_limits rows.now ≡ false) (λ s.
         (are_in_limits rows.now ≡ true) × (carried.new.items ≡ carried.old.items ++ carried_rows rows.now)
         × (s.current ≡ ticks_now rows.now) × (s.base ≡ ticks_base rows.now) × (s.imputed ≡ has_imputed rows.now)
-        × (s.current ≤ 3999600000000000000000) × (s.base ≤ 3999600000000000000000) × (length rows.now ≤ s.base))) }
+        × (s.current ≤ MOST_SUM_OF_TICKS) × (s.base ≤ MOST_SUM_OF_TICKS) × (length rows.now ≤ s.base))) }
 {
     let Some(movement) = movement(rows) else {
         return Ok(None);

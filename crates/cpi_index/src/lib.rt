@@ -15,6 +15,7 @@ mod index;
 mod indices;
 mod lack;
 mod level;
+mod limits;
 mod means;
 mod month;
 mod month_groups;
@@ -46,6 +47,10 @@ pub use index::{Index, NodeIndex};
 pub use indices::elementary;
 pub use lack::GroupLack;
 pub use level::{ChainedLevel, NodeLevel};
+pub use limits::{
+    HUNDRED_POINTS, MOST_INDEX, MOST_LEVEL, MOST_NODE_WEIGHT, MOST_SUM_OF_TICKS, MOST_TICKS,
+    MOST_WEIGHT_IN_USE, MOST_WEIGHTED_INDEX, MOST_WEIGHTED_SUM,
+};
 pub use means::upper;
 pub use month_groups::{groups_of_january, groups_of_month};
 pub use node_weight::NodeWeight;

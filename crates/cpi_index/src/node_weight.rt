@@ -2,9 +2,8 @@
 ghost use Rattle.std.specs.Prelude.{◌≡◌, SomeIff};
 ghost use Rattle.cpi_index.specs.Weights.{IsNodeWeight};
 
+use crate::limits::MOST_NODE_WEIGHT;
 use std::marker::Model;
-
-const MOST: u128 = 1_000_000_000_000_000;
 
 /// The sum of the weights in use at and below a node: 1 to 10^15.
 #[derive(Clone, Copy, PartialEq, Eq)]
@@ -30,7 +29,7 @@ impl NodeWeight {
     pub fn new(parts: u128) -> Option<NodeWeight>
         ensures { SomeIff result (IsNodeWeight parts) parts }
     {
-        if parts < 1 || MOST < parts {
+        if parts < 1 || MOST_NODE_WEIGHT < parts {
             return None;
         }
         Some(NodeWeight {

@@ -3,6 +3,7 @@ ghost use Rattle.std.specs.Prelude.{◌≡◌, ℕ, ◌≤◌, ◌<◌, map, len
 ghost use Rattle.cpi_codes.specs.declared.series.SeriesId.{SeriesId};
 ghost use Rattle.cpi_index.specs.Series.{serial, rises_from, element_at, are_by_series, carried_serial};
 ghost use Rattle.cpi_index.specs.Series.{frozen_serial, row_serial, IsOneSeries};
+ghost use Rattle.cpi_codes.specs.declared.limits.TheConstants.{MOST_SERIES};
 
 use crate::carried::CarriedPrice;
 use crate::frozen::FrozenQuote;
@@ -14,7 +15,7 @@ const SLOTS: u32 = 400;
 // The number of a series among all that there can be, by collector and then by slot.
 fn serial_of(series: SeriesId) -> u32
     ensures value { result ≡ serial series }
-    ensures limit { result < 3999600 }
+    ensures limit { result < MOST_SERIES }
 {
     SLOTS * u32::from(series.collector.number() - 1) + u32::from(series.slot.number() - 1)
 }
@@ -26,7 +27,7 @@ pub(crate) trait InSeries {
     // The number of the series.
     fn serial(&self) -> u32
         ensures value { result ≡ serial_in self.now }
-        ensures limit { result < 3999600 };
+        ensures limit { result < MOST_SERIES };
 }
 
 impl InSeries for CarriedPrice {
@@ -56,7 +57,7 @@ impl InSeries for GroupRow {
 // Whether the list is in the order of its series, with no series twice.
 pub(crate) fn is_by_series<T: InSeries>(list: &[T]) -> bool
     ensures value { result ≡ are_by_series T.serial_in list.now }
-    ensures few { result ≡ true → length list.now ≤ 3999600 }
+    ensures few { result ≡ true → length list.now ≤ MOST_SERIES }
 {
     let mut least = 0;
     for row in list {

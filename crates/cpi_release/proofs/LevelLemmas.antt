@@ -23,6 +23,7 @@ use Rattle.cpi_release.specs.MonthTable.{level_row}
 use Rattle.cpi_release.specs.Summed.{IsSummed}
 use Rattle.cpi_release.specs.declared.pass.Pass.{Pass}
 use Rattle.cpi_release.specs.declared.release.Release.{Release}
+use Rattle.cpi_index.specs.declared.limits.TheConstants.{HUNDRED_POINTS, MOST_INDEX, MOST_NODE_WEIGHT}
 
 here : {X : Type 0} (xs : List X) (i : ℕ) (x : X) → i < length xs → x ≡ get_or xs i x → drop i xs ≡ x ∷ drop (i + 1) xs
 here xs i x h is = drop_more xs i x h ∙ ap (λ z. z ∷ drop (i + 1) xs) (sym is)
@@ -54,7 +55,7 @@ first_out p nodes all i n h is same passes before =
 -- what a node's row is made of, by the weights of a plan
 module _ (plan : Plan) (releases : List Release) (month : ℕ) (rows : List Row) (pass : Pass)
     (s : IsSummed plan rows pass) (n : Node) (weight : ℕ) (w : weight ≡ weight_under n.code plan.weights) where
-  pub limit_is : (sum : ℕ) → sum ≡ sum_at pass.sums n.code → 0 < weight → sum ≤ 10000000000000 * weight →
+  pub limit_is : (sum : ℕ) → sum ≡ sum_at pass.sums n.code → 0 < weight → sum ≤ MOST_INDEX * weight →
       IsIndex (rounded_quotient sum weight)
   limit_is sum e some most = mean_within sum weight some (omega (arith, w, e, s.least n.code)) most
 
@@ -64,9 +65,9 @@ module _ (plan : Plan) (releases : List Release) (month : ℕ) (rows : List Row)
       ∙ ap (λ z. rounded_quotient (weighted_under (aggregate_index plan rows) n.code plan.weights) z) w
 
   pub level_is : (within link : ℕ) → within ≡ within_year plan rows n.code → link ≡ link_of releases month n.code →
-      rounded_quotient (link * within) 100000000 ≡ node_level plan releases month rows n.code
-  level_is within link e l = ap (λ z. rounded_quotient (z * within) 100000000) l
-      ∙ ap (λ z. rounded_quotient (link_of releases month n.code * z) 100000000) e
+      rounded_quotient (link * within) HUNDRED_POINTS ≡ node_level plan releases month rows n.code
+  level_is within link e l = ap (λ z. rounded_quotient (z * within) HUNDRED_POINTS) l
+      ∙ ap (λ z. rounded_quotient (link_of releases month n.code * z) HUNDRED_POINTS) e
 
   pub row_is : (within link last flagged : ℕ) (year : Option ℕ) (imputed : Bool) →
       within ≡ within_year plan rows n.code → link ≡ link_of releases month n.code →
@@ -80,7 +81,7 @@ module _ (plan : Plan) (releases : List Release) (month : ℕ) (rows : List Row)
 -- a node's sum of weights in the place of the plan's is within its limits
 pub sum_within : (plan : Plan) → IsPlan plan → (ws : List Weight) → are_weights_in plan.weights ws ≡ true →
     (i : ℕ) (n : Node) → i < length plan.nodes → n ≡ get_or plan.nodes i n → (sum : ℕ) →
-    (is_node ws n.code ≡ true → 1 ≤ sum) → sum ≤ 1000000000000000 → IsNodeWeight sum
+    (is_node ws n.code ≡ true → 1 ≤ sum) → sum ≤ MOST_NODE_WEIGHT → IsNodeWeight sum
 sum_within plan kept ws same i n l is sum least most =
     (least (sym (nodes_kept plan.weights ws same n.code) ∙ node_is plan kept i n l is), most)
 

@@ -9,6 +9,7 @@ ghost use Rattle.cpi_release.specs.State.{Keeps, StaysClean};
 ghost use Rattle.cpi_release.specs.MonthTable.{level_with, level_fault, table_of};
 ghost use Rattle.cpi_release.specs.Summed.{IsSummed, IsFreezeFault};
 ghost use Rattle.cpi_release.specs.declared.freeze_fault.FreezeFault.TheVariants.{Group};
+ghost use Rattle.cpi_index.specs.declared.limits.TheConstants.{MOST_INDEX};
 
 use crate::before::{Before, levels_before};
 use crate::changes::change;
@@ -73,7 +74,7 @@ pub(crate) fn levels_of<G: Groups>(
     pass: &Pass,
 ) -> Result<Vec<Level>, FreezeFault>
     requires codes { are_weights_in plan.now.weights weights.now ≡ true }
-    requires most { (q : Code) → sum_at pass.now.sums q ≤ 10000000000000 * weight_under q weights.now }
+    requires most { (q : Code) → sum_at pass.now.sums q ≤ MOST_INDEX * weight_under q weights.now }
     ensures keeps { Keeps (G.holds groups.old) (G.holds groups.new) }
     ensures stays { result ≢ Err Group → StaysClean (G.holds groups.old) (G.holds groups.new) }
     ensures count { (G.holds groups.old).failures ≤ (G.holds groups.new).failures }

@@ -15,6 +15,8 @@ ghost use Rattle.cpi_release.specs.Passing.{faults_with, IsPassingStep, IsPassed
 ghost use Rattle.cpi_release.specs.State.{Keeps, StaysClean};
 ghost use Rattle.cpi_release.specs.GroupCalls.{group_of};
 ghost use Rattle.cpi_release.specs.Asking.{AreListed, CanAsk, IsReadFault};
+ghost use Rattle.cpi_plan.specs.declared.limits.TheConstants.{ALL_PARTS};
+ghost use Rattle.cpi_index.specs.declared.limits.TheConstants.{MOST_INDEX, MOST_WEIGHTED_INDEX, MOST_WEIGHTED_SUM};
 
 use crate::faults::Faults;
 use crate::freeze_fault::FreezeFault;
@@ -88,12 +90,12 @@ pub(crate) fn add(
     unchanged: bool,
 ) -> Result<(), AllocError>
     requires elementary { IsSome weight.code.aggregate }
-    requires sums { (q : Code) → sum_at pass.old.sums q ≤ 10000000000000000000000000000 }
+    requires sums { (q : Code) → sum_at pass.old.sums q ≤ MOST_WEIGHTED_SUM }
     requires imputed { (q : Code) → sum_at pass.old.imputed q < 2 ^ 64 }
     ensures most { OnOk result ((q : Code) → sum_at pass.new.sums q ≤ sum_at pass.old.sums q
-        + (if is_code_at_or_below q weight.code then 10000000000000 * weight.parts else 0)) }
+        + (if is_code_at_or_below q weight.code then MOST_INDEX * weight.parts else 0)) }
     ensures within { OnOk result ((q : Code) →
-        sum_at pass.new.sums q ≤ sum_at pass.old.sums q + 10000000000000000000000) }
+        sum_at pass.new.sums q ≤ sum_at pass.old.sums q + MOST_WEIGHTED_INDEX) }
     ensures few { OnOk result ((q : Code) → sum_at pass.new.imputed q ≤ sum_at pass.old.imputed q + 1) }
     ensures step { OnOk result (are_by_series row_serial rows.now ≡ true →
         IsPassingStep unchanged rows.now weight pass.old pass.new) }
@@ -120,12 +122,12 @@ pub(crate) fn pass_over<G: Groups>(
     unchanged: &[bool],
 ) -> Result<Pass, FreezeFault>
     requires elementary { list_all (λ w. is_code_elementary w.code) weights.now ≡ true }
-    requires few { length weights.now ≤ 1000000 }
+    requires few { length weights.now ≤ ALL_PARTS }
     requires each { length unchanged.now ≡ length weights.now }
     ensures keeps { Keeps (G.holds groups.old) (G.holds groups.new) }
     ensures stays { result ≢ Err Group → StaysClean (G.holds groups.old) (G.holds groups.new) }
     ensures count { (G.holds groups.old).failures ≤ (G.holds groups.new).failures }
-    ensures most { IfOk result (λ p. (q : Code) → sum_at p.sums q ≤ 10000000000000 * weight_under q weights.now) }
+    ensures most { IfOk result (λ p. (q : Code) → sum_at p.sums q ≤ MOST_INDEX * weight_under q weights.now) }
     ensures exact { (carry : List Code) → AreListed weights.now carry unchanged.now →
         (G.holds groups.new).is_clean →
         G.is_sound (G.holds groups.old).held → CanAsk (G.sources (G.holds groups.old).held) month →

@@ -7,6 +7,7 @@ use Rattle.cpi_plan.specs.Sums.{sum_at, weight_under}
 use Rattle.cpi_plan.proofs.UnderLemmas.{weighs, weight_more, amount_fits}
 use Rattle.cpi_index.proofs.WeightLemmas.{positive_more}
 use Rattle.cpi_index.proofs.summing.weights_under.Goals as goal
+use Rattle.cpi_index.specs.declared.limits.TheConstants.{MOST_WEIGHT_IN_USE}
 
 pub loop-weight-preserved : goal.loop-weight-preserved
 loop-weight-preserved c =
@@ -24,14 +25,19 @@ loop-weight-preserved c =
     ∙ ap (λ z. sum_at old q + cond (is_code_at_or_below q z) c.from.result 0) c.code.ensures
     ∙ ap (λ m. sum_at old q + cond (is_code_at_or_below q w.code) m 0) amount in
     let least : 1 ≤ w.parts = omega (arith, c.parts.ensures.value, c.parts.ensures.range.0) in
-    let most : w.parts ≤ 1000000000 = omega (arith, c.parts.ensures.value, c.parts.ensures.range.1) in
+    let most : w.parts ≤ MOST_WEIGHT_IN_USE = omega (arith, c.parts.ensures.value, c.parts.ensures.range.1) in
     record {
       so_far = λ q.
           step q
           ∙ ap (λ m. m + cond (is_code_at_or_below q w.code) w.parts 0) (inv.so_far q)
           ∙ sym (weight_more q ws i w h is);
       positive = positive_more ws i w h is least inv.positive;
-      most = λ q. omega (arith, step q, amount_fits (is_code_at_or_below q w.code) w.parts 1000000000 most, inv.most q);
+      most = λ q. omega (
+        arith,
+        step q,
+        amount_fits (is_code_at_or_below q w.code) w.parts MOST_WEIGHT_IN_USE most,
+        inv.most q,
+      );
     }
 
 pub returns-clause-least : goal.returns-clause-least
