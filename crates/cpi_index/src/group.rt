@@ -10,8 +10,8 @@ ghost use Rattle.cpi_codes.specs.declared.limits.TheConstants.{MOST_SERIES};
 
 use crate::aggregate::{lacks_match, movement};
 use crate::carried::CarriedPrice;
+use crate::dutot::dutot;
 use crate::index::Index;
-use crate::indices::dutot;
 use crate::lack::GroupLack;
 use crate::row::GroupRow;
 use crate::series::is_by_series;
