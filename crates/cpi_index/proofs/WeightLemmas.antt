@@ -1,5 +1,5 @@
 -- Weights in use: they stand in the place of a plan's own, and each is within its limits.
-use Rattle.std.proofs.Common.{◌≡◌, ℕ, zero, suc, ◌+◌, ◌*◌, ◌<◌, ◌≤◌, Bool, true, false, not, ◌&&◌, ◌||◌, cond, eqb}
+use Rattle.std.proofs.Common.{◌≡◌, ℕ, zero, suc, ◌+◌, ◌*◌, ◌<◌, ◌≤◌, Bool, true, false, ◌&&◌, ◌||◌, cond, eqb}
 use Rattle.std.proofs.Common.{List, [], ◌∷◌, Option, Some, None, option_map, length, take, get_or, find, filter, map}
 use Rattle.std.proofs.Common.{refl, sym, ap, subst, ◌∙◌, arith, add-one}
 use Rattle.std.specs.Prelude.{is_some}
@@ -16,13 +16,14 @@ use Rattle.cpi_codes.specs.CodeOrder.{code_cmp, is_same_code}
 use Rattle.cpi_codes.specs.CodeText.{is_code_at_or_below}
 use Rattle.cpi_codes.specs.declared.codes.Code.{Code}
 use Rattle.cpi_codes.specs.contracts.codes.CodeOrd.TheImpl.Laws.{total-law}
+use Rattle.cpi_rows.proofs.Truth.{and_first, and_second, not_false, or_false_first, or_false_second}
 use Rattle.cpi_rows.specs.Keyed.{IsInOrder}
 use Rattle.cpi_plan.specs.Plan.{Plan, IsPlan, has_zero_weight, total_weight}
 use Rattle.cpi_plan.specs.Sums.{weight_under, is_node}
 use Rattle.cpi_plan.specs.declared.plan_rows.Weight.{Weight}
 use Rattle.cpi_plan.specs.declared.plan_rows.Node.{Node}
 use Rattle.cpi_plan.proofs.FaultLemmas.{equal_is}
-use Rattle.cpi_plan.proofs.UnderLemmas.{and_first, and_second, weighs, under_cons, amount_fits}
+use Rattle.cpi_plan.proofs.UnderLemmas.{weighs, under_cons, amount_fits}
 use Rattle.cpi_index.specs.Aggregate.{IsIndex}
 use Rattle.cpi_index.specs.Carried.{Carried}
 use Rattle.cpi_index.specs.Indices.{elementary_indices, index_row}
@@ -211,14 +212,6 @@ effective_least n h = grind (arith, nat_tests)
 pub effective_most : (n : ℕ) → is_effective n ≡ true → n ≤ MOST_WEIGHT_IN_USE
 effective_most n h = grind (arith, nat_tests)
 
-or_first : (a b : Bool) → (a || b) ≡ false → a ≡ false
-or_first false b h = refl
-or_first true b h = cc
-
-or_second : (a b : Bool) → (a || b) ≡ false → b ≡ false
-or_second false b h = h
-or_second true b h = cc
-
 some_parts : (n : ℕ) → eqb n 0 ≡ false → 1 ≤ n
 some_parts n h = grind (arith, nat_tests)
 
@@ -227,8 +220,8 @@ few_parts [] z = omega arith
 few_parts (w ∷ ws) z =
     omega (
       arith,
-      some_parts w.parts (or_first (eqb w.parts 0) (has_zero_weight ws) z),
-      few_parts ws (or_second (eqb w.parts 0) (has_zero_weight ws) z),
+      some_parts w.parts (or_false_first (eqb w.parts 0) (has_zero_weight ws) z),
+      few_parts ws (or_false_second (eqb w.parts 0) (has_zero_weight ws) z),
       sum_by-cons (λ (w : Weight). w.parts) w ws,
     )
 
@@ -241,16 +234,12 @@ own_parts : (ws : List Weight) → has_zero_weight ws ≡ false → total_weight
 own_parts [] z l = refl
 own_parts (w ∷ ws) z l =
     let more : total_weight (w ∷ ws) ≡ w.parts + total_weight ws = sum_by-cons (λ (w : Weight). w.parts) w ws in
-    rw (effective_is w.parts (some_parts w.parts (or_first (eqb w.parts 0) (has_zero_weight ws) z))
+    rw (effective_is w.parts (some_parts w.parts (or_false_first (eqb w.parts 0) (has_zero_weight ws) z))
     (omega (arith, more, l)))
-    (own_parts ws (or_second (eqb w.parts 0) (has_zero_weight ws) z) (omega (arith, more, l)))
+    (own_parts ws (or_false_second (eqb w.parts 0) (has_zero_weight ws) z) (omega (arith, more, l)))
 
 pub own_effective : (plan : Plan) → IsPlan plan → are_effective plan.weights ≡ true
 own_effective plan kept = own_parts plan.weights kept.positive (omega (arith, kept.whole))
-
-not_not : (b : Bool) → not b ≡ false → b ≡ true
-not_not true h = refl
-not_not false h = cc
 
 moved_effective : (rows : List WeightLevels) → find is_moved_out rows ≡ None → are_effective (moved_weights rows) ≡ true
 moved_effective [] h = refl
@@ -260,7 +249,7 @@ moved_effective (r ∷ rows) h = by (is_moved_out r) refl (moved_effective rows)
         → are_effective (moved_weights (r ∷ rows)) ≡ true
     by true e rest = let no : Some r ≡ None = sym (ap (λ b. cond b (Some r) (find is_moved_out rows)) e) ∙ h in cc
     by false e rest =
-        rw (not_not (is_effective (moved_parts r)) e)
+        rw (not_false (is_effective (moved_parts r)) e)
         (rest (sym (ap (λ b. cond b (Some r) (find is_moved_out rows)) e) ∙ h))
 
 none_out : (a : Option IndexFault) (g : WeightLevels → IndexFault) (b : Option WeightLevels) →
@@ -299,8 +288,8 @@ positive_next [] i w l is p z = absurd (omega arith)
 positive_next (v ∷ ws) zero w l is p z = rw (sym (ap (λ (z : Weight). eqb z.parts 0) is) ∙ not_zero w.parts p) refl
 positive_next (v ∷ ws) (suc i) w l is p z =
     neither (eqb v.parts 0) (has_zero_weight (take (suc i) ws))
-    (or_first (eqb v.parts 0) (has_zero_weight (take i ws)) z)
-    (positive_next ws i w (omega arith) is p (or_second (eqb v.parts 0) (has_zero_weight (take i ws)) z))
+    (or_false_first (eqb v.parts 0) (has_zero_weight (take i ws)) z)
+    (positive_next ws i w (omega arith) is p (or_false_second (eqb v.parts 0) (has_zero_weight (take i ws)) z))
 
 pub positive_more : (ws : List Weight) (i : ℕ) (w : Weight) → i < length ws → w ≡ get_or ws i w → 1 ≤ w.parts →
     has_zero_weight (take i ws) ≡ false → has_zero_weight (take (i + 1) ws) ≡ false

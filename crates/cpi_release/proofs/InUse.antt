@@ -11,7 +11,7 @@ use Rattle.cpi_codes.specs.contracts.codes.CodeOrd.TheImpl.Laws.{total-law}
 use Rattle.cpi_plan.specs.Plan.{Plan}
 use Rattle.cpi_plan.specs.declared.plan_rows.Weight.{Weight}
 use Rattle.cpi_plan.proofs.FaultLemmas.{equal_is}
-use Rattle.cpi_plan.proofs.UnderLemmas.{and_first, and_second}
+use Rattle.cpi_rows.proofs.Truth.{and_first, and_second}
 use Rattle.cpi_index.specs.Month.{is_listed}
 use Rattle.cpi_index.specs.Weights.{moved_weights, moving_fault, with_levels, are_weights_in}
 use Rattle.cpi_index.specs.declared.weight_levels.WeightLevels.{WeightLevels}

@@ -7,6 +7,7 @@ use Rattle.std.proofs.lemmas.List.Sums.{sum_by-cons}
 use Rattle.std.proofs.lemmas.Bool.Decides.{nat_tests}
 use Rattle.cpi_codes.specs.CodeText.{is_code_at_or_below}
 use Rattle.cpi_codes.specs.declared.codes.Code.{Code}
+use Rattle.cpi_rows.proofs.Truth.{and_first, and_second}
 use Rattle.cpi_plan.specs.Plan.{Plan}
 use Rattle.cpi_plan.specs.Sums.{weight_under}
 use Rattle.cpi_plan.specs.declared.plan_rows.Weight.{Weight}
@@ -21,14 +22,6 @@ use Rattle.cpi_index.specs.Means.{weighted_under}
 use Rattle.cpi_release.specs.Passing.{index_in, imputed_flag, lack_at, are_whole, IsPassed}
 use Rattle.cpi_release.specs.Summed.{IsSummed}
 use Rattle.cpi_release.specs.declared.pass.Pass.{Pass}
-
-and_first : (a b : Bool) → (a && b) ≡ true → a ≡ true
-and_first true b h = refl
-and_first false b h = cc
-
-and_second : (a b : Bool) → (a && b) ≡ true → b ≡ true
-and_second true b h = h
-and_second false b h = cc
 
 -- with nothing lacked, the index is within its limits
 last : (a b c d : Bool) → is_none (cond a (Some lack.NoSample)
