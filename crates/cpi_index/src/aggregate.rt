@@ -25,7 +25,7 @@ impl GroupRow {
         }
     }
 
-    // The carried price of the month, where the aggregate moved by `movement`; none outside its limits.
+    // The carried price of the month, when the aggregate moved by `movement`; none outside its limits.
     pub(crate) fn carried(&self, movement: &Movement) -> Option<CarriedPrice>
         ensures { let spec = carried_row movement.now.current movement.now.previous self.now
             in SomeIff result (IsTicks spec.ticks) spec }
@@ -38,7 +38,8 @@ impl GroupRow {
     }
 }
 
-// The movement of the matched rows; none where one of their carried prices is past its limit.
+// The movement of the matched rows; none if one of their carried prices is outside its limits. If no row is matched,
+// the movement is 1/1. The caller owes at most as many rows as there are series.
 pub(crate) fn movement(rows: &[GroupRow]) -> Option<Movement>
     requires { length rows.now ≤ MOST_SERIES }
     ensures { MatchOption result
@@ -66,12 +67,14 @@ pub(crate) fn movement(rows: &[GroupRow]) -> Option<Movement>
     Some(Movement { current, previous })
 }
 
+// Whether a row is matched: compared now, and observed in the month before.
 fn any_matched(rows: &[GroupRow]) -> bool
     ensures { result ≡ list_any is_matched rows.now }
 {
     rows.iter().any(|row| row.compared().is_some() && row.before.was_observed())
 }
 
+// Whether a row has no price that can be compared with the month before.
 fn any_uncompared(rows: &[GroupRow]) -> bool
     ensures { result ≡ list_any (λ r. is_none (price_to_compare r)) rows.now }
 {
@@ -85,7 +88,7 @@ pub(crate) fn lacks_match(rows: &[GroupRow], unchanged: bool) -> bool
     !unchanged && !any_matched(rows) && any_uncompared(rows)
 }
 
-// The movement of an aggregate; none where one of its carried prices is outside its limits.
+// The movement of an aggregate; none if one of its carried prices is outside its limits.
 pub(crate) fn movement_in_limits(rows: &[GroupRow]) -> Option<Movement>
     requires { length rows.now ≤ MOST_SERIES }
     ensures { MatchOption result

@@ -7,7 +7,7 @@ use crate::index::Index;
 use crate::limits::HUNDRED_POINTS;
 use cpi_codes::round_div;
 
-// The index of an aggregate from the sums over its sample; none outside the limits.
+// The index of an aggregate from the sums over its sample, in ticks; none outside 1 to 10^13 millionths of a point.
 pub(crate) fn dutot(current: u128, base: u128) -> Option<Index>
     requires base { 0 < base }
     requires current { current ≤ MOST_SUM_OF_TICKS }

@@ -6,8 +6,8 @@ use crate::limits::MOST_WEIGHT_IN_USE;
 use cpi_codes::Code;
 use std::marker::Model;
 
-/// The weight in use of an elementary aggregate: 1 to 10^9. A plan's own weights are parts per million; where they are
-/// moved by prices, their sum may be another.
+/// The weight in use of an elementary aggregate: 1 to 10^9. A plan's own weights are parts per million; when
+/// prices move them, their sum changes.
 #[derive(Clone, Copy, PartialEq, Eq)]
 pub struct EffectiveWeight {
     code: Code,

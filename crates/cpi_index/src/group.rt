@@ -32,7 +32,8 @@ struct Sums {
     imputed: bool,
 }
 
-// Puts the carried prices of a sample behind others, and sums them; none where one is outside its limits.
+// Adds the carried prices of a sample after others, and sums them; none if one is outside its limits. The caller owes
+// at most as many rows as there are series, so that no sum passes 128 bits.
 fn carry_rows(
     rows: &[GroupRow],
     carried: &mut Vec<CarriedPrice>,
@@ -65,9 +66,11 @@ fn carry_rows(
     }))
 }
 
-/// The index of an elementary aggregate from the rows of its sample, with its carried prices behind those in
-/// `carried`; else what it lacks, and then nothing is said of `carried`. Of rows that aren't by series the answer is a
-/// price outside its limits.
+/// The index of an elementary aggregate from the rows of its sample: the Dutot index of the *Consumer Price Index
+/// Manual* (its chapter on calculating indices in practice), which divides the sum of the carried prices by the sum of
+/// the bases. The carried prices are added after those in `carried`. If the aggregate lacks something, the answer is the
+/// first lack, and `carried` may have any further prices. If the rows aren't by series, the answer is a price outside
+/// its limits.
 pub fn carry_group(
     rows: &[GroupRow],
     unchanged: bool,

@@ -81,6 +81,7 @@ pub fn unchanged_of(
     Ok(unchanged)
 }
 
+// So many lists without a row.
 fn empty_groups(alloc: Global, count: usize) -> Result<Vec<Vec<GroupRow>>, AllocError>
     ensures { IfOk result (λ v. AreBuckets count [] v.items) }
 {

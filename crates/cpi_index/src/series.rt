@@ -10,6 +10,7 @@ use crate::frozen::FrozenQuote;
 use crate::row::GroupRow;
 use cpi_codes::SeriesId;
 
+// The slots of a collector.
 const SLOTS: u32 = 400;
 
 // The number of a series among all that there can be, by collector and then by slot.
@@ -20,7 +21,7 @@ fn serial_of(series: SeriesId) -> u32
     SLOTS * u32::from(series.collector.number() - 1) + u32::from(series.slot.number() - 1)
 }
 
-/// What stands in a list by series.
+// An element of a list by series.
 pub(crate) trait InSeries {
     ghost serial_in: { Self → ℕ };
 
@@ -70,7 +71,7 @@ pub(crate) fn is_by_series<T: InSeries>(list: &[T]) -> bool
     true
 }
 
-// What is left of the list behind the series below this one.
+// The rest of the list after the series below this one.
 pub(crate) fn skip_below<'a, T: InSeries>(list: &'a [T], serial: u32) -> &'a [T]
     requires { are_by_series T.serial_in list.now ≡ true }
     ensures found { (n : ℕ) → serial ≤ n → element_at T.serial_in n result.now ≡ element_at T.serial_in n list.now }

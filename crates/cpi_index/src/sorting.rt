@@ -44,8 +44,8 @@ fn put_in_order(carried: &mut Vec<CarriedPrice>) -> Result<bool, AllocError>
     Ok(are_in_order(carried))
 }
 
-/// Puts carried prices in the order of their series, and says whether no series comes twice: false where one does.
-/// Where they are those of a list by series, they are that list then. O(n log n) for n prices.
+/// Puts carried prices in the order of their series, and says whether no series comes twice: false if one does. If they
+/// are the prices of a list by series in any order, the result is that list. O(n log n) for n prices.
 pub fn put_by_series(carried: &mut Vec<CarriedPrice>) -> Result<bool, AllocError>
     ensures moved { IsPermutation carried.old.items carried.new.items }
     ensures once { IfOk result (λ b. MatchBool b

@@ -1,4 +1,5 @@
-//! The weights in use of a plan: its own, or moved by prices from its reference month to its link month.
+//! The weights in use of a plan: its own, or moved by prices from its reference month to its link month, as in
+//! the *Consumer Price Index Manual* (its chapter on updating weights).
 ghost use Rattle.std.specs.Prelude.{◌≡◌, ◌≢◌, false, None, Some, find, option_map};
 ghost use Rattle.std.specs.Prelude.{IfOk, MatchResult, SomeIff};
 ghost use Rattle.cpi_index.specs.Weights.{lacks_a_level, moved_parts, moved_weight, moved_weights};
@@ -12,6 +13,7 @@ use cpi_codes::{Code, round_div};
 use cpi_plan::YearPlan;
 use std::alloc::{AllocError, Global};
 
+// Whether the aggregate has no level in one of the two months.
 fn lacks_level(row: &WeightLevels) -> bool
     ensures { result ≡ lacks_a_level row.now }
 {

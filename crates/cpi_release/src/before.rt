@@ -91,7 +91,7 @@ fn annual_before<G: Groups>(
     }
 }
 
-// What stands before a node's level of a month.
+// The levels that a node's level of a month is linked to and compared with.
 pub(crate) fn levels_before<G: Groups>(
     groups: &mut G,
     month: Month,

@@ -30,6 +30,7 @@ pub(crate) struct Made {
     pub(crate) levels: Vec<Level>,
 }
 
+// The carried prices that a pass has found.
 fn carried_of(pass: Pass) -> Vec<CarriedPrice>
     ensures { result.items ≡ pass.carried.items }
 {

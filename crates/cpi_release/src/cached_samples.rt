@@ -43,14 +43,14 @@ impl CachedSamples {
         CachedSamples { kept: None }
     }
 
-    /// Lets go of the samples, as what they were made from changes.
+    /// Drops the samples, since the rows that they were made from change.
     pub fn clear(&mut self)
         ensures { self.new ≡ None }
     {
         self.kept = None;
     }
 
-    /// The rows of one aggregate, where the month's samples are kept. `plan` is that of the month's year.
+    /// The rows of one aggregate, if the month's samples are kept. `plan` is that of the month's year.
     pub fn rows(
         &self,
         alloc: Global,
@@ -74,8 +74,8 @@ impl CachedSamples {
         Ok(Some(rows))
     }
 
-    /// Keeps the samples of a month in the place of those before, and answers the rows of one aggregate. Where memory
-    /// was refused, what was kept stays.
+    /// Keeps the samples of a month in place of the former ones, and answers the rows of one aggregate. If memory was
+    /// refused, the former ones stay.
     pub fn keep(
         &mut self,
         alloc: Global,

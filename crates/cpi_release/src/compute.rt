@@ -18,7 +18,7 @@ use cpi_plan::YearPlan;
 use cpi_rows::Rows;
 use std::alloc::Global;
 
-// The release of what is frozen and what was made of it.
+// The release of the frozen quotes, with the carried prices and the table that were made of them.
 fn release_with(
     month: Month,
     revision: Revision,
@@ -52,9 +52,9 @@ fn release_with(
 }
 
 impl Release {
-    /// The release of a month, or its first fault. Each aggregate's sample is read once, in code order; `Group` where
-    /// a read failed. The caller owes the plan of the month's year, none at the first release alone, which has no rows;
-    /// that `frozen` is what `groups` has as the month's quotes, by series; and that the month before was frozen.
+    /// The release of a month, or its first fault. Each aggregate's sample is read once, in code order; `Group` if a
+    /// read failed. The caller owes the plan of the month's year, and no plan only at the first release, which has no
+    /// rows; that `frozen` are the month's quotes of `groups`, by series; and that the month before was frozen.
     pub fn compute_by_group<G: Groups>(
         alloc: Global,
         groups: &mut G,

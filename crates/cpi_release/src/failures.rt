@@ -1,10 +1,10 @@
-//! A count that stands in contracts alone. It takes no bytes, and so it has no last value.
+//! A count that only contracts have. It takes no bytes, and so it has no last value.
 ghost use Rattle.std.specs.Prelude.{◌≡◌, ℕ, ◌+◌};
 
 use std::marker::Model;
 
-/// How often reads and writes have failed. The count is nowhere in the program: it lets a contract say that a call
-/// failed only where it rose.
+/// How often reads and writes have failed. The running program has no such count: it lets a contract say that a call
+/// failed only if the count rose.
 #[derive(Drop)]
 pub struct Failures {
     pub ghost count: { ℕ },
@@ -31,7 +31,7 @@ impl Failures {
         Failures {}
     }
 
-    /// Counts one failure more, and hands back the fault that the call answers with.
+    /// Counts one more failure, and hands back the fault that the call answers with.
     pub fn counted<F>(&mut self, fault: F) -> F
         ensures count { self.new.count ≡ self.old.count + 1 }
         ensures same { result ≡ fault }

@@ -1,4 +1,4 @@
-//! What is told of a frozen month without its table.
+//! A frozen month without its table.
 use crate::revision::Revision;
 use cpi_codes::{Moment, Month};
 

@@ -5,9 +5,9 @@ use crate::group_fault::GroupFault;
 use cpi_codes::{Code, Month};
 use cpi_index::{ChainedLevel, GroupRow};
 
-/// What a month's samples and the levels of earlier tables are read from. Both reads change nothing; each answers a
-/// `GroupFault` only where the count of failures rose during the call. What they show holds where what is read is
-/// clean as the call ends, and sound.
+/// A source of a month's samples and of the levels of earlier tables. Both reads change nothing; each answers a
+/// `GroupFault` only if the count of failures rose during the call. Their answers are exact if the source is clean as
+/// the call ends, and sound.
 pub trait Groups {
     ghost use Rattle.cpi_codes.specs.Month.{year_of};
     ghost use Rattle.cpi_release.specs.Releases.{level_at_month};

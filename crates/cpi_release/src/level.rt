@@ -4,8 +4,8 @@ use cpi_index::{ChainedLevel, Index, NodeWeight};
 use cpi_rows::Keyed;
 
 /// A row of the table of a month: a node of the plan with its title, the sum of the weights in use at and below it,
-/// its index within the year and its chained level, how much that changed against the month and the year before, in
-/// tenths of a percent, and whether a price at or below it was imputed.
+/// its index within the year and its chained level, its changes against the month and the year before, in tenths of
+/// a percent, and whether a price at or below it was imputed.
 #[derive(Drop)]
 pub struct Level {
     pub code: Code,

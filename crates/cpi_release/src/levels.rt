@@ -23,7 +23,7 @@ use cpi_plan::{Node, YearPlan};
 use std::alloc::{AllocError, Global};
 use std::collections::BTreeMap;
 
-// The row of a node; none where its chained level is outside its limits.
+// The row of a node; none if its chained level is outside its limits.
 fn row_of(
     alloc: Global,
     node: &Node,

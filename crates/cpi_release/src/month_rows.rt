@@ -1,4 +1,4 @@
-//! What a month reads from the releases before it.
+//! The rows that a month reads from the releases before it.
 ghost use Rattle.std.specs.Prelude.{◌≡◌, List, true, option_map, IfOk, if◌then◌else◌};
 ghost use Rattle.std.specs.Option.{option_copied};
 ghost use Rattle.cpi_codes.specs.CodeOrder.{code_cmp};
@@ -116,7 +116,7 @@ pub(crate) fn plan_of(history: &History, month: Month) -> Option<&YearPlan>
     None
 }
 
-// The row of a code, by halving; nothing is said of rows that aren't in code order.
+// The row of a code, by binary search. If the rows aren't in code order, any answer is possible.
 fn row_in(levels: &[Level], code: Code) -> Option<ChainedLevel>
     ensures { IsInOrder code_cmp (λ l. l.code) levels.now →
         result ≡ option_map (λ l. l.chained) (row_at code_cmp (λ l. l.code) code levels.now) }
@@ -127,7 +127,7 @@ fn row_in(levels: &[Level], code: Code) -> Option<ChainedLevel>
     }
 }
 
-/// The chained level of a code in the table of a month; nothing is said of a table that isn't in code order.
+/// The chained level of a code in the table of a month. If the table isn't in code order, any answer is possible.
 pub fn level_in(releases: &[Release], month: Month, code: Code) -> Option<ChainedLevel>
     ensures { IsInOrder code_cmp (λ l. l.code) (levels_of releases.now month) →
         result ≡ level_at_month releases.now month code }

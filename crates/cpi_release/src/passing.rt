@@ -28,7 +28,7 @@ use cpi_plan::add_path;
 use std::alloc::{AllocError, Global};
 use std::collections::BTreeMap;
 
-// Notes what an aggregate lacks, where it is the first to lack that.
+// Notes an aggregate's lack, if it is the first of its kind.
 fn note(faults: &mut Faults, lack: GroupLack, code: Code)
     ensures { faults.new ≡ faults_with (Some lack) code faults.old }
 {
@@ -81,8 +81,8 @@ pub(crate) fn empty_pass(alloc: Global) -> Pass
     }
 }
 
-// One more aggregate: its carried prices behind the others, its weighted index in the sums of all codes above it, or
-// what it lacks.
+// One more aggregate: its carried prices after the others, its weighted index in the sums of all codes at and above it,
+// or its lack.
 pub(crate) fn add(
     pass: &mut Pass,
     weight: EffectiveWeight,

@@ -13,7 +13,7 @@ use cpi_codes::Month;
 use std::alloc::{AllocError, Global};
 use std::marker::Model;
 
-/// A printed table, which is a text. It is seen as its bytes.
+/// A printed table, which is a text. Contracts see its bytes.
 #[derive(Drop)]
 pub struct PrintedTable {
     text: String,

@@ -14,7 +14,7 @@ use cpi_rows::{Keyed, Rows};
 #[derive(Drop)]
 pub struct Release {
     pub month: Month,
-    /// 1 where the month was frozen first.
+    /// 1 when the month is frozen first.
     pub revision: Revision,
     /// When the month was frozen.
     pub frozen_at: Moment,

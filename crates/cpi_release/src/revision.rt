@@ -9,7 +9,7 @@ const LOWEST: u64 = 1;
 
 const HIGHEST: u64 = 9;
 
-/// The revision of a month's release, 1 to 9: 1 where the month is frozen first, and one more each time that it is
+/// The revision of a month's release, 1 to 9: 1 when the month is frozen first, and one more each time that it is
 /// reopened and frozen again.
 #[derive(Clone, Copy, Debug, PartialEq, Eq, PartialOrd, Ord)]
 pub struct Revision {

@@ -68,7 +68,7 @@ fn weight_levels<G: Groups>(
     Ok(rows)
 }
 
-// The weights in use of a month: those of its plan, moved by prices where the plan has a reference month.
+// The weights in use of a month: those of its plan, moved by prices if the plan has a reference month.
 pub(crate) fn weights_of<G: Groups>(
     alloc: Global,
     groups: &mut G,

@@ -1,4 +1,4 @@
-//! The release of a month, over a whole history.
+//! The release of a month, over a whole history. `cpi` doesn't call this: it reads one elementary aggregate at a time.
 ghost use Rattle.std.specs.Prelude.{◌≡◌, ◌≢◌, Option, None, Some, true, nat_lt, IsSome, MatchResult};
 ghost use Rattle.std.specs.List.{list_any};
 ghost use Rattle.std.specs.Option.{option_copied};
@@ -28,7 +28,7 @@ fn has_earlier(releases: &[Release], month: Month) -> bool
     releases.iter().any(|release| release.month < month)
 }
 
-// The plan by which a month is released: that of its year, and none where no earlier month was frozen.
+// The plan by which a month is released: that of its year, and none if no earlier month was frozen.
 fn releasing_plan(history: &History, month: Month) -> Option<&YearPlan>
     ensures { option_copied result ≡ plan_in history.now.plans history.now.releases month }
 {
@@ -39,7 +39,7 @@ fn releasing_plan(history: &History, month: Month) -> Option<&YearPlan>
     }
 }
 
-// Over a history that is at hand, a read fails for want of memory alone.
+// The fault of a release over a history in memory, of which a read fails only for lack of memory.
 fn index_fault(fault: FreezeFault) -> IndexFault
     ensures { (wanted : Option IndexFault) → IsFreezeFault wanted fault → result ≢ NoMemory → wanted ≡ Some result }
 {

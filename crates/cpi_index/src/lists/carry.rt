@@ -60,8 +60,8 @@ fn carry_rows(
 
 /// The carried prices of a month, by series, or the first fault. `bases` are those of the year, `prev` the carried
 /// prices of the month before, in January the bases themselves, `frozen` the quotes of the month's freeze, all three
-/// by series; `carry` lists the aggregates that may be carried unchanged where nothing is matched. `OutOfRange` of
-/// the first aggregate where a list isn't by series. O(n log m) for n series and m aggregates.
+/// by series; `carry` lists the aggregates that may be carried unchanged if nothing is matched. `OutOfRange` of the
+/// first aggregate if a list isn't by series. O(n log m) for n series and m aggregates.
 #[tactic(auto, using(crate::proofs::CarryRise::carry_rises))]
 pub fn carry_month(
     alloc: Global,

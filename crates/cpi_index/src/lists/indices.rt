@@ -57,7 +57,7 @@ fn indices_of(
 
 /// The Dutot index of each elementary aggregate, in code order, or the first fault. `bases` are those of the year,
 /// `carried` the carried prices of the month, both by series. `NoSample` names the first aggregate without a base,
-/// `OutOfRange` the first whose index is outside 1 to 10^13, or the first aggregate where a list isn't by series.
+/// `OutOfRange` the first whose index is outside 1 to 10^13, or the first aggregate if a list isn't by series.
 /// O(n log m) for n series and m aggregates.
 #[tactic(auto, using(crate::proofs::Ordered::indices_are))]
 pub fn elementary(

@@ -98,7 +98,7 @@ fn mean(sum: u128, weight: u128) -> Index
 
 /// The index of each node of the plan, in code order: the mean of the elementary indices at and below it, by the
 /// weights in use, rounded once. `weights` has the weight in use of each elementary aggregate and `elementary` its
-/// index, both in code order; where one of them doesn't, the answer is `OutOfRange` of the first aggregate.
+/// index, both in code order; if one of them doesn't, the answer is `OutOfRange` of the first aggregate.
 /// O(n log n) for n nodes.
 pub fn upper(
     alloc: Global,

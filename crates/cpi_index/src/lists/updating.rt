@@ -48,10 +48,10 @@ fn levelled(
     Ok(rows)
 }
 
-/// The weights in use of a plan, in code order: its own, or, where it has a reference month, moved by prices from that
+/// The weights in use of a plan, in code order: its own, or, if it has a reference month, moved by prices from that
 /// month to the link month. `link` and `reference` are the tables of these two months, in code order, in their latest
-/// revisions; without a reference month they aren't looked at. The faults are those of `move_weights`, and `OutOfRange`
-/// of the first aggregate where a table isn't in code order. O(n log m) for n aggregates and m rows.
+/// revisions; without a reference month they aren't read. The faults are those of `move_weights`, and `OutOfRange` of
+/// the first aggregate if a table isn't in code order. O(n log m) for n aggregates and m rows.
 #[tactic(auto, using(crate::proofs::WeightLemmas::are_own, crate::proofs::WeightLemmas::are_moved))]
 pub fn effective_weights(
     alloc: Global,

@@ -35,9 +35,9 @@ pub(crate) fn first_without(
 }
 
 /// The bases of a year's samples, by series, or the first fault. `prev` are the carried prices of the link month,
-/// December of the year before, none where that year had no sample; `frozen` are the quotes of its freeze; both by
+/// December of the year before, none if that year had no sample; `frozen` are the quotes of its freeze; both by
 /// series. A series that was observed in the link month has its price as base, every other of `prev` its carried
-/// price. `NoSample` names the first aggregate without a base; `OutOfRange` the first aggregate where a list isn't by
+/// price. `NoSample` names the first aggregate without a base; `OutOfRange` the first aggregate if a list isn't by
 /// series. O(n log m) for n series and m aggregates.
 #[tactic(auto, using(crate::proofs::Kept::bases_rise))]
 pub fn bases_of_year(
