@@ -172,22 +172,22 @@ price_or_none (Blob b) = None
 
 -- a series, of collector and slot
 abbrev pub series_from : Value → Value → Option SeriesId
-series_from table_of_collectors slot = and_then (number_within 1 9999 table_of_collectors)
+series_from collector slot = and_then (number_within 1 9999 collector)
     (λ c. and_then (number_within 1 400 slot) (λ s. Some (record { collector = c; slot = s })))
 
 -- an assignment, of its columns
 abbrev pub assignment_from : Value → Value → Value → Value → Value → Value → Option Assignment
-assignment_from slot table_of_outlets table_of_items first last copied =
-    and_then (number_within 1 400 slot) (λ s. and_then (number_within 1 999999 table_of_outlets)
-    (λ o. and_then (item_from table_of_items) (λ i.
+assignment_from slot outlet item first last copied =
+    and_then (number_within 1 400 slot) (λ s. and_then (number_within 1 999999 outlet)
+    (λ o. and_then (item_from item) (λ i.
     and_then (month_from first) (λ f. and_then (month_from last) (λ l. and_then (price_or_none copied) (λ p.
     Some (record { slot = s; outlet = o; item = i; first_month = f; last_month = l; copied = p })))))))
 
 -- what a slot of a collector was given, beside the collector's number
 abbrev pub given_from : Value → Value → Value → Value → Value → Value → Value → Value → Value → Option (ℕ × Given)
-given_from number slot table_of_outlets table_of_items first last series_collector series_slot copied =
+given_from number slot outlet item first last series_collector series_slot copied =
     and_then (number_within 1 9999 number) (λ n. and_then
-    (assignment_from slot table_of_outlets table_of_items first last copied) (λ a.
+    (assignment_from slot outlet item first last copied) (λ a.
     and_then (series_from series_collector series_slot) (λ s. Some (n, record { assignment = a; series = s }))))
 
 -- what a row gives a slot, beside the number of its collector
@@ -295,7 +295,7 @@ node_from code title weight = and_then (code_from code)
 
 -- the place of an item, of item and aggregate
 abbrev pub place_from : Value → Value → Option Place
-place_from table_of_items code = and_then (item_from table_of_items)
+place_from item code = and_then (item_from item)
     (λ i. and_then (code_from code) (λ c. Some (record { item = i; aggregate = c })))
 
 -- as an answer shows them, after their year
@@ -456,9 +456,9 @@ release_from_key month revision =
 
 -- a frozen quote, of its columns
 abbrev pub frozen_from : Value → Value → Value → Value → Value → Value → Option Frozen
-frozen_from number slot table_of_items last mark value =
+frozen_from number slot item last mark value =
     and_then (number_within 1 9999 number) (λ n. and_then (number_within 1 400 slot)
-    (λ s. and_then (item_from table_of_items) (λ i.
+    (λ s. and_then (item_from item) (λ i.
     and_then (month_from last) (λ l. and_then (mark_in mark value) (λ k.
     Some (record { series = record { collector = n; slot = s }; item = i; last_month = l; mark = k }))))))
 
@@ -482,9 +482,9 @@ priced_from ticks knum kden =
 
 -- a carried price, of its columns
 abbrev pub carried_from : Value → Value → Value → Value → Value → Value → Value → Value → Value → Option Carried
-carried_from number slot table_of_items last ticks knum kden observed imputed =
+carried_from number slot item last ticks knum kden observed imputed =
     and_then (number_within 1 9999 number) (λ n. and_then (number_within 1 400 slot)
-    (λ s. and_then (item_from table_of_items) (λ i.
+    (λ s. and_then (item_from item) (λ i.
     and_then (month_from last) (λ l. and_then (priced_from ticks knum kden) (λ p.
     and_then (flag_in_value observed) (λ o. and_then (flag_in_value imputed) (λ u. Some (record {
       series = record { collector = n; slot = s };
@@ -514,10 +514,10 @@ weight_from code v =
 
 -- a row of a table, of its columns
 abbrev pub level_from : Value → Value → Value → Value → Value → Value → Value → Value → Option Level
-level_from code title weight if_within chained month_change year_change imputed =
+level_from code title weight within chained month_change year_change imputed =
     and_then (code_from code) (λ c. and_then (name_from title) (λ t.
     and_then (weight_from c weight) (λ w.
-    and_then (number_within 1 10000000000000 if_within) (λ i. and_then (number_within 1 1000000000000000 chained) (λ l.
+    and_then (number_within 1 10000000000000 within) (λ i. and_then (number_within 1 1000000000000000 chained) (λ l.
     and_then (change_in month_change) (λ m. and_then (whole_or_none year_change) (λ y.
     and_then (flag_in_value imputed) (λ u. Some (record {
       code = c;

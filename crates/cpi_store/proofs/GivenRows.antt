@@ -77,8 +77,8 @@ held_ended_other c n slot last (r ∷ rows) apart = by (until_tells n slot last 
         ((eqb r.0 c ≡ true) × (r.0 ≡ c)) ⊎ ((eqb r.0 c ≡ false) × (r.0 ≢ c)) →
         held_by c (end_given n slot last rows) ≡ held_by c rows →
         held_by c (end_given n slot last (r ∷ rows)) ≡ held_by c (r ∷ rows)
-    by (inl with_last_month) (inl mine) rest = absurd (apart (sym mine.1 ∙ with_last_month.1))
-    by (inl with_last_month) (inr other) rest = rw (with_last_month.0, other.0) rest
+    by (inl ended) (inl mine) rest = absurd (apart (sym mine.1 ∙ ended.1))
+    by (inl ended) (inr other) rest = rw (ended.0, other.0) rest
     by (inr stays) (inl mine) rest = rw (stays.0, mine.0) (ap (λ gs. r.1 ∷ gs) rest)
     by (inr stays) (inr other) rest = rw (stays.0, other.0) rest
 
@@ -149,7 +149,7 @@ key_until n slot last r = by (until_tells n slot last r)
         ⊎ ((row_until n slot last r ≡ r) × ((r.0 ≡ n) × (r.1.assignment.slot ≡ slot) → ⊥)) →
         held_key (λ (g : Given). g.assignment.slot) (row_until n slot last r) ≡ held_key
         (λ (g : Given). g.assignment.slot) r
-    by (inl with_last_month) = ap (held_key (λ (g : Given). g.assignment.slot)) with_last_month.0
+    by (inl ended) = ap (held_key (λ (g : Given). g.assignment.slot)) ended.0
     by (inr stays) = ap (held_key (λ (g : Given). g.assignment.slot)) stays.0
 
 -- each row keeps its place
@@ -193,13 +193,13 @@ end_standing n slot g rows sorted found = all_fixed (row_until n slot g.assignme
             × (x.assignment.slot ≡ slot))
             ⊎ ((row_until n slot g.assignment.last_month (c, x) ≡ (c, x))
             × ((c ≡ n) × (x.assignment.slot ≡ slot) → ⊥)) → row_until n slot g.assignment.last_month (c, x) ≡ (c, x)
-        by (inl with_last_month) =
+        by (inl ended) =
             let same : Some x ≡ Some g = sym there ∙ ap (λ k. row_by_number (λ (y : Given). y.assignment.slot) k
-            (held_by c rows)) with_last_month.2 ∙ ap
+            (held_by c rows)) ended.2 ∙ ap
             (λ m. row_by_number (λ (y : Given). y.assignment.slot) slot (held_by m rows))
-            with_last_month.1 ∙ found in
+            ended.1 ∙ found in
             let is : g ≡ x = cc in
-            with_last_month.0 ∙ ap (λ (y : Given). (c, given_until y.assignment.last_month x)) is
+            ended.0 ∙ ap (λ (y : Given). (c, given_until y.assignment.last_month x)) is
         by (inr stays) = stays.0
 
 -- ---- what a slot was given, where one is put

@@ -162,11 +162,7 @@ impl Book for VecBook {
             found ≡ collector_of key self.old.office.collectors) }
         ensures always { IsOk result }
     {
-        Ok(
-            self.survey
-                .registration_of(key)
-                .map(|registration| registration.number),
-        )
+        Ok(self.survey.registration_of(key).map(|found| found.number))
     }
 
     fn collector_key(&mut self, number: CollectorId) -> Result<Option<Key>, StoreFault>
@@ -174,11 +170,7 @@ impl Book for VecBook {
             found ≡ collector_key number self.old.office.collectors) }
         ensures always { IsOk result }
     {
-        Ok(
-            self.survey
-                .registration_at(number)
-                .map(|registration| registration.key),
-        )
+        Ok(self.survey.registration_at(number).map(|found| found.key))
     }
 
     fn outlet(&mut self, number: OutletId) -> Result<Option<&Outlet>, StoreFault> {
