@@ -9,8 +9,10 @@ use Rattle.sqlite_catalog.specs.Listing.{IsSound}
 use Rattle.sqlite_schema.specs.declared.schema.Constraint.TheVariants.{Unique}
 use Rattle.cpi_codes.specs.CodeOrder.{code_cmp}
 use Rattle.cpi_codes.specs.CodeText.{code_text}
+use Rattle.cpi_codes.specs.declared.limits.TheConstants.{LAST_MOMENT}
 use Rattle.cpi_codes.specs.declared.series.SeriesId.{SeriesId}
 use Rattle.cpi_rows.specs.Held.{held_cmp, held_key}
+use Rattle.cpi_index.specs.declared.limits.TheConstants.{MOST_INDEX, MOST_LEVEL}
 use Rattle.cpi_index.specs.Frozen.{Frozen}
 use Rattle.cpi_index.specs.Carried.{Carried}
 use Rattle.cpi_index.specs.Series.{serial, frozen_serial, carried_serial}
@@ -137,8 +139,8 @@ level_code r l e =
     let one = bound_is (code_from (column r 3)) _ _ e in
     let two = bound_is (name_from (column r 4)) _ _ one.2 in
     let three = bound_is (weight_from one.0 (column r 5)) _ _ two.2 in
-    let four = bound_is (number_within 1 10000000000000 (column r 6)) _ _ three.2 in
-    let five = bound_is (number_within 1 1000000000000000 (column r 7)) _ _ four.2 in
+    let four = bound_is (number_within 1 MOST_INDEX (column r 6)) _ _ three.2 in
+    let five = bound_is (number_within 1 MOST_LEVEL (column r 7)) _ _ four.2 in
     let six = bound_is (change_in (column r 8)) _ _ five.2 in
     let seven = bound_is (whole_or_none (column r 9)) _ _ six.2 in
     let eight = bound_is (flag_in_value (column r 10)) _ _ seven.2 in
@@ -161,8 +163,8 @@ pub header_names : (r : Row) (h : Header) → header_in r ≡ Some h → NamesRe
 header_names r h e =
     let one = bound_is (month_from (column r 1)) _ _ e in
     let two = bound_is (revision_from (column r 2)) _ _ one.2 in
-    let three = bound_is (number_within 0 9999999999 (column r 3)) _ _ two.2 in
-    let four = bound_is (number_within 0 9999999999 (column r 4)) _ _ three.2 in
+    let three = bound_is (number_within 0 LAST_MOMENT (column r 3)) _ _ two.2 in
+    let four = bound_is (number_within 0 LAST_MOMENT (column r 4)) _ _ three.2 in
     let five = bound_is (codes_from (column r 5)) _ _ four.2 in
     record {
       month = month_of (column r 1) h.month (one.1 ∙ ap (λ (w : Header). Some w.month) (some_is five.2));

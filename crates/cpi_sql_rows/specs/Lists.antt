@@ -10,6 +10,7 @@ use Rattle.sqlite.specs.Order.{Row, column}
 use Rattle.sqlite.specs.Tree.{Trees}
 use Rattle.cpi_rows.specs.Keyed.{with_row}
 use Rattle.cpi_rows.specs.Held.{held_by, held_cmp, held_key}
+use Rattle.cpi_codes.specs.declared.limits.TheConstants.{GREATEST_PRICE, LAST_MOMENT}
 use Rattle.cpi_codes.specs.declared.months.MonthFault.{MonthFault}
 use Rattle.cpi_codes.specs.Key.{key_of}
 use Rattle.cpi_codes.specs.ItemCode.{item_code_of}
@@ -25,6 +26,7 @@ use Rattle.cpi_codes.specs.CodeOf.{spelled_code}
 use Rattle.cpi_codes.specs.CodeOrder.{code_cmp, is_code_elementary}
 use Rattle.cpi_codes.specs.declared.codes.Code.{Code}
 use Rattle.cpi_plan.specs.Calendar.{CalendarPart}
+use Rattle.cpi_survey.specs.declared.limits.TheConstants.{LAST_RECEIPT}
 use Rattle.cpi_survey.specs.declared.mark.Reason.TheVariants.{Stock, Closed, Gone, Refused}
 use Rattle.cpi_survey.specs.declared.mark.Mark.{Mark}
 use Rattle.cpi_survey.specs.declared.mark.Mark.TheVariants.{Price, Missing, Comparable, Other}
@@ -34,6 +36,7 @@ use Rattle.cpi_store.specs.declared.registration.Registration.{Registration}
 use Rattle.cpi_store.specs.declared.given.Given.{Given}
 use Rattle.cpi_store.specs.declared.outlet.Outlet.{Outlet}
 use Rattle.cpi_store.specs.Office.{Office}
+use Rattle.cpi_index.specs.declared.limits.TheConstants.{MOST_INDEX, MOST_LEVEL, MOST_NODE_WEIGHT, MOST_TICKS}
 use Rattle.cpi_index.specs.Frozen.{Frozen}
 use Rattle.cpi_index.specs.Carried.{Carried}
 use Rattle.cpi_index.specs.Series.{frozen_serial, carried_serial}
@@ -155,8 +158,8 @@ in_turn m o c p = if nat_lt o c
 abbrev pub calendar_from : Value → Value → Value → Value → Option CalendarPart
 calendar_from month opens closes publishes =
     and_then (month_from month)
-    (λ m. and_then (number_within 0 9999999999 opens) (λ o. and_then (number_within 0 9999999999 closes) (λ c.
-    and_then (number_within 0 9999999999 publishes) (λ p. in_turn m o c p))))
+    (λ m. and_then (number_within 0 LAST_MOMENT opens) (λ o. and_then (number_within 0 LAST_MOMENT closes) (λ c.
+    and_then (number_within 0 LAST_MOMENT publishes) (λ p. in_turn m o c p))))
 
 -- the calendar row of a row
 abbrev pub calendar_in : Row → Option CalendarPart
@@ -165,7 +168,7 @@ calendar_in r = calendar_from (column r 0) (column r 2) (column r 3) (column r 4
 -- a price, or NULL where there is none
 abbrev pub price_or_none : Value → Option (Option ℕ)
 price_or_none Null = Some None
-price_or_none (Int z) = and_then (number_within 1 100000000 (Int z)) (λ p. Some (Some p))
+price_or_none (Int z) = and_then (number_within 1 GREATEST_PRICE (Int z)) (λ p. Some (Some p))
 price_or_none (Real x) = None
 price_or_none (Text t) = None
 price_or_none (Blob b) = None
@@ -198,9 +201,9 @@ assignment_in_row r = given_from (column r 1) (column r 2) (column r 3) (column 
 -- a mark by its word and its value
 abbrev pub mark_from : List ℕ → ℕ → Option Mark
 mark_from t v =
-    if bytes_eq t (codes "price") then and_then (if_within 1 100000000 v) (λ p. Some (Price p))
-    else (if bytes_eq t (codes "comparable") then and_then (if_within 1 100000000 v) (λ p. Some (Comparable p))
-    else (if bytes_eq t (codes "other") then and_then (if_within 1 100000000 v) (λ p. Some (Other p))
+    if bytes_eq t (codes "price") then and_then (if_within 1 GREATEST_PRICE v) (λ p. Some (Price p))
+    else (if bytes_eq t (codes "comparable") then and_then (if_within 1 GREATEST_PRICE v) (λ p. Some (Comparable p))
+    else (if bytes_eq t (codes "other") then and_then (if_within 1 GREATEST_PRICE v) (λ p. Some (Other p))
     else (if bytes_eq t (codes "stock") then Some (Missing Stock)
     else (if bytes_eq t (codes "closed") then Some (Missing Closed)
     else (if bytes_eq t (codes "gone") then Some (Missing Gone)
@@ -220,9 +223,9 @@ mark_word (Missing Refused) = codes "refused"
 abbrev pub mark_in : Value → Value → Option Mark
 mark_in mark value = and_then (text_in mark) (λ t. and_then (number_in_value value) (λ v. mark_from t v))
 
--- a receipt, 1 to 1,000,000
+-- a receipt
 abbrev pub receipt_from : Value → Option ℕ
-receipt_from v = number_within 1 1000000 v
+receipt_from v = number_within 1 LAST_RECEIPT v
 
 -- a quote, of its columns
 abbrev pub quote_from : Value → Value → Value → Value → Value → Option QuoteRow
@@ -433,7 +436,7 @@ revision_from v = number_within 1 9 v
 abbrev pub header_from : Value → Value → Value → Value → Value → Option Header
 header_from month revision frozen_at publishes carry =
     and_then (month_from month) (λ m. and_then (revision_from revision) (λ v.
-    and_then (number_within 0 9999999999 frozen_at) (λ f. and_then (number_within 0 9999999999 publishes) (λ p.
+    and_then (number_within 0 LAST_MOMENT frozen_at) (λ f. and_then (number_within 0 LAST_MOMENT publishes) (λ p.
     and_then (codes_from carry) (λ c.
     Some (record { month = m; revision = v; frozen_at = f; publishes = p; carry = c }))))))
 
@@ -477,8 +480,8 @@ pub record Priced : Type 0 where
 -- a price as a fraction: ticks, and the factor of a replacement
 abbrev pub priced_from : Value → Value → Value → Option Priced
 priced_from ticks knum kden =
-    and_then (number_within 1 1000000000000000 ticks) (λ t. and_then (number_within 1 1000000000000000 knum) (λ n.
-    and_then (number_within 1 100000000 kden) (λ d. Some (record { ticks = t; knum = n; kden = d }))))
+    and_then (number_within 1 MOST_TICKS ticks) (λ t. and_then (number_within 1 MOST_TICKS knum) (λ n.
+    and_then (number_within 1 GREATEST_PRICE kden) (λ d. Some (record { ticks = t; knum = n; kden = d }))))
 
 -- a carried price, of its columns
 abbrev pub carried_from : Value → Value → Value → Value → Value → Value → Value → Value → Value → Option Carried
@@ -510,14 +513,14 @@ may_weigh code weight = not (is_code_elementary code) || is_effective weight
 -- the weight in use of a node with this code
 abbrev pub weight_from : Code → Value → Option ℕ
 weight_from code v =
-    and_then (number_within 1 1000000000000000 v) (λ w. if may_weigh code w then Some w else None)
+    and_then (number_within 1 MOST_NODE_WEIGHT v) (λ w. if may_weigh code w then Some w else None)
 
 -- a row of a table, of its columns
 abbrev pub level_from : Value → Value → Value → Value → Value → Value → Value → Value → Option Level
 level_from code title weight within chained month_change year_change imputed =
     and_then (code_from code) (λ c. and_then (name_from title) (λ t.
     and_then (weight_from c weight) (λ w.
-    and_then (number_within 1 10000000000000 within) (λ i. and_then (number_within 1 1000000000000000 chained) (λ l.
+    and_then (number_within 1 MOST_INDEX within) (λ i. and_then (number_within 1 MOST_LEVEL chained) (λ l.
     and_then (change_in month_change) (λ m. and_then (whole_or_none year_change) (λ y.
     and_then (flag_in_value imputed) (λ u. Some (record {
       code = c;

@@ -6,11 +6,12 @@ ghost use Rattle.cpi_codes.specs.ItemCode.{item_code_of};
 ghost use Rattle.cpi_sql_rows.specs.Common.{IfOk, Int, OnOk, Some, pos, string_bytes};
 ghost use Rattle.cpi_sql_rows.specs.Lists.{mark_from, mark_word, month_at, name_of, number_within, receipt_from};
 
-use crate::rows::LAST_RECEIPT;
 use crate::stored::Unread;
-use cpi_codes::{Code, CollectorId, ItemCode, Key, Moment, Month, Name, OutletId, Slot};
+use cpi_codes::{
+    Code, CollectorId, ItemCode, Key, LAST_MOMENT, Moment, Month, Name, OutletId, Slot,
+};
 use cpi_plan::{HighTolerance, LowTolerance};
-use cpi_survey::{Mark, Reason};
+use cpi_survey::{LAST_RECEIPT, Mark, Reason};
 use sqlite::types::Value;
 use std::alloc::Global;
 
@@ -130,7 +131,7 @@ pub fn receipt_number(receipt: u32) -> Result<u32, Unread>
 /// The moment, in seconds since 1970 UTC.
 pub fn moment_value(moment: Moment) -> Value
     ensures value { result ≡ Int (pos moment) }
-    ensures range { number_within 0 9999999999 (Int (pos moment)) ≡ Some moment }
+    ensures range { number_within 0 LAST_MOMENT (Int (pos moment)) ≡ Some moment }
 {
     Value::Int(moment.seconds() as i64)
 }

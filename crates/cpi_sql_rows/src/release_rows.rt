@@ -12,16 +12,14 @@ use crate::rows::{
     read_series, text_at,
 };
 use crate::stored::Stored;
-use cpi_codes::{Code, Moment, Month};
-use cpi_index::{CarriedPrice, ChainedLevel, EffectiveWeight, FrozenQuote, Index, NodeWeight};
+use cpi_codes::{Code, GREATEST_PRICE, Moment, Month};
+use cpi_index::{
+    CarriedPrice, ChainedLevel, EffectiveWeight, FrozenQuote, Index, MOST_TICKS, NodeWeight,
+};
 use cpi_release::{Level, Revision};
 use cpi_rows::{Keyed, Rows};
 use sqlite::Row;
 use std::alloc::{AllocError, Global};
-
-const MOST_TICKS: u64 = 1_000_000_000_000_000;
-
-const MOST_DENOMINATOR: u64 = 100_000_000;
 
 /// What a release says beside its lists.
 #[derive(Drop)]
@@ -135,7 +133,7 @@ impl Stored for CarriedPrice {
         let last_month = read_month(row, 5)?;
         let ticks = read_between(row, 6, 1, MOST_TICKS)?;
         let knum = read_between(row, 7, 1, MOST_TICKS)?;
-        let kden = u32::try_from(read_between(row, 8, 1, MOST_DENOMINATOR)?).ok()?;
+        let kden = u32::try_from(read_between(row, 8, 1, GREATEST_PRICE)?).ok()?;
         let observed = read_flag(row, 9)?;
         let imputed = read_flag(row, 10)?;
         CarriedPrice::new(

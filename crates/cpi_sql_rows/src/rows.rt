@@ -15,14 +15,11 @@ use cpi_codes::{
 };
 use cpi_plan::{CalendarRow, HighTolerance, Item, LowTolerance, Node, Place};
 use cpi_store::{Outlet, Registration};
-use cpi_survey::{Mark, Reason};
+use cpi_survey::{LAST_RECEIPT, Mark, Reason};
 use sqlite::Row;
 use sqlite_value::value::ValueRef;
 use std::alloc::Global;
 use std::str;
-
-/// The greatest receipt that a collector can be given.
-pub const LAST_RECEIPT: u32 = 1_000_000;
 
 /// The text that stands there, lent.
 pub fn text_at(row: &Row, at: usize) -> Option<&[u8]>
