@@ -5,9 +5,10 @@ use Rattle.std.specs.Prelude.{filter, ◌⊎◌}
 use Rattle.std.specs.declared.cmp.Ordering.{Ordering}
 use Rattle.std.specs.declared.cmp.Ordering.TheVariants.{Less, Equal, Greater}
 use Rattle.std.specs.Ordering.{nat_cmp, is_lt, is_gt}
+use Rattle.std.specs.Cmp.{IsTotalOrder}
 use Rattle.std.proofs.lemmas.Bool.{eq-eqb}
 use Rattle.std.proofs.lemmas.Bool.Decides.{eqb_tells}
-use Rattle.std.proofs.lemmas.Cmp.{tied_itself, nat_cmp_total, ranked}
+use Rattle.std.proofs.lemmas.Cmp.{tied_itself, nat_cmp_total, on_total, ranked, then_total}
 use Rattle.std.proofs.lemmas.List.Elements.{filter-append}
 use Rattle.std.proofs.lemmas.List.{map-append, append-nil}
 use Rattle.cpi_rows.specs.Keyed.{with_row}
@@ -129,3 +130,7 @@ module _ {X K : Type 0} (cmp : K → K → Ordering) (key : X → K) where
         none_pass is_lt c n (key row) differ (ap is_lt e) rows,
         all_pass is_gt c n (key row) differ (ap is_gt e) rows,
       ) refl
+
+-- rows of many holders are in a total order when the rows of one holder are
+pub held_total : {K : Type 0} {R : K → K → Ordering} → IsTotalOrder R → IsTotalOrder (held_cmp R)
+held_total o = then_total (on_total (λ r. r.0) nat_cmp_total) (on_total (λ r. r.1) o)
