@@ -5,12 +5,13 @@ use Rattle.std.specs.Prelude.{cond, filter, ◌⊎◌, option_map}
 use Rattle.std.specs.Ordering.{nat_cmp, is_lt, is_gt, is_eq}
 use Rattle.std.specs.declared.cmp.Ordering.TheVariants.{Less}
 use Rattle.std.specs.List.Sorted.{IsStrictlySortedBy}
-use Rattle.std.specs.List.{AllByRecursion, flat_map}
+use Rattle.std.specs.List.{AllByRecursion}
 use Rattle.std.proofs.lemmas.Cmp.{nat_cmp_total, tied_itself}
 use Rattle.std.proofs.lemmas.Bool.Decides.{eqb_tells}
 use Rattle.cpi_rows.specs.Keyed.{row_by_number, put_by, IsInOrder}
 use Rattle.cpi_rows.proofs.Puts.{parted, map-put, different}
 use Rattle.cpi_rows.proofs.Found.{at-map}
+use Rattle.cpi_rows.proofs.Lists.{flat_map_passes}
 use Rattle.cpi_survey.specs.declared.assignment.Assigned.{Assigned}
 use Rattle.cpi_store.specs.declared.registration.Registration.{Registration}
 use Rattle.cpi_store.specs.declared.outlet.Outlet.{Outlet}
@@ -85,11 +86,6 @@ module _ (b : Registration) (bs : List Registration) (sorted : IsInOrder nat_cmp
 
 -- ---- what the holders have, after one was added
 
-passed_over : {X Y : Type 0} (f : X → List Y) (h : X) (xs ys : List X) → f h ≡ [] →
-    flat_map f (xs ++ h ∷ ys) ≡ flat_map f (xs ++ ys)
-passed_over f h [] ys none = ap (λ vs. vs ++ flat_map f ys) none
-passed_over f h (x ∷ xs) ys none = ap (λ vs. f x ++ vs) (passed_over f h xs ys none)
-
 all_more : {X Y : Type 0} (P : Y → Type 0) (f : X → Y) (h : X) (xs ys : List X) → P (f h) →
     AllByRecursion P (map f (xs ++ ys)) → AllByRecursion P (map f (xs ++ h ∷ ys))
 all_more P f h [] ys here all = (here, all)
@@ -147,7 +143,7 @@ module _ (h : Holder) (hs : List Holder) (sorted : IsInOrder nat_cmp (λ h. h.nu
   module _ (no_assignments : h.own.assignments ≡ []) where
     pub assignments_added : all_assignments after ≡ all_assignments hs
     assignments_added =
-        passed_over (λ (g : Holder). map (λ x. (g.number, x)) (assignments_of g)) h below above
+        flat_map_passes (λ (g : Holder). map (λ x. (g.number, x)) (assignments_of g)) h below above
         (ap (λ ws. map (λ x. (h.number, x)) (map (λ a. a.assignment) ws)) no_assignments)
         ∙ ap all_assignments others
 
@@ -160,7 +156,7 @@ module _ (h : Holder) (hs : List Holder) (sorted : IsInOrder nat_cmp (λ h. h.nu
     names_added us all = fixed_more _ own_assignments h below above (rw no_assignments refl) (rw others all)
 
   pub quotes_added : h.own.quotes ≡ [] → quotes_of_holders after ≡ quotes_of_holders hs
-  quotes_added no_quotes = passed_over (λ (g : Holder). map (λ x. (g.number, x)) (quotes_of g)) h below above
+  quotes_added no_quotes = flat_map_passes (λ (g : Holder). map (λ x. (g.number, x)) (quotes_of g)) h below above
       (ap (λ ws. map (λ x. (h.number, x)) ws) no_quotes) ∙ ap quotes_of_holders others
 
   pub office_added : h.own ≡ record { assignments = []; quotes = [] } →

@@ -1,11 +1,11 @@
 -- The assignments of all holders after one was put among those of one holder.
-use Rattle.std.proofs.Common.{◌≡◌, ℕ, zero, suc, Bool, true, false, List, [], ◌∷◌, ◌++◌, map, get_or, set, refl, sym}
+use Rattle.std.proofs.Common.{◌≡◌, ℕ, zero, suc, List, [], ◌∷◌, map, get_or, set, refl, sym}
 use Rattle.std.proofs.Common.{ap, ◌∙◌}
-use Rattle.std.specs.Prelude.{filter, Result, Ok, Err, OnOk, OnErr}
 use Rattle.std.specs.Ordering.{nat_cmp}
 use Rattle.std.specs.List.{AllByRecursion}
 use Rattle.cpi_rows.specs.Keyed.{with_row}
 use Rattle.cpi_rows.proofs.Puts.{map-put}
+use Rattle.cpi_rows.proofs.Lists.{all_filtered, all_joined}
 use Rattle.cpi_store.specs.Outlet.{with_name}
 use Rattle.cpi_store.specs.declared.outlet.Outlet.{Outlet}
 use Rattle.cpi_survey.specs.declared.assignment.Assignment.{Assignment}
@@ -15,20 +15,6 @@ use Rattle.cpi_store.specs.Holders.{named_by, HasOutlet, ArePlaced}
 
 abbrev slot : Assigned → ℕ
 slot a = a.assignment.slot
-
-pub all_filtered : {X : Type 0} (P : X → Type 0) (p : X → Bool) (xs : List X) → AllByRecursion P xs →
-    AllByRecursion P (filter p xs)
-all_filtered P p [] all = tt
-all_filtered P p (x ∷ xs) all = by (p x) refl (all_filtered P p xs all.1)
-  where
-    by : (s : Bool) → p x ≡ s → AllByRecursion P (filter p xs) → AllByRecursion P (filter p (x ∷ xs))
-    by true e rest = rw e (all.0, rest)
-    by false e rest = rw e rest
-
-pub all_joined : {X : Type 0} (P : X → Type 0) (xs ys : List X) → AllByRecursion P xs → AllByRecursion P ys →
-    AllByRecursion P (xs ++ ys)
-all_joined P [] ys front back = back
-all_joined P (x ∷ xs) ys front back = (front.0, all_joined P xs ys front.1 back)
 
 pub all_set : {X Y : Type 0} (P : Y → Type 0) (f : X → Y) (xs : List X) (i : ℕ) (y d : X) →
     (P (f (get_or xs i d)) → P (f y)) → AllByRecursion P (map f xs) → AllByRecursion P (map f (set xs i y))
@@ -49,11 +35,6 @@ fixed_set g f (x ∷ xs) (suc i) y d then fixed =
     let here : g (f x) ≡ f x = cc in
     let rest : map g (map f xs) ≡ map f xs = cc in
     ap (λ z. z ∷ map g (map f (set xs i y))) here ∙ ap (λ zs. f x ∷ zs) (fixed_set g f xs i y d then rest)
-
--- what holds where the call succeeded and where it failed, holds
-pub either : {T E A B G : Type 0} (result : Result T E) → OnOk result A → OnErr result B → (A → G) → (B → G) → G
-either (Ok t) ok err f g = f ok
-either (Err e) ok err f g = g err
 
 module _ (us : List Outlet) (a : Assigned) (hs : List Holder) (i : ℕ) (h after : Holder)
     (found : h ≡ get_or hs i h) where

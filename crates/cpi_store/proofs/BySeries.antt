@@ -7,13 +7,13 @@ use Rattle.std.specs.Ordering.{nat_cmp, is_lt, is_gt, is_eq, ordering_then, orde
 use Rattle.std.specs.Cmp.{IsTotalOrder}
 use Rattle.std.specs.List.{AllByRecursion, IsDistinct}
 use Rattle.std.specs.List.Sorted.{IsPermutation, IsSortedByKey, IsStrictlySortedBy}
-use Rattle.std.proofs.lemmas.Bool.Decides.{nat_tests}
 use Rattle.std.proofs.lemmas.Cmp.{nat_cmp_total, then_total, ranked, tied_itself}
 use Rattle.std.proofs.lemmas.List.Sorted.{IsPermutation-refl, IsPermutation-sym, IsPermutation-trans}
 use Rattle.std.proofs.lemmas.List.Sorted.{IsPermutation-cons, IsPermutation-middle}
 use Rattle.std.proofs.lemmas.Map.Keys.{apart_from_distinct}
 use Rattle.cpi_rows.specs.Keyed.{IsInOrder}
 use Rattle.cpi_rows.proofs.Rising.{by_key_total, rises_whole}
+use Rattle.cpi_rows.proofs.Truth.{less_of_lt}
 use Rattle.cpi_plan.proofs.OnceLemmas.{once_from_order}
 use Rattle.cpi_plan.proofs.NodeLemmas.{row_moved}
 use Rattle.cpi_plan.proofs.SameLemmas.{same_rows}
@@ -117,12 +117,9 @@ by_series_never_falls (f ∷ rows) = placed_never_falls f (by_series rows) (by_s
 
 -- ---- by their numbers, and so by series
 
-less_is : (m n : ℕ) → m < n → nat_cmp m n ≡ Less
-less_is m n h = grind (arith, nat_tests)
-
 by_number : (xs : List Frozen) → are_by_series frozen_serial xs ≡ true → IsInOrder nat_cmp frozen_serial xs
 by_number xs h = rises_whole nat_cmp_total frozen_serial xs
-    (λ k d l. less_is _ _ (next_above frozen_serial xs 0 k d d h l))
+    (λ k d l. less_of_lt _ _ (next_above frozen_serial xs 0 k d d h l))
 
 -- level series have one number
 one_number : (s t : SeriesId) → series_cmp s t ≡ Equal → serial s ≡ serial t

@@ -10,10 +10,10 @@ use Rattle.std.specs.Ordering.{nat_cmp, is_eq}
 use Rattle.std.specs.Cmp.{IsTotalOrder}
 use Rattle.std.proofs.lemmas.Bool.{lt-leb}
 use Rattle.std.proofs.lemmas.Bool.Decides.{eqb_tells}
-use Rattle.std.proofs.lemmas.Cmp.{nat_cmp_total, on_total, then_total}
+use Rattle.std.proofs.lemmas.Cmp.{nat_cmp_total}
 use Rattle.cpi_rows.specs.Keyed.{with_row, IsInOrder, row_by_number}
 use Rattle.cpi_rows.specs.Held.{held_by, held_cmp, held_key}
-use Rattle.cpi_rows.proofs.Held.{puts_own, puts_other}
+use Rattle.cpi_rows.proofs.Held.{puts_own, puts_other, held_total}
 use Rattle.cpi_rows.proofs.Places.{put_in_order}
 use Rattle.cpi_rows.proofs.Puts.{put_standing, different, row_at-put_same, row_at-put_apart, at-put_found}
 use Rattle.cpi_survey.specs.Assignment.{until, with_last_month}
@@ -205,7 +205,7 @@ end_standing n slot g rows sorted found = all_fixed (row_until n slot g.assignme
 -- ---- what a slot was given, where one is put
 
 pub given_total : IsTotalOrder (held_cmp nat_cmp)
-given_total = then_total (on_total (λ k. k.0) nat_cmp_total) (on_total (λ k. k.1) nat_cmp_total)
+given_total = held_total nat_cmp_total
 
 pub put_given_in_order : (n : ℕ) (g : Given) (rows : List (ℕ × Given)) → AreInOrder rows →
     AreInOrder (put_given n g rows)

@@ -5,21 +5,17 @@ use Rattle.std.specs.Prelude.{◌&&◌, ◌||◌, ◌==◌, ◌⊎◌, filter, i
 use Rattle.std.specs.declared.cmp.Ordering.{Ordering}
 use Rattle.std.specs.declared.cmp.Ordering.TheVariants.{Less, Equal, Greater}
 use Rattle.std.specs.Ordering.{nat_cmp, is_lt, is_gt, is_eq}
-use Rattle.std.specs.Cmp.{IsTotalOrder, tied_then, unsigned_tied}
+use Rattle.std.specs.Cmp.{tied_then, unsigned_tied}
 use Rattle.std.specs.List.{AllByRecursion, list_any}
 use Rattle.std.proofs.lemmas.Bool.Decides.{eqb_tells}
-use Rattle.std.proofs.lemmas.Cmp.{nat_cmp_total, then_total}
 use Rattle.std.proofs.lemmas.List.Folds.{list_any-append}
 use Rattle.cpi_rows.specs.Keyed.{row_by_number, with_row, row_at}
 use Rattle.cpi_rows.specs.Held.{held_by, held_cmp, held_key}
-use Rattle.cpi_rows.proofs.Rising.{by_key_total}
+use Rattle.cpi_rows.proofs.Truth.{or_of_first, or_of_second}
+use Rattle.cpi_store.proofs.GivenRows.{given_total}
 use Rattle.cpi_survey.specs.declared.assignment.Assignment.{Assignment}
 use Rattle.cpi_store.specs.declared.taken_over.TakenOver.{TakenOver}
 use Rattle.cpi_store.specs.Holders.{IsGiven}
-
-pub held_cmp_total : IsTotalOrder (held_cmp nat_cmp)
-held_cmp_total = then_total (by_key_total nat_cmp_total (λ (k : ℕ × ℕ). k.0))
-    (by_key_total nat_cmp_total (λ (k : ℕ × ℕ). k.1))
 
 -- two slots are level where they are one
 pub level_slots : (c s n k : ℕ) → is_eq (held_cmp nat_cmp (c, s) (n, k)) ≡ (c == n && s == k)
@@ -59,16 +55,9 @@ free_slot c slot rows none = sym (has_slot c slot rows) ∙ ap is_some none
 
 -- ---- tests over rows that were put, or mapped
 
-or_either : (a b : Bool) → (a || b) ≡ true → (a ≡ true) ⊎ (b ≡ true)
-or_either true b h = inl refl
-or_either false b h = inr h
-
-or_first : (a b : Bool) → a ≡ true → (a || b) ≡ true
-or_first a b h = rw h refl
-
-or_second : (a b : Bool) → b ≡ true → (a || b) ≡ true
-or_second true b h = refl
-or_second false b h = h
+one_of_or : (a b : Bool) → (a || b) ≡ true → (a ≡ true) ⊎ (b ≡ true)
+one_of_or true b h = inl refl
+one_of_or false b h = inr h
 
 pub any-map : {X Y : Type 0} (f : X → Y) (p : Y → Bool) (q : X → Bool) → ((x : X) → p (f x) ≡ q x) → (xs : List X) →
     list_any p (map f xs) ≡ list_any q xs
@@ -86,14 +75,14 @@ module _ {X K : Type 0} (R : K → K → Ordering) (key : X → K) (p : X → Bo
   kept_or_replaced : (rows : List X) → ((x : X) → R (key x) (key row) ≡ Equal → p x ≡ true → p row ≡ true) →
       list_any p rows ≡ true → (list_any p (below rows) ≡ true) ⊎ (list_any p (row ∷ above rows) ≡ true)
   kept_or_replaced [] alike h = let no : false ≡ true = h in cc
-  kept_or_replaced (x ∷ xs) alike h = by (R (key x) (key row)) refl (or_either (p x) (list_any p xs) h)
+  kept_or_replaced (x ∷ xs) alike h = by (R (key x) (key row)) refl (one_of_or (p x) (list_any p xs) h)
       (kept_or_replaced xs alike)
     where
       Either : List X → Type 0
       Either rows = (list_any p (below rows) ≡ true) ⊎ (list_any p (row ∷ above rows) ≡ true)
 
       lower : Either xs → is_lt (R (key x) (key row)) ≡ true → is_gt (R (key x) (key row)) ≡ false → Either (x ∷ xs)
-      lower (inl l) e f = inl (rw e (or_second (p x) (list_any p (below xs)) l))
+      lower (inl l) e f = inl (rw e (or_of_second (p x) (list_any p (below xs)) l))
       lower (inr g) e f = inr (rw f g)
 
       level : Either xs → is_lt (R (key x) (key row)) ≡ false → is_gt (R (key x) (key row)) ≡ false → Either (x ∷ xs)
@@ -102,20 +91,20 @@ module _ {X K : Type 0} (R : K → K → Ordering) (key : X → K) (p : X → Bo
 
       higher : Either xs → is_lt (R (key x) (key row)) ≡ false → is_gt (R (key x) (key row)) ≡ true → Either (x ∷ xs)
       higher (inl l) e f = inl (rw e l)
-      higher (inr g) e f = inr (rw f (by_row (or_either (p row) (list_any p (above xs)) g)))
+      higher (inr g) e f = inr (rw f (by_row (one_of_or (p row) (list_any p (above xs)) g)))
         where
           by_row : (p row ≡ true) ⊎ (list_any p (above xs) ≡ true) → (p row || (p x || list_any p (above xs))) ≡ true
-          by_row (inl r) = or_first (p row) (p x || list_any p (above xs)) r
-          by_row (inr a) = or_second (p row) (p x || list_any p (above xs)) (or_second (p x) (list_any p (above xs)) a)
+          by_row (inl r) = or_of_first (p row) (p x || list_any p (above xs)) r
+          by_row (inr a) = or_of_second (p row) (p x || list_any p (above xs)) (or_of_second (p x) (list_any p (above xs)) a)
 
       by : (s : Ordering) → R (key x) (key row) ≡ s → (p x ≡ true) ⊎ (list_any p xs ≡ true) →
           (list_any p xs ≡ true → Either xs) → Either (x ∷ xs)
-      by Less e (inl here) rest = inl (rw (ap is_lt e) (or_first (p x) (list_any p (below xs)) here))
+      by Less e (inl here) rest = inl (rw (ap is_lt e) (or_of_first (p x) (list_any p (below xs)) here))
       by Less e (inr later) rest = lower (rest later) (ap is_lt e) (ap is_gt e)
-      by Equal e (inl here) rest = inr (rw (ap is_gt e) (or_first (p row) (list_any p (above xs)) (alike x e here)))
+      by Equal e (inl here) rest = inr (rw (ap is_gt e) (or_of_first (p row) (list_any p (above xs)) (alike x e here)))
       by Equal e (inr later) rest = level (rest later) (ap is_lt e) (ap is_gt e)
       by Greater e (inl here) rest = inr (rw (ap is_gt e)
-          (or_second (p row) (p x || list_any p (above xs)) (or_first (p x) (list_any p (above xs)) here)))
+          (or_of_second (p row) (p x || list_any p (above xs)) (or_of_first (p x) (list_any p (above xs)) here)))
       by Greater e (inr later) rest = higher (rest later) (ap is_lt e) (ap is_gt e)
 
   pub any-put : (rows : List X) → ((x : X) → R (key x) (key row) ≡ Equal → p x ≡ true → p row ≡ true) →
@@ -124,13 +113,13 @@ module _ {X K : Type 0} (R : K → K → Ordering) (key : X → K) (p : X → Bo
     where
       by : (list_any p (below rows) ≡ true) ⊎ (list_any p (row ∷ above rows) ≡ true) →
           (list_any p (below rows) || list_any p (row ∷ above rows)) ≡ true
-      by (inl l) = or_first (list_any p (below rows)) (list_any p (row ∷ above rows)) l
-      by (inr g) = or_second (list_any p (below rows)) (list_any p (row ∷ above rows)) g
+      by (inl l) = or_of_first (list_any p (below rows)) (list_any p (row ∷ above rows)) l
+      by (inr g) = or_of_second (list_any p (below rows)) (list_any p (row ∷ above rows)) g
 
   pub any-put_own : (rows : List X) → p row ≡ true → list_any p (with_row R key row rows) ≡ true
   any-put_own rows h = list_any-append p (below rows) (row ∷ above rows)
-      ∙ or_second (list_any p (below rows)) (list_any p (row ∷ above rows))
-      (or_first (p row) (list_any p (above rows)) h)
+      ∙ or_of_second (list_any p (below rows)) (list_any p (row ∷ above rows))
+      (or_of_first (p row) (list_any p (above rows)) h)
 
 -- ---- the slots that took a series over were given
 
@@ -144,7 +133,7 @@ slot_stays c slot n a rows h = any-put (held_cmp nat_cmp) (held_key slot_of) (is
         is_of c slot (n, a) ≡ true
     alike x e h =
         sym (level_slots n a.slot c slot) ∙ ap is_eq (sym
-        (held_cmp_total.congr (x.0, x.1.slot) (n, a.slot) (c, slot) e)) ∙ level_slots x.0 x.1.slot c slot ∙ h
+        (given_total.congr (x.0, x.1.slot) (n, a.slot) (c, slot) e)) ∙ level_slots x.0 x.1.slot c slot ∙ h
 
 -- what every slot that was given keeps, those that took over keep
 pub given_after : (rows after : List (ℕ × Assignment)) →

@@ -20,8 +20,9 @@ use Rattle.cpi_store.specs.declared.taken_over.TakenOver.{TakenOver}
 use Rattle.cpi_store.specs.Holders.{IsGiven, assignment_until}
 use Rattle.cpi_store.specs.Office.{end_given, given_over, hand_over, put_given}
 use Rattle.cpi_store.specs.Series.{first_of_series, given_in, own_series, series_named_in, series_or}
-use Rattle.cpi_store.proofs.Assigned.{all_filtered, all_joined}
-use Rattle.cpi_store.proofs.GivenSlots.{any-map, any-put_own, free_slot, given_after, has_slot, held_cmp_total, is_of}
+use Rattle.cpi_rows.proofs.Lists.{all_filtered, all_joined}
+use Rattle.cpi_store.proofs.GivenRows.{given_total}
+use Rattle.cpi_store.proofs.GivenSlots.{any-map, any-put_own, free_slot, given_after, has_slot, is_of}
 use Rattle.cpi_store.proofs.GivenSlots.{level_slots, slot_stays, taken_key}
 use Rattle.cpi_store.proofs.HeldRows.{end_given-put}
 
@@ -72,7 +73,7 @@ of_ended c slot last_month n s rows = any-map (assignment_until c slot last_mont
         by false e = rw e refl
 
 level_back : (a b : ℕ × ℕ) → is_eq (held_cmp nat_cmp a b) ≡ is_eq (held_cmp nat_cmp b a)
-level_back a b = ap is_eq (held_cmp_total.antisymm a b) ∙ by (held_cmp nat_cmp b a)
+level_back a b = ap is_eq (given_total.antisymm a b) ∙ by (held_cmp nat_cmp b a)
   where
     by : (s : Ordering) → is_eq (ordering_reverse s) ≡ is_eq s
     by Less = refl
@@ -94,16 +95,16 @@ module _ (h : SeriesMove) (taken : List TakenOver)
   after = with_row (held_cmp nat_cmp) (λ t. (t.collector, t.slot)) over taken
 
   pub taken_in_order : IsInOrder (held_cmp nat_cmp) (λ t. (t.collector, t.slot)) after
-  taken_in_order = put_in_order held_cmp_total (λ t. (t.collector, t.slot)) taken over by_slot
+  taken_in_order = put_in_order given_total (λ t. (t.collector, t.slot)) taken over by_slot
 
   new_series : series_named_in after n new_slot ≡ h.ended.series
-  new_series = ap (series_or (own_series n new_slot)) (row_at-put_same held_cmp_total taken_key over taken)
+  new_series = ap (series_or (own_series n new_slot)) (row_at-put_same given_total taken_key over taken)
 
   other_series : (row : ℕ × Assignment) → is_of n new_slot row ≡ false →
       series_named_in after row.0 row.1.slot ≡ series_named_in taken row.0 row.1.slot
   other_series row apart =
       ap (series_or (own_series row.0 row.1.slot))
-      (row_at-put_apart held_cmp_total taken_key (row.0, row.1.slot) over taken by_slot
+      (row_at-put_apart given_total taken_key (row.0, row.1.slot) over taken by_slot
       (level_back (n, new_slot) (row.0, row.1.slot) ∙ level_slots row.0 row.1.slot n new_slot ∙ apart))
 
   -- the other slots have the series that they had

@@ -1,12 +1,13 @@
 -- Series that slots took over, and series that none did, each of which has but the assignments of the slot it names.
 use Rattle.std.proofs.Common.{◌≡◌, ℕ, Bool, true, false, eqb, List, [], ◌∷◌, ◌++◌, map, Some, None, Option, refl}
 use Rattle.std.proofs.Common.{sym, ap, ◌∙◌, arith}
-use Rattle.std.specs.Prelude.{◌&&◌, ◌||◌, ◌==◌, max, option_map}
+use Rattle.std.specs.Prelude.{◌&&◌, ◌==◌, max, option_map}
 use Rattle.std.specs.List.{AllByRecursion, IsDistinct, cons_option, filter_map, list_any}
 use Rattle.std.specs.Ordering.{nat_cmp, is_eq}
 use Rattle.std.proofs.lemmas.Bool.{eq-eqb, eqb-true}
 use Rattle.cpi_rows.specs.Keyed.{row_at}
 use Rattle.cpi_rows.specs.Held.{held_by, held_cmp}
+use Rattle.cpi_rows.proofs.Truth.{and_both, or_of_second}
 use Rattle.cpi_codes.specs.declared.series.SeriesId.{SeriesId}
 use Rattle.cpi_survey.specs.Quote.{QuoteRow, quote_cmp, quote_key}
 use Rattle.cpi_survey.specs.declared.assignment.Assignment.{Assignment}
@@ -29,16 +30,12 @@ last_handed_over-append taken s xs ys = by (is_handed_over taken s) refl
     by true e = rw e (last_of_series-append s xs ys)
     by false e = rw e refl
 
-both_of : (a b : Bool) → (a && b) ≡ true → (a ≡ true) × (b ≡ true)
-both_of true b h = (refl, h)
-both_of false b h = let no : false ≡ true = h in cc
-
 pub collectors_are : (a b : SeriesId) → same_series a b ≡ true → a.collector ≡ b.collector
 collectors_are a b same =
-    eqb-true a.collector b.collector (both_of (eqb a.collector b.collector) (eqb a.slot b.slot) same).0
+    eqb-true a.collector b.collector (and_both (eqb a.collector b.collector) (eqb a.slot b.slot) same).0
 
 pub slots_are : (a b : SeriesId) → same_series a b ≡ true → a.slot ≡ b.slot
-slots_are a b same = eqb-true a.slot b.slot (both_of (eqb a.collector b.collector) (eqb a.slot b.slot) same).1
+slots_are a b same = eqb-true a.slot b.slot (and_both (eqb a.collector b.collector) (eqb a.slot b.slot) same).1
 
 pub same_series-is : (a b : SeriesId) → a.collector ≡ b.collector → a.slot ≡ b.slot → same_series a b ≡ true
 same_series-is a b collectors slots =
@@ -60,10 +57,6 @@ any_found p key [] t found passes = let no : None ≡ Some t = found in cc
 any_found p key (x ∷ taken) t found passes =
     by (is_eq (held_cmp nat_cmp (taken_key x) key)) refl (any_found p key taken t)
   where
-    either : (a b : Bool) → b ≡ true → (a || b) ≡ true
-    either true b h = refl
-    either false b h = h
-
     by : (w : Bool) → is_eq (held_cmp nat_cmp (taken_key x) key) ≡ w →
         (row_at (held_cmp nat_cmp) taken_key key taken ≡ Some t → p t ≡ true → list_any p taken ≡ true) →
         list_any p (x ∷ taken) ≡ true
@@ -71,7 +64,7 @@ any_found p key (x ∷ taken) t found passes =
         let one : Some x ≡ Some t = rw e at found in
         let is : x ≡ t = cc in
         rw (ap p is ∙ passes) refl
-    by false e rest = either (p x) (list_any p taken) (rest (rw e at found) passes)
+    by false e rest = or_of_second (p x) (list_any p taken) (rest (rw e at found) passes)
 
 -- the slot of a series that no slot took over is the one that the series names
 pub names_own : (taken : List TakenOver) (c slot : ℕ) (s : SeriesId) → is_handed_over taken s ≡ false →

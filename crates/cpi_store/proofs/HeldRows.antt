@@ -12,9 +12,10 @@ use Rattle.cpi_rows.specs.Keyed.{IsInOrder, row_by_number, with_row, row_at}
 use Rattle.cpi_rows.specs.Held.{held_by, held_cmp, held_key}
 use Rattle.cpi_rows.proofs.Found.{at_key}
 use Rattle.cpi_rows.proofs.Puts.{map-put, put_standing}
+use Rattle.cpi_store.proofs.GivenRows.{given_total}
 use Rattle.cpi_store.specs.declared.given.Given.{Given}
 use Rattle.cpi_store.specs.Office.{end_given, given_until, put_given, row_until}
-use Rattle.cpi_store.proofs.GivenSlots.{held_cmp_total, level_slots}
+use Rattle.cpi_store.proofs.GivenSlots.{level_slots}
 
 abbrev slot_of : Given → ℕ
 slot_of g = g.assignment.slot
@@ -87,7 +88,7 @@ module _ (c slot last_month : ℕ) where
       let slot_is : g.assignment.slot ≡ slot = at_key slot_of slot g (held_by c rows) found in
       let there : row_at (held_cmp nat_cmp) (held_key slot_of) (c, slot) rows ≡ Some (c, g) =
       row_at-held slot_of c slot rows ∙ ap (option_map (λ x. (c, x))) found in
-      let stands : put_given c g rows ≡ rows = put_standing held_cmp_total (held_key slot_of) (c, g) rows sorted
+      let stands : put_given c g rows ≡ rows = put_standing given_total (held_key slot_of) (c, g) rows sorted
       (ap (λ s. row_at (held_cmp nat_cmp) (held_key slot_of) (c, s) rows) slot_is ∙ there) in
       let below : ℕ × Given → Bool = λ r. is_lt (held_cmp nat_cmp (held_key slot_of r) (c, g.assignment.slot)) in
       let above : ℕ × Given → Bool = λ r. is_gt (held_cmp nat_cmp (held_key slot_of r) (c, g.assignment.slot)) in

@@ -18,6 +18,7 @@ use Rattle.cpi_codes.specs.CodeOrder.{code_cmp}
 use Rattle.std.specs.List.Sorted.{IsStrictlySortedBy}
 use Rattle.cpi_rows.proofs.Places.{none_in_order}
 use Rattle.cpi_rows.specs.Keyed.{row_by_number, IsInOrder}
+use Rattle.cpi_rows.proofs.Lists.{all_behind}
 use Rattle.cpi_plan.specs.Plan.{Plan}
 use Rattle.cpi_plan.specs.declared.plan_rows.Node.{Node}
 use Rattle.cpi_index.specs.Row.{Row}
@@ -180,11 +181,6 @@ at_all P key k x (y ∷ ys) all found = by (is_eq (nat_cmp (key y) k)) refl (at_
         let is : y ≡ x = cc in
         subst P is all.0
     by false e rest = rest (rw e at found)
-
-all_behind : {X : Type 0} (P : X → Type 0) (xs : List X) (x : X) → AllByRecursion P xs → P x →
-    AllByRecursion P (xs ++ x ∷ [])
-all_behind P [] x all one = (one, tt)
-all_behind P (y ∷ ys) x all one = (all.0, all_behind P ys x all.1 one)
 
 -- a table has the order of the nodes
 module _ (p : Plan) (releases : List Release) (month : ℕ) (rows : List Row) where

@@ -15,6 +15,7 @@ use Rattle.std.proofs.lemmas.List.{append-nil, map-append}
 use Rattle.cpi_rows.specs.Keyed.{IsInOrder}
 use Rattle.cpi_rows.specs.Held.{held_cmp, held_key}
 use Rattle.cpi_rows.proofs.Puts.{different}
+use Rattle.cpi_rows.proofs.Lists.{all_behind}
 use Rattle.cpi_survey.specs.Own.{OwnPart}
 use Rattle.cpi_survey.specs.Quote.{QuoteRow}
 use Rattle.cpi_survey.specs.declared.assignment.Assigned.{Assigned}
@@ -104,11 +105,6 @@ module _ (us : List Outlet) where
       → rows_with_number c (map (λ a. a.assignment) (named gs)) ≡ map without_series (rows_with_number c gs)
   beside_named c [] = refl
   beside_named c (g ∷ gs) = ap (λ xs. (c, g.assignment) ∷ xs) (beside_named c gs)
-
-all_behind : {X : Type 0} (P : X → Type 0) (xs : List X) (x : X) → AllByRecursion P xs → P x
-    → AllByRecursion P (xs ++ x ∷ [])
-all_behind P [] x all here = (here, tt)
-all_behind P (y ∷ xs) x all here = (all.0, all_behind P xs x all.1 here)
 
 -- ---- one more collector
 

@@ -4,18 +4,15 @@ use Rattle.std.proofs.Common.{◌≡◌, ◌≢◌, Bool, true, false, List, [],
 use Rattle.std.specs.declared.cmp.Ordering.{Ordering}
 use Rattle.std.specs.declared.cmp.Ordering.TheVariants.{Less, Equal, Greater}
 use Rattle.std.specs.Ordering.{nat_cmp, ordering_then, ordering_reverse, is_eq, is_gt}
-use Rattle.std.specs.Cmp.{IsTotalOrder}
 use Rattle.std.specs.List.{AllByRecursion}
 use Rattle.std.specs.List.Sorted.{IsStrictlySortedBy}
-use Rattle.std.proofs.lemmas.Cmp.{nat_cmp_total, ranked, on_total, then_total, alike_right}
+use Rattle.std.proofs.lemmas.Cmp.{ranked, alike_right}
 use Rattle.cpi_rows.specs.Keyed.{IsInOrder, row_at}
+use Rattle.cpi_store.proofs.BySeries.{series_cmp_total}
 use Rattle.cpi_codes.specs.declared.series.SeriesId.{SeriesId}
 use Rattle.cpi_index.specs.Frozen.{Frozen}
 use Rattle.cpi_store.specs.Series.{series_cmp, put_by_series, by_series}
 use Rattle.cpi_store.specs.Sound.{AllPairs}
-
-pub series_total : IsTotalOrder series_cmp
-series_total = then_total (on_total (λ s. s.collector) nat_cmp_total) (on_total (λ s. s.slot) nat_cmp_total)
 
 -- series that compare equal
 pub series_equal : (s t : SeriesId) → series_cmp s t ≡ Equal → s ≡ t
@@ -56,7 +53,7 @@ above_too : (f g : Frozen) (rows : List Frozen) → series_cmp f.series g.series
     AllByRecursion (λ h. series_cmp f.series h.series ≡ Less) rows
 above_too f g [] less all = tt
 above_too f g (h ∷ rows) less all = (
-  series_total.trans f.series g.series h.series less all.0,
+  series_cmp_total.trans f.series g.series h.series less all.0,
   above_too f g rows less all.1,
 )
 
@@ -73,7 +70,7 @@ placed_in_order f (g ∷ rows) apart sorted = by (series_cmp f.series g.series) 
     by Less e rest = rw (ap is_gt e) ((e, above_too f g rows e sorted.0), (sorted.0, sorted.1))
     by Equal e rest = absurd (apart.0 (series_equal f.series g.series e))
     by Greater e rest =
-        let below : series_cmp g.series f.series ≡ Less = series_total.antisymm g.series f.series
+        let below : series_cmp g.series f.series ≡ Less = series_cmp_total.antisymm g.series f.series
         ∙ ap ordering_reverse e in
         rw (ap is_gt e) (all_placed (λ h. series_cmp g.series h.series ≡ Less) f rows below sorted.0, rest)
 
@@ -102,7 +99,7 @@ module _ (s : SeriesId) where
       behind e Less t rest = rw (ap is_eq t) rest
       behind e Greater t rest = rw (ap is_eq t) rest
       behind e Equal t rest =
-          let past : series_cmp f.series s ≡ Greater = sym (alike_right series_total g.series s f.series t) ∙ e in
+          let past : series_cmp f.series s ≡ Greater = sym (alike_right series_cmp_total g.series s f.series t) ∙ e in
           rw (ap is_eq t, ap is_eq past) refl
 
       by : (w : Ordering) → series_cmp f.series g.series ≡ w → Same rows → Same (g ∷ rows)

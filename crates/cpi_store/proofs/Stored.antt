@@ -9,6 +9,7 @@ use Rattle.std.specs.List.{AllByRecursion, filter_map}
 use Rattle.std.proofs.lemmas.Bool.{false≢true}
 use Rattle.std.proofs.lemmas.Cmp.{tied_itself}
 use Rattle.cpi_rows.specs.Keyed.{row_at}
+use Rattle.cpi_store.proofs.BySeries.{series_cmp_total}
 use Rattle.cpi_codes.specs.declared.series.SeriesId.{SeriesId}
 use Rattle.cpi_survey.specs.declared.mark.Mark.{Mark}
 use Rattle.cpi_survey.specs.Assignment.{is_active}
@@ -20,7 +21,7 @@ use Rattle.cpi_store.specs.Series.{same_series, series_cmp}
 use Rattle.cpi_store.specs.Sound.{AreApart, AllPairs}
 use Rattle.cpi_store.specs.Stored.{assignment_in, stored_mark, FrozenAreStored}
 use Rattle.cpi_store.proofs.Changes.{same_series_tells}
-use Rattle.cpi_store.proofs.Placed.{series_total, series_equal, first_by_series}
+use Rattle.cpi_store.proofs.Placed.{series_equal, first_by_series}
 use Rattle.cpi_store.proofs.Released.{stored, IsActiveIfQuoted, month_active}
 
 -- another series compares as another
@@ -87,7 +88,7 @@ module _ (month : ℕ) (series : SeriesId) (o : Office) where
       by (inr there) w e v f rest = passed_over r rows there.1 ∙ rest ∙ rw there.0 refl
       by (inl here) true e (Some q) f rest =
           let level : is_eq (series_cmp r.1.series series) ≡ true =
-          ap (λ (t : SeriesId). is_eq (series_cmp t series)) here.1 ∙ ap is_eq (tied_itself series_total series) in
+          ap (λ (t : SeriesId). is_eq (series_cmp t series)) here.1 ∙ ap is_eq (tied_itself series_cmp_total series) in
           let frozen : frozen_among (r ∷ rows) ≡ Some q.mark = rw (f, level) refl in
           let kept : stored_among (r ∷ rows) ≡ Some q.mark = rw (here.0, e, f) refl in
           frozen ∙ sym kept

@@ -1,7 +1,7 @@
 -- Of rows in order, the slots that took a series over say with their assignments what all slots were given.
-use Rattle.std.proofs.Common.{◌≡◌, ◌≢◌, ℕ, Bool, true, false, List, [], ◌∷◌, map, None, Option, refl, sym, ap, ◌∙◌}
+use Rattle.std.proofs.Common.{◌≡◌, ◌≢◌, ℕ, true, false, List, [], ◌∷◌, map, None, Option, refl, sym, ap, ◌∙◌}
 use Rattle.std.proofs.Common.{inl, inr}
-use Rattle.std.specs.Prelude.{◌⊎◌, ◌||◌}
+use Rattle.std.specs.Prelude.{◌⊎◌}
 use Rattle.std.specs.declared.cmp.Ordering.TheVariants.{Less, Greater}
 use Rattle.std.specs.Ordering.{nat_cmp, is_eq, ordering_reverse}
 use Rattle.std.specs.List.{AllByRecursion, list_any}
@@ -10,6 +10,8 @@ use Rattle.std.proofs.lemmas.Bool.{eq-eqb}
 use Rattle.std.proofs.lemmas.Cmp.{tied_itself}
 use Rattle.cpi_rows.specs.Keyed.{IsInOrder, row_at}
 use Rattle.cpi_rows.specs.Held.{held_cmp, held_key}
+use Rattle.cpi_rows.proofs.Truth.{or_of_second}
+use Rattle.cpi_store.proofs.GivenRows.{given_total}
 use Rattle.cpi_codes.specs.declared.series.SeriesId.{SeriesId}
 use Rattle.cpi_store.specs.declared.given.Given.{Given}
 use Rattle.cpi_store.specs.declared.taken_over.TakenOver.{TakenOver}
@@ -17,7 +19,7 @@ use Rattle.cpi_store.specs.Holders.{IsGiven}
 use Rattle.cpi_store.specs.Loading.{taken_rows, without_series}
 use Rattle.cpi_store.specs.Series.{given_in, own_series, same_series, series_named_in, series_or}
 use Rattle.cpi_store.proofs.Changes.{same_series_tells}
-use Rattle.cpi_store.proofs.GivenSlots.{given_after, has_slot, held_cmp_total, is_of, taken_key}
+use Rattle.cpi_store.proofs.GivenSlots.{given_after, has_slot, is_of, taken_key}
 
 abbrev Row : Type 0
 Row = ℕ × Given
@@ -53,7 +55,7 @@ apart : (key : ℕ × ℕ) (row : Row) → held_cmp nat_cmp key (key_of row) ≡
     → is_eq (held_cmp nat_cmp (key_of row) key) ≡ false
 apart key row less =
     let greater : held_cmp nat_cmp (key_of row) key ≡ Greater =
-    held_cmp_total.antisymm (key_of row) key ∙ ap ordering_reverse less in
+    given_total.antisymm (key_of row) key ∙ ap ordering_reverse less in
     ap is_eq greater
 
 -- a slot that another row is of is found where it was before
@@ -77,7 +79,7 @@ series_first row rows all = by (names row)
   where
     by : Names row → series_named_in (taken_rows (row ∷ rows)) row.0 row.1.assignment.slot ≡ row.1.series
     by (inl own) = rw own.0 (ap (series_or (named_by row)) (none_above (key_of row) rows all) ∙ sym own.1)
-    by (inr took) = rw (took.0, ap is_eq (tied_itself held_cmp_total (key_of row))) refl
+    by (inr took) = rw (took.0, ap is_eq (tied_itself given_total (key_of row))) refl
 
 -- rows with their series as those say that took over
 abbrev said_by : List TakenOver → List Row → List Row
@@ -124,10 +126,6 @@ taken_sorted (row ∷ rows) sorted = by (names row) (taken_sorted rows sorted.1)
     by (inl own) rest = rw own.0 rest
     by (inr took) rest = rw took.0 (taken_above (key_of row) rows sorted.0, rest)
 
-or_second : (a b : Bool) → b ≡ true → (a || b) ≡ true
-or_second true b h = refl
-or_second false b h = h
-
 abbrev AreGiven : List Row → List Row → Type 0
 AreGiven rows some = AllByRecursion (IsGiven (map without_series rows)) (taken_rows some)
 
@@ -137,7 +135,7 @@ taken_are_given [] = tt
 taken_are_given (row ∷ rows) =
     by (names row)
     (given_after (map without_series rows) (map without_series (row ∷ rows))
-    (λ c slot is. or_second (is_of c slot (without_series row)) (list_any (is_of c slot) (map without_series rows)) is)
+    (λ c slot is. or_of_second (is_of c slot (without_series row)) (list_any (is_of c slot) (map without_series rows)) is)
     (taken_rows rows) (taken_are_given rows))
   where
     by : Names row → AreGiven (row ∷ rows) rows → AreGiven (row ∷ rows) (row ∷ rows)

@@ -4,11 +4,12 @@ use Rattle.std.specs.Ordering.{nat_cmp}
 use Rattle.cpi_rows.specs.Held.{held_cmp}
 use Rattle.cpi_rows.specs.Keyed.{IsPlace, with_row}
 use Rattle.cpi_rows.proofs.Places.{put_at_gap, row_found}
+use Rattle.cpi_store.proofs.GivenRows.{given_total}
 use Rattle.cpi_store.specs.Holders.{all_assignments, all_given}
 use Rattle.cpi_store.specs.Series.{given_in}
 use Rattle.cpi_store.specs.declared.series_move.SeriesMove.{SeriesMove}
 use Rattle.cpi_store.specs.declared.taken_over.TakenOver.{TakenOver}
-use Rattle.cpi_store.proofs.GivenSlots.{held_cmp_total, none_taken, taken_key}
+use Rattle.cpi_store.proofs.GivenSlots.{none_taken, taken_key}
 use Rattle.cpi_store.proofs.HandedOver.{given_handed, taken_given, taken_in_order}
 use Rattle.cpi_store.proofs.holders.hand_over_in.Goals as goal
 
@@ -30,7 +31,7 @@ inserted c =
     c.in_ok-insert-in-Err.ensures.items
     ∙ ap (λ xs. insert xs i c.of-over.result) c.reserve.ensures.items
     ∙ ap (insert taken i) c.of-over.ensures
-    ∙ put_at_gap held_cmp_total taken_key taken over i place
+    ∙ put_at_gap given_total taken_key taken over i place
 
 pub unreachable-requires : goal.unreachable-requires
 unreachable-requires c =
@@ -45,7 +46,7 @@ unreachable-requires c =
     subst (λ k. IsPlace (held_cmp nat_cmp) taken_key k taken (Ok i)) key found in
     let no : None ≡ Some (get_or taken i over) =
     sym (none_taken over.collector over.slot rows c.requires.new taken c.requires.given)
-    ∙ row_found held_cmp_total taken_key taken c.requires.by_slot (taken_key over) i over place.0 (place.1 over) in
+    ∙ row_found given_total taken_key taken c.requires.by_slot (taken_key over) i over place.0 (place.1 over) in
     cc
 
 pub returns-clause-ok : goal.returns-clause-ok

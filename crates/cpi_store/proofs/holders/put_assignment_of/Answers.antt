@@ -5,9 +5,10 @@ use Rattle.std.proofs.lemmas.Cmp.{nat_cmp_total}
 use Rattle.std.proofs.lemmas.Result.{on_ok_weaker}
 use Rattle.cpi_rows.specs.Keyed.{IsPlace}
 use Rattle.cpi_rows.proofs.Places.{missing_at_gap}
+use Rattle.cpi_rows.proofs.Lists.{of_result}
 use Rattle.cpi_survey.specs.Own.{OwnPart}
 use Rattle.cpi_store.specs.declared.holder.Holder.{Holder}
-use Rattle.cpi_store.proofs.Assigned.{either, placed_put, placed_same, names_put, names_same}
+use Rattle.cpi_store.proofs.Assigned.{placed_put, placed_same, names_put, names_same}
 use Rattle.cpi_store.proofs.Found.{assignments_put, quotes_same, order_after, collectors_after}
 use Rattle.cpi_store.proofs.holders.put_assignment_of.Goals as goal
 
@@ -49,7 +50,7 @@ returns-clause-order c =
 
 pub returns-clause-placed : goal.returns-clause-placed
 returns-clause-placed c = λ outlets has all.
-    either c.put_assignment.result c.put_assignment.ensures.ok c.put_assignment.ensures.err
+    of_result c.put_assignment.result c.put_assignment.ensures.ok c.put_assignment.ensures.err
     (λ done. placed_put outlets c.args.assigned c.args.holders.now.items c.in-Ok.at c.index_mut-holder.result.now _
     c.index_mut-holder.ensures.value (ap (λ (o : OwnPart). o.assignments) done) has all)
     (λ same. placed_same outlets c.args.assigned c.args.holders.now.items c.in-Ok.at c.index_mut-holder.result.now _
@@ -57,7 +58,7 @@ returns-clause-placed c = λ outlets has all.
 
 pub returns-clause-names : goal.returns-clause-names
 returns-clause-names c = λ outlets named all.
-    either c.put_assignment.result c.put_assignment.ensures.ok c.put_assignment.ensures.err
+    of_result c.put_assignment.result c.put_assignment.ensures.ok c.put_assignment.ensures.err
     (λ done. names_put outlets c.args.assigned c.args.holders.now.items c.in-Ok.at c.index_mut-holder.result.now _
     c.index_mut-holder.ensures.value (ap (λ (o : OwnPart). o.assignments) done) named all)
     (λ same. names_same outlets c.args.assigned c.args.holders.now.items c.in-Ok.at c.index_mut-holder.result.now _
