@@ -11,6 +11,8 @@ use Rattle.cpi_codes.specs.contracts.codes.CodeOrd.TheImpl.Laws.{total-law}
 use Rattle.cpi_index.specs.Series.{frozen_serial, carried_serial}
 use Rattle.cpi_release.specs.declared.level.Level.{Level}
 use Rattle.cpi_rows.specs.Held.{held_key}
+use Rattle.cpi_rows.proofs.Held.{held_total}
+use Rattle.cpi_survey.proofs.Latest.{quote_order}
 use Rattle.cpi_store.proofs.Released.{release_total}
 use Rattle.cpi_store.specs.declared.given.Given.{Given}
 use Rattle.cpi_survey.specs.Quote.{quote_key}
@@ -28,7 +30,6 @@ use Rattle.cpi_sql_rows.specs.Numbered.{IsVersion, version_text}
 use Rattle.cpi_sql_rows.specs.Shelf.{HasRowids}
 use Rattle.cpi_sql_rows.proofs.Found.{assignments_keyed, quotes_keyed}
 use Rattle.cpi_sql_rows.proofs.FoundReleases.{headers_keyed, frozen_keyed, carried_keyed, levels_keyed}
-use Rattle.cpi_sql_rows.proofs.Lists.{held_total, quote_total}
 use Rattle.cpi_sql_open.specs.Stages.{RanEach, Stage, stage_of}
 use Rattle.cpi_sql_open.proofs.CopiedOffice.{assignment_contents, assignments_fit, carried_contents, carried_fit}
 use Rattle.cpi_sql_open.proofs.CopiedOffice.{copied_list, frozen_contents, frozen_fit, header_contents, level_contents}
@@ -135,7 +136,7 @@ module _ (a b : Stage) (m : Made first_schema office_schema second_tables a b) w
       copied_list (held_total nat_cmp_total) (held_key (λ (g : Given). g.assignment.slot)) assignment_in_row
           assignment_contents assignment_copy (old 11) (new 22) copied.assignments
           (assignments_keyed new n.sound survey.assignments),
-      copied_list (held_total quote_total) (held_key quote_key) quote_in quote_contents quote_copy (old 13) (new 24)
+      copied_list (held_total quote_order) (held_key quote_key) quote_in quote_contents quote_copy (old 13) (new 24)
           copied.quotes (quotes_keyed new n.sound survey.quotes),
       same_releases,
     ) refl

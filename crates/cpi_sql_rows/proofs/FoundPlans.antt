@@ -21,6 +21,7 @@ use Rattle.cpi_codes.specs.declared.codes.Code.{Code}
 use Rattle.cpi_codes.proofs.CodeIs.{same_code_is}
 use Rattle.cpi_codes.proofs.ItemOrder.{codes-are-one}
 use Rattle.cpi_rows.specs.Held.{held_cmp, held_key}
+use Rattle.cpi_rows.proofs.Truth.{equal_of_order, then_first, then_second}
 use Rattle.cpi_plan.specs.declared.plan_rows.Node.{Node}
 use Rattle.cpi_plan.specs.declared.plan_rows.Place.{Place}
 use Rattle.cpi_sql_rows.specs.Tables.{office_schema, table_of_nodes, table_of_plan_items}
@@ -28,7 +29,7 @@ use Rattle.cpi_sql_rows.specs.Lists.{number_within, text_in, number_in_value, na
 use Rattle.cpi_sql_rows.specs.Lists.{node_from, place_from, node_in, place_in_row, reference_month_in_row}
 use Rattle.cpi_sql_rows.specs.Shelf.{IsKeyed, HasRowids}
 use Rattle.cpi_sql_rows.proofs.KeyColumns.{Tells, keyed}
-use Rattle.cpi_sql_rows.proofs.Lists.{bound_is, first_tied, held_tied, number_tied, ranged_is, second_tied, some_is}
+use Rattle.cpi_sql_rows.proofs.Lists.{bound_is, held_tied, ranged_is, some_is}
 
 -- ---- texts
 
@@ -45,16 +46,16 @@ one_part : (x y : Option ℕ) → option_cmp nat_cmp x y ≡ Equal → x ≡ y
 one_part None None e = refl
 one_part None (Some b) e = cc
 one_part (Some a) None e = cc
-one_part (Some a) (Some b) e = ap (λ (n : ℕ). Some n) (number_tied a b e)
+one_part (Some a) (Some b) e = ap (λ (n : ℕ). Some n) (equal_of_order a b e)
 
 pub one_code : (c d : Code) → code_cmp c d ≡ Equal → c ≡ d
 one_code c d e =
-    let group = second_tied _ _ e in
-    let class = second_tied _ _ group in
-    let sub = second_tied _ _ class in
-    same_code_is c d (number_tied c.division d.division (first_tied _ _ e))
-    (one_part c.group d.group (first_tied _ _ group)) (one_part c.class d.class (first_tied _ _ class))
-    (one_part c.subclass d.subclass (first_tied _ _ sub)) (one_part c.aggregate d.aggregate (second_tied _ _ sub))
+    let group = then_second _ _ e in
+    let class = then_second _ _ group in
+    let sub = then_second _ _ class in
+    same_code_is c d (equal_of_order c.division d.division (then_first _ _ e))
+    (one_part c.group d.group (then_first _ _ group)) (one_part c.class d.class (then_first _ _ class))
+    (one_part c.subclass d.subclass (then_first _ _ sub)) (one_part c.aggregate d.aggregate (then_second _ _ sub))
 
 after : (P : Code → Type 0) (o : Option Code) (f : Code → Option Code) → ((c : Code) → IfSome (f c) P)
     → IfSome (o >>= f) P
@@ -159,7 +160,7 @@ place_tells = record {
       let a = place_parts r x.0 x.1 e in
       let b = place_parts s y.0 y.1 f in
       let same = held_tied nat_cmp (x.0, x.1.item) (y.0, y.1.item) tie in
-      let item = number_tied x.1.item y.1.item same.1 in
+      let item = equal_of_order x.1.item y.1.item same.1 in
       let bytes = codes-are-one y.1.item a.bytes b.bytes (a.item ∙ ap (λ (n : ℕ). Some n) item) b.item in
       λ i. Int (pos (same.0 i)) ∷ Text (bytes i) ∷ [];
 }
@@ -181,5 +182,5 @@ pub references_keyed : (rows : List Row) → IsKeyed (held_cmp nat_cmp) (held_ke
 unfolding IsKeyed
 references_keyed rows r s x y hr hs er es tie =
     let same = held_tied nat_cmp (x.0, x.1.month) (y.0, y.1.month) tie in
-    let month = number_tied x.1.month y.1.month same.1 in
+    let month = equal_of_order x.1.month y.1.month same.1 in
     λ i. (same.0 i, record { month = month i })

@@ -12,6 +12,7 @@ use Rattle.cpi_codes.specs.CodeText.{code_text}
 use Rattle.cpi_codes.specs.declared.limits.TheConstants.{LAST_MOMENT}
 use Rattle.cpi_codes.specs.declared.series.SeriesId.{SeriesId}
 use Rattle.cpi_rows.specs.Held.{held_cmp, held_key}
+use Rattle.cpi_rows.proofs.Truth.{equal_of_order, then_first, then_second}
 use Rattle.cpi_index.specs.declared.limits.TheConstants.{MOST_INDEX, MOST_LEVEL}
 use Rattle.cpi_index.specs.Frozen.{Frozen}
 use Rattle.cpi_index.specs.Carried.{Carried}
@@ -29,8 +30,7 @@ use Rattle.cpi_sql_rows.specs.Lists.{frozen_in, carried_in_row, level_in_row}
 use Rattle.cpi_sql_rows.specs.ReleaseRows.{frozen_after, carried_after, level_after}
 use Rattle.cpi_sql_rows.specs.Shelf.{IsKeyed, HasRowids}
 use Rattle.cpi_sql_rows.proofs.KeyColumns.{Tells, keyed}
-use Rattle.cpi_sql_rows.proofs.Lists.{bound_is, first_tied, held_tied, number_tied, ranged_is, second_tied}
-use Rattle.cpi_sql_rows.proofs.Lists.{some_is}
+use Rattle.cpi_sql_rows.proofs.Lists.{bound_is, held_tied, ranged_is, some_is}
 use Rattle.cpi_sql_rows.proofs.QuoteOffice.{HasMonth, month_of, same_month}
 use Rattle.cpi_sql_rows.proofs.ReleaseRows.{beside, one_release, release_entry, release_of, within_limits}
 use Rattle.cpi_sql_rows.proofs.FoundPlans.{code_column, one_code}
@@ -74,7 +74,7 @@ series_tells from series of = record {
   tied = λ r s x y e f tie.
       let p = of r x e in
       let q = of s y f in
-      let same = number_tied (serial (series x)) (serial (series y)) tie in
+      let same = equal_of_order (serial (series x)) (serial (series y)) tie in
       let collector : (series x).collector ≡ (series y).collector =
       omega (arith, p.least, p.first, p.last, q.least, q.first, q.last, same) in
       let slot : (series x).slot ≡ (series y).slot =
@@ -183,8 +183,8 @@ header_tells = record {
   tied = λ r s h k e f tie.
       let a = header_names r h e in
       let b = header_names s k f in
-      let month = number_tied h.month k.month (first_tied _ _ tie) in
-      let revision = number_tied h.revision k.revision (second_tied _ _ tie) in
+      let month = equal_of_order h.month k.month (then_first _ _ tie) in
+      let revision = equal_of_order h.revision k.revision (then_second _ _ tie) in
       let number = same_month a.month.number b.month.number k.month (a.month.is ∙ ap Some month) b.month.is in
       λ i. Int (pos (number i)) ∷ Int (pos (revision i)) ∷ [];
 }

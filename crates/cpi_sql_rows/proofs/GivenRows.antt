@@ -9,12 +9,14 @@ use Rattle.sqlite.specs.declared.types.Value.{Value}
 use Rattle.sqlite.specs.declared.types.Value.TheVariants.{Int}
 use Rattle.sqlite.specs.Order.{Row, column}
 use Rattle.cpi_rows.specs.Held.{held_cmp, held_key}
+use Rattle.cpi_rows.proofs.Held.{held_total}
+use Rattle.cpi_rows.proofs.Truth.{equal_of_order}
 use Rattle.cpi_survey.specs.declared.assignment.Assignment.{Assignment}
 use Rattle.cpi_store.specs.declared.given.Given.{Given}
 use Rattle.cpi_sql_rows.specs.Lists.{number_within, month_from, item_from, price_or_none, series_from, assignment_from}
 use Rattle.cpi_sql_rows.specs.Lists.{assignment_in_row, shown_given}
 use Rattle.cpi_sql_rows.proofs.KeyColumns.{IsUnique, Tells}
-use Rattle.cpi_sql_rows.proofs.Lists.{bound_is, held_tied, held_total, number_tied, ranged_is, some_is}
+use Rattle.cpi_sql_rows.proofs.Lists.{bound_is, held_tied, ranged_is, some_is}
 use Rattle.cpi_sql_rows.specs.Tables.{table_of_assignments_2}
 
 -- the nine columns of an assignment, as an answer shows them
@@ -84,7 +86,7 @@ slot_tells = record {
       };
   tied = λ r s x y e f tie.
       let same = held_tied nat_cmp (key x) (key y) tie in
-      let slot = number_tied x.1.assignment.slot y.1.assignment.slot same.1 in
+      let slot = equal_of_order x.1.assignment.slot y.1.assignment.slot same.1 in
       λ i. Int (pos (same.0 i)) ∷ Int (pos (slot i)) ∷ [];
 }
 

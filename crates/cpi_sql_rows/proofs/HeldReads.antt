@@ -12,6 +12,8 @@ use Rattle.sqlite.specs.State.{State, Shown}
 use Rattle.sqlite.specs.Term.{Term, holds}
 use Rattle.cpi_rows.specs.Keyed.{IsInOrder}
 use Rattle.cpi_rows.specs.Held.{held_by, held_cmp, held_key}
+use Rattle.cpi_rows.proofs.Held.{held_total}
+use Rattle.cpi_survey.proofs.Latest.{quote_order}
 use Rattle.cpi_survey.specs.Quote.{QuoteRow, quote_cmp, quote_key}
 use Rattle.cpi_sql_rows.specs.HeldTables.{HeldTable, Holds, row_with_holder, release_in}
 use Rattle.cpi_sql_rows.specs.Lists.{and_then, rows_in_key_order, month_at, quote_in, quotes_in, release_number}
@@ -22,7 +24,7 @@ use Rattle.cpi_sql_rows.specs.Tables.{table_of_quotes_2}
 use Rattle.cpi_sql_rows.specs.Texts.{all_quotes_text, is_first_parameter, is_release}
 use Rattle.cpi_sql_rows.specs.WholeTables.{all_quotes_asked}
 use Rattle.cpi_sql_rows.proofs.Listed.{listed_is}
-use Rattle.cpi_sql_rows.proofs.Lists.{Shows, bound_is, equal_number, has_read, held_read, held_total, quote_total}
+use Rattle.cpi_sql_rows.proofs.Lists.{Shows, bound_is, equal_number, has_read, held_read}
 use Rattle.cpi_sql_rows.proofs.Lists.{some_is}
 use Rattle.cpi_sql_rows.proofs.Lists.{ranged_is, read_has, same_number, stands_read}
 use Rattle.cpi_sql_rows.proofs.Reading.{equality, has_permuted}
@@ -123,7 +125,7 @@ module _ (old new : State) (rows : List Row) (read : List (ℕ × QuoteRow)) (ha
   pub all_quotes_read : (xs : List (ℕ × QuoteRow)) → IsPermutation read xs
       → IsInOrder (held_cmp quote_cmp) (held_key quote_key) xs → xs ≡ quotes_in (old.now.trees table_of_quotes_2.tree)
   all_quotes_read xs moved order =
-      listed_is (held_total quote_total) (held_key quote_key) quote_in (old.now.trees table_of_quotes_2.tree) xs
+      listed_is (held_total quote_order) (held_key quote_key) quote_in (old.now.trees table_of_quotes_2.tree) xs
       has.quotes order
       (λ x k.
       let s = read_has shown_quote rows read x are (has_permuted read xs x moved k) in

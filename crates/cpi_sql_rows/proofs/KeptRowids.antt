@@ -17,7 +17,7 @@ use Rattle.sqlite_rules.specs.Lists.{Has}
 use Rattle.sqlite_schema.specs.declared.schema.Keys.{Keys}
 use Rattle.sqlite_trees.specs.View.{is_int}
 use Rattle.sqlite_value.proofs.OrderLemmas.{value_cmp_total}
-use Rattle.cpi_sql_rows.proofs.Lists.{equal_is}
+use Rattle.cpi_rows.proofs.Truth.{equal_of_is_eq}
 use Rattle.cpi_sql_rows.proofs.Reading.{left_has}
 use Rattle.cpi_sql_rows.specs.Shelf.{HasRowids}
 
@@ -26,7 +26,7 @@ pub same_rowid : (rows : List Row) → HasRowids rows → (r s : Row) (i : ℤ) 
     → has_rowid i r ≡ true → r ≡ s
 unfolding HasRowids
 same_rowid rows h r s i hr hs is hit =
-    h.1 r s hr hs (subst (λ v. value_cmp (rowid r) v ≡ Equal) (sym is) (equal_is _ hit))
+    h.1 r s hr hs (subst (λ v. value_cmp (rowid r) v ≡ Equal) (sym is) (equal_of_is_eq _ hit))
 
 pub rowids_left : (ids : List ℤ) (rows : List Row) → HasRowids rows → HasRowids (without_all rows ids)
 unfolding HasRowids

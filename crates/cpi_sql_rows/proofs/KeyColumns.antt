@@ -25,7 +25,8 @@ use Rattle.sqlite_schema.specs.declared.schema.Constraint.TheVariants.{Unique}
 use Rattle.sqlite_trees.specs.View.{is_int}
 use Rattle.sqlite_value.proofs.OrderLemmas.{value_cmp-Int, value_cmp_total}
 use Rattle.sqlite_value.specs.Keys.{first_key, plain}
-use Rattle.cpi_sql_rows.proofs.Lists.{equal_is, some_is}
+use Rattle.cpi_rows.proofs.Truth.{equal_of_is_eq}
+use Rattle.cpi_sql_rows.proofs.Lists.{some_is}
 use Rattle.cpi_sql_rows.proofs.Reading.{and_true, equality, text_equality, true_of}
 use Rattle.cpi_sql_rows.specs.Shelf.{HasRowids, IsKeyed, equals}
 use Rattle.cpi_sql_rows.specs.Tables.{office_schema}
@@ -51,7 +52,7 @@ equal_exact v _ e = cc
 
 -- numbers that are equal are the same
 pub same_int : (v w : Value) → is_int v ≡ true → is_int w ≡ true → equals v w ≡ true → v ≡ w
-same_int (Int a) (Int b) p q h = ap Int (int_ranked a b Equal (sym (equal_is _ h) ∙ value_cmp-Int a b))
+same_int (Int a) (Int b) p q h = ap Int (int_ranked a b Equal (sym (equal_of_is_eq _ h) ∙ value_cmp-Int a b))
 same_int (Int a) _ p q h = cc
 same_int _ w p q h = cc
 
@@ -125,7 +126,7 @@ module _ (table : Table) (places : List ℕ) (u : IsUnique table places) (db : T
       let none : clashes plain places rows s ≡ false = not-true _ (sym (and_true _) ∙ sym (u.rule db s)
       ∙ keeps_at Unique office_schema db table s keeps listed hs) in
       elim (cases_Bool (equals (rowid r) (rowid s))) [
-        | inl tie ↦ ids.1 r s hr hs (equal_is _ tie)
+        | inl tie ↦ ids.1 r s hr hs (equal_of_is_eq _ tie)
         | inr other ↦ absurd (both_ways _ none (some_from
             (λ x. agree plain places x places s && differ (rowid x) (rowid s)) rows r hr
             (and_from _ _ agreed (differs (rowid r) (rowid s) (ids.0 r hr) (ids.0 s hs) other))))

@@ -3,13 +3,13 @@ use Rattle.std.proofs.Common.{◌≡◌, ◌≢◌, ◌⊎◌, inl, inr, ℕ, po
 use Rattle.std.proofs.Common.{◌∷◌, Some, None, Option, IsSome, refl, sym, ap, subst, ◌∙◌}
 use Rattle.std.specs.Prelude.{filter, nat_le, if◌then◌else◌, is_some}
 use Rattle.std.specs.declared.cmp.Ordering.{Ordering}
-use Rattle.std.specs.declared.cmp.Ordering.TheVariants.{Less, Equal, Greater}
+use Rattle.std.specs.declared.cmp.Ordering.TheVariants.{Less, Equal}
 use Rattle.std.specs.Ordering.{nat_cmp, int_cmp, is_eq, ordering_then}
 use Rattle.std.specs.Cmp.{IsTotalOrder, tied_itself}
 use Rattle.std.specs.List.Sorted.{IsStrictlySortedBy}
 use Rattle.std.proofs.lemmas.Bool.{eq-eqb}
 use Rattle.std.proofs.lemmas.Bool.Decides.{eqb_tells}
-use Rattle.std.proofs.lemmas.Cmp.{nat_cmp_total, on_total, then_total, int_ranked, ranked}
+use Rattle.std.proofs.lemmas.Cmp.{nat_cmp_total, int_ranked}
 use Rattle.sqlite.specs.declared.types.Value.{Value}
 use Rattle.sqlite.specs.declared.types.Value.TheVariants.{Null, Int, Real, Text, Blob}
 use Rattle.sqlite.specs.Order.{Row}
@@ -19,37 +19,18 @@ use Rattle.sqlite_rules.proofs.ListLemmas.{all_from, has_filtered, has_kept}
 use Rattle.sqlite_rules.proofs.ProbeLemmas.{has_mapped, mapped_has}
 use Rattle.cpi_rows.specs.Keyed.{IsInOrder}
 use Rattle.cpi_rows.specs.Held.{held_by, held_cmp, held_key}
-use Rattle.cpi_survey.specs.Quote.{quote_cmp}
+pub use Rattle.cpi_rows.proofs.Held.{held_total}
+use Rattle.cpi_rows.proofs.Truth.{equal_of_is_eq, equal_of_order, then_first, then_second}
 use Rattle.cpi_sql_rows.specs.Read.{AreRead}
 use Rattle.cpi_sql_rows.specs.Lists.{rows_in_key_order, number_in_value, if_within, number_within, and_then}
 use Rattle.cpi_sql_rows.specs.Shelf.{IsKeyed, equals}
 use Rattle.cpi_sql_rows.proofs.Listed.{same_in_order, listed_is, listed_in_order, listed_stands}
 use Rattle.cpi_sql_rows.proofs.Listed.{stands_listed, head_in}
 
-pub held_total : {K : Type 0} {R : K → K → Ordering} → IsTotalOrder R → IsTotalOrder (held_cmp R)
-held_total o = then_total (on_total (λ r. r.0) nat_cmp_total) (on_total (λ r. r.1) o)
-
-pub quote_total : IsTotalOrder quote_cmp
-quote_total = then_total (on_total (λ r. r.0) nat_cmp_total) (on_total (λ r. r.1) nat_cmp_total)
-
--- an order by one thing and then another ties where both tie
-pub first_tied : (a b : Ordering) → ordering_then a b ≡ Equal → a ≡ Equal
-first_tied Less b e = cc
-first_tied Equal b e = refl
-first_tied Greater b e = cc
-
-pub second_tied : (a b : Ordering) → ordering_then a b ≡ Equal → b ≡ Equal
-second_tied Less b e = cc
-second_tied Equal b e = e
-second_tied Greater b e = cc
-
-pub number_tied : (a b : ℕ) → nat_cmp a b ≡ Equal → a ≡ b
-number_tied a b e = ranked a b Equal (sym e)
-
 -- rows of one key are of one holder
 pub held_tied : {K : Type 0} (R : K → K → Ordering) (j k : ℕ × K) → held_cmp R j k ≡ Equal → (j.0 ≡ k.0)
     × (R j.1 k.1 ≡ Equal)
-held_tied R j k e = (number_tied j.0 k.0 (first_tied _ _ e), second_tied _ _ e)
+held_tied R j k e = (equal_of_order j.0 k.0 (then_first _ _ e), then_second _ _ e)
 
 pub some_is : {X : Type 0} {x y : X} → ◌≡◌ {A = Option X} (Some x) (Some y) → x ≡ y
 some_is e = cc
@@ -199,15 +180,10 @@ ranged_is low high v n e =
     let it = bound_is (number_in_value v) (if_within low high) n e in
     number_is v it.0 it.1 ∙ ap (λ z. Int (pos z)) (within_is low high it.0 n it.2)
 
-pub equal_is : (o : Ordering) → is_eq o ≡ true → o ≡ Equal
-equal_is Less h = absurd cc
-equal_is Equal h = refl
-equal_is Greater h = absurd cc
-
 pub same_number : (v : Value) (a c : ℕ) → v ≡ Int (pos a) → equals v (Int (pos c)) ≡ true → a ≡ c
 same_number v a c is h =
     let tie : int_cmp (pos a) (pos c) ≡ Equal = sym (value_cmp-Int (pos a) (pos c))
-    ∙ equal_is _ (subst (λ w. equals w (Int (pos c)) ≡ true) is h) in
+    ∙ equal_of_is_eq _ (subst (λ w. equals w (Int (pos c)) ≡ true) is h) in
     let same = int_ranked (pos a) (pos c) Equal (sym tie) in cc
 
 pub equal_number : (v : Value) (c : ℕ) → v ≡ Int (pos c) → equals v (Int (pos c)) ≡ true

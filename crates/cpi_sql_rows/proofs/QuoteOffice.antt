@@ -11,6 +11,9 @@ use Rattle.sqlite.specs.declared.types.Value.{Value}
 use Rattle.sqlite.specs.declared.types.Value.TheVariants.{Null, Int}
 use Rattle.sqlite.specs.Order.{Row, column}
 use Rattle.cpi_rows.specs.Held.{held_cmp, held_key}
+use Rattle.cpi_rows.proofs.Held.{held_total}
+use Rattle.cpi_rows.proofs.Truth.{equal_of_order, then_first, then_second}
+use Rattle.cpi_survey.proofs.Latest.{quote_order}
 use Rattle.cpi_codes.specs.Month.{month_in, is_in_calendar}
 use Rattle.cpi_codes.specs.declared.months.MonthFault.TheVariants.{Range}
 use Rattle.cpi_survey.specs.Quote.{QuoteRow, quote_cmp, quote_key}
@@ -18,8 +21,7 @@ use Rattle.cpi_store.specs.declared.registration.Registration.{Registration}
 use Rattle.cpi_sql_rows.specs.Lists.{quote_in, quote_from, number_within, receipt_from, month_from, month_at, month_out}
 use Rattle.cpi_sql_rows.specs.Lists.{mark_in, number_in_value}
 use Rattle.cpi_sql_rows.proofs.Listed.{PutsRow}
-use Rattle.cpi_sql_rows.proofs.Lists.{held_total, quote_total, bound_is, number_is, ranged_is, some_is}
-use Rattle.cpi_sql_rows.proofs.Lists.{first_tied, second_tied, number_tied, held_tied}
+use Rattle.cpi_sql_rows.proofs.Lists.{bound_is, held_tied, number_is, ranged_is, some_is}
 use Rattle.cpi_sql_rows.proofs.KeyColumns.{Tells}
 use Rattle.cpi_sql_rows.proofs.QuoteRows.{quote_places}
 use Rattle.cpi_sql_rows.proofs.Upserts.{PutsOver, puts_row}
@@ -109,8 +111,8 @@ quote_tells = record {
       let a = numbers_of r x.0 x.1 e in
       let b = numbers_of s y.0 y.1 f in
       let same = held_tied quote_cmp (key x) (key y) tie in
-      let slot = number_tied x.1.slot y.1.slot (first_tied _ _ same.1) in
-      let month = number_tied x.1.month y.1.month (second_tied _ _ same.1) in
+      let slot = equal_of_order x.1.slot y.1.slot (then_first _ _ same.1) in
+      let month = equal_of_order x.1.month y.1.month (then_second _ _ same.1) in
       let number = same_month a.month.number b.month.number y.1.month (a.month.is ∙ ap Some month) b.month.is in
       λ i. Int (pos (same.0 i)) ∷ Int (pos (slot i)) ∷ Int (pos (number i)) ∷ [];
 }
@@ -125,11 +127,11 @@ same_key r s x y e f same =
     let slot : x.1.slot ≡ y.1.slot = cc in
     let number : a.month.number ≡ b.month.number = cc in
     let month : x.1.month ≡ y.1.month = some_is (sym a.month.is ∙ ap month_at number ∙ b.month.is) in
-    rw (mine, slot, month) (tied_itself (held_total quote_total) (key y))
+    rw (mine, slot, month) (tied_itself (held_total quote_order) (key y))
 
 pub quote_puts : (b : Registration) (q : QuoteRow) (columns : Row)
     → ((id : Value) → quote_in (id ∷ columns) ≡ Some (b.number, q))
     → (old new : List Row) → PutsOver quote_places Null columns old new
-    → PutsRow (held_total quote_total) key quote_in (b.number, q) old new
-quote_puts b q columns is = puts_row quote_places Null columns (held_total quote_total) key quote_in quote_tells
+    → PutsRow (held_total quote_order) key quote_in (b.number, q) old new
+quote_puts b q columns is = puts_row quote_places Null columns (held_total quote_order) key quote_in quote_tells
     (b.number, q) (λ id _. is id) (λ r y e. refl) same_key

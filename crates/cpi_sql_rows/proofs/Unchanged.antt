@@ -6,12 +6,10 @@ use Rattle.std.specs.List.{AllByRecursion, list_all}
 use Rattle.sqlite.specs.Tree.{Trees}
 use Rattle.sqlite.specs.Table.{Table}
 use Rattle.sqlite_rules.proofs.ListLemmas.{all_has, some_has}
+use Rattle.cpi_rows.proofs.Truth.{same_of_equal}
 use Rattle.cpi_sql_rows.specs.Tables.{office_schema}
 use Rattle.cpi_sql_rows.specs.Steps.{SameBut, is_beside}
 use Rattle.cpi_sql_rows.specs.Lists.{releases_in}
-
-level : (a b : ℕ) → (a == b) ≡ true → a ≡ b
-level a b e = grind (arith, nat_tests)
 
 apart : (a b : ℕ) → not (a == b) ≡ true → b ≡ a → ⊥
 apart a b e same = grind (arith, nat_tests)
@@ -23,7 +21,7 @@ pub others_same : (tree : ℕ) (old done new : Trees) → ((n : ℕ) → new n �
 others_same tree old done new now all n e =
     let parts = and_parts _ _ e in
     let it = some_has (λ (t : Table). t.tree == n) office_schema.tables parts.0 in
-    let at : it.0.tree ≡ n = level it.0.tree n it.2 in
+    let at : it.0.tree ≡ n = same_of_equal it.0.tree n it.2 in
     let other : it.0.tree ≢ tree = λ same. apart tree n (and_parts _ _ parts.1).0 (sym at ∙ same) in
     now n ∙ subst (λ m. done m ≡ old m) at
     (all_has (λ (t : Table). t.tree ≢ tree → done t.tree ≡ old t.tree) office_schema.tables it.0 all it.1 other)

@@ -9,11 +9,11 @@ use Rattle.cpi_store.specs.declared.taken_over.TakenOver.{TakenOver}
 use Rattle.cpi_store.proofs.GivenSlots.{level_slots}
 use Rattle.cpi_store.proofs.frozen.series_handed_over.Goals as goal
 
-either : (a b : Bool) → cond a true b ≡ (b || a)
-either true true = refl
-either true false = refl
-either false true = refl
-either false false = refl
+cond_is_or : (a b : Bool) → cond a true b ≡ (b || a)
+cond_is_or true true = refl
+cond_is_or true false = refl
+cond_is_or false true = refl
+cond_is_or false false = refl
 
 pub loop-over-preserved : goal.loop-over-preserved
 loop-over-preserved c = λ s.
@@ -25,6 +25,6 @@ loop-over-preserved c = λ s.
     ∙ ap (λ b. cond b true (contains (held_cmp nat_cmp) c.loop-over.found (s.collector, s.slot)))
     (level_slots over.series.collector over.series.slot s.collector s.slot)
     ∙ ap (cond (same_series over.series s) true) (c.loop-over.invariant s)
-    ∙ either (same_series over.series s) before
+    ∙ cond_is_or (same_series over.series s) before
     ∙ ap (λ (t : TakenOver). before || same_series t.series s) c.over-item.is
     ∙ sym (list_any_more (λ (t : TakenOver). same_series t.series s) taken i over (omega arith))
