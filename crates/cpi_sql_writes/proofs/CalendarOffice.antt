@@ -13,7 +13,8 @@ use Rattle.cpi_plan.specs.Calendar.{CalendarPart}
 use Rattle.cpi_sql_rows.specs.Lists.{calendar_in, number_within, month_from, month_at, in_turn}
 use Rattle.cpi_sql_rows.proofs.Listed.{PutsRow}
 use Rattle.cpi_sql_rows.proofs.KeyColumns.{Tells}
-use Rattle.cpi_sql_rows.proofs.Lists.{bound_is, number_tied, some_is}
+use Rattle.cpi_rows.proofs.Truth.{equal_of_order}
+use Rattle.cpi_sql_rows.proofs.Lists.{bound_is, some_is}
 use Rattle.cpi_sql_rows.proofs.QuoteOffice.{HasMonth, month_of, same_month}
 use Rattle.cpi_sql_rows.proofs.Upserts.{IsNamed, PutsOver, puts_row}
 use Rattle.cpi_sql_writes.proofs.CalendarRows.{calendar_places, day_behind}
@@ -47,7 +48,7 @@ day_tells = record {
   tied = λ r s x y e f tie.
       let a = month_in r x e in
       let b = month_in s y f in
-      let month = number_tied x.month y.month tie in
+      let month = equal_of_order x.month y.month tie in
       let number = same_month a.number b.number y.month (a.is ∙ ap Some month) b.is in
       λ i. Int (pos (number i)) ∷ [];
 }

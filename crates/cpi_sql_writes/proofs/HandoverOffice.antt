@@ -26,7 +26,8 @@ use Rattle.cpi_sql_rows.specs.Shelf.{HasTables, IsDone, IsKeyed, Takes}
 use Rattle.cpi_sql_rows.specs.Steps.{IsRowStep, SameBut, outside}
 use Rattle.cpi_sql_rows.proofs.Found.{in_order_same}
 use Rattle.cpi_sql_rows.proofs.Listed.{same_in_order, listed_in_order, has_put, put_has, put_keeps}
-use Rattle.cpi_sql_rows.proofs.Lists.{first_tied, held_has, held_total, second_tied}
+use Rattle.cpi_rows.proofs.Truth.{then_first, then_second}
+use Rattle.cpi_sql_rows.proofs.Lists.{held_has, held_total}
 use Rattle.cpi_sql_writes.proofs.AddPremises.{slot_apart}
 use Rattle.cpi_sql_rows.proofs.Frame.{Assignments}
 use Rattle.cpi_sql_rows.proofs.Members.{has_row}
@@ -114,8 +115,8 @@ module _ (n : ℕ) (g : Given) (rows : List (ℕ × Given)) (sorted : AreInOrder
   apart : (r : ℕ × Given) → ((r.0 ≡ n) × (slot_of r.1 ≡ slot_of g) → ⊥) →
       held_cmp nat_cmp (key r) (n, slot_of g) ≢ Equal
   apart r differ tie = differ (
-    ranked r.0 n Equal (sym (first_tied _ _ tie)),
-    ranked (slot_of r.1) (slot_of g) Equal (sym (second_tied _ _ tie)),
+    ranked r.0 n Equal (sym (then_first _ _ tie)),
+    ranked (slot_of r.1) (slot_of g) Equal (sym (then_second _ _ tie)),
   )
 
   ended_has : (x : ℕ × Given) → Has (end_given n (slot_of g) last rows) x → Has (put_given n g rows) x

@@ -14,7 +14,8 @@ use Rattle.cpi_rows.specs.Keyed.{IsInOrder, with_row}
 use Rattle.cpi_rows.proofs.Places.{put_in_order}
 use Rattle.cpi_sql_rows.specs.Lists.{numbers}
 use Rattle.cpi_sql_rows.proofs.Listed.{same_in_order, put_has, has_put, put_keeps}
-use Rattle.cpi_sql_rows.proofs.Lists.{number_tied, some_is}
+use Rattle.cpi_rows.proofs.Truth.{equal_of_order}
+use Rattle.cpi_sql_rows.proofs.Lists.{some_is}
 use Rattle.cpi_sql_rows.proofs.Members.{given_has, has_given}
 
 numbers_low : (first n y : ℕ) → Has (numbers first n) y → first ≤ y
@@ -70,7 +71,7 @@ module _ {P : Type 0} (key : P → ℕ) where
           | inr other ↦
               put_keeps nat_cmp_total key p old q (given_has f (numbers first n) it.0 q it.1 (sym (there it.0 other.1)
               ∙ it.2))
-              (λ tie. other.1 (sym (g_is it.0 q it.2) ∙ number_tied (key q) (key p) tie))
+              (λ tie. other.1 (sym (g_is it.0 q it.2) ∙ equal_of_order (key q) (key p) tie))
         ])
         (λ q h. elim (put_has nat_cmp_total key p old q h) [
           | inl e ↦ given_has g (numbers first n) (key p) q (numbers_has first n (key p) low high) (here

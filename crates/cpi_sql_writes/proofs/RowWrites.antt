@@ -31,7 +31,8 @@ use Rattle.cpi_sql_rows.specs.Lists.{outlet_from, outlet_in, quote_in, releases_
 use Rattle.cpi_sql_rows.proofs.Frame as tables
 use Rattle.cpi_sql_rows.proofs.Frame.{Assignments, Calendar, Collectors, Items, Outlets, all_tables_of}
 use Rattle.cpi_sql_rows.proofs.Inserting.{inserted, none_apart}
-use Rattle.cpi_sql_rows.proofs.Lists.{held_total, quote_total}
+use Rattle.cpi_survey.proofs.Latest.{quote_order}
+use Rattle.cpi_sql_rows.proofs.Lists.{held_total}
 use Rattle.cpi_sql_rows.proofs.QuoteOffice.{quote_puts}
 use Rattle.cpi_sql_rows.proofs.QuoteRows.{quote_columns, quote_places, quote_put}
 use Rattle.cpi_sql_rows.proofs.TableRows.{AddsRow, adds_one}
@@ -140,7 +141,7 @@ module _ {A E : Type 0} (old new : State) (result : Result A E) where
       (λ a s has _ made alone sound.
       let done = made has.rowids in
       row_done (Quotes b q) a s has done.schema alone (all_tables_of s.now done.schema sound) tables.Quotes refl
-      done.others (held_total quote_total) (held_key quote_key) quote_in (b.number, q) has.quotes (quote_puts b q
+      done.others (held_total quote_order) (held_key quote_key) quote_in (b.number, q) has.quotes (quote_puts b q
       columns is (a.now.trees 24) (s.now.trees 24) done.rows) (λ w. record { rows = w; rowids = λ _. done.rowids }) (ap
       (λ rows. record (office_in a.now.trees) { quotes = rows }))) old new result
 
