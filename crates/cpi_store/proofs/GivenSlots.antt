@@ -95,7 +95,8 @@ module _ {X K : Type 0} (R : K → K → Ordering) (key : X → K) (p : X → Bo
         where
           by_row : (p row ≡ true) ⊎ (list_any p (above xs) ≡ true) → (p row || (p x || list_any p (above xs))) ≡ true
           by_row (inl r) = or_of_first (p row) (p x || list_any p (above xs)) r
-          by_row (inr a) = or_of_second (p row) (p x || list_any p (above xs)) (or_of_second (p x) (list_any p (above xs)) a)
+          by_row (inr a) =
+              or_of_second (p row) (p x || list_any p (above xs)) (or_of_second (p x) (list_any p (above xs)) a)
 
       by : (s : Ordering) → R (key x) (key row) ≡ s → (p x ≡ true) ⊎ (list_any p xs ≡ true) →
           (list_any p xs ≡ true → Either xs) → Either (x ∷ xs)

@@ -135,7 +135,8 @@ taken_are_given [] = tt
 taken_are_given (row ∷ rows) =
     by (names row)
     (given_after (map without_series rows) (map without_series (row ∷ rows))
-    (λ c slot is. or_of_second (is_of c slot (without_series row)) (list_any (is_of c slot) (map without_series rows)) is)
+    (λ c slot is.
+    or_of_second (is_of c slot (without_series row)) (list_any (is_of c slot) (map without_series rows)) is)
     (taken_rows rows) (taken_are_given rows))
   where
     by : Names row → AreGiven (row ∷ rows) rows → AreGiven (row ∷ rows) (row ∷ rows)

@@ -7,5 +7,6 @@ pub returns-clause-test : goal.returns-clause-test
 returns-clause-test g c = c.test_tables.ensures.test second_wanted second_tests
 
 pub returns-clause-found : goal.returns-clause-found
-returns-clause-found g c = on_ok_weaker c.test_tables.result _ _ (c.test_tables.ensures.found second_wanted second_tests)
+returns-clause-found g c =
+    on_ok_weaker c.test_tables.result _ _ (c.test_tables.ensures.found second_wanted second_tests)
     (second_found _ _ c.requires (c.test_tables.ensures.test second_wanted second_tests))
