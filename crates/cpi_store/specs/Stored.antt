@@ -1,4 +1,4 @@
--- What is frozen of a month is what is stored of it.
+-- A freeze takes the quotes that are stored for the month, with their marks.
 use Rattle.std.specs.Prelude.{◌≡◌, ℕ, ◌&&◌, List, [], ◌∷◌, Option, Some, None, option_map, option_and_then}
 use Rattle.std.specs.Prelude.{if◌then◌else◌}
 use Rattle.cpi_rows.specs.Keyed.{row_at}
@@ -17,7 +17,7 @@ abbrev pub frozen_mark : ℕ → SeriesId → Office → Option Mark
 frozen_mark month series o =
     option_map (λ f. f.mark) (row_at series_cmp (λ f. f.series) series (quotes_of_month month o))
 
--- the assignment that the series has in the month, beside its collector's number
+-- the assignment that the series has in the month, with its collector's number
 abbrev pub assignment_in : ℕ → SeriesId → List (ℕ × Given) → Option (ℕ × Given)
 assignment_in month series [] = None
 assignment_in month series (row ∷ rows) =
@@ -30,9 +30,8 @@ stored_mark month o row =
     option_map (λ q. q.mark)
     (row_at quote_cmp quote_key (row.1.assignment.slot, month) (held_by row.0 o.quotes))
 
--- A freeze takes a quote of a series exactly where the collector who has the series in that month has a quote of it,
--- and
--- with that quote's mark.
+-- A freeze takes a quote of a series if and only if the collector who has the series in that month has a quote of it,
+-- and it takes that quote's mark.
 abbrev pub FrozenAreStored : Type 0
 FrozenAreStored =
     (o : Office) (month : ℕ) (series : SeriesId) → IsSound o →
