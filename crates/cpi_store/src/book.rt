@@ -1,4 +1,4 @@
-//! A book of the office: what it lends and hands out, and what is put into it.
+//! A book: one interface to the lists of an office, whatever they are stored in.
 ghost use Rattle.std.specs.Prelude.{◌≡◌, ◌<◌, ◌≤◌, IsOk, IsSome, None, Some, false, true, map, option_map};
 ghost use Rattle.std.specs.Option.{option_copied};
 
@@ -26,15 +26,15 @@ pub struct Parts<'a> {
     pub own: &'a Own,
 }
 
-/// An office that is kept somewhere: items by code, plans by year, calendar rows by month, collectors by number,
-/// outlets by number, assignments by collector and slot, quotes by collector, slot and month, releases by month
-/// and revision.
+/// An office in some store, in memory or in a file. It lists items by code, plans by year, calendar rows by month,
+/// collectors by number, outlets by number, assignments by collector and slot, quotes by collector, slot and month,
+/// and releases by month and revision.
 ///
-/// The samples of a month are read from the office itself (`Groups`), and so is what is said of a state.
-/// Each call answers a `StoreFault` only where the count of failures rose during the call, and the office is as it
-/// was then. A read changes nothing, and lends what it shows; handed out are one collector's number or key, the quotes
-/// that a freeze takes, and lists of months. What is said of the office holds where the store is clean as the call
-/// ends. The caller of a write owes the conditions under which the office accepts the row.
+/// The samples of a month come from the same office (`Groups`). A call answers a `StoreFault` only if the count of
+/// failures rose during the call, and then the office is as it was. A read changes nothing and lends what it shows; it
+/// hands out only a collector's number or key, the quotes that a freeze takes, and lists of months. A clause about the
+/// office holds if the store is clean when the call ends. The caller of a write owes the conditions under which the
+/// office accepts the row.
 pub trait Book: Groups {
     ghost use Rattle.std.specs.Borrow.{sem};
     ghost use Rattle.cpi_survey.specs.Quote.{greatest_receipt};
@@ -55,38 +55,40 @@ pub trait Book: Groups {
     ghost use Rattle.cpi_release.specs.FrozenMonths.{frozen_months, release_cmp, release_key};
     ghost use Rattle.cpi_release.specs.PublishedTables.{frozen_month_of, published_until};
 
-    /// The office's lists, each in the order of what it is listed by; how often a call has failed; whether its store
-    /// has kept what was written, and is clean; and which lists a crash at this moment may leave.
+    /// The office's lists, each in the order of its key; how many calls have failed; whether the store has kept what
+    /// was written, and whether it is clean; and which lists a crash at this moment may leave.
     ghost state: { Self → State Office };
 
-    /// That the look-ups and what is lent never fail.
+    /// That look-ups, and reads that lend what they show, never fail.
     ghost finds_always: { Type 0 };
 
-    /// The collector who bears the key; none where nobody does.
+    /// The collector with the key; none if nobody has it.
     fn registration_of(&mut self, key: Key) -> Result<Option<Registration>, StoreFault>
         ensures reads { Reads (state self.old) (state self.new) result (λ found.
             found ≡ registration_of key (state self.old).held.collectors) }
         ensures always { finds_always → IsOk result };
 
-    /// The collector with the number; none where the number isn't registered.
+    /// The collector with the number; none if the number isn't registered.
     fn registration_at(&mut self, number: CollectorId) -> Result<Option<Registration>, StoreFault>
         ensures reads { Reads (state self.old) (state self.new) result (λ found.
             found ≡ row_by_number (λ b. b.number) number (state self.old).held.collectors) }
         ensures always { finds_always → IsOk result };
 
-    /// The number of the collector who bears the key; none where nobody does.
+    /// The number of the collector with the key; none if nobody has it. `cpi` doesn't call it: it looks for the whole
+    /// registration.
     fn collector_of(&mut self, key: Key) -> Result<Option<CollectorId>, StoreFault>
         ensures reads { Reads (state self.old) (state self.new) result (λ found.
             found ≡ collector_of key (state self.old).held.collectors) }
         ensures always { finds_always → IsOk result };
 
-    /// The key that the collector with the number bears; none where the number isn't registered.
+    /// The key of the collector with the number; none if the number isn't registered. `cpi` doesn't call it: it looks
+    /// for the whole registration.
     fn collector_key(&mut self, number: CollectorId) -> Result<Option<Key>, StoreFault>
         ensures reads { Reads (state self.old) (state self.new) result (λ found.
             found ≡ collector_key number (state self.old).held.collectors) }
         ensures always { finds_always → IsOk result };
 
-    /// The outlet with the number; none where there is no such outlet.
+    /// The outlet with the number; none if there is no such outlet.
     fn outlet(&mut self, number: OutletId) -> Result<Option<&Outlet>, StoreFault>
         ensures* reads { sem 𝓛 (EndsAs Self.row self.entry (λ book.
             Reads (state self.old) (state book) result (λ found.
@@ -115,7 +117,7 @@ pub trait Book: Groups {
             × (parts.own.now ≡ own_part collector (state self.old).held)))) }
         ensures always { finds_always → IsOk result };
 
-    /// What the collector's slot was given, with its series; none where the collector has no such slot.
+    /// What the collector's slot was given, with its series; none if the collector has no such slot.
     fn given(&mut self, collector: CollectorId, slot: Slot) -> Result<Option<Given>, StoreFault>
         ensures reads { Reads (state self.old) (state self.new) result (λ found.
             found ≡ row_by_number (λ g. g.assignment.slot) slot (held_by collector (state self.old).held.assignments)) }
@@ -127,8 +129,8 @@ pub trait Book: Groups {
         ensures reads { Reads (state self.old) (state self.new) result (λ found.
             found.items ≡ frozen_months (state self.old).held.releases) };
 
-    /// The stored quotes of the month by series, each with the item and the last month of its series, where no series
-    /// has two in the month.
+    /// The stored quotes of the month by series, each with the item and the last month of its series, if no series has
+    /// two in the month.
     fn month_rows(&mut self, month: Month) -> Result<Vec<FrozenQuote>, StoreFault>
         ensures reads { Reads (state self.old) (state self.new) result (λ found.
             are_by_series frozen_serial (quotes_of_month month (state self.old).held) ≡ true →
@@ -140,7 +142,7 @@ pub trait Book: Groups {
         ensures reads { Reads (state self.old) (state self.new) result (λ found.
             found.items ≡ map frozen_month_of (published_until until (state self.old).held.releases)) };
 
-    /// The latest revision of the month whose table is published by the moment; none where there is no such table.
+    /// The latest revision of the month whose table is published by the moment; none if there is no such table.
     fn revision_until(
         &mut self,
         month: Month,
@@ -150,8 +152,8 @@ pub trait Book: Groups {
             found ≡ option_map (λ t. t.revision) (table_until month None until (state self.old).held.releases)) }
         ensures always { finds_always → IsOk result };
 
-    /// The rows of the month's table in the revision, by code, where it is published by the moment; none where there is
-    /// no such table.
+    /// The rows of the month's table in the revision, by code, if it is published by the moment; none if there is no
+    /// such table.
     fn table(
         &mut self,
         month: Month,
@@ -171,19 +173,20 @@ pub trait Book: Groups {
         ensures writes { Writes (state self.old) (state self.new) result
             (office_with (PutsItem item) (state self.old).held) };
 
-    /// Puts a year's plan, over the one that stands if there is one. The caller owes that its items are there.
+    /// Puts a year's plan, in place of the one that the year has, if any. The caller owes that the office has the
+    /// plan's items.
     fn put_plan(&mut self, plan: YearPlan) -> Result<(), StoreFault>
         requires known { (state self.old).is_clean → has_unknown_item (state self.old).held.items plan.places ≡ false }
         ensures writes { Writes (state self.old) (state self.new) result
             (office_with (PutsPlan plan) (state self.old).held) };
 
-    /// Puts a month's calendar row, over the one that stands if there is one.
+    /// Puts a month's calendar row, in place of the one that the month has, if any.
     fn put_calendar(&mut self, row: CalendarRow) -> Result<(), StoreFault>
         ensures writes { Writes (state self.old) (state self.new) result
             (office_with (PutsCalendar row) (state self.old).held) };
 
-    /// Puts a new collector, who has nothing yet. The caller owes that nobody has the number, and that nobody bears
-    /// the key.
+    /// Puts a new collector, who has nothing yet. The caller owes that nobody has the number, and that nobody has the
+    /// key.
     fn put_collector(&mut self, registration: Registration) -> Result<(), StoreFault>
         requires number { (state self.old).is_clean →
             row_by_number (λ b. b.number) registration.number (state self.old).held.collectors ≡ None }
@@ -201,7 +204,7 @@ pub trait Book: Groups {
 
     /// Puts a new assignment of the collector, as a series of its own, with the name of its outlet. The caller owes
     /// that the collector is registered with this key, that the collector's slot is free, that the first month isn't
-    /// after the last, that item and outlet are there, and that the name is the outlet's.
+    /// after the last, that the office has the item and the outlet, and that the name is the outlet's.
     fn put_assignment(
         &mut self,
         registration: Registration,
@@ -222,10 +225,10 @@ pub trait Book: Groups {
         ensures writes { Writes (state self.old) (state self.new) result
             (office_with (Assigns registration assigned) (state self.old).held) };
 
-    /// Ends an assignment of one collector, and gives its series to a new slot of another, who may be the same: both or
-    /// neither. The caller owes that both collectors are registered with these keys, that the former assignment stands
-    /// as it is said but for its last month, that the new slot is free, that the outlet is there, and that the name is
-    /// its own.
+    /// Ends an assignment of one collector, and gives its series to a new slot of another collector or of the same one:
+    /// both or neither. The caller owes that both collectors are registered with these keys, that the former assignment
+    /// is the one named here in all but its last month, that the new slot is free, that the office has the outlet, and
+    /// that the name is the outlet's.
     fn put_handover(&mut self, handover: SeriesMove) -> Result<(), StoreFault>
         requires former { (state self.old).is_clean →
             row_by_number (λ b. b.number) handover.former.number (state self.old).held.collectors ≡ Some
@@ -246,7 +249,7 @@ pub trait Book: Groups {
         ensures writes { Writes (state self.old) (state self.new) result
             (office_with (HandsOver handover) (state self.old).held) };
 
-    /// Puts a quote of the collector, over the one of its slot and month if there is one. The caller owes that the
+    /// Puts a quote of the collector, in place of the one of its slot and month, if any. The caller owes that the
     /// collector is registered and has the slot, and that the receipt is above all others of the collector.
     fn put_quote(&mut self, registration: Registration, quote: Quote) -> Result<(), StoreFault>
         requires known { (state self.old).is_clean →
@@ -259,7 +262,7 @@ pub trait Book: Groups {
         ensures writes { Writes (state self.old) (state self.new) result
             (office_with (Quotes registration quote) (state self.old).held) };
 
-    /// Puts a release. The caller owes that there is none of its month and revision, where the releases are in order.
+    /// Puts a release. The caller owes that there is none of its month and revision, if the releases are in order.
     fn put_release(&mut self, release: Release) -> Result<(), StoreFault>
         requires new { (state self.old).is_clean →
             IsInOrder release_cmp release_key (state self.old).held.releases →
@@ -267,10 +270,10 @@ pub trait Book: Groups {
         ensures writes { Writes (state self.old) (state self.new) result
             (office_with (Freezes release) (state self.old).held) };
 
-    // what is said of the groups is said of the office
+    // the state of the groups is that of the office
     ghost groups_are: { (b : Self) → IsOffice (Self.holds b) (state b) };
 
-    // what keeps the groups keeps the office
+    // a call that keeps the groups keeps the office
     ghost groups_keep: { (a b : Self) → Keeps (Self.holds a) (Self.holds b) → Keeps (state a) (state b) };
 
     // groups are read from the office

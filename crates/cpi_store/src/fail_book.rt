@@ -11,12 +11,12 @@ use cpi_release::{Failures, FrozenMonth, GroupFault, Groups, Level, Release, Rev
 use cpi_rows::Rows;
 use cpi_survey::{Assigned, Own, Public, Quote};
 
-/// A book that passes each call on to another book, but for the n-th, which it fails without passing it on. It shows
-/// how those above a book take a failing store.
+/// A book that passes each call on to another book, except the n-th, which fails without being passed on. Tests see by
+/// it what the callers of a book do when the store fails.
 #[derive(Drop)]
 pub struct FailBook<B: Book> {
     inner: B,
-    // the calls up to the one that fails, that one included; 0 where none will
+    // the calls up to the one that fails, including that one; 0 if none will
     left: u64,
     own_failures: Failures,
 }

@@ -22,7 +22,7 @@ use cpi_survey::{Assignment, Quote};
 use std::alloc::{AllocError, Global};
 use std::collections::BTreeSet;
 
-/// The stored quotes of the month, by series, where no series has two in the month.
+/// The stored quotes of the month, by series, if no series has two in the month.
 pub fn month_rows(
     alloc: Global,
     month: Month,
@@ -41,8 +41,8 @@ pub fn month_rows(
     Ok(found)
 }
 
-/// The last month of each series that a slot took over: holder by holder, and slot by slot. Any other series has but
-/// the one assignment of the slot that names it, so that nothing has to be gathered where no slot took one over.
+// The last month of each series that a slot took over: holder by holder, and slot by slot. Any other series has only
+// the assignment of the slot that names it, so nothing is gathered if no slot took a series over.
 fn series_ends(
     alloc: Global,
     taken: &[TakenOver],
@@ -63,7 +63,7 @@ fn series_ends(
     Ok(ends)
 }
 
-/// The series that slots took over.
+// The series that slots took over.
 fn series_handed_over(
     alloc: Global,
     taken: &[TakenOver],
@@ -78,7 +78,7 @@ fn series_handed_over(
     Ok(found)
 }
 
-/// Puts the last months of those of a collector's assignments whose series were handed over.
+// Puts the last months of those of a collector's assignments whose series were handed over.
 fn put_ends(
     ends: &mut SeriesEnds,
     taken: &[TakenOver],
@@ -100,7 +100,7 @@ fn put_ends(
     Ok(())
 }
 
-/// The stored quotes of the month: holder by holder, and slot by slot.
+// The stored quotes of the month: holder by holder, and slot by slot.
 fn rows_of(
     alloc: Global,
     month: Month,
@@ -118,7 +118,7 @@ fn rows_of(
     Ok(found)
 }
 
-/// Puts a collector's stored quotes of the month behind those that were found, by slot.
+// Appends a collector's stored quotes of the month, by slot.
 fn push_rows(
     found: &mut Vec<FrozenQuote>,
     month: Month,
@@ -140,7 +140,7 @@ fn push_rows(
     Ok(())
 }
 
-/// A stored quote with what is said of its series.
+// A stored quote with its series, and with that series' item and last month.
 fn row_of(
     assignment: &Assignment,
     series: SeriesId,

@@ -1,11 +1,11 @@
-//! Rows of many collectors, each beside the number of its collector.
+//! Rows of many collectors, each with its collector's number.
 use crate::given::Given;
 use cpi_codes::{CollectorId, Month, Slot};
 use cpi_rows::Keyed;
 use cpi_survey::Quote;
 use std::marker::Model;
 
-/// What a slot was given, beside the number of its collector.
+/// What a slot was given, with its collector's number.
 #[derive(Clone, Copy)]
 pub struct HeldGiven {
     /// The collector who has the slot.
@@ -37,7 +37,7 @@ impl Keyed for HeldGiven {
     }
 }
 
-/// A stored quote, beside the number of its collector.
+/// A stored quote, with its collector's number.
 #[derive(Clone, Copy)]
 pub struct HeldQuote {
     /// The collector who stored the quote.

@@ -87,7 +87,7 @@ pub fn put_assignment_of(
     }
 }
 
-/// Ends the assignment of a collector's slot with this month.
+// Ends the assignment of a collector's slot with this month.
 fn end_assignment_of(
     holders: &mut Vec<Holder>,
     collector: CollectorId,
@@ -115,8 +115,8 @@ fn end_assignment_of(
     }
 }
 
-/// Hands a series over: the new assignment is put with the series that it takes over, and the former one ends. Where
-/// memory is refused, all is as before.
+/// Hands a series over: puts the new assignment with the series that it takes over, and ends the former one. If memory
+/// is refused, nothing changes.
 pub fn hand_over_in(
     holders: &mut Vec<Holder>,
     taken: &mut Vec<TakenOver>,
@@ -160,7 +160,7 @@ pub fn hand_over_in(
     }
 }
 
-/// Puts the new assignment, and ends the former one. Where memory is refused, all is as before.
+// Puts the new assignment, and ends the former one. If memory is refused, nothing changes.
 fn pass_on(holders: &mut Vec<Holder>, handover: SeriesMove) -> Result<(), AllocError>
     requires order { IsInOrder nat_cmp (λ h. h.number) holders.old.items }
     requires known { IsSome (row_at nat_cmp (λ h. h.number) handover.taker.number holders.old.items) }
@@ -191,8 +191,8 @@ fn pass_on(holders: &mut Vec<Holder>, handover: SeriesMove) -> Result<(), AllocE
     Ok(())
 }
 
-/// Puts a new holder among the holders, and beside the key that the holder bears. Where memory is refused, both are
-/// as before.
+/// Puts a new holder among the holders, and the holder's registration under the holder's key. If memory is refused,
+/// neither changes.
 pub fn put_holder(
     holders: &mut Vec<Holder>,
     registrations: &mut BTreeMap<Key, Registration>,

@@ -23,11 +23,11 @@ use std::alloc::{AllocError, Global};
 use std::collections::BTreeMap;
 
 impl Survey {
-    /// The survey that the rows make up. The caller owes them in the order of what they are listed by: collectors by
-    /// number, what slots were given by collector and slot, quotes by collector, slot and month.
+    /// The survey that the rows make up. The caller owes them in the order of their keys: collectors by number, what
+    /// slots were given by collector and slot, quotes by collector, slot and month.
     ///
-    /// It is none where two collectors bear one key, where a row is of a number that nobody has, or where an outlet
-    /// isn't there; or where memory was refused. Each row is read once, and put in O(log n) steps for n rows at most.
+    /// None if two collectors have one key, if a row has a number that is nobody's, if an outlet is missing, or if
+    /// memory was refused. Each row is read once, and put in O(log n) steps for n rows at most.
     pub fn from_rows(
         alloc: Global,
         public: Public,
@@ -65,7 +65,7 @@ impl Survey {
     }
 }
 
-/// The collectors by the key that each bears; none where two bear one key, or where memory was refused.
+// The collectors by their keys; none if two have one key, or if memory was refused.
 fn by_key(alloc: Global, registrations: &[Registration]) -> Option<BTreeMap<Key, Registration>>
     ensures { IfSome result (λ found. (key : ℕ) → get nat_cmp found key ≡ registration_of key registrations.now) }
 {
@@ -79,14 +79,14 @@ fn by_key(alloc: Global, registrations: &[Registration]) -> Option<BTreeMap<Key,
     Some(found)
 }
 
-/// The slots that took a series over, each with that series.
+// The slots that took a series over, each with that series.
 fn taken_of(alloc: Global, given: &[HeldGiven]) -> Result<Vec<TakenOver>, AllocError>
     ensures { IfOk result (λ taken. taken.items ≡ taken_rows given.now) }
 {
     given.iter().filter_map(|row| taken_one(row)).collect(alloc)
 }
 
-/// The slot with its series, unless it names the series itself.
+// The slot with its series, unless it names the series itself.
 fn taken_one(row: &HeldGiven) -> Option<TakenOver>
     ensures { result ≡ taken_row row.now }
 {
@@ -102,8 +102,8 @@ fn taken_one(row: &HeldGiven) -> Option<TakenOver>
     }
 }
 
-/// The collectors, each with its own rows; none where a row is of none of them, where an outlet isn't there, or where
-/// memory was refused.
+// The collectors, each with its own rows; none if a row belongs to none of them, if an outlet is missing, or if memory
+// was refused.
 fn holders_of(
     alloc: Global,
     outlets: &RowsByKey<Outlet>,

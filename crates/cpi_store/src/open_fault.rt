@@ -1,4 +1,4 @@
-//! What can be told of an open that failed, whatever the office is kept in.
+//! Why an office could not be opened, whatever it is stored in.
 
 /// Why a database couldn't be opened as an office.
 #[derive(Clone, Copy, Debug, PartialEq, Eq)]

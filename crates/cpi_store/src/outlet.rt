@@ -5,12 +5,12 @@ ghost use Rattle.cpi_store.specs.Outlet.{same_outlet};
 use cpi_codes::{Name, OutletId};
 use cpi_rows::Keyed;
 
-/// An outlet where items are priced. It never changes once it stands.
+/// An outlet where items are priced. It never changes once it is in the office.
 #[derive(Drop)]
 pub struct Outlet {
     /// The outlet's number, 1 to 999999.
     pub number: OutletId,
-    /// What collectors are shown in place of the number.
+    /// The name, which collectors are shown in place of the number.
     pub name: Name,
 }
 

@@ -1,4 +1,4 @@
-//! What a collector has, made of its rows.
+//! A collector's own part, made of the collector's rows.
 ghost use Rattle.std.specs.Prelude.{◌≡◌, IfSome, map};
 ghost use Rattle.std.specs.List.{AllByRecursion};
 ghost use Rattle.std.specs.Ordering.{nat_cmp};
@@ -14,7 +14,7 @@ use cpi_rows::RowsByKey;
 use cpi_survey::{Assigned, Assignment, Own, Quote};
 use std::alloc::Global;
 
-/// The part that the rows make up; none where an outlet isn't there, or where memory was refused.
+/// The part that the rows make up; none if an outlet is missing, or if memory was refused.
 pub fn own_of(
     alloc: Global,
     outlets: &RowsByKey<Outlet>,
@@ -31,7 +31,7 @@ pub fn own_of(
     Own::from_parts(alloc, named, quotes, most).ok()
 }
 
-/// The assignments with the names of their outlets.
+// The assignments with the names of their outlets; none if an outlet is missing, or if memory was refused.
 fn name_all(alloc: Global, outlets: &RowsByKey<Outlet>, given: &[Given]) -> Option<Vec<Assigned>>
     requires { IsInOrder nat_cmp (λ g. g.assignment.slot) given.now }
     ensures named { IfSome result (λ xs. xs.items ≡ map (with_name outlets.now) (map (λ g. g.assignment) given.now)) }
@@ -46,7 +46,7 @@ fn name_all(alloc: Global, outlets: &RowsByKey<Outlet>, given: &[Given]) -> Opti
     Some(named)
 }
 
-/// The assignment with the name of its outlet; none where there is no such outlet, or where memory was refused.
+// The assignment with the name of its outlet; none if there is no such outlet, or if memory was refused.
 fn name_one(alloc: Global, outlets: &RowsByKey<Outlet>, assignment: &Assignment) -> Option<Assigned>
     ensures named { IfSome result (λ a. a ≡ with_name outlets.now assignment.now) }
     ensures placed { IfSome result (HasOutlet outlets.now) }
@@ -63,7 +63,7 @@ fn name_one(alloc: Global, outlets: &RowsByKey<Outlet>, assignment: &Assignment)
     }
 }
 
-/// The greatest receipt, or 0.
+// The greatest receipt, or 0.
 fn greatest(quotes: &[Quote]) -> u32
     ensures { result ≡ greatest_receipt quotes.now }
 {

@@ -5,8 +5,7 @@ ghost use Rattle.cpi_store.specs.Registration.{same_registration};
 use cpi_codes::{CollectorId, Key};
 use cpi_rows::Keyed;
 
-/// A registered collector: the number, 1 to 9999, and the key of 32 hexadecimal digits that the collector bears. No
-/// two collectors share either.
+/// A registered collector: the number, 1 to 9999, and the key of 32 hexadecimal digits. No two collectors share either.
 #[derive(Clone, Copy, PartialEq, Eq)]
 pub struct Registration {
     /// The collector's number.

@@ -1,4 +1,4 @@
-//! What is read of a list of releases.
+//! Reads of a list of releases: months, revisions and tables.
 ghost use Rattle.std.specs.Prelude.{◌≡◌, None, Some, IfOk, map, option_map};
 ghost use Rattle.std.specs.Option.{option_copied};
 ghost use Rattle.cpi_release.specs.FrozenMonths.{frozen_months};
@@ -10,7 +10,7 @@ use cpi_release::{FrozenMonth, Level, Release, Revision};
 use cpi_rows::Rows;
 use std::alloc::{AllocError, Global};
 
-/// The frozen months, by month.
+/// The frozen months in each of their revisions, by month and revision. The error says that memory was refused.
 pub fn frozen_months(alloc: Global, releases: &[Release]) -> Result<Vec<FrozenMonth>, AllocError>
     ensures { IfOk result (λ found. found.items ≡ frozen_months releases.now) }
 {
@@ -21,7 +21,8 @@ pub fn frozen_months(alloc: Global, releases: &[Release]) -> Result<Vec<FrozenMo
     Ok(found)
 }
 
-/// The months whose tables are published by the moment, by month.
+/// The months and revisions whose tables are published by the moment, by month and revision. The error says that memory
+/// was refused.
 pub fn published_months(
     alloc: Global,
     until: Moment,
@@ -38,7 +39,7 @@ pub fn published_months(
     Ok(found)
 }
 
-/// Whether the release is of the month, and its table is published by the moment.
+// Whether the release is of the month, and its table is published by the moment.
 fn is_due(release: &Release, month: Month, until: Moment) -> bool
     ensures { result ≡ is_wanted month None until release.now }
 {
@@ -58,7 +59,7 @@ pub fn revision_until(releases: &[Release], month: Month, until: Moment) -> Opti
     found
 }
 
-/// The rows of the month's table in the revision, where it is published by the moment.
+/// The rows of the month's table in the revision, if it is published by the moment.
 pub fn table_until(
     releases: &[Release],
     month: Month,

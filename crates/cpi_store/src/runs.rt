@@ -1,4 +1,4 @@
-//! Of rows by collector, those of one collector, which stand one after the other.
+//! The rows of one collector, which are consecutive in a list by collector.
 ghost use Rattle.std.specs.Prelude.{◌≡◌, ◌+◌, ◌≤◌, IfSome, drop, length, take, vec_len};
 ghost use Rattle.std.specs.Ordering.{nat_cmp};
 ghost use Rattle.cpi_rows.specs.Keyed.{IsInOrder};
@@ -12,7 +12,7 @@ use cpi_codes::CollectorId;
 use cpi_survey::Quote;
 use std::alloc::Global;
 
-/// What the collector's slots were given, which stands from this place on; none where memory was refused.
+/// What the collector's slots were given, whose rows begin at this index; none if memory was refused.
 pub fn given_from(
     alloc: Global,
     rows: &[HeldGiven],
@@ -37,7 +37,7 @@ pub fn given_from(
     Some(own)
 }
 
-/// The collector's quotes, which stand from this place on; none where memory was refused.
+/// The collector's quotes, which begin at this index; none if memory was refused.
 pub fn quotes_from(
     alloc: Global,
     rows: &[HeldQuote],

@@ -23,7 +23,7 @@ impl SeriesEnds {
         }
     }
 
-    /// Puts one more assignment's last month.
+    /// Puts one more assignment's last month. The error says that memory was refused.
     pub fn put(&mut self, series: SeriesId, last_month: Month) -> Result<(), AllocError>
         ensures ok { OnOk result ((s : SeriesId) → last_known self.new s ≡
             (if same_series series s then max last_month (last_known self.old s) else last_known self.old s)) }
@@ -43,6 +43,7 @@ impl SeriesEnds {
     }
 }
 
+// The later of this last month and the known one, if there is one.
 fn later_of(known: Option<Month>, last_month: Month) -> Month
     ensures { result ≡ max last_month (or_first known) }
 {

@@ -3,7 +3,7 @@ use crate::given::Given;
 use crate::registration::Registration;
 use cpi_survey::Assigned;
 
-/// A series that goes from a slot of one collector to a new slot of another, who may be the same.
+/// A series that goes from a slot of one collector to a new slot of another collector, or of the same one.
 #[derive(Drop)]
 pub struct SeriesMove {
     /// The collector who had the series.

@@ -1,4 +1,4 @@
-//! Quotes put in the order of their series.
+//! Quotes in the order of their series.
 ghost use Rattle.std.specs.Prelude.{◌≡◌, true, IfOk};
 ghost use Rattle.cpi_index.specs.Series.{are_by_series, frozen_serial};
 ghost use Rattle.cpi_store.specs.Series.{by_series};
@@ -6,7 +6,7 @@ ghost use Rattle.cpi_store.specs.Series.{by_series};
 use cpi_index::FrozenQuote;
 use std::alloc::AllocError;
 
-/// Puts quotes in the order of their series, where no series comes twice. O(n log n) for n quotes.
+/// Sorts quotes by series, if no series comes twice: O(n log n) for n quotes. The error says that memory was refused.
 pub fn sort_by_series(quotes: &mut Vec<FrozenQuote>) -> Result<(), AllocError>
     ensures { IfOk result (λ _. are_by_series frozen_serial (by_series quotes.old.items) ≡ true →
         quotes.new.items ≡ by_series quotes.old.items) }

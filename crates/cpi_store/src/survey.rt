@@ -17,14 +17,13 @@ use std::alloc::{AllocError, Global};
 use std::collections::BTreeMap;
 use std::marker::Model;
 
-/// What an office has of its survey, which is all but its releases: items, plans, calendar rows, collectors, outlets,
-/// assignments and quotes. Contracts see the office that has them and no release.
+/// An office without its releases: items, plans, calendar rows, collectors, outlets, assignments and quotes. Contracts
+/// see the office that has them and no release.
 ///
-/// A write fails only where memory was refused, and changes nothing then; one over a row that stands takes none.
+/// A write fails only if memory was refused, and then it changes nothing; a write that replaces a row takes no memory.
 /// Collectors, their rows, items, plans, months and outlets are found in a number of steps that grows with the
 /// logarithm of how many there are, and items and outlets are put in as many. Any other write shifts the rows of one
-/// list: of assignments those of one collector, and of quotes those of one slot, or the collector's slots where one
-/// has its first quote.
+/// list: a collector's assignments, a slot's quotes, or a collector's slots when one of them gets its first quote.
 #[derive(Drop)]
 pub struct Survey {
     pub(crate) public: Public,
@@ -33,9 +32,9 @@ pub struct Survey {
     // by collector and slot
     pub(crate) taken: Vec<TakenOver>,
     pub(crate) outlets: RowsByKey<Outlet>,
-    // the holders, by the key that each bears
+    // the registrations of the holders, by key
     pub(crate) registrations: BTreeMap<Key, Registration>,
-    // what a number that nobody has, has
+    // the own part of a number that nobody has: it has nothing
     pub(crate) nobody: Own,
     pub(crate) alloc: Global,
 }
@@ -78,7 +77,7 @@ impl Survey {
     ghost use Rattle.cpi_store.specs.Registration.{registration_of};
     ghost use Rattle.cpi_store.specs.Office.{empty_office, public_part, own_part, quotes_of_month};
 
-    /// An office that has nothing, which takes no memory yet. Its calls take their memory from this allocator.
+    /// An empty office, which takes no memory yet. Its calls take their memory from this allocator.
     pub fn new(alloc: Global) -> Survey
         ensures { result ≡ empty_office }
     {
@@ -93,14 +92,14 @@ impl Survey {
         }
     }
 
-    /// The collector who bears the key; none where nobody does.
+    /// The collector with the key; none if nobody has it.
     pub fn registration_of(&self, key: Key) -> Option<Registration>
         ensures { result ≡ registration_of key self.now.collectors }
     {
         self.registrations.get(&key).copied()
     }
 
-    /// The collector with the number; none where the number isn't registered.
+    /// The collector with the number; none if the number isn't registered.
     pub fn registration_at(&self, number: CollectorId) -> Option<Registration>
         ensures { result ≡ row_by_number (λ b. b.number) number self.now.collectors }
     {
@@ -113,7 +112,7 @@ impl Survey {
         }
     }
 
-    /// The outlet with the number; none where there is no such outlet.
+    /// The outlet with the number; none if there is no such outlet.
     pub fn outlet(&self, number: OutletId) -> Option<&Outlet>
         ensures { option_copied result ≡ row_by_number (λ u. u.number) number self.now.outlets }
     {
@@ -155,7 +154,7 @@ impl Survey {
         }
     }
 
-    /// What the collector's slot was given, with its series; none where the collector has no such slot.
+    /// What the collector's slot was given, with its series; none if the collector has no such slot.
     pub fn given(&self, collector: CollectorId, slot: Slot) -> Option<Given>
         ensures { result ≡ row_by_number (λ g. g.assignment.slot) slot (held_by collector self.now.assignments) }
     {
@@ -168,8 +167,8 @@ impl Survey {
         }
     }
 
-    /// The stored quotes of the month by series, each with the item and the last month of its series, where no series
-    /// has two in the month.
+    /// The stored quotes of the month by series, each with the item and the last month of its series, if no series has
+    /// two in the month. The error says that memory was refused.
     pub fn month_rows(&self, month: Month) -> Result<Vec<FrozenQuote>, AllocError>
         ensures { IfOk result (λ found. are_by_series frozen_serial (quotes_of_month month self.now) ≡ true →
             found.items ≡ quotes_of_month month self.now) }
@@ -183,7 +182,7 @@ impl Survey {
     ghost use Rattle.cpi_rows.specs.Keyed.{row_by_number};
     ghost use Rattle.cpi_store.specs.Office.{office_with, PutsItem, PutsPlan, PutsCalendar};
 
-    /// Puts an item, over the one with its code if there is one.
+    /// Puts an item, in place of the one with its code, if any.
     pub fn put_item(&mut self, item: Item) -> Result<(), AllocError>
         ensures ok { OnOk result (self.new ≡ office_with (PutsItem item) self.old) }
         ensures err { OnErr result (self.new ≡ self.old) }
@@ -191,7 +190,7 @@ impl Survey {
         self.public.put_item(item)
     }
 
-    /// Puts a year's plan, over the one that stands if there is one, which takes no memory.
+    /// Puts a year's plan. To put it in place of the one that the year has takes no memory.
     pub fn put_plan(&mut self, plan: YearPlan) -> Result<(), AllocError>
         ensures ok { OnOk result (self.new ≡ office_with (PutsPlan plan) self.old) }
         ensures err { OnErr result (self.new ≡ self.old) }
@@ -200,7 +199,7 @@ impl Survey {
         self.public.put_plan(plan)
     }
 
-    /// Puts a month's calendar row, over the one that stands if there is one, which takes no memory.
+    /// Puts a month's calendar row. To put it in place of the one that the month has takes no memory.
     pub fn put_calendar(&mut self, row: CalendarRow) -> Result<(), AllocError>
         ensures ok { OnOk result (self.new ≡ office_with (PutsCalendar row) self.old) }
         ensures err { OnErr result (self.new ≡ self.old) }
@@ -219,8 +218,8 @@ impl Survey {
     ghost use Rattle.cpi_store.specs.Outlet.{with_name};
     ghost use Rattle.cpi_store.specs.Office.{office_with, Registers, PutsOutlet, Assigns, HandsOver, Quotes};
 
-    /// Puts a new collector, who has nothing yet. The caller owes that nobody has the number, and that nobody bears
-    /// the key.
+    /// Puts a new collector, who has nothing yet. The caller owes that nobody has the number, and that nobody has the
+    /// key.
     pub fn put_collector(&mut self, registration: Registration) -> Result<(), AllocError>
         requires number { row_by_number (λ b. b.number) registration.number self.old.collectors ≡ None }
         requires key { registration_of registration.key self.old.collectors ≡ None }
@@ -243,8 +242,8 @@ impl Survey {
     }
 
     /// Puts a new assignment of the collector, as a series of its own, with the name of its outlet. The caller owes
-    /// that the collector is registered, that the collector's slot is free, that the outlet is there, and that the name
-    /// is the outlet's.
+    /// that the collector is registered, that the collector's slot is free, that the office has the outlet, and that
+    /// the name is the outlet's.
     pub fn put_assignment(
         &mut self,
         registration: Registration,
@@ -263,9 +262,9 @@ impl Survey {
         Ok(())
     }
 
-    /// Ends an assignment of one collector, and gives its series to a new slot of another, who may be the same: both
-    /// or neither. The caller owes that the taker is registered, that the former assignment is there, that the new slot
-    /// is free, that the outlet is there, and that the name is its own.
+    /// Ends an assignment of one collector, and gives its series to a new slot of another collector or of the same one:
+    /// both or neither. The caller owes that the taker is registered, that the office has the former assignment and the
+    /// outlet, that the new slot is free, and that the name is the outlet's.
     pub fn put_handover(&mut self, handover: SeriesMove) -> Result<(), AllocError>
         requires taker { IsSome (row_by_number (λ b. b.number) handover.taker.number self.old.collectors) }
         requires stands { IsSome (row_by_number (λ g. g.assignment.slot) handover.ended.assignment.slot
@@ -281,8 +280,8 @@ impl Survey {
         Ok(())
     }
 
-    /// Puts a quote of the collector, over the one of its slot and month if there is one, which takes no memory. The
-    /// caller owes that the collector is registered, and that the receipt is above all others of the collector.
+    /// Puts a quote of the collector. To put it in place of the one of its slot and month takes no memory. The caller
+    /// owes that the collector is registered, and that the receipt is above all others of the collector.
     pub fn put_quote(&mut self, registration: Registration, quote: Quote) -> Result<(), AllocError>
         requires known { IsSome (row_by_number (λ b. b.number) registration.number self.old.collectors) }
         requires receipt { greatest_receipt (held_by registration.number self.old.quotes) < quote.receipt }

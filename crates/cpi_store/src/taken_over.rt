@@ -18,7 +18,7 @@ pub struct TakenOver {
 }
 
 impl TakenOver {
-    /// The new slot of a hand-over, with the series that it takes over.
+    /// The new slot of a handover, with the series that it takes over.
     pub fn of(handover: &SeriesMove) -> TakenOver
         ensures { result ≡ record {
           collector = handover.now.taker.number;
@@ -44,7 +44,7 @@ impl Keyed for TakenOver {
     }
 }
 
-/// The series of a slot: the one that it took over, or else the one that it names.
+/// The series of a slot: the one that it took over, or else the one that is named by this collector and slot.
 pub fn series_in(taken: &[TakenOver], collector: CollectorId, slot: Slot) -> SeriesId
     requires { IsInOrder (held_cmp nat_cmp) (λ t. (t.collector, t.slot)) taken.now }
     ensures { result ≡ series_named_in taken.now collector slot }

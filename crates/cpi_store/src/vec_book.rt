@@ -18,15 +18,16 @@ use cpi_survey::{Assigned, Own, Public, Quote};
 use std::alloc::{AllocError, Global};
 use std::marker::Model;
 
-/// An office in memory: a survey and its releases. A call fails only where memory was refused; a read, and a write over
-/// a row that stands, takes none. What a call costs is what `Survey` says; a release shifts those behind it.
+/// An office in memory: a survey and its releases. A call fails only if memory was refused. A read that lends what it
+/// shows takes none, and neither does a write that replaces a row. `Survey` says what a call costs; a new release
+/// shifts those after it.
 #[derive(Drop)]
 pub struct VecBook {
     survey: Survey,
     // by month and revision
     releases: Vec<Release>,
     failed: Failures,
-    // the samples of the month that is being frozen; none once anything is written
+    // a cache of the samples of the month that is being frozen; empty after any write
     samples: CachedSamples,
     alloc: Global,
 }
@@ -73,7 +74,7 @@ impl VecBook {
     ghost use Rattle.cpi_release.specs.GroupCalls.{group_of};
     ghost use Rattle.cpi_store.specs.Sources.{office_sources};
 
-    // The rows of one aggregate; the month's samples are kept from then on.
+    // The rows of one aggregate; the month's samples are cached from then on.
     fn read_rows(&mut self, month: Month, code: Code) -> Result<Vec<GroupRow>, AllocError>
         ensures same { self.new ≡ self.old }
         ensures shown { IfOk result (λ v.
