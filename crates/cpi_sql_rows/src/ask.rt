@@ -7,7 +7,7 @@ ghost use Rattle.cpi_sql_rows.specs.Finding.{IsSettled};
 use sqlite::{Alter, Connection, Error};
 use sqlite_value::value::ValueRef;
 
-/// What a statement does that is a transaction of its own.
+/// Runs a statement that is a transaction of its own, and answers how many rows it changed.
 pub fn run<S: Alter>(
     conn: &mut Connection<S>,
     text: &str,

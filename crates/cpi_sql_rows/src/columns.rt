@@ -1,4 +1,4 @@
-//! What a value is written as in a column: what is read of it again is the value.
+//! How values are written in columns. To read a column gives the value that was written.
 ghost use Rattle.std.specs.Prelude.{◌≡◌};
 ghost use Rattle.cpi_codes.specs.Key.{key_of};
 ghost use Rattle.cpi_codes.specs.CodeOf.{spelled_code};
@@ -15,7 +15,7 @@ use cpi_survey::{LAST_RECEIPT, Mark, Reason};
 use sqlite::types::Value;
 use std::alloc::Global;
 
-/// The key's 32 digits.
+/// The key's 32 hexadecimal digits. The error says that memory was refused.
 pub fn key_text(alloc: Global, key: Key) -> Result<String, Unread>
     ensures { IfOk result (λ s. key_of (string_bytes s) ≡ Some key) }
 {
@@ -79,14 +79,14 @@ pub fn name_text(name: &Name) -> &str
     name.as_str()
 }
 
-/// The code of the item.
+/// The code of the item. The error says that memory was refused.
 pub fn item_text(alloc: Global, code: ItemCode) -> Result<String, Unread>
     ensures { IfOk result (λ s. item_code_of (string_bytes s) ≡ Some code) }
 {
     code.text(alloc).map_err(|_| Unread)
 }
 
-/// The code of the node.
+/// The code of the node. The error says that memory was refused.
 #[tactic(auto, using(crate::proofs::Written::code_read))]
 pub fn code_text(alloc: Global, code: Code) -> Result<String, Unread>
     ensures { IfOk result (λ s. spelled_code (string_bytes s) ≡ Some code) }
@@ -109,14 +109,14 @@ pub fn mark_text(mark: Mark) -> &'static str
     }
 }
 
-/// The price of the mark in minor units, or 0 where there is none.
+/// The price of the mark in minor units, or 0 if the price is missing.
 pub fn mark_value(mark: Mark) -> u32
     ensures { mark_from (mark_word mark) result ≡ Some mark }
 {
     mark.observed_price().map_or(0, |price| price.units())
 }
 
-/// The receipt; an error says that no collector is given it.
+/// The receipt. The error says that it is no receipt: it is 0 or above 1,000,000.
 pub fn receipt_number(receipt: u32) -> Result<u32, Unread>
     ensures value { IfOk result (λ n. n ≡ receipt) }
     ensures range { OnOk result (receipt_from (Int (pos receipt)) ≡ Some receipt) }

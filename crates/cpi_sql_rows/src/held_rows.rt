@@ -1,4 +1,4 @@
-//! What all collectors have, each row beside the number of its collector, read whole from its table.
+//! The assignments and quotes of all collectors, each row with its collector's number.
 ghost use Rattle.std.specs.Prelude.{◌≡◌};
 ghost use Rattle.cpi_sql_rows.specs.Common.{AllStand, HasCleanDisk, HasTables, IfOk, IsCleanBook, IsInOrder};
 ghost use Rattle.cpi_sql_rows.specs.Common.{IsPermutation, IsSecond, IsTrue, Looks, LooksOver, OnOk, held_cmp};
@@ -56,7 +56,7 @@ impl Stored for HeldQuote {
 
 const QUOTES: &str = "SELECT collector, slot, month, mark, value, receipt FROM quote_2";
 
-// The quotes in the order of their keys, where no two have one.
+// Sorts the quotes by their keys. The error says that two have one key.
 fn in_place(read: Vec<HeldQuote>) -> Result<Vec<HeldQuote>, Unread>
     ensures same { IfOk result (λ xs. IsPermutation read.items xs.items) }
     ensures order { IfOk result (λ xs. IsInOrder (held_cmp quote_cmp) (held_key quote_key) xs.items) }
@@ -66,8 +66,8 @@ fn in_place(read: Vec<HeldQuote>) -> Result<Vec<HeldQuote>, Unread>
     in_order(quotes)
 }
 
-/// The quotes of all collectors, by collector, slot and month. They are read in the order in which they stand, which is
-/// that of their first receipts, and put in place in memory: O(n log n) for n quotes.
+/// The quotes of all collectors, by collector, slot and month. They are read in the order of the table, which is that
+/// of their first receipts, and sorted in memory: O(n log n) for n quotes.
 pub fn all_quotes<S: Alter>(
     conn: &mut Connection<S>,
     alloc: Global,

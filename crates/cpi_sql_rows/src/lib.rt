@@ -1,4 +1,4 @@
-//! What the rows of an office's tables stand for, how they are written and read, and what is said of a text that asks.
+//! The tables of an office: what their rows stand for, how rows are written and read, and what each SQL text asks for.
 #![tactic(auto)]
 
 mod ask;

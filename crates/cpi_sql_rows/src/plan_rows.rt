@@ -1,4 +1,4 @@
-//! The rowids and the years of the tables of plans that are found at an open.
+//! The rowids and the years in the tables of plans, which an open tests.
 ghost use Rattle.cpi_sql_rows.specs.Common.{[], QueryLeaves, HasCleanDisk, IsCleanBook, IsTrue, OnOk, state};
 ghost use Rattle.cpi_sql_rows.specs.Finding.{ArePlanRows, AsksYears, plan_row_from};
 
@@ -39,8 +39,8 @@ impl Stored for PlanRow {
     }
 }
 
-/// Reads the rowids and the years of a table of plans. The rowids are to be numbers that rise, and each year is to be
-/// one that an office can have.
+/// Reads the rowids and the years of a table of plans. It is an error if the rowids aren't numbers that rise, or if a
+/// year isn't 2000 to 2199.
 pub fn scan_plans<S: Alter>(
     conn: &mut Connection<S>,
     alloc: Global,

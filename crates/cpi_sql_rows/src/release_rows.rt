@@ -1,4 +1,4 @@
-//! The rows of the tables of releases, as an answer shows them.
+//! The rows of the tables of releases, as an answer's columns show them.
 ghost use Rattle.std.specs.Prelude.{◌≡◌, ◌==◌};
 ghost use Rattle.std.specs.List.{slice_split};
 ghost use Rattle.cpi_codes.specs.CodeOf.{spelled_code};
@@ -21,7 +21,7 @@ use cpi_rows::{Keyed, Rows};
 use sqlite::Row;
 use std::alloc::{AllocError, Global};
 
-/// What a release says beside its lists.
+/// A release without its frozen quotes, carried prices and levels.
 #[derive(Drop)]
 pub struct Header {
     pub month: Month,
@@ -44,7 +44,7 @@ impl Keyed for Header {
     }
 }
 
-// The codes that the texts write; none where one writes no code, or where memory was refused.
+// The codes that the texts write; none if one writes no code, or if memory was refused.
 fn each_code(alloc: Global, texts: &[&[u8]]) -> Option<Vec<Code>>
     ensures { IfSome result (λ codes. each_of spelled_code (map (λ t. t.now) texts.now) ≡ Some codes.items) }
 {
@@ -55,14 +55,14 @@ fn each_code(alloc: Global, texts: &[&[u8]]) -> Option<Vec<Code>>
     Some(codes)
 }
 
-// What stands between the spaces of the text.
+// The parts of the text between its spaces.
 fn between_spaces(alloc: Global, text: &[u8]) -> Result<Vec<&[u8]>, AllocError>
     ensures { IfOk result (λ texts. map (λ t. t.now) texts.items ≡ slice_split (λ b. b == 32) text.now) }
 {
     text.split(|byte| *byte == b' ').collect(alloc)
 }
 
-// The codes that stand in the text with a space between each two.
+// The codes in the text, with a space between each two; none if a part is no code, or if memory was refused.
 fn codes_of(alloc: Global, text: &[u8]) -> Option<Vec<Code>>
     ensures { IfSome result (λ codes. spelled_codes text.now ≡ Some codes.items) }
 {
@@ -73,7 +73,7 @@ fn codes_of(alloc: Global, text: &[u8]) -> Option<Vec<Code>>
     each_code(alloc, &texts)
 }
 
-// The release that a row begins with.
+// The month and the revision in the first two columns.
 fn read_release(row: &Row) -> Option<(Month, Revision)>
     ensures month { IfSome result (λ p. month_from (column row.now 0) ≡ Some p.0) }
     ensures revision { IfSome result (λ p. revision_from (column row.now 1) ≡ Some p.1) }
@@ -112,7 +112,7 @@ impl Stored for FrozenQuote {
     }
 }
 
-// Yes or no, as 1 or 0.
+// The yes or no in the column, written as 1 or 0.
 fn read_flag(row: &Row, at: usize) -> Option<bool>
     ensures { IfSome result (λ b. flag_in_value (column row.now at) ≡ Some b) }
 {
@@ -142,14 +142,14 @@ impl Stored for CarriedPrice {
     }
 }
 
-/// Whether a node with this code can have the weight in use: an elementary aggregate has at most 10^9.
+/// Whether a node with this code can have the weight in use: an elementary aggregate has at most 10^9 parts.
 pub fn can_weigh(code: Code, weight: NodeWeight) -> bool
     ensures { result ≡ may_weigh code weight }
 {
     !code.is_elementary() || EffectiveWeight::new(code, weight.parts().into()).is_some()
 }
 
-// The weight in use of a node with this code.
+// The weight in use in the column, if a node with this code can have it.
 fn read_weight(row: &Row, at: usize, code: Code) -> Option<NodeWeight>
     ensures { IfSome result (λ w. weight_from code (column row.now at) ≡ Some w) }
 {

@@ -1,4 +1,4 @@
-//! The rowids of the tables that are found at an open.
+//! The rowids of tables, which an open tests.
 ghost use Rattle.sqlite.specs.Program.{overlay};
 ghost use Rattle.cpi_sql_rows.specs.Common.{[], QueryLeaves, HasCleanDisk, HasRowids, IsCleanBook, IsTrue, OnOk};
 ghost use Rattle.cpi_sql_rows.specs.Common.{column};
@@ -35,7 +35,7 @@ impl Stored for Rowid {
     }
 }
 
-/// Reads the rowids of a table, which are to be numbers that rise.
+/// Reads the rowids of a table. It is an error if they aren't numbers that rise.
 pub fn scan<S: Alter>(conn: &mut Connection<S>, alloc: Global, text: &str) -> Result<(), Unread>
     ensures asked { QueryLeaves text.now [] (state S.Store conn.old) (state S.Store conn.new) }
     ensures rise { IsCleanBook (state S.Store conn.new)

@@ -1,4 +1,4 @@
-//! The rows of the tables, as an answer shows them.
+//! The rows of the tables, as an answer's columns show them.
 ghost use Rattle.std.specs.Prelude.{◌≡◌};
 ghost use Rattle.cpi_codes.specs.CodeOf.{spelled_code};
 ghost use Rattle.cpi_sql_rows.specs.Common.{IfSome, Some, column};
@@ -21,7 +21,7 @@ use sqlite_value::value::ValueRef;
 use std::alloc::Global;
 use std::str;
 
-/// The text that stands there, lent.
+/// The text in the column, lent; none if the column has no text.
 pub fn text_at(row: &Row, at: usize) -> Option<&[u8]>
     ensures { IfSome result (λ t. text_in (column row.now at) ≡ Some t.now) }
 {
@@ -31,14 +31,14 @@ pub fn text_at(row: &Row, at: usize) -> Option<&[u8]>
     }
 }
 
-/// The whole number that stands there, not below 0.
+/// The whole number in the column; none if the column has none, or one below 0.
 pub fn number_at(row: &Row, at: usize) -> Option<u64>
     ensures { IfSome result (λ n. number_in_value (column row.now at) ≡ Some n) }
 {
     row.get(at).ok()
 }
 
-/// The month that stands there, as year * 100 + month.
+/// The month in the column, written as year * 100 + month.
 pub fn read_month(row: &Row, at: usize) -> Option<Month>
     ensures { IfSome result (λ m. month_from (column row.now at) ≡ Some m) }
 {
@@ -47,21 +47,22 @@ pub fn read_month(row: &Row, at: usize) -> Option<Month>
     Month::new(year, (number % 100) as u8).ok()
 }
 
-/// The name that stands there.
+/// The name in the column; none if the text is no name, or if memory was refused.
 pub fn read_name(alloc: Global, row: &Row, at: usize) -> Option<Name>
     ensures { IfSome result (λ n. name_from (column row.now at) ≡ Some n) }
 {
     Name::new(alloc, text_at(row, at)?).ok()
 }
 
-/// The code of an item that stands there.
+/// The code of an item in the column.
 pub fn read_item_code(row: &Row, at: usize) -> Option<ItemCode>
     ensures { IfSome result (λ c. item_from (column row.now at) ≡ Some c) }
 {
     ItemCode::parse(text_at(row, at)?)
 }
 
-// The mark of a word and a price; none where the word is no mark's, or the price none.
+// The mark of a word and a price in minor units; none if no mark has the word, or if the mark needs a price and this is
+// none.
 fn mark_of(text: &str, value: u64) -> Option<Mark>
     ensures { IfSome result (λ m. mark_from text.now value ≡ Some m) }
 {
@@ -158,14 +159,14 @@ pub fn code_of(text: &[u8]) -> Option<Code>
     Code::parse(text).ok()
 }
 
-/// The code of a node that stands there.
+/// The code of a node in the column.
 pub fn read_code(row: &Row, at: usize) -> Option<Code>
     ensures { IfSome result (λ c. code_from (column row.now at) ≡ Some c) }
 {
     code_of(text_at(row, at)?)
 }
 
-/// The whole number that stands there, where it is in the range.
+/// The whole number in the column, if it is in the range.
 pub fn read_between(row: &Row, at: usize, least: u64, most: u64) -> Option<u64>
     ensures { IfSome result (λ n. number_within least most (column row.now at) ≡ Some n) }
 {
@@ -177,14 +178,14 @@ pub fn read_between(row: &Row, at: usize, least: u64, most: u64) -> Option<u64>
     }
 }
 
-/// The receipt that stands there.
+/// The receipt in the column, 1 to 1,000,000.
 pub fn read_receipt(row: &Row, at: usize) -> Option<u32>
     ensures { IfSome result (λ n. receipt_from (column row.now at) ≡ Some n) }
 {
     u32::try_from(read_between(row, at, 1, LAST_RECEIPT.into())?).ok()
 }
 
-// The year of a plan, which its rows begin with.
+// The year of a plan in the first column, 2000 to 2199.
 fn read_year(row: &Row) -> Option<u64>
     ensures { IfSome result (λ y. number_within 2000 2199 (column row.now 0) ≡ Some y) }
 {

@@ -1,4 +1,4 @@
-//! What the rows of an answer stand for.
+//! The values that the rows of an answer stand for.
 ghost use Rattle.std.specs.Prelude.{◌≡◌};
 ghost use Rattle.cpi_sql_rows.specs.Common.{QueryLeaves, HasCleanDisk, IfOk, IfSome, IsInOrder, IsTrue, OnOk, Option};
 ghost use Rattle.cpi_sql_rows.specs.Common.{Row as SqlRow, ShowsAll, Some, bound, state};
@@ -9,7 +9,7 @@ use sqlite::{Alter, Connection, Error, Row};
 use sqlite_value::value::ValueRef;
 use std::alloc::Global;
 
-/// Why there is no answer: the store failed, memory was refused, or a row isn't one that the types take.
+/// Why there is no answer: the store failed, memory was refused, or a row is outside the limits of its type.
 #[derive(Clone, Copy, Debug)]
 pub struct Unread;
 
@@ -19,16 +19,16 @@ impl From<Error> for Unread {
     }
 }
 
-/// What a row of an answer can stand for.
+/// A value that a row of an answer can stand for.
 pub trait Stored: Keyed + Drop {
     ghost stands_for: { SqlRow → Option Self };
 
-    /// What the row stands for; none where the types refuse it, or where memory was refused.
+    /// The value of the row; none if the row is outside the limits of the type, or if memory was refused.
     fn read(alloc: Global, row: &Row) -> Option<Self>
         ensures { IfSome result (λ x. stands_for row.now ≡ Some x) };
 }
 
-/// The rows that were read, where their keys rise.
+/// The rows that were read, if their keys rise. The error says that they don't.
 pub fn in_order<T: Stored>(read: Vec<T>) -> Result<Vec<T>, Unread>
     ensures same { IfOk result (λ xs. xs.items ≡ read.items) }
     ensures order { IfOk result (λ xs. IsInOrder T.Key.cmp T.key xs.items) }
@@ -40,7 +40,7 @@ pub fn in_order<T: Stored>(read: Vec<T>) -> Result<Vec<T>, Unread>
     }
 }
 
-/// What the rows of an answer stand for, as they come. They are read one by one, so that none of them is kept.
+/// The values of an answer's rows, in the order of the rows. Each row is dropped before the next is read.
 pub fn gather<S: Alter, T: Stored>(
     conn: &mut Connection<S>,
     alloc: Global,
@@ -65,7 +65,7 @@ pub fn gather<S: Alter, T: Stored>(
     Err(Unread)
 }
 
-/// The same, where the keys rise.
+/// The values of an answer's rows, in the order of the rows. It is an error if their keys don't rise.
 pub fn list<S: Alter, T: Stored>(
     conn: &mut Connection<S>,
     alloc: Global,
@@ -82,7 +82,7 @@ pub fn list<S: Alter, T: Stored>(
     in_order(read)
 }
 
-/// The rows, to be found by their keys.
+/// The rows, to be found by their keys. The error says that memory was refused.
 pub fn by_key<T: Keyed + Drop>(alloc: Global, rows: Vec<T>) -> Result<RowsByKey<T>, Unread>
     requires { IsInOrder T.Key.cmp T.key rows.items }
     ensures { IfOk result (λ found. found ≡ rows.items) }

@@ -9,24 +9,24 @@ use crate::stored::{Stored, Unread, list};
 use sqlite::{Alter, Connection};
 use std::alloc::Global;
 
-/// What the rows of one table stand for.
+/// A value that the rows of one table stand for.
 pub trait Table: Stored {
-    /// The schemas that have the table: both, where nothing else is said.
+    /// The schemas that have the table: both, by default.
     ghost is_in: { Schema → Type 0 } = { IsOfOffice };
 
     /// The table, and the statement that asks for all its rows, in the order of their keys.
     ghost table: { WholeTable Self is_in };
 
-    /// The statement.
+    /// The text of the statement.
     fn text() -> &'static str
         ensures { result.now ≡ table.text };
 
-    /// What is read of a row stands for what the row does.
+    /// The columns that are read stand for the value that the whole row stands for.
     ghost same: { (row : SqlRow) → Self.stands_for (map (column row) table.shown) ≡ table.entry row };
 }
 
-/// All rows of a table, by their keys. It says too of a table that is only found that each of its rows stands for
-/// something, and that no two have one key.
+/// All rows of a table, by their keys. Of a table that an open has yet to test, it says too that each row stands for a
+/// value, and that no two rows have one key.
 pub fn read_all<S: Alter, T: Table>(
     conn: &mut Connection<S>,
     alloc: Global,
