@@ -1,4 +1,4 @@
-//! What is tested of the tables that an open finds.
+//! The tests of the tables that an open finds.
 ghost use Rattle.std.specs.Prelude.{◌≡◌};
 ghost use Rattle.std.specs.List.{AllByRecursion};
 ghost use Rattle.sqlite.specs.Steps.{over_memory};
@@ -18,7 +18,7 @@ use sqlite::{Alter, Connection, Error};
 use sqlite_trees::memory::MemStore;
 use std::alloc::Global;
 
-// The tables of schema 1 and those behind them, made in memory by the statements that make them in a file.
+// The tables of schema 1 and those that follow, made in memory by the statements that make them in a file.
 fn model(alloc: Global, more: &[&str]) -> Result<Connection<MemStore>, Error>
     ensures { (tables : _) (to : _) → MakeEach (map (λ t. t.now) more.now) tables first_schema to
         → IfOk result (λ c. (state over_memory c).now.schema ≡ to) }
@@ -28,7 +28,7 @@ fn model(alloc: Global, more: &[&str]) -> Result<Connection<MemStore>, Error>
     Ok(conn)
 }
 
-// Whether the tables are those of schema 1 and, behind them, those that the texts make. Their rows obey them.
+// Whether the tables are those of schema 1 and, after them, those that the texts make. Their rows obey them.
 fn has_tables<S: Alter>(conn: &Connection<S>, alloc: Global, more: &[&str]) -> Result<bool, Error>
     ensures same { (tables : _) (to : _) → MakeEach (map (λ t. t.now) more.now) tables first_schema to
         → IfOk result (λ b. IsTrue b → (state S.Store conn.now).now.schema ≡ to) }
@@ -59,7 +59,7 @@ const FIRST_SCANS: [&str; 7] = [
     "SELECT rowid FROM level ORDER BY rowid",
 ];
 
-// The years of plans are asked for too: a row of a year that an office can't have is read nowhere else.
+// The years of plans are asked for too: no other read finds a row of a year that an office can't have.
 const SECOND_PLANS: [&str; 3] = [
     "SELECT rowid, year FROM node ORDER BY rowid",
     "SELECT rowid, year FROM plan_item ORDER BY rowid",
@@ -111,7 +111,7 @@ fn scan_each_plan<S: Alter>(
     scan_each_plan(conn, alloc, later)
 }
 
-// Reads the tables that are small and that both schemas have.
+// Reads the small tables that both schemas have.
 fn read_all_small<S: Alter>(conn: &mut Connection<S>, alloc: Global) -> Result<(), Unread>
     ensures look { LooksOver IsOfOffice (state S.Store conn.old) (state S.Store conn.new) }
     ensures whole { IsCleanBook (state S.Store conn.new) → (state S.Store conn.old).in_transaction ≡ false
@@ -125,8 +125,8 @@ fn read_all_small<S: Alter>(conn: &mut Connection<S>, alloc: Global) -> Result<(
     Ok(())
 }
 
-// Tests that the tables are those of schema 1 and, behind them, those that the texts make, and what is asked of all
-// their rows, which are as they were.
+// Tests that the tables are those of schema 1 and, after them, those that the texts make, and tests their rows. It
+// changes none of them.
 fn test_tables<S: Alter>(
     conn: &mut Connection<S>,
     alloc: Global,
@@ -149,7 +149,7 @@ fn test_tables<S: Alter>(
     scan_each(conn, alloc, scans)
 }
 
-/// Tests the tables of schema 2, which are as they were.
+/// Tests the tables of schema 2, and changes none of them.
 pub fn test_second<S: Alter>(conn: &mut Connection<S>, alloc: Global) -> Result<(), Unread>
     requires { (state S.Store conn.old).in_transaction ≡ false }
     ensures test { IsTest (state S.Store conn.old) (state S.Store conn.new) }
@@ -158,7 +158,7 @@ pub fn test_second<S: Alter>(conn: &mut Connection<S>, alloc: Global) -> Result<
     test_tables(conn, alloc, &SECOND_TABLES, &SECOND_SCANS, &SECOND_PLANS)
 }
 
-/// Tests the tables of schema 1, which are as they were.
+/// Tests the tables of schema 1, and changes none of them.
 pub fn test_first<S: Alter>(conn: &mut Connection<S>, alloc: Global) -> Result<(), Unread>
     requires { (state S.Store conn.old).in_transaction ≡ false }
     ensures test { IsTest (state S.Store conn.old) (state S.Store conn.new) }

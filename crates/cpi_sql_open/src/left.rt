@@ -1,4 +1,4 @@
-//! What a crash leaves of a book over a database is opened as the office that the book's calls name.
+//! An open after a crash finds an office that the book's clauses name.
 ghost use Rattle.cpi_sql_open.specs.Left.{FindsWhatIsLeft, LeavesOfficesOnly, TakesAsItIs};
 
 use sqlite::Alter;

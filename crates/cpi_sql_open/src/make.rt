@@ -42,7 +42,7 @@ const FIRST_TABLES: [&str; 13] = [
      NULL, year_change INTEGER, imputed INTEGER NOT NULL, PRIMARY KEY (month, code)) STRICT",
 ];
 
-/// Those that schema 2 adds, behind those of schema 1, whose rows stay.
+/// The tables that schema 2 adds, after those of schema 1.
 pub const SECOND_TABLES: [&str; 7] = [
     "CREATE TABLE assignment_2 (collector INTEGER NOT NULL REFERENCES collector (number), slot INTEGER NOT NULL, \
      outlet INTEGER NOT NULL REFERENCES outlet (number), item TEXT NOT NULL REFERENCES item (code), first_month \
@@ -68,9 +68,10 @@ pub const SECOND_TABLES: [&str; 7] = [
     "CREATE TABLE plan_ref (year INTEGER PRIMARY KEY, month INTEGER NOT NULL) STRICT",
 ];
 
-/// The number of schema 2.
+/// The statement that writes the number of schema 2.
 pub const NUMBER: &str = "INSERT INTO version (number) VALUES (2)";
 
+// Makes the tables of both schemas, and writes the number of schema 2.
 fn make_all<S: Alter>(tx: &mut Transaction<'_, S>) -> Result<(), Error>
     ensures same_reference { tx.new.conn.ghost_name ≡ tx.old.conn.ghost_name }
     ensures made { HasCleanDisk (state S.Store tx.new.conn.now) → IsTrue (state S.Store tx.old.conn.now).in_transaction
@@ -85,7 +86,7 @@ fn make_all<S: Alter>(tx: &mut Transaction<'_, S>) -> Result<(), Error>
     perform_each(tx, &[NUMBER])
 }
 
-/// The tables of an empty database are made, all or none.
+/// Makes the tables of an empty database, all or none.
 #[tactic(auto, using(crate::proofs::MakeLemmas::made_survives, crate::proofs::MakeLemmas::unmade_survives))]
 pub fn make_tables<S: Alter>(conn: &mut Connection<S>) -> Result<(), Error>
     requires { (state S.Store conn.old).in_transaction ≡ false }
@@ -106,7 +107,7 @@ pub fn make_tables<S: Alter>(conn: &mut Connection<S>) -> Result<(), Error>
     done
 }
 
-/// The tables of schema 1 in an empty database, and behind them those that the texts make, without a number.
+/// Makes the tables of schema 1 in an empty database, and after them those of the texts, without a number.
 pub fn make_unnumbered<S: Alter>(conn: &mut Connection<S>, more: &[&str]) -> Result<(), Error>
     requires { (state S.Store conn.old).in_transaction ≡ false }
     ensures { HasCleanDisk (state S.Store conn.new) → (state S.Store conn.old).now.schema ≡ no_schema

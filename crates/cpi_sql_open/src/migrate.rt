@@ -1,4 +1,4 @@
-//! The rows of schema 1, brought into the tables of schema 2 in one transaction.
+//! The migration of schema 1: its rows are brought into the tables of schema 2 in one transaction.
 ghost use Rattle.std.specs.Prelude.{◌≡◌};
 ghost use Rattle.cpi_sql_rows.specs.Common.{HasCleanDisk, IsCleanBook, IsTrue, KeepsCommit, OnErr, OnOk, Survives};
 ghost use Rattle.cpi_sql_rows.specs.Common.{false, first_schema, state};
@@ -10,7 +10,7 @@ use crate::version::{Version, look};
 use cpi_sql_rows::{Unread, settle};
 use sqlite::{Alter, Connection, Transaction};
 
-// The rows of each table of schema 1 that schema 2 has anew are copied.
+// Copies the rows of each table of schema 1 that schema 2 replaces.
 const COPIES: [&str; 6] = [
     "INSERT INTO assignment_2 (collector, slot, outlet, item, first_month, last_month, series_collector, \
      series_slot, copied) SELECT collector, slot, outlet, item, first_month, last_month, collector, slot, \
@@ -29,7 +29,7 @@ const COPIES: [&str; 6] = [
      level",
 ];
 
-// The tables whose rows were copied are cleared, those that refer to others first.
+// Clears the tables whose rows were copied, those that refer to others first.
 const CLEARS: [&str; 6] = [
     "DELETE FROM level",
     "DELETE FROM carried",

@@ -1,4 +1,4 @@
-//! An open: the tables are made where there is nothing, and else tested; those of schema 1 are migrated.
+//! An open: it makes the tables of an empty database, tests those of an office, and migrates those of schema 1.
 ghost use Rattle.std.specs.Prelude.{◌≡◌};
 ghost use Rattle.cpi_sql_rows.specs.Common.{AreWhole, Err, HasCleanDisk, HasTables, IsCleanBook, IsKept, IsLive};
 ghost use Rattle.cpi_sql_rows.specs.Common.{IsTrue};
@@ -24,7 +24,7 @@ fn know_live<S: Alter>(conn: &Connection<S>)
     let _schema = conn.schema();
 }
 
-// The tables of schema 1, tested and then migrated.
+// Tests the tables of schema 1, and migrates them.
 fn migrate_first<S: Alter>(conn: &mut Connection<S>, alloc: Global) -> Result<(), Unread>
     requires { (state S.Store conn.old).in_transaction ≡ false }
     ensures clean { IsCleanBook (state S.Store conn.new) → IsCleanBook (state S.Store conn.old) }

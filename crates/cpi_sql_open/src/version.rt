@@ -24,6 +24,7 @@ pub enum Version {
 
 const VERSION: &str = "SELECT number FROM version";
 
+// The number of the schema that the rows of `version` are.
 fn said(rows: &[Row]) -> Version
     ensures { SaysVersion result rows.now }
 {
@@ -37,7 +38,7 @@ fn said(rows: &[Row]) -> Version
     }
 }
 
-/// What is shown under whatever schema.
+/// The number of the schema, within a transaction and under any schema.
 pub fn look<S: Alter>(tx: &mut Transaction<'_, S>) -> Result<Version, Error>
     ensures same_reference { tx.new.conn.ghost_name ≡ tx.old.conn.ghost_name }
     ensures shown { HasCleanDisk (state S.Store tx.new.conn.now) → IfOk result (λ v. (rows : _) ×
