@@ -1,4 +1,4 @@
--- What a write of a book does, whichever book it is, and how what is said of its groups belongs to its office.
+-- The effect of a write, whichever book it is, and how the state of its groups goes with that of its office.
 use Rattle.std.specs.Prelude.{◌≡◌, ◌⊎◌, ◌<◌, ◌≤◌, Result, OnOk, OnErr, ⊤}
 use Rattle.std.specs.Borrow.{follows_so, MutBor, Fml, RattleType}
 use mathlib.Core.Option.{none}
@@ -19,13 +19,13 @@ module _ (old new : State Office) where
     pub crash : old.is_clean → new.is_kept → (o : Office) → new.may_leave o → old.may_leave o ⊎ (o ≡ after)
     pub answered : new.is_clean → OnOk result ((o : Office) → new.may_leave o → o ≡ after)
 
--- what is said of a book's groups is said of its office
+-- a book's groups fail as often as its office; they are kept if it is, and clean if and only if it is
 pub record IsOffice {H : Type 0} (groups : State H) (office : State Office) : Type 0 where
   pub failures : groups.failures ≡ office.failures
   pub kept : office.is_kept → groups.is_kept
   pub clean : office.is_clean → groups.is_clean
   pub is_clean : groups.is_clean → office.is_clean
 
--- the book that lent out what was read ends as the fact says
+-- the fact holds of the book when what it lent is given back
 abbrev pub EndsAs : (R : RattleType) → MutBor R.Denot → (R.Denot → Type 0) → Fml
 EndsAs R book P = follows_so R R book.ghost_name none (λ _ _. ⊤) P

@@ -1,4 +1,4 @@
--- What a sound office says of its releases: each table is the index of what was frozen with it and before it.
+-- The releases of a sound office: each table is the index of the quotes that were frozen with it and before it.
 use Rattle.std.specs.Prelude.{◌≡◌, map}
 use Rattle.cpi_release.specs.CachedSamples.{IsFit}
 use Rattle.cpi_release.specs.Releasing.{AreSound, all_released, freeze_of}

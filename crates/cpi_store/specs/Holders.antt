@@ -41,11 +41,11 @@ all_assignments hs = rows_with_holders (λ h. h.number) assignments_of hs
 abbrev pub quotes_of_holders : List Holder → List (ℕ × QuoteRow)
 quotes_of_holders hs = rows_with_holders (λ h. h.number) quotes_of hs
 
--- the assignments of all holders, each beside its series
+-- the assignments of all holders, each with its series
 abbrev pub all_given : List TakenOver → List Holder → List (ℕ × Given)
 all_given taken hs = map (given_in taken) (all_assignments hs)
 
--- one holder's assignments, each beside its series
+-- one holder's assignments, each with its series
 abbrev pub own_given : List TakenOver → Holder → List (ℕ × Given)
 own_given taken h = map (given_in taken) (map (λ a. (h.number, a)) (assignments_of h))
 
@@ -71,7 +71,7 @@ own_rows month ends taken h = filter_map (own_row month ends taken h) h.own.assi
 abbrev pub rows_of_holders : ℕ → SeriesEnds → List TakenOver → List Holder → List Frozen
 rows_of_holders month ends taken hs = flat_map (λ h. own_rows month ends taken h) hs
 
--- an assignment, with this last month where it is the one of this collector's slot
+-- the assignment, with this last month if it is that of this collector's slot
 abbrev pub assignment_until : ℕ → ℕ → ℕ → ℕ × Assignment → ℕ × Assignment
 assignment_until number slot last_month row =
     if row.0 == number && row.1.slot == slot then (row.0, until last_month row.1) else row

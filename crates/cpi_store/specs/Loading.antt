@@ -1,4 +1,4 @@
--- What a survey is made of, where its rows were read in their order.
+-- The parts of a survey that is made of rows in their order.
 use Rattle.std.specs.Prelude.{◌≡◌, ℕ, List, map, Option, Some, None, if◌then◌else◌}
 use Rattle.std.specs.List.{filter_map}
 use Rattle.cpi_survey.specs.Own.{OwnPart}
@@ -13,7 +13,7 @@ use Rattle.cpi_store.specs.declared.holder.Holder.{Holder}
 use Rattle.cpi_store.specs.declared.outlet.Outlet.{Outlet}
 use Rattle.cpi_store.specs.declared.taken_over.TakenOver.{TakenOver}
 
--- rows of one collector, each beside the collector's number
+-- rows of one collector, each with the collector's number
 abbrev pub rows_with_number : {X : Type 0} → ℕ → List X → List (ℕ × X)
 rows_with_number number rows = map (λ x. (number, x)) rows
 
@@ -21,7 +21,7 @@ rows_with_number number rows = map (λ x. (number, x)) rows
 abbrev pub without_series : ℕ × Given → ℕ × Assignment
 without_series row = (row.0, row.1.assignment)
 
--- a slot has taken its series over where it names another
+-- a slot has taken its series over if another slot names the series
 abbrev pub taken_row : ℕ × Given → Option TakenOver
 taken_row row =
     if same_series row.1.series (own_series row.0 row.1.assignment.slot) then None

@@ -23,7 +23,7 @@ use Rattle.cpi_index.specs.Frozen.{Frozen}
 use Rattle.cpi_release.specs.FrozenMonths.{release_cmp, release_key}
 use Rattle.cpi_release.specs.declared.release.Release.{Release}
 
--- an assignment and a quote stand beside the number of their collector
+-- an assignment and a quote are listed with their collector's number
 pub record Office : Type 0 where
   pub items : List Item  -- by code
   pub plans : List Plan  -- by year
@@ -97,7 +97,7 @@ hand_over h rows =
 
 -- ---- the quotes of a month
 
--- a stored quote, with what is said of its series: it lasts as long as the last of its assignments
+-- a stored quote with its series, which lasts as long as the last of the assignments of that series
 abbrev pub frozen_quote : List (ℕ × Given) → Given → QuoteRow → Frozen
 frozen_quote given g q = record {
   series = g.series;

@@ -1,4 +1,4 @@
--- An outlet's name, as it stands beside an assignment, and when two outlets are the same.
+-- An assignment with the name of its outlet, and when two outlets are the same.
 use Rattle.std.specs.Prelude.{ℕ, Bool, ◌&&◌, ◌==◌, List, [], Option, Some, None}
 use Rattle.std.specs.Ordering.{nat_cmp}
 use Rattle.cpi_codes.specs.Text.{same_text}

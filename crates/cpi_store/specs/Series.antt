@@ -45,7 +45,7 @@ abbrev pub by_series : List Frozen → List Frozen
 by_series [] = []
 by_series (f ∷ rows) = put_by_series f (by_series rows)
 
--- ---- as the book in memory keeps them: the series of those slots alone that took one over
+-- ---- as the book in memory keeps them: only the series of slots that took one over
 
 abbrev pub series_or : SeriesId → Option TakenOver → SeriesId
 series_or own None = own
@@ -57,7 +57,7 @@ series_named_in taken collector slot =
     series_or (own_series collector slot) (row_at (held_cmp nat_cmp) (λ t. (t.collector, t.slot))
     (collector, slot) taken)
 
--- an assignment beside the series of its slot
+-- an assignment with the series of its slot
 abbrev pub given_in : List TakenOver → ℕ × Assignment → ℕ × Given
 given_in taken row = (row.0, record { assignment = row.1; series = series_named_in taken row.0 row.1.slot })
 

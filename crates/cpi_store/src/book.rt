@@ -270,7 +270,7 @@ pub trait Book: Groups {
         ensures writes { Writes (state self.old) (state self.new) result
             (office_with (Freezes release) (state self.old).held) };
 
-    // the state of the groups is that of the office
+    // the groups fail as often as the office; they are kept if it is, and clean if and only if it is
     ghost groups_are: { (b : Self) → IsOffice (Self.holds b) (state b) };
 
     // a call that keeps the groups keeps the office
