@@ -1,4 +1,4 @@
--- What is read and tested of the tables that an open finds.
+-- The reads and the tests of the tables that an open finds.
 use Rattle.std.specs.Prelude.{◌≡◌, ◌⊎◌, ℕ, false, List, [], ◌∷◌, Option, Some, None}
 use Rattle.sqlite.specs.declared.types.Value.{Value}
 use Rattle.sqlite.specs.declared.types.Value.TheVariants.{Null, Int, Real, Text, Blob}
@@ -147,7 +147,7 @@ IsOpened old new =
     ⊎ ((old.now.schema ≡ first_schema) × IsMigrated old.now.trees new.now.trees)))
     × (new.now.schema ≡ office_schema) × IsOfficeDatabase new.now.trees
 
--- whatever stands there endures: a crash leaves it
+-- a crash leaves the rows as they are
 abbrev pub IsSettled : State → Type 0
 IsSettled s = (db : Trees) → s.may_leave db → db ≡ s.now.trees
 

@@ -27,11 +27,11 @@ use Rattle.cpi_sql_rows.specs.Texts.{places_text, references_text}
 use Rattle.cpi_sql_rows.specs.declared.release_rows.Header.{Header}
 use Rattle.cpi_sql_rows.specs.declared.reference_months.ReferenceMonth.{ReferenceMonth}
 
--- the number of the release that a row begins with
+-- the number of the release in the first columns of a row
 abbrev pub release_in : Row → Option ℕ
 release_in r = release_from_key (column r 1) (column r 2)
 
--- what a row stands for, beside the number of its holder
+-- what a row stands for, with its holder's number
 abbrev pub row_with_holder : {X : Type 0} → (Row → Option ℕ) → (Row → Option X) → Row → Option (ℕ × X)
 row_with_holder holder after r = and_then (holder r) (λ n. and_then (after r) (λ x. Some (n, x)))
 
@@ -41,7 +41,7 @@ release_in_tables trees h = release_from (frozens_in (trees table_of_frozen_2.tr
     (carrieds_in (trees table_of_carried_2.tree))
     (levels_in (trees table_of_levels_2.tree)) h
 
--- such a table, what is read of it, and what its rows stand for behind their holder
+-- such a table, the text that reads it, and what the columns of its rows after the holder stand for
 pub record HeldTable (X : Type 0) (terms : List Term) : Type 0 where
   pub tree : ℕ
   pub text : List ℕ
@@ -50,14 +50,14 @@ pub record HeldTable (X : Type 0) (terms : List Term) : Type 0 where
   pub after : Row → Option X
   pub asks : AsksFor office_schema text tree terms shown
 
--- what is read of a row stands for what the row does, and no two rows of a holder have one key
+-- the columns that are read stand for the value that the row stands for, and no two rows of a holder have one key
 pub record Holds {X K : Type 0} {terms : List Term} (holder : Row → Option ℕ) (cmp : K → K → Ordering) (key : X → K)
     (stands : Row → Option X) (t : HeldTable X terms) : Type 0 where
   pub same : (r : Row) → stands (map (column r) t.shown) ≡ and_then (holder r) (λ _. t.after r)
   pub keyed : (trees : Trees) → HasPlans trees → HasReleases trees
       → IsKeyed (held_cmp cmp) (held_key key) (row_with_holder holder t.after) (trees t.tree)
 
--- such a table of the releases, and what a release lists of it
+-- such a table of the releases, and the list that a release has of it
 pub record OfReleases {X K : Type 0} (cmp : K → K → Ordering) (key : X → K) (stands : Row → Option X)
     (t : HeldTable X is_release) (list : Release → List X) : Type 0 where
   pub holds : Holds release_in cmp key stands t

@@ -71,7 +71,7 @@ text_in Null = None
 text_in (Real x) = None
 text_in (Blob b) = None
 
--- a whole number, or NULL where there is none
+-- a whole number, or NULL if there is none
 abbrev pub whole_or_none : Value → Option (Option ℤ)
 whole_or_none Null = Some None
 whole_or_none (Int z) = Some (Some z)
@@ -79,7 +79,7 @@ whole_or_none (Real x) = None
 whole_or_none (Text t) = None
 whole_or_none (Blob b) = None
 
--- the second, where the first is there
+-- what the function makes of the value, if there is one
 abbrev pub and_then : {A B : Type 0} → Option A → (A → Option B) → Option B
 and_then None f = None
 and_then (Some a) f = f a
@@ -165,7 +165,7 @@ calendar_from month opens closes publishes =
 abbrev pub calendar_in : Row → Option CalendarPart
 calendar_in r = calendar_from (column r 0) (column r 2) (column r 3) (column r 4)
 
--- a price, or NULL where there is none
+-- a price, or NULL if there is none
 abbrev pub price_or_none : Value → Option (Option ℕ)
 price_or_none Null = Some None
 price_or_none (Int z) = and_then (number_within 1 GREATEST_PRICE (Int z)) (λ p. Some (Some p))
@@ -186,14 +186,14 @@ assignment_from slot outlet item first last copied =
     and_then (month_from first) (λ f. and_then (month_from last) (λ l. and_then (price_or_none copied) (λ p.
     Some (record { slot = s; outlet = o; item = i; first_month = f; last_month = l; copied = p })))))))
 
--- what a slot of a collector was given, beside the collector's number
+-- what a slot of a collector was given, with the collector's number
 abbrev pub given_from : Value → Value → Value → Value → Value → Value → Value → Value → Value → Option (ℕ × Given)
 given_from number slot outlet item first last series_collector series_slot copied =
     and_then (number_within 1 9999 number) (λ n. and_then
     (assignment_from slot outlet item first last copied) (λ a.
     and_then (series_from series_collector series_slot) (λ s. Some (n, record { assignment = a; series = s }))))
 
--- what a row gives a slot, beside the number of its collector
+-- what a row gives a slot, with its collector's number
 abbrev pub assignment_in_row : Row → Option (ℕ × Given)
 assignment_in_row r = given_from (column r 1) (column r 2) (column r 3) (column r 4) (column r 5)
     (column r 6) (column r 7) (column r 8) (column r 9)
@@ -233,7 +233,7 @@ quote_from slot month mark value receipt =
     and_then (number_within 1 400 slot) (λ s. and_then (month_from month) (λ m. and_then (mark_in mark value) (λ k.
     and_then (receipt_from receipt) (λ n. Some (record { slot = s; month = m; mark = k; receipt = n })))))
 
--- as an answer shows them, each after its collector
+-- a quote as an answer shows it, after its collector's number
 abbrev pub shown_quote : Row → Option (ℕ × QuoteRow)
 shown_quote x = and_then (number_within 1 9999 (column x 0))
     (λ c. and_then (quote_from (column x 1) (column x 2) (column x 3) (column x 4) (column x 5)) (λ q. Some (c, q)))
@@ -243,14 +243,14 @@ abbrev pub shown_given : Row → Option (ℕ × Given)
 shown_given x = given_from (column x 0) (column x 1) (column x 2) (column x 3) (column x 4) (column x 5)
     (column x 6) (column x 7) (column x 8)
 
--- the quote of a row, beside the number of its collector
+-- the quote of a row, with its collector's number
 abbrev pub quote_in : Row → Option (ℕ × QuoteRow)
 quote_in r = and_then (number_within 1 9999 (column r 1))
     (λ c. and_then (quote_from (column r 2) (column r 3) (column r 4) (column r 5) (column r 6)) (λ q. Some (c, q)))
 
 -- ---- lists
 
--- the row is put, where it stands for something
+-- the row is put, if it stands for something
 abbrev pub put_entry : {X K : Type 0} → (K → K → Ordering) → (X → K) → Option X → List X → List X
 put_entry cmp key None xs = xs
 put_entry cmp key (Some x) xs = with_row cmp key x xs
@@ -301,7 +301,7 @@ abbrev pub place_from : Value → Value → Option Place
 place_from item code = and_then (item_from item)
     (λ i. and_then (code_from code) (λ c. Some (record { item = i; aggregate = c })))
 
--- as an answer shows them, after their year
+-- a node as an answer shows it, after its year
 abbrev pub shown_node : Row → Option Node
 shown_node x = and_then (number_within 2000 2199 (column x 0)) (λ _. node_from (column x 1) (column x 2) (column x 3))
 
@@ -309,22 +309,22 @@ shown_node x = and_then (number_within 2000 2199 (column x 0)) (λ _. node_from 
 abbrev pub shown_place : Row → Option Place
 shown_place x = and_then (number_within 2000 2199 (column x 0)) (λ _. place_from (column x 1) (column x 2))
 
--- the node of a row, beside its year
+-- the node of a row, with its year
 abbrev pub node_in : Row → Option (ℕ × Node)
 node_in r = and_then (number_within 2000 2199 (column r 1))
     (λ y. and_then (node_from (column r 2) (column r 3) (column r 4))
     (λ n. Some (y, n)))
 
--- the place of a row, beside its year
+-- the place of a row, with its year
 abbrev pub place_in_row : Row → Option (ℕ × Place)
 place_in_row r = and_then (number_within 2000 2199 (column r 1))
     (λ y. and_then (place_from (column r 2) (column r 3)) (λ p. Some (y, p)))
 
--- nodes beside their years, by year and code
+-- nodes with their years, by year and code
 abbrev pub nodes_in : List Row → List (ℕ × Node)
 nodes_in rows = rows_in_key_order (held_cmp code_cmp) (held_key (λ n. n.code)) node_in rows
 
--- places beside their years, by year and item
+-- places with their years, by year and item
 abbrev pub places_in : List Row → List (ℕ × Place)
 places_in rows = rows_in_key_order (held_cmp nat_cmp) (held_key (λ p. p.item)) place_in_row rows
 
@@ -332,7 +332,7 @@ places_in rows = rows_in_key_order (held_cmp nat_cmp) (held_key (λ p. p.item)) 
 abbrev pub reference_from : Value → Option ReferenceMonth
 reference_from month = and_then (month_from month) (λ m. Some (record { month = m }))
 
--- a node, a place and a reference month, as they stand in a row
+-- a node, a place and a reference month, as they are in a row
 abbrev pub node_at : Row → Option Node
 node_at r = node_from (column r 2) (column r 3) (column r 4)
 
@@ -351,7 +351,7 @@ abbrev pub reference_month_in_row : Row → Option (ℕ × ReferenceMonth)
 reference_month_in_row r = and_then (number_within 2000 2199 (column r 0))
     (λ y. and_then (reference_from (column r 2)) (λ m. Some (y, m)))
 
--- reference months beside their years
+-- reference months with their years
 abbrev pub references_in : List Row → List (ℕ × ReferenceMonth)
 references_in rows = rows_in_key_order (held_cmp nat_cmp) (held_key (λ m. m.month)) reference_month_in_row rows
 
@@ -370,7 +370,7 @@ abbrev pub numbers : ℕ → ℕ → List ℕ
 numbers first zero = []
 numbers first (suc n) = first ∷ numbers (first + 1) n
 
--- the plan, where it is one
+-- the plan, if it is whole
 abbrev pub if_whole : Plan → Option Plan
 if_whole p = if is_whole p then Some p else None
 
@@ -465,19 +465,19 @@ frozen_from number slot item last mark value =
     and_then (month_from last) (λ l. and_then (mark_in mark value) (λ k.
     Some (record { series = record { collector = n; slot = s }; item = i; last_month = l; mark = k }))))))
 
--- beside the number of their release
+-- the frozen quote of a row, with the number of its release
 abbrev pub frozen_in : Row → Option (ℕ × Frozen)
 frozen_in r = and_then (release_from_key (column r 1) (column r 2)) (λ n.
     and_then (frozen_from (column r 3) (column r 4) (column r 5) (column r 6) (column r 7) (column r 8))
     (λ q. Some (n, q)))
 
--- the price and its scale, within their limits
+-- a price in ticks and its scale, a fraction, within their limits
 pub record Priced : Type 0 where
   pub ticks : ℕ
   pub knum : ℕ
   pub kden : ℕ
 
--- a price as a fraction: ticks, and the factor of a replacement
+-- a price in ticks, and the factor of a replacement as a fraction
 abbrev pub priced_from : Value → Value → Value → Option Priced
 priced_from ticks knum kden =
     and_then (number_within 1 MOST_TICKS ticks) (λ t. and_then (number_within 1 MOST_TICKS knum) (λ n.
@@ -500,7 +500,7 @@ carried_from number slot item last ticks knum kden observed imputed =
       imputed = u;
     }))))))))
 
--- the carried price of a row, beside the number of its release
+-- the carried price of a row, with the number of its release
 abbrev pub carried_in_row : Row → Option (ℕ × Carried)
 carried_in_row r = and_then (release_from_key (column r 1) (column r 2)) (λ n.
     and_then (carried_from (column r 3) (column r 4) (column r 5) (column r 6) (column r 7) (column r 8) (column r 9)
@@ -533,7 +533,7 @@ level_from code title weight within chained month_change year_change imputed =
       imputed = u;
     })))))))))
 
--- the row of a printed table, beside the number of its release
+-- the row of a printed table, with the number of its release
 abbrev pub level_in_row : Row → Option (ℕ × Level)
 level_in_row r = and_then (release_from_key (column r 1) (column r 2)) (λ n.
     and_then (level_from (column r 3) (column r 4) (column r 5) (column r 6) (column r 7) (column r 8) (column r 9)
@@ -543,19 +543,19 @@ level_in_row r = and_then (release_from_key (column r 1) (column r 2)) (λ n.
 abbrev pub headers_in : List Row → List Header
 headers_in rows = rows_in_key_order release_cmp header_key header_in rows
 
--- beside the numbers of their releases, by release and series
+-- frozen quotes with the numbers of their releases, by release and series
 abbrev pub frozens_in : List Row → List (ℕ × Frozen)
 frozens_in rows = rows_in_key_order (held_cmp nat_cmp) (held_key frozen_serial) frozen_in rows
 
--- the carried prices of a table
+-- carried prices with the numbers of their releases, by release and series
 abbrev pub carrieds_in : List Row → List (ℕ × Carried)
 carrieds_in rows = rows_in_key_order (held_cmp nat_cmp) (held_key carried_serial) carried_in_row rows
 
--- by release and code
+-- rows of printed tables with the numbers of their releases, by release and code
 abbrev pub levels_in : List Row → List (ℕ × Level)
 levels_in rows = rows_in_key_order (held_cmp code_cmp) (held_key (λ l. l.code)) level_in_row rows
 
--- the release of a header, with what stands beside its number
+-- the release of a header, with the rows of its number
 abbrev pub release_from : List (ℕ × Frozen) → List (ℕ × Carried) → List (ℕ × Level) → Header → Release
 release_from frozen carried levels h = record {
   month = h.month;

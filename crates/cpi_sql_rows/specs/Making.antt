@@ -20,7 +20,7 @@ use Rattle.cpi_sql_rows.specs.WholeRows.{AreWhole, HavePlanYears}
 abbrev pub no_schema : Schema
 no_schema = record { tables = []; indexes = []; views = [] }
 
--- as it stands behind the tables of the schema
+-- the table as it comes after the tables of the schema
 abbrev pub table_behind : Schema → Table → Table
 table_behind schema table = record table { tree = next_tree schema }
 

@@ -31,24 +31,24 @@ abbrev pub shown_level : Row → Option Level
 shown_level x = and_then (release_from_key (column x 0) (column x 1)) (λ _.
     level_from (column x 2) (column x 3) (column x 4) (column x 5) (column x 6) (column x 7) (column x 8) (column x 9))
 
--- behind their release, as the table has them
+-- the frozen quote of a row's columns after its release
 abbrev pub frozen_after : Row → Option Frozen
 frozen_after r =
     frozen_from (column r 3) (column r 4) (column r 5) (column r 6) (column r 7) (column r 8)
 
--- the carried price of a row
+-- the carried price of a row's columns after its release
 abbrev pub carried_after : Row → Option Carried
 carried_after r =
     carried_from (column r 3) (column r 4) (column r 5) (column r 6) (column r 7) (column r 8) (column r 9)
     (column r 10) (column r 11)
 
--- the row of a table of a row
+-- the row of a printed table in a row's columns after its release
 abbrev pub level_after : Row → Option Level
 level_after r =
     level_from (column r 3) (column r 4) (column r 5) (column r 6) (column r 7) (column r 8) (column r 9)
     (column r 10)
 
--- an annual change as its column has it: NULL where there is none
+-- an annual change as its column has it: NULL if there is none
 abbrev pub annual : Option ℤ → Value
 annual None = Null
 annual (Some z) = Int z

@@ -1,4 +1,4 @@
--- What contracts see of a book over a database, and what it keeps true.
+-- The view that contracts have of a book over a database, and what the book keeps true.
 use Rattle.std.specs.Prelude.{◌≡◌, ◌⊎◌, ℕ, Bool, false, List, [], Option, Some, IsSome, IsTrue, Result, OnOk, refl}
 use Rattle.std.specs.Coded.{Coded, code_by, coded×, coded_ℕ, coded_bool}
 use Rattle.std.specs.Ordering.{nat_cmp, is_eq}
@@ -32,7 +32,7 @@ use Rattle.cpi_sql_rows.specs.WholeRows.{AreWhole}
 pub use Rattle.cpi_sql_rows.specs.WholeRows.{IsWhole, year_in}
 use Rattle.cpi_sql_rows.specs.Making.{IsOfficeDatabase}
 
--- what contracts see of a book over a database
+-- the view that contracts have of a book over a database
 pub record Shelf (S : Type 0) : Type 0 where
   pub held : Held S
   -- whether the survey was read, which is kept from then on
@@ -121,7 +121,7 @@ pub record HasTables (s : State) : Type 0 where
   pub plans : HasPlans s.now.trees
   pub releases : HasReleases s.now.trees
 
--- the disk returned what was written, and the connection wasn't shut by a failure
+-- the disk returned what was written, and no failure shut the connection
 pub record IsCleanBook (s : State) : Type 0 where
   pub disk : HasCleanDisk s
   pub is_open : IsTrue s.is_open
@@ -141,12 +141,12 @@ pub record IsLook (old new : State) : Type 0 where
 abbrev pub StaysOpen : State → State → Type 0
 StaysOpen old new = HasCleanDisk new → IsTrue old.is_open → IsTrue new.is_open
 
--- what a look leaves, and what is said of the connection
+-- the state that a read of the tables leaves, and a fact about the connection
 pub record Looked (old new : State) (Open : Type 0) : Type 0 where
   pub still : IsLook old new
   pub stays : Open
 
--- what a call leaves that looks at the tables: where it is answered, the connection stays open
+-- the state that a read of the tables leaves: if it is answered, the connection stays open
 abbrev pub Looks : {A E : Type 0} → State → State → Result A E → Type 0
 Looks old new result = Looked old new (OnOk result (StaysOpen old new))
 
@@ -170,7 +170,7 @@ pub record WritesTaken (old new : Trees) : Type 0 where
   pub carried : Takes carried_in_row (old table_of_carried_2.tree) (new table_of_carried_2.tree)
   pub levels : Takes level_in_row (old table_of_levels_2.tree) (new table_of_levels_2.tree)
 
--- what the change makes of the tables: the office has it, the types take each row that is put, and each table that it
+-- the tables after a change: the office has it, the types take each row that is put, and each table that the change
 -- doesn't write is as it was
 pub record IsChangedBy (change : Change) (old new : Trees) : Type 0 where
   pub office : office_in new ≡ office_with change (office_in old)
@@ -182,7 +182,7 @@ pub record IsDone (change : Change) (old new : State) : Type 0 where
   pub tables : HasTables new
   pub made : IsChangedBy change old.now.trees new.now.trees
 
--- an office but for its releases
+-- an office without its releases
 abbrev pub survey_of : Office → Office
 survey_of office = with_releases [] office
 

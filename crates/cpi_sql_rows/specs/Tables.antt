@@ -291,7 +291,7 @@ first_indexes =
 abbrev pub first_schema : Schema
 first_schema = record { tables = first_tables; indexes = first_indexes; views = [] }
 
--- schema 2: an assignment, a quote and what is frozen stand in the new tables alone
+-- schema 2: assignments, quotes and frozen lists are only in the new tables
 abbrev pub office_schema : Schema
 office_schema = record {
   tables =

@@ -54,7 +54,7 @@ abbrev pub given_columns : ℕ → ℕ → List Term
 given_columns zero from = []
 given_columns (suc count) from = col 0 from ∷ given_columns count (suc from)
 
--- rows of so many parameters each, one behind the other; each row has a rowid of its own before them
+-- rows of so many parameters each, one after the other; each row has a rowid of its own before them
 abbrev pub given_rows : ℕ → ℕ → ℕ → List Term
 given_rows width zero from = []
 given_rows width (suc count) from = lit Null ∷ given_columns width from ++ given_rows width count (from + width)
@@ -85,7 +85,7 @@ registrations_text = codes "SELECT number, key FROM collector ORDER BY number"
 abbrev pub put_collector_text : List ℕ
 put_collector_text = codes "INSERT INTO collector (number, key) VALUES (?1, ?2)"
 
--- a row is its rowid, and then its columns, where the key is NULL
+-- a row is its rowid, and then its columns, of which the key is NULL
 abbrev pub given_pair : List Term
 given_pair = col 0 0 ∷ lit Null ∷ col 0 1 ∷ []
 
@@ -169,7 +169,7 @@ given_assignment =
 abbrev pub put_assignment_command : Command
 put_assignment_command = Insert 13 (Values given_assignment 10)
 
--- puts an assignment in place of the one that stands
+-- puts an assignment in place of the one that its slot has
 abbrev pub replace_given_text : List ℕ
 replace_given_text = codes
     "INSERT INTO assignment_2 (collector, slot, outlet, item, first_month, last_month, series_collector, series_slot, copied) VALUES (?1, ?2, ?3, ?4, ?5, ?6, ?7, ?8, ?9) ON CONFLICT (collector, slot) DO UPDATE SET collector = excluded.collector, slot = excluded.slot, outlet = excluded.outlet, item = excluded.item, first_month = excluded.first_month, last_month = excluded.last_month, series_collector = excluded.series_collector, series_slot = excluded.series_slot, copied = excluded.copied"

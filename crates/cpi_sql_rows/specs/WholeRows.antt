@@ -20,7 +20,7 @@ IsKeyed {X} cmp key entry rows = (r s : Row) (x y : X) → Has rows r → Has ro
 unfoldable pub AllStand : {X : Type 0} → (Row → Option X) → List Row → Type 0
 AllStand entry rows = (r : Row) → Has rows r → IsSome (entry r)
 
--- each row stands for something, and no two have one key
+-- each row stands for a value, and no two have one key
 pub record IsWhole {X K : Type 0} (cmp : K → K → Ordering) (key : X → K) (entry : Row → Option X) (rows : List Row)
     : Type 0 where
   pub keyed : IsKeyed cmp key entry rows

@@ -19,7 +19,7 @@ use Rattle.cpi_sql_rows.specs.Tables.{table_of_quotes_2, table_of_releases_2}
 use Rattle.cpi_sql_rows.specs.Texts.{registrations_text, outlets_text, items_text, calendar_text, all_assignments_text}
 use Rattle.cpi_sql_rows.specs.Texts.{all_quotes_text, headers_text}
 
--- a table that these schemas have, what is read of it, and what its rows stand for
+-- a table that these schemas have, the text that reads it, and what its rows stand for
 pub record WholeTable (X : Type 0) (IsIn : Schema → Type 0) : Type 0 where
   pub tree : ℕ
   pub text : List ℕ
@@ -29,13 +29,13 @@ pub record WholeTable (X : Type 0) (IsIn : Schema → Type 0) : Type 0 where
   pub asks : (schema : Schema) → IsIn schema → AsksFor schema text tree [] shown
   pub in_office : IsIn office_schema
 
--- what is so under both schemas of the office is so under either
+-- what holds under both schemas of the office holds under any schema of the office
 pub under_either : (P : Schema → Type 0) → P first_schema → P office_schema → (schema : Schema) → IsOfOffice schema
     → P schema
 under_either P one two schema (inl e) = subst P (sym e) one
 under_either P one two schema (inr e) = subst P (sym e) two
 
--- and what is so under schema 2
+-- the same of schema 2 only
 pub second : (P : Schema → Type 0) → P office_schema → (schema : Schema) → IsSecond schema → P schema
 second P is schema e = subst P (sym e) is
 
@@ -234,7 +234,7 @@ headers_table = record {
   in_office = refl;
 }
 
--- ---- quotes, which are read in the order in which they stand
+-- ---- quotes, which are read in the order of their rows
 
 pub second_all_quotes : AsksFor office_schema all_quotes_text table_of_quotes_2.tree [] (1 ∷ 2 ∷ 3 ∷ 4 ∷ 5 ∷ 6 ∷ [])
 unfolding understood everything
