@@ -1,4 +1,4 @@
--- What a crash leaves of a book over a database, and what an open finds in it.
+-- The databases that a crash may leave of a book, and the office that an open finds in each.
 use Rattle.std.specs.Prelude.{◌≡◌, ℕ}
 use Rattle.sqlite.specs.Held.{Held, state}
 use Rattle.sqlite.specs.State.{State, IsLive, Opens}

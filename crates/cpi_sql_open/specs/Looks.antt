@@ -1,4 +1,4 @@
--- What is tested of the tables that an open finds, and the texts that ask for rowids and years.
+-- The tests of the tables that an open finds, and the texts that ask for rowids and years.
 use Rattle.std.specs.Prelude.{◌≡◌, ℕ, List, [], ◌∷◌, IsTrue}
 use Rattle.std.specs.List.{AllByRecursion, AllZip}
 use Rattle.sqlite.specs.Schema.{Schema}
@@ -19,14 +19,14 @@ AskEach texts trees schema = AllZip (AsksRowids schema) texts trees
 abbrev pub AskEachYear : List (List ℕ) → List (ℕ × ℕ) → Schema → Type 0
 AskEachYear texts plans schema = AllZip (λ text plan. AsksYears schema text plan.0 plan.1) texts plans
 
--- what an open asks of the tables that it finds: that they are those of the schema, that the rows of these trees have
--- rowids of their own, and that those of plans have years too
+-- the conditions that an open tests: the tables are those of the schema, the rows of these trees have rowids of their
+-- own, and those of plans have years too
 pub record Wanted : Type 0 where
   pub schema : Schema
   pub trees : List ℕ
   pub plans : List (ℕ × ℕ)
 
--- of the tables of schema 2
+-- the conditions on the tables of schema 2
 abbrev pub second_wanted : Wanted
 second_wanted = record {
   schema = office_schema;
@@ -34,7 +34,7 @@ second_wanted = record {
   plans = (6, 1) ∷ (8, 1) ∷ (34, 0) ∷ [];
 }
 
--- and of those of schema 1
+-- the conditions on the tables of schema 1
 abbrev pub first_wanted : Wanted
 first_wanted = record {
   schema = first_schema;
@@ -57,7 +57,7 @@ pub record IsTest (old new : State) : Type 0 where
   pub kept : IsCleanBook new → IsKept old new
   pub crash : Survives old new (λ _. ⊥)
 
--- the tables were those that were wanted, and each row of the small ones stood for something
+-- the tables met the conditions, and each row of the small ones stood for a value
 pub record Finds (wanted : Wanted) (old new : State) : Type 0 where
   pub is : old.now.schema ≡ wanted.schema
   pub live : IsLive old
@@ -66,7 +66,7 @@ pub record Finds (wanted : Wanted) (old new : State) : Type 0 where
   pub years : IsCleanBook new → AllByRecursion (λ plan. ArePlanRows plan.1 (old.now.trees plan.0)) wanted.plans
   pub is_open : HasCleanDisk new → IsTrue new.is_open
 
--- the tables are those of an office, if their number is
+-- the tables are those of an office, if the number of the schema is 2
 pub record FindsOffice (old new : State) : Type 0 where
   pub schema : old.now.schema ≡ office_schema
   pub tables : IsCleanBook new → IsVersion 2 (new.now.trees table_of_version.tree) → HasTables new

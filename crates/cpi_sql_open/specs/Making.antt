@@ -10,7 +10,7 @@ use Rattle.sqlite.specs.Table.{Table}
 use Rattle.sqlite.proofs.Callers.{IsPlain, command_of, statement_of}
 use Rattle.cpi_sql_rows.specs.Making.{table_behind}
 
--- under the schema the text makes this table, behind those that are there
+-- under the schema the text makes this table, after those that are there
 pub record MakesTable (schema : Schema) (text : List ℕ) (table : Table) : Type 0 where
   pub command : command_of (understood schema text) ≡ CreateTable
   pub plain : IsPlain (understood schema text)

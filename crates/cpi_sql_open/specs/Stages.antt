@@ -20,11 +20,11 @@ pub record Stage : Type 0 where
 abbrev pub stage_of : State → Stage
 stage_of s = record { now = s.now; in_transaction = s.in_transaction }
 
--- how a connection does its statements
+-- the mode in which a connection runs its statements
 abbrev pub usual : Mode
 usual = record { keys = Enforced; in_doubt = false; may_wait = false }
 
--- one of the statements of which an office is made
+-- an insertion, a deletion or a CREATE TABLE: the statements that make an office
 abbrev pub is_write : Command → Bool
 is_write (Insert table from) = true
 is_write (Delete table rows) = true
@@ -48,7 +48,7 @@ RanAtStage text old new = (schema : Schema) (command : Command) → IsTrue (is_w
     → command_of (understood schema text) ≡ command → IsPlain (understood schema text) → IsTrue old.in_transaction
     → old.now.schema ≡ schema → Did schema text command old new
 
--- one after the other
+-- the texts were run one after the other
 abbrev pub RanEach : List (List ℕ) → Stage → Stage → Type 0
 RanEach [] old new = old ≡ new
 RanEach (text ∷ texts) old new = (mid : Stage) × RanAtStage text old mid × RanEach texts mid new
