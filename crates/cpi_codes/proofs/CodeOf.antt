@@ -63,9 +63,9 @@ after : (P : Code → Type 0) (o : Option Code) (f : Code → Option Code) → (
 after P None f h = tt
 after P (Some c) f h = h c
 
-written : (bytes : List ℕ) → IfSome (spelled_code bytes) (λ c. code_text c ≡ bytes)
+pub spelled_has_text : (bytes : List ℕ) → IfSome (spelled_code bytes) (λ c. code_text c ≡ bytes)
 unfolding spelled_code
-written bytes =
+spelled_has_text bytes =
     after (λ c. code_text c ≡ bytes) (code_in bytes) (λ c. if bytes_eq (code_text c) bytes then Some c else None)
     (λ c. by c (bytes_eq (code_text c) bytes) (bytes_eq-Decides (code_text c) bytes))
   where
@@ -79,7 +79,7 @@ written bytes =
 pub reads_code : (bytes : List ℕ) (r : Result Code CodeFault) → IfOk r (λ c. code_text c ≡ bytes) →
     ((c : Code) → code_text c ≡ bytes → r ≡ Ok c) → result_ok r ≡ spelled_code bytes
 reads_code bytes (Ok c) is every = sym (there bytes c is)
-reads_code bytes (Err f) is every = by (spelled_code bytes) (written bytes)
+reads_code bytes (Err f) is every = by (spelled_code bytes) (spelled_has_text bytes)
   where
     by : (o : Option Code) → IfSome o (λ c. code_text c ≡ bytes) → None ≡ o
     by None w = refl

@@ -27,7 +27,7 @@ then_second Greater r e = cc
 number_same : (m n : ℕ) → nat_cmp m n ≡ Equal → m ≡ n
 number_same m n e = grind (arith, nat_tests)
 
-part_same : (x y : Option ℕ) → option_cmp nat_cmp x y ≡ Equal → x ≡ y
+pub part_same : (x y : Option ℕ) → option_cmp nat_cmp x y ≡ Equal → x ≡ y
 part_same None None e = refl
 part_same None (Some n) e = cc
 part_same (Some m) None e = cc
