@@ -1,27 +1,25 @@
 -- The tables of the plans that were found: no two rows have one year and one code or item.
-use Rattle.std.proofs.Common.{◌≡◌, ℕ, pos, Bool, true, false, List, [], ◌∷◌, Some}
-use Rattle.std.proofs.Common.{None, Option, IfSome, Decides, bytes_eq, refl, sym, ap, subst, ◌∙◌}
-use Rattle.std.specs.Prelude.{if◌then◌else◌}
+use Rattle.std.proofs.Common.{◌≡◌, ℕ, pos, List, [], ◌∷◌, Some}
+use Rattle.std.proofs.Common.{IfSome, refl, sym, ap, subst, ◌∙◌}
 use Rattle.std.specs.declared.cmp.Ordering.TheVariants.{Equal}
 use Rattle.std.specs.Ordering.{nat_cmp}
-use Rattle.std.specs.Option.{option_cmp}
-use Rattle.std.proofs.lemmas.Slice.Eq.{bytes_eq-Decides}
 use Rattle.sqlite.specs.declared.types.Value.{Value}
 use Rattle.sqlite.specs.declared.types.Value.TheVariants.{Null, Int, Real, Text, Blob}
 use Rattle.sqlite.specs.Order.{Row, column}
 use Rattle.sqlite.specs.Tree.{Trees}
 use Rattle.sqlite_catalog.specs.Listing.{IsSound}
 use Rattle.sqlite_schema.specs.declared.schema.Constraint.TheVariants.{Unique}
-use Rattle.cpi_codes.specs.CodeOf.{code_in, spelled_code}
+use Rattle.cpi_codes.specs.CodeOf.{spelled_code}
 use Rattle.cpi_codes.specs.CodeOrder.{code_cmp}
 use Rattle.cpi_codes.specs.CodeText.{code_text}
-use Rattle.cpi_codes.specs.Following.{◌>>=◌}
 use Rattle.cpi_codes.specs.ItemCode.{item_code_of}
 use Rattle.cpi_codes.specs.declared.codes.Code.{Code}
 use Rattle.cpi_codes.proofs.CodeIs.{same_code_is}
 use Rattle.cpi_codes.proofs.ItemOrder.{codes-are-one}
 use Rattle.cpi_rows.specs.Held.{held_cmp, held_key}
 use Rattle.cpi_rows.proofs.Truth.{equal_of_order, then_first, then_second}
+use Rattle.cpi_codes.proofs.CodeRead.{part_same}
+use Rattle.cpi_codes.proofs.CodeOf.{spelled_has_text}
 use Rattle.cpi_plan.specs.declared.plan_rows.Node.{Node}
 use Rattle.cpi_plan.specs.declared.plan_rows.Place.{Place}
 use Rattle.cpi_sql_rows.specs.Tables.{office_schema, table_of_nodes, table_of_plan_items}
@@ -42,39 +40,17 @@ text_is (Blob b) t e = cc
 
 -- ---- two codes that are level are one, and so are two texts of one code
 
-one_part : (x y : Option ℕ) → option_cmp nat_cmp x y ≡ Equal → x ≡ y
-one_part None None e = refl
-one_part None (Some b) e = cc
-one_part (Some a) None e = cc
-one_part (Some a) (Some b) e = ap (λ (n : ℕ). Some n) (equal_of_order a b e)
-
 pub one_code : (c d : Code) → code_cmp c d ≡ Equal → c ≡ d
 one_code c d e =
     let group = then_second _ _ e in
     let class = then_second _ _ group in
     let sub = then_second _ _ class in
     same_code_is c d (equal_of_order c.division d.division (then_first _ _ e))
-    (one_part c.group d.group (then_first _ _ group)) (one_part c.class d.class (then_first _ _ class))
-    (one_part c.subclass d.subclass (then_first _ _ sub)) (one_part c.aggregate d.aggregate (then_second _ _ sub))
-
-after : (P : Code → Type 0) (o : Option Code) (f : Code → Option Code) → ((c : Code) → IfSome (f c) P)
-    → IfSome (o >>= f) P
-after P None f h = tt
-after P (Some c) f h = h c
-
-written : (bytes : List ℕ) → IfSome (spelled_code bytes) (λ c. code_text c ≡ bytes)
-unfolding spelled_code
-written bytes =
-    after (λ c. code_text c ≡ bytes) (code_in bytes) (λ c. if bytes_eq (code_text c) bytes then Some c else None)
-    (λ c. by c (bytes_eq (code_text c) bytes) (bytes_eq-Decides (code_text c) bytes))
-  where
-    by : (c : Code) (same : Bool) → Decides same (code_text c ≡ bytes)
-        → IfSome (if same then Some c else None) (λ x. code_text x ≡ bytes)
-    by c true is = is.0 refl
-    by c false is = tt
+    (part_same c.group d.group (then_first _ _ group)) (part_same c.class d.class (then_first _ _ class))
+    (part_same c.subclass d.subclass (then_first _ _ sub)) (part_same c.aggregate d.aggregate (then_second _ _ sub))
 
 code_written : (bytes : List ℕ) (c : Code) → spelled_code bytes ≡ Some c → code_text c ≡ bytes
-code_written bytes c e = subst (λ o. IfSome o (λ (x : Code). code_text x ≡ bytes)) e (written bytes)
+code_written bytes c e = subst (λ o. IfSome o (λ (x : Code). code_text x ≡ bytes)) e (spelled_has_text bytes)
 
 -- the column has the code's text
 pub code_column : (v : Value) (c : Code) → code_from v ≡ Some c → v ≡ Text (code_text c)
