@@ -126,7 +126,7 @@ same_row t vs h = ap₂ ◌∷◌ cast_null (same_cells t.columns vs h)
 
 -- ---- rowids are chosen
 
--- behind its rowid a row is as it was before that was chosen
+-- after its rowid a row is as it was before the rowid was chosen
 chosen_contents : (rows before : List Row) → map (drop 1) (numbered Chosen before rows) ≡ map (drop 1) rows
 chosen_contents [] before = refl
 chosen_contents (r ∷ rows) before =
@@ -166,7 +166,7 @@ put_all_more (n ∷ news) rows fresh =
 abbrev pub cells_of : Move → Row → Row
 cells_of m r = eval_all m.cells ([] ∷ r ∷ [])
 
--- the copies of these rows, put behind others
+-- the copies of these rows, put after others
 abbrev pub copies_of : Move → List Row → List Row → List Row
 copies_of m before sources =
     numbered Chosen before (map (λ s. cast_row (as_plain (table_at (m.at + 6))) (drop 0 s)) sources)

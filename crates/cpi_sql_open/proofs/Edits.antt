@@ -47,7 +47,7 @@ pub record Wrote (edit : Edit) (old new : Stage) : Type 0 where
   pub left : IsLeft (edit.table.tree ∷ []) old new
   pub sound : IsSound office_schema new.now.trees
 
--- no foreign key of the office acts where a row is taken out
+-- no foreign key of the office acts when a row is taken out
 none_acts : (tree : ℕ) (olds : List Row) → works office_schema Enforced 0 tree olds [] ≡ []
 none_acts tree olds = refl
 
@@ -87,7 +87,7 @@ module _ (at : ℕ) (less : at < length office_schema.tables) (text : List ℕ) 
         sound = subst (λ s. IsSound s new.now.trees) schema sound;
       }
 
-  -- rows are put, each with a rowid that is chosen where it has none
+  -- rows are put, each with a rowid that is chosen if it has none
   pub inserted : (from : Source) → Makes text (Insert at from) → RanAtStage text old new
       → (rows : List Row) × IsSource (record { schema = office_schema; trees = db }) [] from rows
       × Wrote (edit_of db (as_plain (table_at at)) [] Chosen 0 rows) old new

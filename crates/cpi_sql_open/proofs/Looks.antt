@@ -80,7 +80,7 @@ module _ {X : Type 0} (Asks : Schema → List ℕ → X → Type 0) (none : X) w
   abbrev AskAll : List (List ℕ) → List X → Schema → Type 0
   AskAll texts xs schema = AllZip (Asks schema) texts xs
 
-  -- what is asked of the first of the texts, and of those behind it
+  -- what the first of the texts asks for, and what those after it do
   asks_first : (text : List ℕ) (texts : List (List ℕ)) (xs : List X) (s : Schema) → AskAll (text ∷ texts) xs s
       → Asks s text (get_or xs 0 none)
   asks_first text texts [] s asks = absurd asks
@@ -265,7 +265,7 @@ module _ (w : Wanted) (more scans years : List (List ℕ)) (is : AreTestsOf w mo
             still (looks_weaker (AskEach scans w.trees) Three (λ s three. three.1) c d scan)) alone
             ((office, ask_years), asks)
 
-        -- what they find, where none failed
+        -- what they find, if none failed
         pub all_finds : IsLive a
             → (IsCleanBook b → a.in_transaction ≡ false → IsOfOffice a.now.schema → AreWhole a.now.trees)
             → (IsCleanBook c → b.in_transaction ≡ false → (plans : List (ℕ × ℕ)) → AskEachYear years plans b.now.schema

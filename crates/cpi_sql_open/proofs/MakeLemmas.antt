@@ -62,7 +62,7 @@ all_blank a b c new first second last inside none =
     let all = made_then no_schema first_schema office_schema first_tables second_tables a b c refl one two in
     blank_made a c new all (subst (RanAtStage put_version_text c) last.2 last.1)
 
--- those of schema 1, and those behind them
+-- those of schema 1, and those after them
 pub some_made : (more : List (List ℕ)) (tables : List Table) (to : Schema) (a b c : Stage) → RanEach first_texts a b
     → RanEach more b c → IsTrue a.in_transaction → a.now.schema ≡ no_schema → MakeEach more tables first_schema to
     → c.now.schema ≡ to

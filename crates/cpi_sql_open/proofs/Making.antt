@@ -59,7 +59,7 @@ second_make =
 
 -- ---- tables that are made in turn
 
--- behind the tables of the one schema stand these, which hold nothing, and the others are as they were
+-- after the tables of the one schema come these, which are empty, and the others are as they were
 pub record Made (from to : Schema) (tables : List Table) (old new : Stage) : Type 0 where
   pub inside : IsTrue new.in_transaction
   pub schema : new.now.schema ≡ to

@@ -50,7 +50,7 @@ abbrev written : List ℕ
 written = map tree_of steps
 
 module _ (a b : Stage) (m : Made first_schema office_schema second_tables a b) where
-  -- a table of schema 1, as it was made beside
+  -- the tables of schema 1 are as they were
   was : (n : ℕ) → has_tree first_tables n ≡ true → b.now.trees n ≡ a.now.trees n
   was n first = at_tree (λ n. b.now.trees n ≡ a.now.trees n) first_tables m.others n first
 
@@ -188,7 +188,7 @@ all_moved old new b c d makes copies clears numbers inside first one ids =
 
 -- ---- after the look at the number
 
--- what is moved depends on the rows and the schema alone
+-- what is moved depends only on the rows and the schema
 pub moved_same : (a begun b c : State) → begun.now ≡ a.now → c.now ≡ b.now → IsMoved begun b → IsMoved a c
 moved_same a begun b c start end m = record {
   schema = ap (λ (d : Database). d.schema) end ∙ m.schema;

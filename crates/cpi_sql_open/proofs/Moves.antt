@@ -23,7 +23,7 @@ use Rattle.cpi_sql_open.specs.declared.migrate.TheConstants.{CLEARS, COPIES, NUM
 abbrev pub table_at : ℕ → Table
 table_at at = get_or office_schema.tables at table_of_version
 
--- a table of schema 1 whose rows schema 2 has anew, six places behind, and the columns of their copies
+-- a table of schema 1 that schema 2 replaces, six places later, and the columns of their copies
 pub record Move : Type 0 where
   pub at : ℕ
   pub cells : List Term
@@ -83,7 +83,7 @@ quotes = record { at = 8; cells = columns (1 ∷ 2 ∷ 3 ∷ 4 ∷ 5 ∷ 6 ∷ [
 abbrev pub releases : Move
 releases = record { at = 9; cells = col 1 0 ∷ lit (Int (pos 1)) ∷ columns (2 ∷ 3 ∷ 4 ∷ []) }
 
--- what a release lists has revision 1 behind its month
+-- what a release lists has revision 1 after its month
 abbrev pub listed_at : ℕ → List ℕ → Move
 listed_at at others = record { at = at; cells = col 1 1 ∷ lit (Int (pos 1)) ∷ columns others }
 

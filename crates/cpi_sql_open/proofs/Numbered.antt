@@ -1,4 +1,4 @@
--- The number of the schema is put: where there was none, or in place of another.
+-- The number of the schema is put: when there was none, or in place of another.
 use Rattle.std.proofs.Common.{◌≡◌, ℕ, pos, List, [], ◌∷◌, inl, inr, codes, IsTrue, refl, sym, ap, subst, ◌∙◌, arith}
 use Rattle.sqlite.specs.declared.types.Value.TheVariants.{Null, Int}
 use Rattle.sqlite.specs.Order.{Row, column}

@@ -56,7 +56,7 @@ module _ (n : ℕ) (old new : State) (rows : List Row) (shown : Shown version_te
       one_row n (old.now.trees 0) one.0
       (subst (IsPermutation (map (λ r. column r 0 ∷ []) (old.now.trees 0))) one.1 same) one.2
 
--- as it stood when the transaction began
+-- as it was when the transaction began
 pub second_found : (s begun looked : State) (rows : List Row) → begun.now ≡ s.now → s.now.schema ≡ office_schema
     → Shown version_text [] begun looked rows → IsVersion 2 rows → IsVersion 2 (s.now.trees 0)
 second_found s begun looked rows start has shown one =

@@ -194,7 +194,7 @@ steps_taken (text ∷ texts) (s ∷ ss) first a b each apart ran inside has read
       ),
     )
 
--- which stands after what writes none of these tables
+-- which holds after a statement that writes none of these tables
 pub still_taken : (first : Trees) (ss : List Step) (trees : List ℕ) (a b : Trees) → SameBut trees a b
     → list_all (λ s. is_beside trees (tree_of s)) ss ≡ true → AreTaken first a ss → AreTaken first b ss
 still_taken first [] trees a b kept apart taken = tt

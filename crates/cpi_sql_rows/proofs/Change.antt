@@ -14,7 +14,7 @@ use Rattle.cpi_sql_rows.specs.Tables.{office_schema}
 use Rattle.cpi_sql_rows.proofs.Texts.{Makes}
 use Rattle.cpi_sql_rows.proofs.Commits.{commits_as}
 
--- what the statement does to the tables of the office, where it is run and where a crash leaves it
+-- the effect of the statement on the tables of the office, when it is run and when a crash leaves it
 pub record IsChange (text : List ℕ) (params : Row) (Done : Trees → Database → Type 0) : Type 1 where
   pub ran : (old new : State) (count : ℕ) → old.now.schema ≡ office_schema
       → Executes text params old new (Ok count)

@@ -1,4 +1,4 @@
--- The rowids that a query shows of a table, where they rise: each row has its own.
+-- The rowids that a query shows of a table, if they rise: each row has its own.
 use Rattle.std.proofs.Common.{◌≡◌, ◌≢◌, inl, inr, ℕ, true, List, [], ◌∷◌}
 use Rattle.std.proofs.Common.{map, Some, Option, refl, sym, ap, subst, ◌∙◌}
 use Rattle.std.specs.List.{flat_map}

@@ -84,7 +84,7 @@ series_tells from series of = record {
 
 -- ---- releases by their months and revisions
 
--- beside what a row stands for in its release, its first columns tell the release
+-- a row's first columns tell its release, besides what its other columns stand for
 beside_tells : {X K : Type 0} (R : K → K → Ordering) (key : X → K) (from : Row → Option X) (places : List ℕ)
     → Tells R key from places → Tells (held_cmp R) (held_key key) (release_entry from) (1 ∷ 2 ∷ places)
 beside_tells R key from places t = record {

@@ -40,7 +40,7 @@ asked name command listing plain = record {
   plain = plain;
 }
 
--- so they do under either schema, where they do under both, or under the one that fits
+-- so they do under a schema of the office, if they do under both, or under the one that fits
 under_both : (text : List ℕ) (tree : ℕ) → AsksRowids first_schema text tree → AsksRowids office_schema text tree
     → (schema : Schema) → IsOfOffice schema → AsksRowids schema text tree
 under_both text tree one two schema (inl e) = subst (λ s. AsksRowids s text tree) (sym e) one
@@ -86,7 +86,7 @@ pub level_rowids : (schema : Schema) → IsSecond schema
 unfolding understood everything
 level_rowids = under_one office_schema _ 32 (asked (codes "rowid") refl refl (refl, refl))
 
--- those of schema 1 alone
+-- those of schema 1 only
 
 pub first_assignment_rowids : (schema : Schema) → IsFirstSchema schema
     → AsksRowids schema (codes "SELECT rowid FROM assignment ORDER BY rowid") 11

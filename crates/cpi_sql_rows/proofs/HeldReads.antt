@@ -33,7 +33,7 @@ use Rattle.cpi_sql_rows.proofs.Whole.{shows}
 
 -- ---- the rows of one holder
 
--- where the statement is given these parameters, the rows that pass are those of the holder with that number
+-- if the statement is given these parameters, the rows that pass are those of the holder with that number
 pub record Names (holder : Row → Option ℕ) (terms : List Term) (params : Row) (number : ℕ) : Type 0 where
   pub own : (r : Row) (n : ℕ) → list_all (holds (params ∷ r ∷ [])) terms ≡ true → holder r ≡ Some n → n ≡ number
   pub all : (r : Row) → holder r ≡ Some number → list_all (holds (params ∷ r ∷ [])) terms ≡ true
@@ -61,7 +61,7 @@ module _ {X K : Type 0} {R : K → K → Ordering} (o : IsTotalOrder R) (key : X
             ∙ ap (λ (p : ℕ × X). Some p.1) pair,
       )
 
-  -- a row of the holder stands for something, where what is read of it does
+  -- a row of the holder stands for something, if the columns that are read do
   some : (r : Row) → holder r ≡ Some number → IsSome (stands (map (column r) t.shown))
       → IsSome (row_with_holder holder t.after r)
   some r e is =
@@ -112,7 +112,7 @@ names_release n m v is low high = record {
   all = λ r e. release_tested r n v ∙ release_named n m v is low high r e;
 }
 
--- ---- the quotes of all collectors, in the order in which they stand
+-- ---- the quotes of all collectors, in the order of their rows
 
 module _ (old new : State) (rows : List Row) (read : List (ℕ × QuoteRow)) (has : HasTables old)
     (h : Shown all_quotes_text [] old new rows) (are : AreRead shown_quote rows read) where

@@ -1,4 +1,4 @@
--- Rowids stay right where rows are taken out of a table, and others put in.
+-- Rowids stay right when rows are taken out of a table, and others put in.
 use Rattle.std.proofs.Common.{◌≡◌, ◌⊎◌, inl, inr, ℕ, ℤ, List, [], ◌∷◌, true, false, sym, ap, subst, ◌∙◌}
 use Rattle.std.proofs.lemmas.Bool.{and_parts, both_ways, not-true}
 use Rattle.std.specs.Cmp.{tied_back}

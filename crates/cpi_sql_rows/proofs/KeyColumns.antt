@@ -1,4 +1,4 @@
--- The columns that tell the key of what a row stands for: where they are UNIQUE, no two rows have one key.
+-- The columns that tell the key of what a row stands for: if they are UNIQUE, no two rows have one key.
 use Rattle.std.proofs.Common.{◌≡◌, inl, inr, ℕ, ℤ, Bool, true, false, ◌&&◌, not, List, [], ◌∷◌, map, slice_get, Some}
 use Rattle.std.proofs.Common.{Option, refl, sym, ap, ◌∙◌}
 use Rattle.std.proofs.lemmas.Bool.{and_from, and_parts, both_ways, cases_Bool, not-true}

@@ -182,7 +182,7 @@ module _ {X : Type 0} (from : Row → Option X) where
   abbrev pub release_entry : Row → Option (ℕ × X)
   release_entry r = and_then (release_from_key (column r 1) (column r 2)) (λ n. and_then (from r) (λ x. Some (n, x)))
 
-  -- a row that stands beside a release, by its parts
+  -- a row with its release, by its parts
   pub record IsBeside (r : Row) (number : ℕ) (x : X) : Type 0 where
     pub release : release_from_key (column r 1) (column r 2) ≡ Some number
     pub row : from r ≡ Some x

@@ -23,7 +23,7 @@ use Rattle.cpi_sql_rows.specs.Shelf.{IsKept}
 use Rattle.cpi_sql_rows.specs.Read.{AreRead, QueryLeaves}
 use Rattle.cpi_sql_rows.proofs.Asking.{asked_open}
 
--- what was shown is shown still where nothing has changed since
+-- what was shown is still shown if nothing has changed since
 module _ (a b c : State) (same : IsUnchanged b c) where
   writes_then : (what : Option Returning) (command : _) (text : List ℕ) (params : Row) (count : ℕ)
       → Writes a b what command text params count → Writes a c what command text params count
@@ -129,7 +129,7 @@ module _ {S : Type 0} (g : Ghosts S) (sql : List ℕ) (params : Row) (old : Held
 
   module _ (mid : Held S) (survives : Survives (state g old) (state g mid) (CommitsShowing sql params (state g old)))
       (way : HasCleanDisk (state g mid) → (given : List Row) × IsUnderWay mid given) where
-    -- what is left where some rows were read
+    -- the state that is left after some rows were read
     pub way_asked : QueryLeaves sql params (state g old) (state g mid)
     way_asked = record {
       clean = λ clean. let it = way clean.disk in record {

@@ -55,7 +55,7 @@ use Rattle.cpi_sql_rows.specs.Steps.{SameBut}
 use Rattle.cpi_sql_rows.specs.Tables.{office_schema}
 use Rattle.cpi_sql_rows.specs.Texts.{whole_query}
 
--- what is written: a value for the rowid, and the columns behind it, some of which are the key
+-- what is written: a value for the rowid, and the columns after it, some of which are the key
 module _ (places : List ℕ) (first : Value) (columns : Row) where
   -- the row has the key, as SQL compares
   abbrev pub has_key : Row → Bool
@@ -73,7 +73,7 @@ module _ (places : List ℕ) (first : Value) (columns : Row) where
     pub others : (x : Row) → Has new x → (x ≡ id ∷ columns) ⊎ (Has old x × (has_key x ≡ false))
     pub kept : (x : Row) → Has old x → has_key x ≡ false → Has new x
 
-  -- the row stands, and all other tables of the office are as they were
+  -- the row is there, and all other tables of the office are as they were
   pub record IsPutOver (tree : ℕ) (old : Trees) (after : Database) : Type 0 where
     pub schema : after.schema ≡ office_schema
     pub rows : PutsOver (old tree) (after.trees tree)
@@ -82,7 +82,7 @@ module _ (places : List ℕ) (first : Value) (columns : Row) where
 
   module _ {X K : Type 0} {R : K → K → Ordering} (o : IsTotalOrder R) (key : X → K) (entry : Row → Option X)
       (t : Tells R key entry places) where
-    -- where numbers tell the key, the row is put for what it stands for
+    -- if numbers tell the key, the row is put for what it stands for
     pub puts_row : (x : X) → ((id : Value) → IsNamed id → entry (id ∷ columns) ≡ Some x)
         → ((r : Row) (y : X) (e : entry r ≡ Some y) → list_all is_int (t.told r y e).values ≡ true)
         → ((r s : Row) (y z : X) (e : entry r ≡ Some y) (f : entry s ≡ Some z)
@@ -152,7 +152,7 @@ module _ (it : Table) (at : ℕ) (places : List ℕ) (first : Value) (columns pa
           → IsNamed places first columns (Int id)
 
     module _ (u : IsUpsert) where
-      -- an edit that takes out rows of the key alone, and puts in the row and no other
+      -- an edit that takes out only rows of the key, and puts in the row and no other
       module _ (keys : Keys) (db next : Trees) (shaped : HasRowids (db it.tree)) (gone : List ℤ) (from : ℕ)
           (sources : List Row)
           (applied : Applies office_schema keys db (edit_of db (as_plain it) gone Given from sources) next) (id : ℤ)

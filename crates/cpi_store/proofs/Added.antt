@@ -32,7 +32,7 @@ number b = b.number
 abbrev own_assignments : Holder → List Assigned
 own_assignments h = h.own.assignments
 
--- ---- who bears a key, after one was added
+-- ---- whose a key is, after one was added
 
 pub registration_new : (key : ℕ) (b : Registration) (xs ys : List Registration) → eqb b.key key ≡ true →
     registration_of key (xs ++ ys) ≡ None → registration_of key (xs ++ b ∷ ys) ≡ Some b

@@ -155,7 +155,7 @@ unfolding IsStrictlySortedBy
 both_orders [] up sorted = tt
 both_orders (f ∷ xs) up sorted = (strictly f xs up.0 sorted.0, both_orders xs up.1 sorted.1)
 
--- where no series comes twice, quotes by series rise
+-- if no series comes twice, quotes by series rise
 pub by_series_in_order : (rows : List Frozen) → are_by_series frozen_serial (by_series rows) ≡ true →
     IsInOrder series_cmp series (by_series rows)
 by_series_in_order rows h = both_orders (by_series rows) (by_series_never_falls rows) (by_number (by_series rows) h)

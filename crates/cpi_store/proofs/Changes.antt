@@ -76,7 +76,7 @@ sound_given o s = record { in_order = s.assignments; made = s.made; series = s.s
 apart_turned : (a b : ℕ × Given) → AreApart a b → AreApart b a
 apart_turned a b apart same month x y = apart (sym same) month y x
 
--- ---- the last month of a series, among what stands in the slots
+-- ---- the last month of a series, among the rows of the slots
 
 last_least : (s : SeriesId) (m : ℕ) (rows : List (ℕ × Given)) →
     AllByRecursion (λ row. row.1.series ≡ s → row.1.assignment.last_month ≤ m) rows → last_of_series s rows ≤ m
@@ -382,7 +382,7 @@ module _ (rows : List (ℕ × Given)) (quotes : List (ℕ × QuoteRow)) (h : Ser
 
   -- ---- what is found after it
 
-  -- the new slot's, the former slot's, or what stood before in another slot
+  -- it is the new slot's, the former slot's, or another slot's, as it was before
   handed_found : (c k : ℕ) (x : Given) → row_by_number place k (held_by c handed_rows) ≡ Some x →
       (IsTaker c k × (x ≡ given_over h)) ⊎ ((IsFormer c k × (x ≡ h.ended))
       ⊎ ((row_by_number place k (held_by c rows) ≡ Some x) × (IsFormer c k → ⊥)))
@@ -421,7 +421,7 @@ module _ (rows : List (ℕ × Given)) (quotes : List (ℕ × QuoteRow)) (h : Ser
       still_ended h.former.number h.ended.assignment.slot h.ended
       (at_ended_same h.former.number h.ended.assignment.slot h.ended.assignment.last_month rows ∙ found_former)
 
-  -- what stood in the former slot is what it was given; what stood in another stands there still
+  -- the former slot's row is what that slot was given; another slot's row is still there
   stood_before : (c k : ℕ) (x : Given) → row_by_number place k (held_by c rows) ≡ Some x →
       (IsFormer c k × (x ≡ over.former)) ⊎ (row_by_number place k (held_by c handed_rows) ≡ Some x)
   stood_before c k x found = by (eqb_tells c h.former.number) (eqb_tells k h.ended.assignment.slot)
@@ -467,7 +467,7 @@ module _ (rows : List (ℕ × Given)) (quotes : List (ℕ × QuoteRow)) (h : Ser
       }
       by (inr stands) = record { now = x; found = stands; series = refl; item = refl }
 
-  -- whatever is there now comes from what stood before: of that series, item and outlet, and in its months
+  -- each row comes from a row that was there before: it has its series, item and outlet, and its months
   record ComesFrom (x : Given) : Type 0 where
     pub number : ℕ
     pub before : Given

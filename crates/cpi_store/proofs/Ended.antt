@@ -62,7 +62,7 @@ module _ (c slot last_month : ℕ) where
       by true e rest = rw e (ap (λ ys. (n, until last_month a.assignment) ∷ ys) rest)
       by false e rest = rw e (ap (λ ys. (n, a.assignment) ∷ ys) rest)
 
-  -- where no collector has the number, all stay
+  -- if no collector has the number, all stay
   pub all_stay : (hs : List Holder) → AllByRecursion (λ h. eqb h.number c ≡ false) hs →
       map ending (all_assignments hs) ≡ all_assignments hs
   all_stay [] apart = refl

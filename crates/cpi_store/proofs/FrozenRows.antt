@@ -35,7 +35,7 @@ use Rattle.cpi_store.proofs.BySeries.{by_series_in_order, by_series_moved, serie
 use Rattle.cpi_store.proofs.HandedSeries.{collectors_are, ends_at, is_one, names_own, slots_are}
 use Rattle.cpi_store.proofs.Lasts.{IsCovered, last_of_series-covers, same_series-own}
 
--- assignments of one collector, each beside its series
+-- assignments of one collector, each with its series
 abbrev pub given_rows : List TakenOver → ℕ → List Assigned → List (ℕ × Given)
 given_rows taken n rows = map (given_in taken) (map (λ a. (n, a)) (map (λ a. a.assignment) rows))
 
@@ -120,7 +120,7 @@ module _ (month : ℕ) (ends : SeriesEnds) (taken : List TakenOver) (quotes : Li
       ∙ ap (λ ys. own_rows month ends taken h ++ ys)
       (all_holders hs all.1 (back IsEnded (own_given taken h) (all_given taken hs) whole))
 
--- ---- each assignment that has a quote of the month is ended so, where no series has two
+-- ---- each assignment that has a quote of the month is ended so, if no series has two
 
 module _ (month : ℕ) (ends : SeriesEnds) (taken : List TakenOver) (quotes : List (ℕ × QuoteRow))
     (rows : List (ℕ × Assignment)) where
@@ -194,8 +194,8 @@ own_held hs sorted (g ∷ gs) all = (
   own_held hs sorted gs all.1,
 )
 
--- With the last month of each series that a slot took over, the holders' quotes of a month are the stored ones, where
--- no series has two.
+-- With the last month of each series that a slot took over, the holders' quotes of a month are the stored ones, if no
+-- series has two.
 pub month_gathered : (month : ℕ) (ends : SeriesEnds) (taken : List TakenOver) (hs : List Holder) →
     IsInOrder nat_cmp (λ h. h.number) hs → ((s : SeriesId) →
     last_known ends s ≡ last_handed_over taken s (all_given taken hs)) →

@@ -1,5 +1,4 @@
--- The assignments of all collectors, of which one ends sooner or one more is put: their order, and what stands in the
--- slots.
+-- The assignments of all collectors, of which one ends sooner or one more is put: their order, and the row of each slot.
 use Rattle.std.proofs.Common.{◌≡◌, ◌≢◌, ℕ, suc, Bool, true, false, eqb, List, [], ◌∷◌, Some, None, refl, sym, ap, ◌∙◌}
 use Rattle.std.proofs.Common.{arith, inl, inr}
 use Rattle.std.specs.Prelude.{◌⊎◌, ◌==◌, map, option_map, if◌then◌else◌}
@@ -27,9 +26,9 @@ use Rattle.cpi_store.proofs.Slots.{row_held, all_from_found, held_in_order}
 abbrev pub AreInOrder : List (ℕ × Given) → Type 0
 AreInOrder rows = IsInOrder (held_cmp nat_cmp) (held_key (λ (g : Given). g.assignment.slot)) rows
 
--- ---- what a slot was given, where one slot's assignment ends sooner
+-- ---- what a slot was given, if one slot's assignment ends sooner
 
--- what was given to one slot, with this last month where it is this slot
+-- what was given to one slot, with this last month if it is this slot
 abbrev pub ended_given : ℕ → ℕ → Given → Given
 ended_given slot last_month g = if g.assignment.slot == slot then given_until last_month g else g
 
@@ -48,7 +47,7 @@ until_tells n slot last r = by (eqb_tells r.0 n) (eqb_tells r.1.assignment.slot 
     by (inl mine) (inr there) = inr (rw (mine.0, there.0) refl, λ same. there.1 same.1)
     by (inr other) tells = inr (rw other.0 refl, λ same. other.1 same.0)
 
--- of the collector's own, this slot's alone
+-- of the collector's own rows, only this slot's
 pub held_ended_own : (n slot last : ℕ) (rows : List (ℕ × Given)) →
     held_by n (end_given n slot last rows) ≡ map (ended_given slot last) (held_by n rows)
 held_ended_own n slot last [] = refl
@@ -202,7 +201,7 @@ end_standing n slot g rows sorted found = all_fixed (row_until n slot g.assignme
             ended.0 ∙ ap (λ (y : Given). (c, given_until y.assignment.last_month x)) is
         by (inr stays) = stays.0
 
--- ---- what a slot was given, where one is put
+-- ---- what a slot was given, when one is put
 
 pub given_total : IsTotalOrder (held_cmp nat_cmp)
 given_total = held_total nat_cmp_total
@@ -212,14 +211,14 @@ pub put_given_in_order : (n : ℕ) (g : Given) (rows : List (ℕ × Given)) → 
 put_given_in_order n g rows sorted = put_in_order given_total (held_key (λ (g : Given). g.assignment.slot)) rows
     (n, g) sorted
 
--- what was put stands in its slot
+-- what was put is in its slot
 pub at_put_same : (n : ℕ) (g : Given) (rows : List (ℕ × Given)) →
     row_by_number (λ g. g.assignment.slot) g.assignment.slot (held_by n (put_given n g rows)) ≡ Some g
 at_put_same n g rows = ap (row_by_number (λ g. g.assignment.slot) g.assignment.slot)
     (puts_own nat_cmp (λ (g : Given). g.assignment.slot) n g rows)
     ∙ row_at-put_same nat_cmp_total (λ (g : Given). g.assignment.slot) g (held_by n rows)
 
--- what stood in another slot still stands there: the slot where one is put was free
+-- another slot's row is still there: the slot of the new row was free
 pub at_put_found : (n : ℕ) (g : Given) (rows : List (ℕ × Given)) → AreInOrder rows →
     row_by_number (λ g. g.assignment.slot) g.assignment.slot (held_by n rows) ≡ None →
     (c slot : ℕ) (x : Given) → row_by_number (λ g. g.assignment.slot) slot (held_by c rows) ≡ Some x →
@@ -240,7 +239,7 @@ at_put_found n g rows sorted new c slot x found = by (eqb_tells c n)
 
 -- ---- what is found then
 
--- what is found after a row was put into a free slot is that row, or stood there before
+-- what is found after a row was put into a free slot is that row, or was there before
 pub found_put : (n : ℕ) (g : Given) (rows : List (ℕ × Given)) → AreInOrder rows → (c k : ℕ) (x : Given) →
     row_by_number (λ g. g.assignment.slot) k (held_by c (put_given n g rows)) ≡ Some x →
     ((c ≡ n) × (k ≡ g.assignment.slot) × (x ≡ g)) ⊎ (row_by_number (λ g. g.assignment.slot) k (held_by c rows) ≡ Some x)
@@ -273,7 +272,7 @@ found_put n g rows sorted c k x found = by (eqb_tells c n) (eqb_tells g.assignme
     by (inr apart) tells = inr (sym (ap (row_by_number (λ g. g.assignment.slot) k)
         (puts_other nat_cmp (λ (g : Given). g.assignment.slot) c n g rows apart.1)) ∙ found)
 
--- what is found after an assignment was ended is that assignment, or stood there before
+-- what is found after an assignment was ended is that assignment, or was there before
 pub found_ended : (n slot last : ℕ) (rows : List (ℕ × Given)) (c k : ℕ) (x : Given) →
     row_by_number (λ g. g.assignment.slot) k (held_by c (end_given n slot last rows)) ≡ Some x →
     ((c ≡ n) × (k ≡ slot) × (option_map (given_until last)
@@ -312,7 +311,7 @@ found_ended n slot last rows c k x found = by (eqb_tells c n) (eqb_tells k slot)
 
 -- ---- what a hand-over leaves as it is, and what a collector is shown of one
 
--- a hand-over that stands already changes nothing
+-- a handover that was made already changes nothing
 pub handed_standing : (rows : List (ℕ × Given)) (h : SeriesMove) → AreInOrder rows →
     row_by_number (λ g. g.assignment.slot) h.ended.assignment.slot (held_by h.former.number rows) ≡ Some h.ended →
     row_by_number (λ g. g.assignment.slot) h.assigned.assignment.slot (held_by h.taker.number rows) ≡ Some

@@ -17,7 +17,7 @@ use Rattle.cpi_survey.specs.declared.assignment.Assignment.{Assignment}
 use Rattle.cpi_store.specs.declared.taken_over.TakenOver.{TakenOver}
 use Rattle.cpi_store.specs.Holders.{IsGiven}
 
--- two slots are level where they are one
+-- two slots compare equal if they are one
 pub level_slots : (c s n k : ℕ) → is_eq (held_cmp nat_cmp (c, s) (n, k)) ≡ (c == n && s == k)
 level_slots c s n k = sym (tied_then (nat_cmp c n) (nat_cmp s k))
     ∙ ap (λ b. b && is_eq (nat_cmp s k)) (unsigned_tied c n) ∙ ap (λ b. c == n && b) (unsigned_tied s k)
@@ -29,7 +29,7 @@ is_of c slot row = row.0 == c && row.1.slot == slot
 abbrev slot_of : Assignment → ℕ
 slot_of a = a.slot
 
--- a slot is found among its collector's where a row is of it
+-- a slot is found among its collector's if a row is of it
 pub has_slot : (c slot : ℕ) (rows : List (ℕ × Assignment)) →
     is_some (row_by_number (λ a. a.slot) slot (held_by c rows)) ≡ list_any (is_of c slot) rows
 has_slot c slot [] = refl

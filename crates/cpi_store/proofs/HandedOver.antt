@@ -1,4 +1,4 @@
--- The assignments of all, each beside its series, after a series was handed over.
+-- The assignments of all, each with its series, after a series was handed over.
 use Rattle.std.proofs.Common.{◌≡◌, ◌≢◌, ℕ, Bool, true, false, eqb, List, [], ◌∷◌, map, None, refl, sym, ap, ◌∙◌, inl}
 use Rattle.std.proofs.Common.{inr}
 use Rattle.std.specs.Prelude.{◌&&◌, ◌||◌, ◌==◌, ◌⊎◌, IsSome, filter, is_some}
@@ -29,7 +29,7 @@ use Rattle.cpi_store.proofs.HeldRows.{end_given-put}
 abbrev slot_of : Assignment → ℕ
 slot_of a = a.slot
 
--- an assignment that is put names its own series where its slot took none over
+-- an assignment that is put names its own series if its slot took none over
 pub given_put : (taken : List TakenOver) (c : ℕ) (a : Assignment) (rows : List (ℕ × Assignment)) →
     row_at (held_cmp nat_cmp) taken_key (c, a.slot) taken ≡ None →
     map (given_in taken) (with_row (held_cmp nat_cmp) (held_key (λ a. a.slot)) (c, a) rows) ≡ put_given c
@@ -39,7 +39,7 @@ given_put taken c a rows none =
     map-put (held_cmp nat_cmp) (held_key (λ (g : Given). g.assignment.slot)) (given_in taken) (c, a) rows
     ∙ ap (λ (s : SeriesId). put_given c (record { assignment = a; series = s }) (map (given_in taken) rows)) own
 
--- a slot keeps its series where its assignment ends
+-- a slot keeps its series when its assignment ends
 pub given_ended : (taken : List TakenOver) (c slot last_month : ℕ) (rows : List (ℕ × Assignment)) →
     map (given_in taken) (map (assignment_until c slot last_month) rows) ≡ end_given c slot last_month
     (map (given_in taken) rows)
@@ -59,7 +59,7 @@ given_ended taken c slot last_month (r ∷ rows) =
     ) ∷ ys) rest)
     by false e rest = rw e (ap (λ ys. given_in taken r ∷ ys) rest)
 
--- which slots are among the rows stays so where one of them ends
+-- the rows are of the same slots when one of them ends
 pub of_ended : (c slot last_month n s : ℕ) (rows : List (ℕ × Assignment)) →
     list_any (is_of n s) (map (assignment_until c slot last_month) rows) ≡ list_any (is_of n s) rows
 of_ended c slot last_month n s rows = any-map (assignment_until c slot last_month) (is_of n s) (is_of n s) same rows

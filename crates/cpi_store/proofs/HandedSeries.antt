@@ -126,7 +126,7 @@ module _ (month : ℕ) (quotes : List (ℕ × QuoteRow)) (given : List (ℕ × G
       by None all = all
       by (Some x) all = all.1
 
-  -- where no quote is of the series, no assignment is
+  -- if no quote is of the series, no assignment is
   none_more : (f : Frozen) → same_series f.series s ≡ true → (rs : List (ℕ × Assignment)) →
       AllByRecursion (λ g. is_one f g ≡ false) (filter_map stored (map (given_in taken) rs)) →
       AllByRecursion (λ r. is_its r ≡ false) rs
@@ -164,7 +164,7 @@ module _ (month : ℕ) (quotes : List (ℕ × QuoteRow)) (given : List (ℕ × G
   no_ends m [] all = tt
   no_ends m (r ∷ rs) all = ((λ its. let no : false ≡ true = sym all.0 ∙ its in cc), no_ends m rs all.1)
 
-  -- where no series has two quotes, the series has one assignment
+  -- if no series has two quotes, the series has one assignment
   pub ends_at : (m : ℕ) (rs : List (ℕ × Assignment)) → last_of_series s (map (given_in taken) rs) ≡ m →
       IsDistinct is_one (filter_map stored (map (given_in taken) rs)) → AllByRecursion (EndsAt m) rs
   unfolding IsDistinct

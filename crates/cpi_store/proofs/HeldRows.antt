@@ -1,4 +1,4 @@
--- A collector's slot among the rows of all, and what becomes of its row where it gets another last month.
+-- A collector's slot among the rows of all, and its row after it gets another last month.
 use Rattle.std.proofs.Common.{◌≡◌, ◌≢◌, ℕ, Bool, true, false, eqb, List, [], ◌∷◌, ◌++◌, map, Some, refl, sym, ap, ◌∙◌}
 use Rattle.std.proofs.Common.{inl, inr}
 use Rattle.std.specs.Prelude.{◌&&◌, ◌==◌, ◌⊎◌, filter, if◌then◌else◌, option_map}
@@ -79,7 +79,7 @@ module _ (c slot last_month : ℕ) where
       by true e rest = rw (e, apart r e) (ap (λ ys. r ∷ ys) rest)
       by false e rest = rw e rest
 
-  -- Where the slot stands among rows in order, its row with the other last month is put in its place.
+  -- If the slot is among rows in order, its row with the other last month is put in its place.
   pub end_given-is_put : (g : Given) (rows : List (ℕ × Given)) →
       IsInOrder (held_cmp nat_cmp) (held_key slot_of) rows →
       row_by_number (λ g. g.assignment.slot) slot (held_by c rows) ≡ Some g →

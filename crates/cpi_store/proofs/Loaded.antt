@@ -69,7 +69,7 @@ module _ {X K : Type 0} (cmp : K → K → Ordering) (key : X → K) (c : ℕ) w
   own_sorted [] sorted = tt
   own_sorted (x ∷ own) sorted = (own_above x own sorted.0, own_sorted own sorted.1)
 
-  -- the rows of one collector are in order where they stand among all
+  -- the rows of one collector are in order among all
   pub own_in_order : (rows : List (ℕ × X)) (from n : ℕ) (own : List X)
       → IsInOrder (held_cmp cmp) (held_key key) rows → rows_with_number c own ≡ take n (drop from rows)
       → IsInOrder cmp key own
@@ -96,7 +96,7 @@ module _ (us : List Outlet) where
   named_in_order [] sorted = tt
   named_in_order (g ∷ gs) sorted = (named_above g.assignment.slot gs sorted.0, named_in_order gs sorted.1)
 
-  -- who has a name keeps it
+  -- an assignment that has its name keeps it
   named_again : (gs : List Given) → map (with_name us) (map (λ a. a.assignment) (named gs)) ≡ named gs
   named_again [] = refl
   named_again (g ∷ gs) = ap (λ xs. with_name us g.assignment ∷ xs) (named_again gs)
@@ -154,14 +154,14 @@ module _ (us : List Outlet) (bs : List Registration) (gs : List (ℕ × Given)) 
     placed = rw lists (all_behind (AllByRecursion (HasOutlet us)) (lists_of hs) own.assignments have.placed placed);
   }
 
--- ---- who bears a key
+-- ---- whose a key is
 
--- what a call ensures of its answer, where the answer was taken
+-- what a call ensures of its answer, once the answer is taken
 pub ok_found : {T E : Type 0} (P : T → Type 0) (r : Result T E) (x : T) → Some x ≡ result_ok r → IfOk r P → P x
 ok_found P (Ok y) x e h = let same : x ≡ y = cc in subst P (sym same) h
 ok_found P (Err y) x e h = let no : Some x ≡ None = e in cc
 
--- who bears a key, after one was put behind the others
+-- whose a key is, after one was put after the others
 pub registration_behind : (b : Registration) (bs : List Registration) → registration_of b.key bs ≡ None
     → (key : ℕ) (before after : Option Registration) → before ≡ registration_of key bs
     → after ≡ cond (is_eq (nat_cmp b.key key)) (Some b) before → after ≡ registration_of key (bs ++ b ∷ [])

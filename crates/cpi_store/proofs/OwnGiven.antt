@@ -21,7 +21,7 @@ slot_of g = g.assignment.slot
 abbrev own_slot : Assignment → ℕ
 own_slot a = a.slot
 
--- where no assignment of a slot is found, nothing was given to it
+-- if no assignment of a slot is found, nothing was given to it
 pub nothing_found : (us : List Outlet) (slot : ℕ) (gs : List Given) →
     None ≡ row_by_number (λ a. a.assignment.slot) slot (map (with_name us) (map (λ g. g.assignment) gs)) →
     None ≡ row_by_number (λ g. g.assignment.slot) slot gs
@@ -38,7 +38,7 @@ module _ (taken : List TakenOver) (c : ℕ) where
   abbrev named : Assignment → Given
   named a = record { assignment = a; series = series_named_in taken c a.slot }
 
-  -- a collector's rows among all, each beside its series, are the collector's
+  -- a collector's rows among all, each with its series, are the collector's
   held_given : (rows : List (ℕ × Assignment)) → held_by c (map (given_in taken) rows) ≡ map named (held_by c rows)
   held_given [] = refl
   held_given (r ∷ rows) = by (eqb_tells r.0 c) (held_given rows)
@@ -57,7 +57,7 @@ module _ (taken : List TakenOver) (c : ℕ) where
       map (λ g. g.assignment) (held_by c (map (given_in taken) rows)) ≡ held_by c rows
   assignments_held rows = ap (map (λ (g : Given). g.assignment)) (held_given rows) ∙ bare (held_by c rows)
 
-  -- what a slot was given is its assignment, beside its series
+  -- what a slot was given is its assignment, with its series
   pub at_given : (slot : ℕ) (rows : List (ℕ × Assignment)) →
       row_by_number (λ g. g.assignment.slot) slot (held_by c (map (given_in taken) rows)) ≡ option_map
       (λ a. record { assignment = a; series = series_named_in taken c slot })
@@ -125,7 +125,7 @@ module _ (taken : List TakenOver) (c : ℕ) where
       by None e h = absurd (false≢true (rw e at h))
       by (Some a) e h = rw e refl
 
--- where something is made of what was found, something was found
+-- if something is made of what was found, something was found
 pub some_mapped : {X Y : Type 0} (f : X → Y) (y : Y) (found : Option X) → option_map f found ≡ Some y → IsSome found
 some_mapped f y None e = let no : None ≡ Some y = e in cc
 some_mapped f y (Some x) e = refl

@@ -1,5 +1,5 @@
--- Quotes that are put in the order of their series: they are in order where no series comes twice, and the first quote
--- of each series stays its first.
+-- Quotes that are put in the order of their series: they are in order if no series comes twice, and the first quote of
+-- each series stays its first.
 use Rattle.std.proofs.Common.{◌≡◌, ◌≢◌, Bool, true, false, List, [], ◌∷◌, refl, sym, ap, ◌∙◌}
 use Rattle.std.specs.declared.cmp.Ordering.{Ordering}
 use Rattle.std.specs.declared.cmp.Ordering.TheVariants.{Less, Equal, Greater}

@@ -1,4 +1,4 @@
--- Rows of many holders by what stands in each slot: what holds of each row, and of whatever two.
+-- Rows of many holders by slot: what holds of each row, and of any two.
 use Rattle.std.proofs.Common.{◌≡◌, ◌≢◌, ℕ, Bool, true, false, eqb, List, [], ◌∷◌, Some, None, refl, sym, ap, ◌∙◌, subst}
 use Rattle.std.proofs.Common.{inl, inr}
 use Rattle.std.specs.Prelude.{◌⊎◌}
@@ -14,7 +14,7 @@ use Rattle.cpi_rows.specs.Held.{held_by, held_cmp, held_key}
 use Rattle.cpi_store.specs.Sound.{AllPairs}
 
 module _ {X K : Type 0} (cmp : K → K → Ordering) (key : X → K) where
-  -- what is found is the first row, or is found behind it
+  -- what is found is the first row, or is found after it
   pub found_more : (c : ℕ) (k : K) (x : X) (r : ℕ × X) (rows : List (ℕ × X)) →
       row_at cmp key k (held_by c (r ∷ rows)) ≡ Some x → ((r.0 ≡ c) × (r.1 ≡ x))
       ⊎ (row_at cmp key k (held_by c rows) ≡ Some x)

@@ -59,7 +59,7 @@ module _ (month : ℕ) (series : SeriesId) (o : Office) where
       by None e = rw e refl
       by (Some q) e = rw (e, series_differ r.1.series series other) refl
 
-  -- where the series has its assignment, it has no other
+  -- if the series has its assignment, it has no other
   no_other : (r : ℕ × Given) (rows : List (ℕ × Given)) → r.1.series ≡ series → is_active month r.1.assignment ≡ true →
       AllByRecursion (AreApart r) rows → assignment_in month series rows ≡ None
   no_other r [] same active apart = refl
