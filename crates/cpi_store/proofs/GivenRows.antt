@@ -1,4 +1,5 @@
--- The assignments of all collectors, of which one ends sooner or one more is put: their order, and the row of each slot.
+-- The assignments of all collectors, of which one ends sooner or one more is put: their order, and the row of each
+-- slot.
 use Rattle.std.proofs.Common.{◌≡◌, ◌≢◌, ℕ, suc, Bool, true, false, eqb, List, [], ◌∷◌, Some, None, refl, sym, ap, ◌∙◌}
 use Rattle.std.proofs.Common.{arith, inl, inr}
 use Rattle.std.specs.Prelude.{◌⊎◌, ◌==◌, map, option_map, if◌then◌else◌}
