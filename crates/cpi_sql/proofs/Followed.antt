@@ -63,11 +63,11 @@ tables_of s c sound clean = (sound clean).tables
 
 -- a write that failed left the rows as they were
 pub kept_sound : {change : Change} {fits : Office → Type 0} {A E F : Type 0} {f : F} {n m : ℕ} {put : Result A E}
-    → (old new : State) (c : Caches) → Written change fits old new with_row → IsCounted {F = F} with_row (Err f) n m
+    → (old new : State) (c : Caches) → Written change fits old new put → IsCounted {F = F} put (Err f) n m
     → AreCachesSound old c → AreCachesSound new c
-kept_sound {put = with_row} old new c written counted sound = λ clean.
+kept_sound {put = put} old new c written counted sound = λ clean.
     let before = sound (written.clean clean) in
-    let same = on_err with_row counted (written.kept clean before.tables) in
+    let same = on_err put counted (written.kept clean before.tables) in
     record {
       tables = kept_tables old new same before.tables;
       kept = subst (λ (d : Database). AreOf d.trees c) (sym same.now) before.kept;
@@ -152,8 +152,8 @@ module _ (old new : Trees) (r : Release) (none : IsNewRevision r (office_in old)
   }
 
 module _ {change : Change} {fits : Office → Type 0} {A E F : Type 0} {u : A} {n m : ℕ} {put : Result A E}
-    (old new : State) (c : Caches) (written : Written change fits old new with_row)
-    (counted : IsCounted {F = F} with_row (Ok u) n m) (owed : IsCleanBook old → fits (office_in old.now.trees))
+    (old new : State) (c : Caches) (written : Written change fits old new put)
+    (counted : IsCounted {F = F} put (Ok u) n m) (owed : IsCleanBook old → fits (office_in old.now.trees))
     (sound : AreCachesSound old c) where
   -- a write of the survey: what is kept of it has the row too, or counts as not read; the samples are dropped
   pub survey_sound : (is_read : Bool) (survey : Office)
@@ -164,7 +164,7 @@ module _ {change : Change} {fits : Office → Type 0} {A E F : Type 0} {u : A} {
   survey_sound is_read survey passes still follows = λ clean.
       let was = written.clean clean in
       let st = sound was in
-      let done : IsDone change old new = on_ok with_row counted (written.done clean st.tables (owed was)) in
+      let done : IsDone change old new = on_ok put counted (written.done clean st.tables (owed was)) in
       let same : releases_in new.now.trees ≡ releases_in old.now.trees =
       ap (λ (o : Office). o.releases) done.made.office ∙ still (office_in old.now.trees) in
       record {
@@ -186,21 +186,20 @@ module _ {change : Change} {fits : Office → Type 0} {A E F : Type 0} {u : A} {
       }
 
 -- a release: the headers are read again when they are asked for, and its lists are kept
-pub release_sound : {A E F : Type 0} {u : A} {n m : ℕ} {put : Result A E} (r : Release) (old new : State)
-    (c : Caches)
-    → Written (Freezes r) (IsNewRevision r) old new with_row → IsCounted {F = F} with_row (Ok u) n m
+pub release_sound : {A E F : Type 0} {u : A} {n m : ℕ} {put : Result A E} (r : Release) (old new : State) (c : Caches)
+    → Written (Freezes r) (IsNewRevision r) old new put → IsCounted {F = F} put (Ok u) n m
     → (IsCleanBook old → IsNewRevision r (office_in old.now.trees))
-    → (IsCleanBook new → HasTables old → IsNewRevision r (office_in old.now.trees) → OnOk with_row
-    (ListsStand r new.now.trees))
+    → (IsCleanBook new → HasTables old → IsNewRevision r (office_in old.now.trees)
+        → OnOk put (ListsStand r new.now.trees))
     → AreCachesSound old c → (headers : List Header) (lists : CachedLists)
     → ((trees : Trees) → AreListsCached trees c.lists → IsThere trees r → AreListsCached trees lists)
     → AreCachesSound new (record c { has_headers = false; headers = headers; lists = lists; samples = None })
-release_sound {put = with_row} r old new c written counted owed stands sound headers lists follows = λ clean.
+release_sound {put = put} r old new c written counted owed stands sound headers lists follows = λ clean.
     let was = written.clean clean in
     let st = sound was in
     let none = owed was in
-    let done : IsDone (Freezes r) old new = on_ok with_row counted (written.done clean st.tables none) in
-    let stand : ListsStand r new.now.trees = on_ok with_row counted (stands clean st.tables none) in
+    let done : IsDone (Freezes r) old new = on_ok put counted (written.done clean st.tables none) in
+    let stand : ListsStand r new.now.trees = on_ok put counted (stands clean st.tables none) in
     let put_in = ap (λ (o : Office). o.releases) done.made.office in
     let still = put_still old.now.trees new.now.trees r none put_in in
     let there = put_there old.now.trees new.now.trees r none put_in stand in record {
