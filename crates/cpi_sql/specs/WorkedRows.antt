@@ -15,9 +15,9 @@ use Rattle.cpi_sql_rows.specs.Lists.{frozen_in, carried_in_row, level_in_row}
 
 -- ---- values. A row is its rowid, and then its columns; where the key is the rowid, its column is NULL
 
--- a number as a value
-abbrev pub worked_number : ℕ → Value
-worked_number n = Int (pos n)
+-- a value that is this number
+abbrev pub cell : ℕ → Value
+cell n = Int (pos n)
 
 -- a text as a value
 abbrev pub word : List ℕ → Value
@@ -44,8 +44,7 @@ flours = record { division = 1; group = Some 1; class = Some 1; subclass = Some 
 -- a row of an item with these tolerances
 abbrev pub item_row : ℕ → ℕ → Row
 item_row low high =
-    worked_number 1 ∷ word (codes "RICE") ∷ word (codes "Rice, white") ∷ word (codes "1 kg") ∷ worked_number low ∷
-    worked_number high ∷ []
+    cell 1 ∷ word (codes "RICE") ∷ word (codes "Rice, white") ∷ word (codes "1 kg") ∷ cell low ∷ cell high ∷ []
 
 -- which rows are items
 abbrev pub Items : Type 0
@@ -65,7 +64,7 @@ Items =
 -- a row of the calendar with these moments
 abbrev pub worked_calendar_row : ℕ → ℕ → ℕ → ℕ → Row
 worked_calendar_row month opens closes publishes =
-    worked_number month ∷ Null ∷ worked_number opens ∷ worked_number closes ∷ worked_number publishes ∷ []
+    cell month ∷ Null ∷ cell opens ∷ cell closes ∷ cell publishes ∷ []
 
 -- which rows are of the calendar
 abbrev pub Calendar : Type 0
@@ -85,8 +84,7 @@ Calendar =
 -- a row of a quote with this mark, value and receipt
 abbrev pub quote_with : List ℕ → ℕ → ℕ → Row
 quote_with mark value receipt =
-    worked_number 5 ∷ worked_number 7 ∷ worked_number 4 ∷ worked_number 202512 ∷ word mark ∷ worked_number value ∷
-    worked_number receipt ∷ []
+    cell 5 ∷ cell 7 ∷ cell 4 ∷ cell 202512 ∷ word mark ∷ cell value ∷ cell receipt ∷ []
 
 -- a row of a quote with this mark and value
 abbrev pub quote_row : List ℕ → ℕ → Row
@@ -119,9 +117,8 @@ Receipts =
 -- a row of an assignment with this series and copied price
 abbrev pub assignment_row : ℕ → ℕ → ℕ → Value → Row
 assignment_row slot series_collector series_slot copied =
-    worked_number 5 ∷ worked_number 7 ∷ worked_number slot ∷ worked_number 10 ∷ word (codes "RICE") ∷ worked_number
-    202512 ∷ worked_number 202612
-    ∷ worked_number series_collector ∷ worked_number series_slot ∷ copied ∷ []
+    cell 5 ∷ cell 7 ∷ cell slot ∷ cell 10 ∷ word (codes "RICE") ∷ cell 202512 ∷ cell 202612
+    ∷ cell series_collector ∷ cell series_slot ∷ copied ∷ []
 
 -- what a slot was given with this series and copied price
 abbrev pub given_with : SeriesId → Option ℕ → Given
@@ -143,21 +140,20 @@ Assignments =
     (assignment_in_row (assignment_row 400 7 400 Null)
     ≡ Some (7, given_with (record { collector = 7; slot = 400 }) None))
     × (assignment_in_row (assignment_row 400 9 2 Null) ≡ Some (7, given_with (record { collector = 9; slot = 2 }) None))
-    × (assignment_in_row (assignment_row 400 9 2 (worked_number 1250))
+    × (assignment_in_row (assignment_row 400 9 2 (cell 1250))
     ≡ Some (7, given_with (record { collector = 9; slot = 2 }) (Some 1250)))
     × (assignment_in_row (assignment_row 401 7 401 Null) ≡ None)
     × (assignment_in_row (assignment_row 400 10000 2 Null) ≡ None)
     × (assignment_in_row (assignment_row 400 9 401 Null) ≡ None)
-    × (assignment_in_row (assignment_row 400 9 2 (worked_number 0)) ≡ None)
-    × (assignment_in_row (assignment_row 400 9 2 (worked_number 100000001)) ≡ None)
+    × (assignment_in_row (assignment_row 400 9 2 (cell 0)) ≡ None)
+    × (assignment_in_row (assignment_row 400 9 2 (cell 100000001)) ≡ None)
     × (assignment_in_row (assignment_row 400 9 2 (word (codes "1250"))) ≡ None)
 
 -- ---- nodes
 
 -- a row of a node with this code
 abbrev pub node_row : List ℕ → Row
-node_row code = worked_number 5 ∷ worked_number 2026 ∷ word code ∷ word (codes "Rice, packed") ∷ worked_number
-    600000 ∷ []
+node_row code = cell 5 ∷ cell 2026 ∷ word code ∷ word (codes "Rice, packed") ∷ cell 600000 ∷ []
 
 -- which rows are nodes
 abbrev pub Nodes : Type 0
@@ -170,8 +166,7 @@ Nodes =
 
 -- a row of a header with these aggregates that may be carried
 abbrev pub header_row : List ℕ → Row
-header_row carry = worked_number 5 ∷ worked_number 202601 ∷ worked_number 2 ∷ worked_number 2000 ∷ worked_number 3000 ∷
-    word carry ∷ []
+header_row carry = cell 5 ∷ cell 202601 ∷ cell 2 ∷ cell 2000 ∷ cell 3000 ∷ word carry ∷ []
 
 -- which rows are headers
 abbrev pub Headers : Type 0
@@ -191,9 +186,8 @@ Headers =
 -- a row of a frozen quote with this revision
 abbrev pub worked_frozen_row : ℕ → Row
 worked_frozen_row last =
-    worked_number 5 ∷ worked_number 202601 ∷ worked_number 2 ∷ worked_number 7 ∷ worked_number 1 ∷ word (codes "RICE") ∷
-    worked_number last ∷ word (codes "price")
-    ∷ worked_number 210 ∷ []
+    cell 5 ∷ cell 202601 ∷ cell 2 ∷ cell 7 ∷ cell 1 ∷ word (codes "RICE") ∷ cell last ∷ word (codes "price")
+    ∷ cell 210 ∷ []
 
 -- which rows are frozen quotes
 abbrev pub FrozenQuotes : Type 0
@@ -212,9 +206,8 @@ FrozenQuotes =
 -- observed as a replacement, at 3,040,000 ticks for 400
 abbrev pub worked_carried_row : ℕ → Row
 worked_carried_row imputed =
-    worked_number 5 ∷ worked_number 202603 ∷ worked_number 1 ∷ worked_number 7 ∷ worked_number 2 ∷ word (codes "RICE") ∷
-    worked_number 202612 ∷ worked_number 3040000
-    ∷ worked_number 3040000 ∷ worked_number 400 ∷ worked_number 1 ∷ worked_number imputed ∷ []
+    cell 5 ∷ cell 202603 ∷ cell 1 ∷ cell 7 ∷ cell 2 ∷ word (codes "RICE") ∷ cell 202612 ∷ cell 3040000
+    ∷ cell 3040000 ∷ cell 400 ∷ cell 1 ∷ cell imputed ∷ []
 
 -- the carried price of the row
 abbrev pub worked_carried_price : Carried
@@ -240,9 +233,8 @@ CarriedPrices =
 -- month before
 abbrev pub worked_row : List ℕ → ℕ → Value → ℕ → Row
 worked_row code weight year_change imputed =
-    worked_number 5 ∷ worked_number 202601 ∷ worked_number 2 ∷ word code ∷ word (codes "Flour, wheat") ∷
-    worked_number weight
-    ∷ worked_number 98000000 ∷ worked_number 98000000 ∷ Int (negsuc 19) ∷ year_change ∷ worked_number imputed ∷ []
+    cell 5 ∷ cell 202601 ∷ cell 2 ∷ word code ∷ word (codes "Flour, wheat") ∷ cell weight
+    ∷ cell 98000000 ∷ cell 98000000 ∷ Int (negsuc 19) ∷ year_change ∷ cell imputed ∷ []
 
 -- the row of the elementary aggregate of flour
 abbrev pub worked_level_row : ℕ → Value → ℕ → Row
@@ -269,7 +261,7 @@ worked_level = level_of flour
 abbrev pub Levels : Type 0
 Levels =
     (level_in_row (worked_level_row 400000 Null 0) ≡ Some (3122, worked_level 400000 None))
-    × (level_in_row (worked_level_row 400000 (worked_number 35) 0) ≡ Some (3122, worked_level 400000 (Some (pos 35))))
+    × (level_in_row (worked_level_row 400000 (cell 35) 0) ≡ Some (3122, worked_level 400000 (Some (pos 35))))
     × (level_in_row (worked_level_row 400000 (Int (negsuc 19)) 0) ≡ Some (3122, worked_level 400000 (Some (negsuc 19))))
     × (level_in_row (worked_level_row 400000 (word (codes "0")) 0) ≡ None)
     × (level_in_row (worked_level_row 400000 Null 2) ≡ None)
