@@ -9,6 +9,7 @@ use Rattle.std.proofs.lemmas.Cmp.{nat_cmp_total}
 use Rattle.sqlite.specs.declared.types.Value.{Value}
 use Rattle.sqlite.specs.declared.types.Value.TheVariants.{Int}
 use Rattle.sqlite.specs.Order.{Row, column}
+use Rattle.cpi_codes.specs.declared.limits.TheConstants.{LAST_MOMENT}
 use Rattle.cpi_plan.specs.Calendar.{CalendarPart}
 use Rattle.cpi_sql_rows.specs.Lists.{calendar_in, number_within, month_from, month_at, in_turn}
 use Rattle.cpi_sql_rows.proofs.Listed.{PutsRow}
@@ -31,9 +32,9 @@ turn_month m o c p x e = at _ e
 month_in : (r : Row) (x : CalendarPart) → calendar_in r ≡ Some x → HasMonth (column r 0) x.month
 month_in r x e =
     let one = bound_is (month_from (column r 0)) _ _ e in
-    let two = bound_is (number_within 0 9999999999 (column r 2)) _ _ one.2 in
-    let three = bound_is (number_within 0 9999999999 (column r 3)) _ _ two.2 in
-    let four = bound_is (number_within 0 9999999999 (column r 4)) _ _ three.2 in
+    let two = bound_is (number_within 0 LAST_MOMENT (column r 2)) _ _ one.2 in
+    let three = bound_is (number_within 0 LAST_MOMENT (column r 3)) _ _ two.2 in
+    let four = bound_is (number_within 0 LAST_MOMENT (column r 4)) _ _ three.2 in
     month_of (column r 0) x.month (one.1 ∙ ap Some (turn_month one.0 two.0 three.0 four.0 x four.2))
 
 abbrev pub day_key : CalendarPart → ℕ

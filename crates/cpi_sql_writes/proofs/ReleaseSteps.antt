@@ -10,8 +10,10 @@ use Rattle.sqlite.specs.Order.{Row}
 use Rattle.sqlite.specs.State.{State}
 use Rattle.cpi_codes.specs.CodeOf.{spelled_code}
 use Rattle.cpi_codes.specs.ItemCode.{item_code_of}
+use Rattle.cpi_codes.specs.declared.limits.TheConstants.{GREATEST_PRICE, LAST_MOMENT}
 use Rattle.cpi_index.specs.Frozen.{Frozen}
 use Rattle.cpi_index.specs.Carried.{Carried}
+use Rattle.cpi_index.specs.declared.limits.TheConstants.{MOST_INDEX, MOST_LEVEL, MOST_TICKS}
 use Rattle.cpi_release.specs.declared.level.Level.{Level}
 use Rattle.cpi_sql_rows.specs.declared.release_rows.Header.{Header}
 use Rattle.cpi_sql_rows.specs.Tables.{table_of_releases_2, table_of_frozen_2, table_of_carried_2, table_of_levels_2}
@@ -47,8 +49,8 @@ bound_annual (Some z) = refl
 -- what the columns of a row stand for
 module _ (m v : ℕ) where
   pub frozen_columns : (c s : ℕ) (i : List ℕ) (l : ℕ) (k : List ℕ) (w : ℕ) (x : Frozen)
-      → number_within 1 9999 (Int (pos c)) ≡ Some x.series.collector → number_within 1 400 (Int (pos s)) ≡ Some
-      x.series.slot
+      → number_within 1 9999 (Int (pos c)) ≡ Some x.series.collector
+      → number_within 1 400 (Int (pos s)) ≡ Some x.series.slot
       → item_code_of i ≡ Some x.item → month_at l ≡ Some x.last_month → mark_from k w ≡ Some x.mark
       → AreColumns table_of_frozen_2 frozen_in (IsReleaseNumber m v) x (Int (pos m) ∷ Int (pos v) ∷ Int (pos c)
       ∷ Int (pos s) ∷ Text i ∷ Int (pos l) ∷ Text k ∷ Int (pos w) ∷ [])
@@ -59,12 +61,11 @@ module _ (m v : ℕ) where
   }
 
   pub carried_columns : (c s : ℕ) (i : List ℕ) (l t n d o u : ℕ) (x : Carried)
-      → number_within 1 9999 (Int (pos c)) ≡ Some x.series.collector → number_within 1 400 (Int (pos s)) ≡ Some
-      x.series.slot
+      → number_within 1 9999 (Int (pos c)) ≡ Some x.series.collector
+      → number_within 1 400 (Int (pos s)) ≡ Some x.series.slot
       → item_code_of i ≡ Some x.item → month_at l ≡ Some x.last_month
-      → number_within 1 1000000000000000 (Int (pos t)) ≡ Some x.ticks → number_within 1 1000000000000000 (Int (pos n)) ≡
-      Some x.knum
-      → number_within 1 100000000 (Int (pos d)) ≡ Some x.kden → flag_in_value (Int (pos o)) ≡ Some x.observed
+      → number_within 1 MOST_TICKS (Int (pos t)) ≡ Some x.ticks → number_within 1 MOST_TICKS (Int (pos n)) ≡ Some x.knum
+      → number_within 1 GREATEST_PRICE (Int (pos d)) ≡ Some x.kden → flag_in_value (Int (pos o)) ≡ Some x.observed
       → flag_in_value (Int (pos u)) ≡ Some x.imputed
       → AreColumns table_of_carried_2 carried_in_row (IsReleaseNumber m v) x (Int (pos m) ∷ Int (pos v) ∷ Int (pos c)
       ∷ Int (pos s) ∷ Text i ∷ Int (pos l) ∷ Int (pos t) ∷ Int (pos n) ∷ Int (pos d) ∷ Int (pos o) ∷ Int (pos u) ∷ [])
@@ -76,9 +77,9 @@ module _ (m v : ℕ) where
 
   pub level_columns : (c t : List ℕ) (u : ℕ) (x : Level) → spelled_code c ≡ Some x.code → name_of t ≡ Some x.title
       → weight_from x.code (Int (pos x.weight)) ≡ Some x.weight
-      → number_within 1 10000000000000 (Int (pos x.within)) ≡ Some x.within
-      → number_within 1 1000000000000000 (Int (pos x.chained)) ≡ Some x.chained → flag_in_value (Int (pos u)) ≡ Some
-      x.imputed
+      → number_within 1 MOST_INDEX (Int (pos x.within)) ≡ Some x.within
+      → number_within 1 MOST_LEVEL (Int (pos x.chained)) ≡ Some x.chained
+      → flag_in_value (Int (pos u)) ≡ Some x.imputed
       → AreColumns table_of_levels_2 level_in_row (IsReleaseNumber m v) x (Int (pos m) ∷ Int (pos v) ∷ Text c ∷ Text t
       ∷ Int (pos x.weight) ∷ Int (pos x.within) ∷ Int (pos x.chained) ∷ Int x.month_change
       ∷ annual x.year_change ∷ Int (pos u) ∷ [])
@@ -107,8 +108,8 @@ module _ {A E : Type 0} (old new : State) (result : Result A E) (m v : ℕ) wher
   level_dropped ran = drops_rows table_of_levels_2 18 refl drop_level_text key old new result ran is_release
       (is_of_release m v) drop_level_is (λ r. release_tested r m v) (λ db. refl)
 
-  pub header_added : (c : List ℕ) (h : Header) → number_within 0 9999999999 (Int (pos h.frozen_at)) ≡ Some h.frozen_at
-      → number_within 0 9999999999 (Int (pos h.publishes)) ≡ Some h.publishes → spelled_codes c ≡ Some h.carry
+  pub header_added : (c : List ℕ) (h : Header) → number_within 0 LAST_MOMENT (Int (pos h.frozen_at)) ≡ Some h.frozen_at
+      → number_within 0 LAST_MOMENT (Int (pos h.publishes)) ≡ Some h.publishes → spelled_codes c ≡ Some h.carry
       → Within old new result (RanStatement add_header_text
       (key ++ Int (pos h.frozen_at) ∷ Int (pos h.publishes) ∷ Text c ∷ []))
       → Within old new result (PutsHeader m v h)

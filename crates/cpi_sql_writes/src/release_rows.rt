@@ -3,7 +3,9 @@ ghost use Rattle.std.specs.Prelude.{◌≡◌};
 ghost use Rattle.sqlite_value.specs.Value.{owned};
 ghost use Rattle.cpi_codes.specs.CodeOf.{spelled_code};
 ghost use Rattle.cpi_codes.specs.ItemCode.{item_code_of};
+ghost use Rattle.cpi_codes.specs.declared.limits.TheConstants.{GREATEST_PRICE};
 ghost use Rattle.cpi_index.specs.Carried.{IsTicks};
+ghost use Rattle.cpi_index.specs.declared.limits.TheConstants.{MOST_INDEX, MOST_LEVEL, MOST_TICKS};
 ghost use Rattle.cpi_sql_rows.specs.Common.{IfOk, Int, OnOk, pos, Some, string_bytes};
 ghost use Rattle.cpi_sql_rows.specs.Lists.{carried_in_row, flag_in_value, frozen_in, level_in_row, number_within};
 ghost use Rattle.cpi_sql_rows.specs.Lists.{weight_from};
@@ -103,13 +105,13 @@ impl HeldRow for FrozenQuote {
 fn ticks_value(ticks: u64) -> ValueRef<'static>
     requires { IsTicks ticks }
     ensures value { owned result ≡ Int (pos ticks) }
-    ensures range { number_within 1 1000000000000000 (Int (pos ticks)) ≡ Some ticks }
+    ensures range { number_within 1 MOST_TICKS (Int (pos ticks)) ≡ Some ticks }
 {
     ValueRef::Int(ticks as i64)
 }
 
 fn denominator(price: &CarriedPrice) -> u32
-    ensures { number_within 1 100000000 (Int (pos result)) ≡ Some price.now.kden }
+    ensures { number_within 1 GREATEST_PRICE (Int (pos result)) ≡ Some price.now.kden }
 {
     price.kden()
 }
@@ -182,14 +184,14 @@ impl HeldRow for CarriedPrice {
 
 fn index_value(index: Index) -> ValueRef<'static>
     ensures value { owned result ≡ Int (pos index) }
-    ensures range { number_within 1 10000000000000 (Int (pos index)) ≡ Some index }
+    ensures range { number_within 1 MOST_INDEX (Int (pos index)) ≡ Some index }
 {
     ValueRef::Int(index.millionths() as i64)
 }
 
 fn chained_value(level: ChainedLevel) -> ValueRef<'static>
     ensures value { owned result ≡ Int (pos level) }
-    ensures range { number_within 1 1000000000000000 (Int (pos level)) ≡ Some level }
+    ensures range { number_within 1 MOST_LEVEL (Int (pos level)) ≡ Some level }
 {
     ValueRef::Int(level.millionths() as i64)
 }

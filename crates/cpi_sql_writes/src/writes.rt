@@ -1,5 +1,6 @@
 //! The statements that put one row.
 ghost use Rattle.std.specs.Prelude.{◌≡◌};
+ghost use Rattle.cpi_codes.specs.declared.limits.TheConstants.{LAST_MOMENT};
 ghost use Rattle.cpi_store.specs.Office.{Assigns, PutsCalendar, PutsItem, PutsOutlet, Quotes, Registers};
 ghost use Rattle.cpi_sql_rows.specs.Common.{⊤, row_by_number, bound, false, HasCleanDisk, IfOk, Int, IsTrue, None};
 ghost use Rattle.cpi_sql_rows.specs.Common.{OnOk};
@@ -170,7 +171,7 @@ pub fn put_quote<S: Alter>(
 
 // Does nothing: it is called for the proof, which learns that the moment is within the range of its column.
 fn know_moment(moment: Moment)
-    ensures { number_within 0 9999999999 (Int (pos moment)) ≡ Some moment }
+    ensures { number_within 0 LAST_MOMENT (Int (pos moment)) ≡ Some moment }
 {
     let _value = moment_value(moment);
 }
