@@ -1,4 +1,4 @@
--- What is kept in memory after a look and after a write.
+-- The caches after a look and after a write.
 use Rattle.std.proofs.Common.{◌≡◌, ℕ, Bool, false, None, Option, Result, Ok, Err, IsTrue, List, [], ◌∷◌, inl, inr, map}
 use Rattle.std.proofs.Common.{Some, ap, subst, sym, ◌∙◌}
 use Rattle.std.specs.Prelude.{OnOk}
@@ -34,7 +34,7 @@ use Rattle.cpi_sql.proofs.Counted.{on_err, on_ok}
 
 -- ---- looks
 
--- a look leaves what is kept as sound as before, where what it read are the tables' rows
+-- a look leaves the caches as sound as before, if it read the rows of the tables
 pub look_sound : (old new : State) (c after : Caches) → IsLook old new → AreCachesSound old c
     → (IsCleanBook new → Stands old c → AreOf old.now.trees after) → AreCachesSound new after
 look_sound old new c after look sound read = λ clean.
@@ -42,18 +42,18 @@ look_sound old new c after look sound read = λ clean.
     let kept = look.kept clean before.tables in
     record {
       tables = kept_tables old new kept before.tables;
-      kept = subst (λ (d : Database). AreOf d.trees after) (sym kept.now) (read clean before);
+      cached = subst (λ (d : Database). AreOf d.trees after) (sym kept.now) (read clean before);
     }
 
 -- the same, of a look that reads lists of releases
 pub lists_sound : (old new : State) (c : Caches) (lists : CachedLists) → IsLook old new → AreCachesSound old c
-    → (IsCleanBook new → Stands old c → AreListsCached old.now.trees lists) → AreCachesSound new
-    (record c { lists = lists })
+    → (IsCleanBook new → Stands old c → AreListsCached old.now.trees lists)
+    → AreCachesSound new (record c { lists = lists })
 lists_sound old new c lists look sound read = look_sound old new c _ look sound (λ clean st. record {
-  survey = st.kept.survey;
-  headers = st.kept.headers;
+  survey = st.cached.survey;
+  headers = st.cached.headers;
   lists = read clean st;
-  samples = st.kept.samples;
+  samples = st.cached.samples;
 })
 
 pub tables_of : (s : State) (c : Caches) → AreCachesSound s c → IsCleanBook s → HasTables s
@@ -70,7 +70,7 @@ kept_sound {put = put} old new c written counted sound = λ clean.
     let same = on_err put counted (written.kept clean before.tables) in
     record {
       tables = kept_tables old new same before.tables;
-      kept = subst (λ (d : Database). AreOf d.trees c) (sym same.now) before.kept;
+      cached = subst (λ (d : Database). AreOf d.trees c) (sym same.now) before.cached;
     }
 
 module _ {X : Type 0} (entry : Row → Option X) (old new : List Row) (takes : Takes entry old new) where
@@ -135,7 +135,7 @@ module _ (old new : Trees) (rows : WritesTaken old new) (still : StillThere old 
     levels = each_stands level_table (λ (r : Release). r.levels) rows.levels lists.levels.items was.levels;
   }
 
--- a release that was put is there, and leaves those as they are that were
+-- a release that was put is there, and the others stay as they are
 module _ (old new : Trees) (r : Release) (none : IsNewRevision r (office_in old))
     (put_in : releases_in new ≡ with_row release_cmp release_key r (releases_in old)) where
   put_still : StillThere old new
@@ -155,7 +155,7 @@ module _ {change : Change} {fits : Office → Type 0} {A E F : Type 0} {u : A} {
     (old new : State) (c : Caches) (written : Written change fits old new put)
     (counted : IsCounted {F = F} put (Ok u) n m) (owed : IsCleanBook old → fits (office_in old.now.trees))
     (sound : AreCachesSound old c) where
-  -- a write of the survey: what is kept of it has the row too, or counts as not read; the samples are dropped
+  -- after a write of the survey its cache has the row too, or counts as not read, and the samples are dropped
   pub survey_sound : (is_read : Bool) (survey : Office)
       → ((o : Office) → survey_of (office_with change o) ≡ office_with change (survey_of o))
       → ((o : Office) → (office_with change o).releases ≡ o.releases)
@@ -169,28 +169,28 @@ module _ {change : Change} {fits : Office → Type 0} {A E F : Type 0} {u : A} {
       ap (λ (o : Office). o.releases) done.made.office ∙ still (office_in old.now.trees) in
       record {
         tables = done.tables;
-        kept = record {
+        cached = record {
           survey = λ t.
               let it = follows t in
-              let before = st.kept.survey it.0 in
+              let before = st.cached.survey it.0 in
               record {
                 read = it.1 ∙ ap (office_with change) before.read ∙ sym (passes (office_in old.now.trees))
                     ∙ sym (ap survey_of done.made.office);
                 taken = survey_taken old.now.trees new.now.trees done.tables.office done.made.rows before.taken;
               };
-          headers = λ t. headers_stand old.now.trees new.now.trees done.made.rows same c.headers (st.kept.headers t);
+          headers = λ t. headers_stand old.now.trees new.now.trees done.made.rows same c.headers (st.cached.headers t);
           lists = lists_stand old.now.trees new.now.trees done.made.rows
-              (λ key r. subst (λ rs. row_at release_cmp release_key key rs ≡ Some r) (sym same)) c.lists st.kept.lists;
+              (λ key r. subst (λ rs. row_at release_cmp release_key key rs ≡ Some r) (sym same)) c.lists st.cached.lists;
           samples = tt;
         };
       }
 
--- a release: the headers are read again when they are asked for, and its lists are kept
+-- after a release the headers are read again when a request needs them, and its lists are cached
 pub release_sound : {A E F : Type 0} {u : A} {n m : ℕ} {put : Result A E} (r : Release) (old new : State) (c : Caches)
     → Written (Freezes r) (IsNewRevision r) old new put → IsCounted {F = F} put (Ok u) n m
     → (IsCleanBook old → IsNewRevision r (office_in old.now.trees))
     → (IsCleanBook new → HasTables old → IsNewRevision r (office_in old.now.trees)
-        → OnOk put (ListsStand r new.now.trees))
+    → OnOk put (ListsStand r new.now.trees))
     → AreCachesSound old c → (headers : List Header) (lists : CachedLists)
     → ((trees : Trees) → AreListsCached trees c.lists → IsThere trees r → AreListsCached trees lists)
     → AreCachesSound new (record c { has_headers = false; headers = headers; lists = lists; samples = None })
@@ -204,16 +204,16 @@ release_sound {put = put} r old new c written counted owed stands sound headers 
     let still = put_still old.now.trees new.now.trees r none put_in in
     let there = put_there old.now.trees new.now.trees r none put_in stand in record {
       tables = done.tables;
-      kept = record {
+      cached = record {
         survey = λ t.
-            let before = st.kept.survey t in
+            let before = st.cached.survey t in
             record {
               read = before.read ∙ sym (ap survey_of done.made.office);
               taken = survey_taken old.now.trees new.now.trees done.tables.office done.made.rows before.taken;
             };
         headers = λ t. absurd (let no = t in cc);
         lists = follows new.now.trees
-            (lists_stand old.now.trees new.now.trees done.made.rows still c.lists st.kept.lists) there;
+            (lists_stand old.now.trees new.now.trees done.made.rows still c.lists st.cached.lists) there;
         samples = tt;
       };
     }

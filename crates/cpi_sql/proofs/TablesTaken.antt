@@ -15,24 +15,24 @@ use Rattle.cpi_sql_rows.specs.Shelf.{AllStandOf}
 use Rattle.cpi_sql_rows.specs.Tables.{table_of_levels_2}
 use Rattle.cpi_sql_reads.specs.Headers.{is_header_there}
 use Rattle.cpi_sql_reads.specs.ReleaseLists.{AreListsOf, ReleaseList, list_key}
-use Rattle.cpi_sql_reads.proofs.HeaderLists.{kept_is}
+use Rattle.cpi_sql_reads.proofs.HeaderLists.{cached_is}
 use Rattle.cpi_sql.specs.Calls.{HeadersTaken, IsTableTaken}
 
--- the types take each row of a table that is kept
+-- the types take each row of a cached table
 pub table_stands : (trees : Trees) (month revision : ℕ) (tables : List (ReleaseList Level))
     → AreListsOf level_table (λ (r : Release). r.levels) trees tables
     → IsSome (row_at release_cmp list_key (month, revision) tables)
     → AllStandOf level_in_row (release_number month revision) (trees table_of_levels_2.tree)
-table_stands trees month revision tables kept some =
+table_stands trees month revision tables cached some =
     by (row_at release_cmp list_key (month, revision) tables) refl some
   where
     by : (o : Option (ReleaseList Level)) → row_at release_cmp list_key (month, revision) tables ≡ o → IsSome o
         → AllStandOf level_in_row (release_number month revision) (trees table_of_levels_2.tree)
     by None e some = absurd (let no = some in cc)
     by (Some l) e some =
-        let it = kept_is level_table (λ (r : Release). r.levels) trees tables month revision l kept e in
-        subst (λ (k : ReleaseKey). AllStandOf level_in_row (release_number k.0 k.1) (trees table_of_levels_2.tree)) it.1
-        it.0.stand
+        let it = cached_is level_table (λ (r : Release). r.levels) trees tables month revision l cached e in
+        subst (λ (k : ReleaseKey). AllStandOf level_in_row (release_number k.0 k.1) (trees table_of_levels_2.tree))
+        it.1 it.0.stand
 
 -- the types take it, if it is published, in the rows of before, which are the same
 pub table_taken : (was now : Database) (month revision until : ℕ) (is : Bool) → now ≡ was

@@ -1,4 +1,4 @@
--- What a book over a database keeps in memory: what was read of the tables, from rows that the types took.
+-- The caches of a book over a database: what it read of the tables, from rows that the types took.
 use Rattle.std.specs.Prelude.{Bool, List, Option, IsTrue}
 use Rattle.sqlite.specs.State.{State}
 use Rattle.sqlite.specs.Tree.{Trees}
@@ -11,8 +11,8 @@ use Rattle.cpi_sql_reads.specs.CachedLists.{AreListsCached}
 use Rattle.cpi_sql_reads.specs.Samples.{AreSamplesOf}
 use Rattle.cpi_sql_reads.specs.declared.cached_lists.CachedLists.{CachedLists}
 
--- the survey and the headers of the releases, where they were read; lists of releases; and the samples of the month
--- that is being frozen
+-- the survey and the headers of the releases, if they were read; lists of releases; and the samples of the month that
+-- is being frozen
 pub record Caches : Type 0 where
   pub is_read : Bool
   pub survey : Office
@@ -21,18 +21,18 @@ pub record Caches : Type 0 where
   pub lists : CachedLists
   pub samples : Option Samples
 
--- they are what the tables hold
+-- the caches are what the tables contain
 pub record AreOf (trees : Trees) (c : Caches) : Type 0 where
   pub survey : IsTrue c.is_read → IsSurveyOf trees c.survey
   pub headers : IsTrue c.has_headers → AreHeadersOf trees c.headers
   pub lists : AreListsCached trees c.lists
   pub samples : AreSamplesOf trees c.samples
 
--- the tables are the office's, and what is kept is what they hold
+-- the tables are the office's, and the caches are what they contain
 pub record Stands (s : State) (c : Caches) : Type 0 where
   pub tables : HasTables s
-  pub kept : AreOf s.now.trees c
+  pub cached : AreOf s.now.trees c
 
--- where the store is clean, what is kept is what the tables hold
+-- if the store is clean, the caches are what the tables contain
 abbrev pub AreCachesSound : State → Caches → Type 0
 AreCachesSound s c = IsCleanBook s → Stands s c

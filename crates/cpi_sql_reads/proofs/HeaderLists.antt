@@ -319,19 +319,19 @@ module _ (trees : Trees) where
       stand = λ h is. absurd (cc);
     }
 
--- ---- tables that are kept
+-- ---- cached tables
 
--- a list that is found among them is that of its release
-pub kept_is : {X : Type 0} (t : HeldTable X is_release) (list : Release → List X) (trees : Trees)
+-- a list that is found in the cache is that of its release
+pub cached_is : {X : Type 0} (t : HeldTable X is_release) (list : Release → List X) (trees : Trees)
     (lists : List (ReleaseList X)) (month revision : ℕ) (l : ReleaseList X) → AreListsOf t list trees lists
     → row_at release_cmp list_key (month, revision) lists ≡ Some l
     → IsListOf t list trees l × ◌≡◌ {A = ReleaseKey} (list_key l) (month, revision)
-kept_is t list trees lists month revision l all found = (
+cached_is t list trees lists month revision l all found = (
   all_has (IsListOf t list trees) lists l all (has_row release_cmp list_key (month, revision) lists l found),
   key_is l.month l.revision month revision (row_key release_cmp list_key (month, revision) l lists found),
 )
 
--- the table that is kept is lent where it is published
+-- the cached table is lent if it is published
 pub table_shown : (trees : Trees) (month revision until : ℕ) (tables : List (ReleaseList Level)) (is : Bool)
     → is ≡ is_header_there month revision until (headers_in (trees 26))
     → AreListsOf level_table (λ (r : Release). r.levels) trees tables
@@ -350,7 +350,7 @@ table_shown trees month revision until tables is told stand there =
     by false o e some = refl
     by true None e some = absurd (let no = some refl in cc)
     by true (Some l) e some =
-        let it = kept_is level_table (λ (r : Release). r.levels) trees tables month revision l stand e in
+        let it = cached_is level_table (λ (r : Release). r.levels) trees tables month revision l stand e in
         ap Some (it.0.rows ∙ ap (λ o. option_map_or (λ (r : Release). r.levels) o []) (sym it.0.there)
         ∙ ap (levels_at (releases_in trees)) it.1)
 
@@ -362,7 +362,7 @@ there_has month revision until headers is =
     let both = and_parts (it.0.month == month) _ it.2 in
     some_from _ headers it.0 it.1 (and_from _ _ both.0 (and_parts (it.0.revision == revision) _ both.1).0)
 
--- the list that is put behind the others is found
+-- a list that is added at the end is found
 pub behind_found : {X : Type 0} (l : ReleaseList X) (lists : List (ReleaseList X))
     → IsSome (row_at release_cmp list_key (list_key l) (lists ++ l ∷ []))
 behind_found l [] = rw (tied_itself release_total (list_key l)) refl

@@ -1,4 +1,4 @@
--- Lists that are kept: one that is taken out leaves the others.
+-- Cached lists: one that is taken out leaves the others.
 use Rattle.std.proofs.Common.{ℕ, zero, suc, List, [], ◌∷◌}
 use Rattle.std.specs.List.{AllByRecursion, remove}
 

@@ -1,4 +1,4 @@
--- The lists of releases that are kept: frozen quotes, carried prices, and tables.
+-- The cached lists of releases: frozen quotes, carried prices, and tables.
 use Rattle.std.specs.Prelude.{◌≡◌, Some}
 use Rattle.sqlite.specs.Tree.{Trees}
 use Rattle.cpi_rows.specs.Keyed.{row_at}
@@ -11,7 +11,7 @@ use Rattle.cpi_sql_rows.specs.Tables.{table_of_carried_2, table_of_frozen_2, tab
 use Rattle.cpi_sql_reads.specs.ReleaseLists.{AreListsOf}
 use Rattle.cpi_sql_reads.specs.declared.cached_lists.CachedLists.{CachedLists}
 
--- each of the lists that are kept is so
+-- each of the cached lists is that of its release
 pub record AreListsCached (trees : Trees) (lists : CachedLists) : Type 0 where
   pub frozen : AreListsOf frozen_table (λ r. r.frozen) trees lists.frozen.items
   pub carried : AreListsOf carried_table (λ r. r.carried) trees lists.carried.items

@@ -11,7 +11,7 @@ use Rattle.cpi_sql_reads.specs.declared.groups.EarlierLists.{EarlierLists}
 abbrev pub rows_of_list : Option (ReleaseList Carried) → List Carried
 rows_of_list found = option_map_or (λ l. l.rows) found []
 
--- the carried prices of the month before, where that isn't the link month
+-- the carried prices of the month before, unless that is the link month
 pub record IsBefore (trees : Trees) (link last : ℕ) (found : Option (ReleaseList Carried)) : Type 0 where
   pub list : IfSome found (IsListOf carried_table (λ r. r.carried) trees)
   pub latest : last ≢ link → IsLatest carried_table (λ r. r.carried) trees last found

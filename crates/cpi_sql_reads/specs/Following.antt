@@ -1,4 +1,4 @@
--- What is kept of the survey follows what was stored.
+-- The cached survey follows what was stored.
 use Rattle.std.specs.Prelude.{◌≡◌, ℕ, Bool, IsSome, IsTrue, None}
 use Rattle.cpi_rows.specs.Held.{held_by}
 use Rattle.cpi_rows.specs.Keyed.{row_by_number}
@@ -7,7 +7,7 @@ use Rattle.cpi_store.specs.Outlet.{with_name}
 use Rattle.cpi_store.specs.declared.series_move.SeriesMove.{SeriesMove}
 use Rattle.cpi_survey.specs.declared.assignment.Assigned.{Assigned}
 
--- where it still counts as read, it did before, and has the change
+-- if the survey still counts as read, it did before, and has the change
 abbrev pub Follows : Change → Office → Office → Bool → Bool → Type 0
 Follows change old new was_read is_read = IsTrue is_read → IsTrue was_read × (new ≡ office_with change old)
 

@@ -1,4 +1,4 @@
--- What the headers tell of the releases without the rows of their lists.
+-- The part of the releases that their headers show, without the rows of their lists.
 use Rattle.std.specs.Prelude.{◌≡◌, ℕ, ◌==◌, ◌&&◌, nat_le, Bool, List, Option, Some, filter, map, option_map}
 use Rattle.std.specs.List.{list_any}
 use Rattle.sqlite.specs.Order.{Row}
@@ -10,7 +10,7 @@ use Rattle.cpi_sql_rows.specs.Lists.{header_in, headers_in, release_number}
 use Rattle.cpi_sql_rows.specs.Shelf.{AllStand, AllStandOf}
 use Rattle.cpi_sql_rows.specs.Tables.{table_of_releases_2}
 
--- what the rows of the releases say beside their lists, each of which the types take
+-- the headers are those of the rows of the releases, each of which the types take
 pub record AreHeadersOf (trees : Trees) (headers : List Header) : Type 0 where
   pub read : headers ≡ headers_in (trees table_of_releases_2.tree)
   pub taken : AllStand header_in (trees table_of_releases_2.tree)
@@ -37,9 +37,9 @@ latest_header month headers = latest_row (λ h. h.month) month headers
 
 -- each row of the month's latest release stands for something, in the table with that tree
 abbrev pub LatestStands : {X : Type 0} → (Row → Option X) → ℕ → ℕ → Trees → Type 0
-LatestStands entry tree month trees = (h : Header) → latest_header month (headers_in (trees table_of_releases_2.tree))
-    ≡ Some h →
-    AllStandOf entry (release_number month h.revision) (trees tree)
+LatestStands entry tree month trees =
+    (h : Header) → latest_header month (headers_in (trees table_of_releases_2.tree)) ≡ Some h
+    → AllStandOf entry (release_number month h.revision) (trees tree)
 
 -- the latest revision whose moment of publishing has come
 abbrev pub latest_revision : ℕ → ℕ → List Header → Option ℕ

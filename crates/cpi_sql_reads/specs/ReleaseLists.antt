@@ -43,9 +43,9 @@ module _ {X : Type 0} (table : HeldTable X is_release) (listed_by : Release → 
   abbrev pub AreListsOf : List (ReleaseList X) → Type 0
   AreListsOf lists = AllByRecursion IsListOf lists
 
-  -- it is the list of the month's latest release, each of whose rows the types take; none where it has no release
+  -- it is the list of the month's latest release, each of whose rows the types take; none if the month has no release
   pub record IsLatest (month : ℕ) (found : Option (ReleaseList X)) : Type 0 where
-    pub rows : option_map_or (λ l. l.rows) found [] ≡ option_map_or listed_by
-        (latest_release (releases_in trees) month) []
+    pub rows : option_map_or (λ l. l.rows) found []
+        ≡ option_map_or listed_by (latest_release (releases_in trees) month) []
     pub list : IfSome found IsListOf
     pub stand : LatestStands (row_with_holder release_in table.after) table.tree month trees

@@ -1,4 +1,4 @@
--- The samples of a month that are kept, and the rows that they are made from.
+-- The cached samples of a month, and the rows that they are made from.
 use Rattle.std.specs.Prelude.{◌≤◌, ◌-◌, ⊤, ℕ, IsSome, Option, Some, None}
 use Rattle.sqlite.specs.Tree.{Trees}
 use Rattle.cpi_codes.specs.Month.{year_of}
@@ -17,12 +17,12 @@ pub record SamplesStand (month : ℕ) (trees : Trees) : Type 0 where
   pub link_frozen : LatestStands frozen_in table_of_frozen_2.tree (link_month month) trees
   pub last_carried : LatestStands carried_in_row table_of_carried_2.tree (month - 1) trees
 
--- they do where the month has samples: it is not of the first year, and its year has a plan
+-- they do if the month has samples: it is not of the first year, and its year has a plan
 abbrev pub SamplesTaken : ℕ → Trees → Type 0
 SamplesTaken month trees =
     12 ≤ month → IsSome (row_by_number (λ p. p.year) (year_of month) (office_in trees).plans) → SamplesStand month trees
 
--- the samples that are kept, if any are, are those of the tables, whose rows the types take
+-- the cached samples, if there are any, are those of the tables, whose rows the types take
 abbrev pub AreSamplesOf : Trees → Option Samples → Type 0
 AreSamplesOf trees None = ⊤
 AreSamplesOf trees (Some k) =

@@ -1,4 +1,4 @@
-//! A list of a release, kept to be read again.
+//! A cached list of a release, and what takes lists out of a cache and puts them in.
 ghost use Rattle.std.specs.Prelude.{◌≡◌, ◌<◌};
 ghost use Rattle.std.specs.Option.{option_copied, option_map_or};
 ghost use Rattle.cpi_release.specs.FrozenMonths.{release_cmp};
@@ -43,7 +43,7 @@ impl<T: ReleaseRow> CachedList<T> {
     }
 }
 
-// Where the list of a release stands among those that are kept.
+// The place of a release's list in the cache.
 fn place_of<T: ReleaseRow>(
     lists: &[CachedList<T>],
     month: Month,
@@ -62,7 +62,7 @@ fn place_of<T: ReleaseRow>(
     None
 }
 
-/// Takes the list of a release out of those that are kept.
+/// Takes the list of a release out of the cache.
 #[tactic(auto, using(crate::proofs::OneLess::all_less))]
 pub fn take_list<T: ReleaseRow>(
     lists: &mut Vec<CachedList<T>>,
@@ -77,15 +77,15 @@ pub fn take_list<T: ReleaseRow>(
     Some(lists.remove(place))
 }
 
-/// Keeps the list, behind the others. Where there are `most` of them, the first is dropped, which was asked for longest
-/// ago.
+/// Adds the list at the end of the cache. If the cache has `most` lists, the first is dropped, which was used longest
+/// ago. If memory is refused, that is an error.
 #[tactic(auto, using(crate::proofs::OneLess::all_less, crate::proofs::HeaderLists::behind_found))]
-pub fn keep_list<T: ReleaseRow>(
+pub fn cache_list<T: ReleaseRow>(
     lists: &mut Vec<CachedList<T>>,
     list: CachedList<T>,
     most: usize,
 ) -> Result<(), Unread>
-    ensures kept { (trees : _) → AreListsOf T.table T.listed_by trees lists.old.items →
+    ensures cached { (trees : _) → AreListsOf T.table T.listed_by trees lists.old.items →
         IsListOf T.table T.listed_by trees list → AreListsOf T.table T.listed_by trees lists.new.items }
     ensures there { OnOk result (IsSome (row_at release_cmp list_key (list_key list) lists.new.items)) }
 {
@@ -95,24 +95,24 @@ pub fn keep_list<T: ReleaseRow>(
     lists.push(list).map_err(|_| Unread)
 }
 
-/// Keeps the list that was found, if one was.
-pub fn keep_found<T: ReleaseRow>(
+/// Adds the list that was found, if there is one, at the end of the cache.
+pub fn cache_found<T: ReleaseRow>(
     lists: &mut Vec<CachedList<T>>,
     found: Option<CachedList<T>>,
     most: usize,
 ) -> Result<(), Unread>
-    ensures kept { (trees : _) → AreListsOf T.table T.listed_by trees lists.old.items →
+    ensures cached { (trees : _) → AreListsOf T.table T.listed_by trees lists.old.items →
         IfSome found (IsListOf T.table T.listed_by trees) → AreListsOf T.table T.listed_by trees lists.new.items }
     ensures there { OnOk result
         (IfSome found (λ l. IsSome (row_at release_cmp list_key (list_key l) lists.new.items))) }
 {
     match found {
-        Some(list) => keep_list(lists, list, most),
+        Some(list) => cache_list(lists, list, most),
         None => Ok(()),
     }
 }
 
-/// The rows of the list that was found; none where none was.
+/// The rows of the list that was found; no rows if there is none.
 pub fn rows_in<T: ReleaseRow>(found: &Option<CachedList<T>>) -> &[T]
     ensures rows { result.now ≡ option_map_or (λ l. l.rows) found.now [] }
     ensures order { IsInOrder T.Key.cmp T.key result.now }
@@ -123,7 +123,7 @@ pub fn rows_in<T: ReleaseRow>(found: &Option<CachedList<T>>) -> &[T]
     }
 }
 
-/// The rows of the list of a release among those that are kept.
+/// The rows of a release's list, if the cache has it.
 pub fn lent_list<T: ReleaseRow>(
     lists: &[CachedList<T>],
     month: Month,

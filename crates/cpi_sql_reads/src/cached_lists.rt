@@ -1,4 +1,4 @@
-//! The lists of releases that are kept: what a freeze reads of earlier months, and the tables that are asked for.
+//! The cached lists of releases: those of earlier months that a freeze reads, and the tables that requests ask for.
 ghost use Rattle.std.specs.Prelude.{◌≡◌};
 ghost use Rattle.std.specs.Option.{option_copied};
 ghost use Rattle.cpi_release.specs.FrozenMonths.{release_cmp};
@@ -6,7 +6,7 @@ ghost use Rattle.cpi_sql_rows.specs.Common.{IfOk, option_map, row_at};
 ghost use Rattle.cpi_sql_reads.specs.CachedLists.{AreListsCached, IsThere};
 ghost use Rattle.cpi_sql_reads.specs.ReleaseLists.{list_key};
 
-use crate::cached_list::{CachedList, keep_list, lent_list};
+use crate::cached_list::{CachedList, cache_list, lent_list};
 use crate::releases::ReleaseRow;
 use cpi_codes::Month;
 use cpi_index::{CarriedPrice, FrozenQuote};
@@ -15,25 +15,27 @@ use cpi_rows::{Rows, are_in_order};
 use cpi_sql_rows::Unread;
 use std::alloc::Global;
 
-// A freeze reads the frozen quotes of the link month, and the carried prices of that month and of the month before. The
-// list of the release that it puts takes the place of the one that was asked for longest ago.
+// The most cached lists of a kind. A freeze reads the frozen quotes of the link month, and the carried prices of that
+// month and of the month before. The list of the release that it puts replaces the one used longest ago.
 pub(crate) const MOST_LISTS: usize = 2;
 
-// It asks for the levels of at most four earlier months: the link month, the month before, twelve months before, and
-// the reference month of the plan's weights.
+// The most cached tables. A freeze asks for the levels of at most four earlier months: the link month, the month
+// before, the month twelve months before, and the reference month of the plan's weights.
 pub(crate) const MOST_TABLES: usize = 4;
 
-/// The lists of releases that are kept, each with its kind.
+/// The cached lists of releases, by kind.
 #[derive(Drop)]
 pub struct CachedLists {
+    /// Frozen quotes.
     pub(crate) frozen: Vec<CachedList<FrozenQuote>>,
+    /// Carried prices.
     pub(crate) carried: Vec<CachedList<CarriedPrice>>,
     /// The rows of tables.
     pub(crate) levels: Vec<CachedList<Level>>,
 }
 
 impl CachedLists {
-    /// No lists. Takes no memory until the first is kept.
+    /// An empty cache. It takes no memory until it has its first list.
     pub fn none(alloc: Global) -> CachedLists
         ensures { (trees : _) → AreListsCached trees result }
     {
@@ -44,7 +46,7 @@ impl CachedLists {
         }
     }
 
-    /// The table of a release, if it is kept.
+    /// The table of a release, if the cache has it.
     pub fn table(&self, month: Month, revision: Revision) -> Option<&Rows<Level>>
         ensures { option_copied result
             ≡ option_map (λ l. l.rows) (row_at release_cmp list_key (month, revision) self.now.levels.items) }
@@ -53,7 +55,8 @@ impl CachedLists {
     }
 }
 
-// The list of a release; an error where its rows aren't in the order of their keys, which those are that were stored.
+// The list of a release, to be cached. It is an error if the rows aren't in the order of their keys, as stored rows
+// are.
 fn cached_rows<T: ReleaseRow>(
     month: Month,
     revision: Revision,
@@ -67,21 +70,21 @@ fn cached_rows<T: ReleaseRow>(
     Ok(CachedList::new(month, revision, rows))
 }
 
-// Keeps the lists of the release: all three, or fewer where memory is refused.
-fn keep_each(lists: &mut CachedLists, release: Release) -> Result<(), Unread>
+// Caches the three lists of the release. If memory is refused, that is an error, and the lists before it are cached.
+fn cache_each(lists: &mut CachedLists, release: Release) -> Result<(), Unread>
     ensures { (trees : _) → AreListsCached trees lists.old → IsThere trees release → AreListsCached trees lists.new }
 {
     let frozen = cached_rows(release.month, release.revision, release.frozen)?;
-    keep_list(&mut lists.frozen, frozen, MOST_LISTS)?;
+    cache_list(&mut lists.frozen, frozen, MOST_LISTS)?;
     let carried = cached_rows(release.month, release.revision, release.carried)?;
-    keep_list(&mut lists.carried, carried, MOST_LISTS)?;
+    cache_list(&mut lists.carried, carried, MOST_LISTS)?;
     let levels = cached_rows(release.month, release.revision, release.levels)?;
-    keep_list(&mut lists.levels, levels, MOST_TABLES)
+    cache_list(&mut lists.levels, levels, MOST_TABLES)
 }
 
-/// Keeps the lists of a release that was stored, as far as memory suffices.
+/// Caches the lists of a release that was stored, or fewer of them if memory is refused.
 pub fn follow_release(lists: &mut CachedLists, release: Release)
     ensures { (trees : _) → AreListsCached trees lists.old → IsThere trees release → AreListsCached trees lists.new }
 {
-    let _kept = keep_each(lists, release);
+    let _cached = cache_each(lists, release);
 }

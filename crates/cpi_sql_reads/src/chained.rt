@@ -10,7 +10,7 @@ ghost use Rattle.cpi_sql_reads.specs.CachedLists.{AreListsCached};
 ghost use Rattle.cpi_sql_reads.specs.ReleaseLists.{list_key};
 ghost use Rattle.cpi_sql_reads.specs.Tells.{KnowsBy};
 
-use crate::cached_list::{keep_found, rows_in};
+use crate::cached_list::{cache_found, rows_in};
 use crate::cached_lists::{CachedLists, MOST_TABLES};
 use crate::earlier::{latest_list, list_at};
 use cpi_codes::{Code, Month};
@@ -21,7 +21,8 @@ use cpi_sql_rows::{Header, Unread};
 use sqlite::{Alter, Connection};
 use std::alloc::Global;
 
-/// Reads the table of a release, unless it is kept or there is no such release. `headers` are those of all releases.
+/// Reads the table of a release into the cache, unless it is there or there is no such release. `headers` are those of
+/// all releases. It is an error if the store fails, the types refuse a row, or memory is refused.
 pub fn ready_table<S: Alter>(
     conn: &mut Connection<S>,
     alloc: Global,
@@ -31,17 +32,18 @@ pub fn ready_table<S: Alter>(
     revision: Revision,
 ) -> Result<(), Unread>
     ensures look { Looks (state S.Store conn.old) (state S.Store conn.new) result }
-    ensures kept { KnowsBy headers.now S.Store conn.old conn.new (λ trees.
+    ensures cached { KnowsBy headers.now S.Store conn.old conn.new (λ trees.
         AreListsCached trees lists.old → AreListsCached trees lists.new) }
     ensures ready { OnOk result (IsTrue (holds_release month revision headers.now) →
         IsSome (row_at release_cmp list_key (month, revision) lists.new.levels.items)) }
 {
     let found = list_at(conn, alloc, headers, &mut lists.levels, month, revision)?;
-    keep_found(&mut lists.levels, found, MOST_TABLES)
+    cache_found(&mut lists.levels, found, MOST_TABLES)
 }
 
-/// The chained level of a code in the table of a month's latest release, if it has a row there; the table is kept from
-/// then on. `headers` are those of all releases. O(n + log m) for n releases and the m rows of a table that is kept.
+/// The chained level of a code in the table of a month's latest release, if it has a row there; the table is cached
+/// from then on. `headers` are those of all releases. For n releases and the m rows of a cached table it takes O(n +
+/// log m) steps. It is an error if the store fails, the types refuse a row, or memory is refused.
 pub fn chained_level<S: Alter>(
     conn: &mut Connection<S>,
     alloc: Global,
@@ -51,7 +53,7 @@ pub fn chained_level<S: Alter>(
     code: Code,
 ) -> Result<Option<ChainedLevel>, Unread>
     ensures look { Looks (state S.Store conn.old) (state S.Store conn.new) result }
-    ensures kept { KnowsBy headers.now S.Store conn.old conn.new (λ trees.
+    ensures cached { KnowsBy headers.now S.Store conn.old conn.new (λ trees.
         AreListsCached trees lists.old → AreListsCached trees lists.new) }
     ensures read { KnowsBy headers.now S.Store conn.old conn.new (λ trees. AreListsCached trees lists.old →
         IfOk result (λ level. level ≡ level_at_month (releases_in trees) month code)) }
@@ -60,6 +62,6 @@ pub fn chained_level<S: Alter>(
 {
     let found = latest_list(conn, alloc, headers, &mut lists.levels, month)?;
     let level = find_row(rows_in(&found), &code).map(|level| level.chained);
-    keep_found(&mut lists.levels, found, MOST_TABLES)?;
+    cache_found(&mut lists.levels, found, MOST_TABLES)?;
     Ok(level)
 }

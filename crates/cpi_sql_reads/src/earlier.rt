@@ -1,4 +1,4 @@
-//! What a month reads of the latest release of an earlier month.
+//! The lists of releases, taken out of the cache or read: of a release, or of a month's latest one.
 ghost use Rattle.std.specs.Prelude.{◌≡◌};
 ghost use Rattle.cpi_sql_rows.specs.Common.{state, IfOk, IfSome, Looks, OnOk};
 ghost use Rattle.cpi_sql_reads.specs.ReleaseLists.{AreListsOf, IsListOfRelease, IsLatest, IsListOf};
@@ -14,8 +14,8 @@ use cpi_sql_rows::{Header, Unread};
 use sqlite::{Alter, Connection};
 use std::alloc::Global;
 
-/// The list of a release, taken out of those that are kept, or read; none where there is no such release. `headers` are
-/// those of all releases.
+/// The list of a release, taken out of the cache or read; none if there is no such release. `headers` are those of all
+/// releases. It is an error if the store fails, the types refuse a row, or memory is refused.
 pub fn list_at<S: Alter, T: ReleaseRow>(
     conn: &mut Connection<S>,
     alloc: Global,
@@ -42,8 +42,9 @@ pub fn list_at<S: Alter, T: ReleaseRow>(
     Ok(Some(CachedList::new(month, revision, Rows::of(rows))))
 }
 
-/// The list of the month's latest release, taken out of those that are kept, or read; none where it has none. Rows of a
-/// release without a header don't count.
+/// The list of the month's latest release, taken out of the cache or read; none if the month has no release. Rows of a
+/// release without a header don't count. It is an error if the store fails, the types refuse a row, or memory is
+/// refused.
 pub fn latest_list<S: Alter, T: ReleaseRow>(
     conn: &mut Connection<S>,
     alloc: Global,

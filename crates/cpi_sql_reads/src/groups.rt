@@ -1,4 +1,4 @@
-//! The samples of a month, made at once from the tables, and handed out one by one.
+//! The samples of a month, made at once from the tables, cached, and handed out one by one.
 ghost use Rattle.std.specs.Prelude.{◌≡◌, ◌≤◌, ◌-◌, ◌==◌, if◌then◌else◌};
 ghost use Rattle.cpi_codes.specs.Month.{year_of};
 ghost use Rattle.cpi_release.specs.GroupCalls.{group_of};
@@ -12,7 +12,7 @@ ghost use Rattle.cpi_sql_reads.specs.CachedLists.{AreListsCached};
 ghost use Rattle.cpi_sql_reads.specs.Samples.{AreSamplesOf, SamplesStand, SamplesTaken};
 ghost use Rattle.cpi_sql_reads.specs.Tells.{KnowsBy};
 
-use crate::cached_list::{CachedList, keep_found, rows_in};
+use crate::cached_list::{CachedList, cache_found, rows_in};
 use crate::cached_lists::{CachedLists, MOST_LISTS};
 use crate::earlier::latest_list;
 use cpi_codes::{Code, Month};
@@ -27,13 +27,15 @@ use std::alloc::Global;
 /// The lists of earlier months that a month's samples are made from.
 #[derive(Drop)]
 pub struct EarlierLists {
+    // of the link month
     link_carried: Option<CachedList<CarriedPrice>>,
+    // of the link month
     link_frozen: Option<CachedList<FrozenQuote>>,
-    // none where that month is the link month
+    // of the month before; none if that is the link month
     last_carried: Option<CachedList<CarriedPrice>>,
 }
 
-// The carried prices of the month before, where that isn't the link month.
+// The carried prices of the month before, unless that is the link month.
 fn carried_before<S: Alter>(
     conn: &mut Connection<S>,
     alloc: Global,
@@ -53,7 +55,7 @@ fn carried_before<S: Alter>(
     Ok(None)
 }
 
-// The lists of the link month, and the carried prices of the month before, taken out of those that are kept, or read.
+// The lists of the link month, and the carried prices of the month before, taken out of the cache or read.
 fn earlier_lists<S: Alter>(
     conn: &mut Connection<S>,
     alloc: Global,
@@ -77,20 +79,20 @@ fn earlier_lists<S: Alter>(
     })
 }
 
-// Keeps the lists, those of the link month behind those of the month before.
-fn keep_earlier(lists: &mut CachedLists, earlier: EarlierLists) -> Result<(), Unread>
+// Caches the lists: those of the month before first, and then those of the link month.
+fn cache_earlier(lists: &mut CachedLists, earlier: EarlierLists) -> Result<(), Unread>
     ensures { (trees link last : _) → AreListsCached trees lists.old → AreEarlier trees link last earlier →
         AreListsCached trees lists.new }
 {
-    keep_found(&mut lists.carried, earlier.last_carried, MOST_LISTS)?;
-    keep_found(&mut lists.carried, earlier.link_carried, MOST_LISTS)?;
-    keep_found(&mut lists.frozen, earlier.link_frozen, MOST_LISTS)
+    cache_found(&mut lists.carried, earlier.last_carried, MOST_LISTS)?;
+    cache_found(&mut lists.carried, earlier.link_carried, MOST_LISTS)?;
+    cache_found(&mut lists.frozen, earlier.link_frozen, MOST_LISTS)
 }
 
 // The carried prices of the month before.
 fn rows_before(earlier: &EarlierLists, link: Month, last: Month) -> &[CarriedPrice]
-    ensures { result.now ≡ rows_of_list (if last == link then earlier.now.link_carried
-        else earlier.now.last_carried) }
+    ensures { result.now ≡
+        rows_of_list (if last == link then earlier.now.link_carried else earlier.now.last_carried) }
 {
     if last == link {
         rows_in(&earlier.link_carried)
@@ -100,7 +102,7 @@ fn rows_before(earlier: &EarlierLists, link: Month, last: Month) -> &[CarriedPri
 }
 
 // The samples of a month by the plan of its year, from its own quotes, the lists of its link month, and the carried
-// prices of the month before, which is the link month in January. The lists are kept from then on.
+// prices of the month before, which is the link month in January. The lists are cached from then on.
 fn samples<S: Alter>(
     conn: &mut Connection<S>,
     alloc: Global,
@@ -113,12 +115,12 @@ fn samples<S: Alter>(
     quotes: &[FrozenQuote],
 ) -> Result<Vec<Vec<GroupRow>>, Unread>
     ensures look { Looks (state S.Store conn.old) (state S.Store conn.new) result }
-    ensures kept { KnowsBy headers.now S.Store conn.old conn.new (λ trees.
+    ensures cached { KnowsBy headers.now S.Store conn.old conn.new (λ trees.
         AreListsCached trees lists.old → AreListsCached trees lists.new) }
     ensures read { KnowsBy headers.now S.Store conn.old conn.new (λ trees. AreListsCached trees lists.old →
         let sources = office_sources (office_in trees) in
-        row_by_number (λ p. p.year) (year_of month) sources.plans ≡ Some plan.now → link ≡ link_month month → last ≡
-        month - 1 →
+        row_by_number (λ p. p.year) (year_of month) sources.plans ≡ Some plan.now →
+        link ≡ link_month month → last ≡ month - 1 →
         (IsFit sources → quotes.now ≡ sources.quotes month) → IfOk result (λ v. AreGroupsOf sources month v.items)) }
     ensures stand { KnowsBy headers.now S.Store conn.old conn.new (λ trees. AreListsCached trees lists.old →
         link ≡ link_month month → last ≡ month - 1 → OnOk result (SamplesStand month trees)) }
@@ -133,11 +135,12 @@ fn samples<S: Alter>(
         month,
         quotes,
     );
-    keep_earlier(lists, earlier)?;
+    cache_earlier(lists, earlier)?;
     made.map_err(|_| Unread)
 }
 
-// The samples of a month, one list for each weight of the plan of its year.
+// The samples of a month, one list for each weight of the plan of its year. There are none if the year has no plan, or
+// if no month comes before.
 fn month_samples<S: Alter>(
     conn: &mut Connection<S>,
     alloc: Global,
@@ -147,7 +150,7 @@ fn month_samples<S: Alter>(
     month: Month,
 ) -> Result<Vec<Vec<GroupRow>>, Unread>
     ensures look { Looks (state S.Store conn.old) (state S.Store conn.new) result }
-    ensures kept { KnowsBy headers.now S.Store conn.old conn.new (λ trees.
+    ensures cached { KnowsBy headers.now S.Store conn.old conn.new (λ trees.
         AreListsCached trees lists.old → AreListsCached trees lists.new) }
     ensures read { KnowsBy headers.now S.Store conn.old conn.new (λ trees. AreListsCached trees lists.old →
         survey.now ≡ survey_of (office_in trees) →
@@ -165,9 +168,9 @@ fn month_samples<S: Alter>(
     )
 }
 
-/// The rows of one aggregate of a month; the month's samples are kept from then on, and the lists that they are made
-/// from. `headers` are those of all
-/// releases, `survey` what the office has beside them.
+/// The rows of one aggregate of a month. The month's samples are cached from then on, and so are the lists that they
+/// are made from. `headers` are those of all releases, and `survey` is the rest of the office. It is an error if the
+/// store fails, the types refuse a row, or memory is refused.
 pub fn sample_of<S: Alter>(
     conn: &mut Connection<S>,
     alloc: Global,
@@ -181,7 +184,7 @@ pub fn sample_of<S: Alter>(
     ensures look { Looks (state S.Store conn.old) (state S.Store conn.new) result }
     ensures lists { KnowsBy headers.now S.Store conn.old conn.new (λ trees.
         AreListsCached trees lists.old → AreListsCached trees lists.new) }
-    ensures kept { KnowsBy headers.now S.Store conn.old conn.new (λ trees. AreListsCached trees lists.old →
+    ensures cached { KnowsBy headers.now S.Store conn.old conn.new (λ trees. AreListsCached trees lists.old →
         survey.now ≡ survey_of (office_in trees) → AreSamplesOf trees samples.old → AreSamplesOf trees samples.new) }
     ensures read { KnowsBy headers.now S.Store conn.old conn.new (λ trees. AreListsCached trees lists.old →
         let sources = office_sources (office_in trees) in
@@ -192,11 +195,11 @@ pub fn sample_of<S: Alter>(
         OnOk result (SamplesTaken month trees)) }
 {
     let plan = survey.plan_of(month);
-    let kept = match samples.rows(alloc, plan, month, code) {
-        Ok(kept) => kept,
+    let cached = match samples.rows(alloc, plan, month, code) {
+        Ok(cached) => cached,
         Err(_) => return Err(Unread),
     };
-    if let Some(rows) = kept {
+    if let Some(rows) = cached {
         return Ok(rows);
     }
     let groups = month_samples(conn, alloc, headers, lists, survey, month)?;

@@ -1,4 +1,4 @@
-//! What the headers tell of the releases without the rows of their lists.
+//! Answers from the headers of the releases, without the rows of their lists.
 ghost use Rattle.std.specs.Prelude.{◌≡◌, ◌==◌, ◌&&◌};
 ghost use Rattle.std.specs.Option.{option_copied};
 ghost use Rattle.cpi_sql_rows.specs.Common.{nat_le, IfOk};
@@ -21,14 +21,15 @@ fn month_of(header: &Header) -> FrozenMonth
     }
 }
 
-/// The frozen months in their revisions, by month and revision.
+/// The frozen months in their revisions, by month and revision. It is an error if memory is refused.
 pub fn frozen_months(alloc: Global, headers: &[Header]) -> Result<Vec<FrozenMonth>, AllocError>
     ensures { IfOk result (λ found. found.items ≡ months_of headers.now) }
 {
     headers.iter().map(|header| month_of(header)).collect(alloc)
 }
 
-/// The months and revisions whose tables are published by the moment, by month and revision.
+/// The months and revisions whose tables are published by the moment, by month and revision. It is an error if memory
+/// is refused.
 pub fn published_months(
     alloc: Global,
     until: Moment,
@@ -47,14 +48,14 @@ pub fn header_of(headers: &[Header], month: Month) -> Option<&Header>
     headers.iter().rev().find(|header| header.month == month)
 }
 
-/// Whether there is that release.
+/// Whether the month has a release of that revision.
 pub fn has_release(headers: &[Header], month: Month, revision: Revision) -> bool
     ensures { result ≡ holds_release month revision headers.now }
 {
     headers.iter().any(|header| header.month == month && header.revision == revision)
 }
 
-/// The latest revision of the month whose table is published by the moment.
+/// The latest revision of the month whose table is published by the moment, if there is one.
 pub fn revision_published(headers: &[Header], month: Month, until: Moment) -> Option<Revision>
     ensures { result ≡ latest_revision month until headers.now }
 {

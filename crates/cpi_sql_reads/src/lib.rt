@@ -1,4 +1,4 @@
-//! What is read of the tables of an office, and what is kept of them in memory.
+//! Reads of the tables of an office, and the caches of what was read.
 #![tactic(auto)]
 
 mod cached_list;

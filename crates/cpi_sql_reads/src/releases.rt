@@ -1,4 +1,4 @@
-//! The releases, read from the tables.
+//! The releases, read from the tables: their headers, and the rows of their lists.
 ghost use Rattle.std.specs.Prelude.{◌≡◌};
 ghost use Rattle.cpi_release.specs.FrozenMonths.{release_cmp};
 ghost use Rattle.cpi_release.specs.declared.release.Release.{Release as Released};
@@ -18,7 +18,8 @@ use cpi_sql_rows::{Header, Stored, Unread, list, month_number, read_all};
 use sqlite::{Alter, Connection, params};
 use std::alloc::Global;
 
-/// What each release says beside its lists, by month and revision.
+/// The header of each release, which has all but its lists, by month and revision. It is an error if the store fails,
+/// the types refuse a row, or memory is refused.
 pub fn read_headers<S: Alter>(
     conn: &mut Connection<S>,
     alloc: Global,
@@ -41,11 +42,11 @@ pub trait ReleaseRow: Stored {
     /// What a release lists of such rows.
     ghost listed_by: { Released → List Self };
 
-    /// The statement.
+    /// The SELECT that asks for the rows of a release, by their keys.
     fn text() -> &'static str
         ensures { result.now ≡ table.text };
 
-    /// What it shows of a row stands for what the row does, and a release lists what stands for it.
+    /// The statement's answers stand for the same as the rows, and are what a release lists.
     ghost of_releases: { OfReleases Self.Key.cmp Self.key Self.stands_for table listed_by };
 }
 
@@ -97,7 +98,8 @@ impl ReleaseRow for Level {
     }
 }
 
-/// The rows of a release, by their keys.
+/// The rows of a release, by their keys. It is an error if the store fails, the types refuse a row, or memory is
+/// refused.
 pub fn rows_of_release<S: Alter, T: ReleaseRow>(
     conn: &mut Connection<S>,
     alloc: Global,
@@ -106,7 +108,8 @@ pub fn rows_of_release<S: Alter, T: ReleaseRow>(
 ) -> Result<Vec<T>, Unread>
     ensures look { Looks (state S.Store conn.old) (state S.Store conn.new) result }
     ensures read { Tells S.Store conn.old conn.new result (λ trees xs.
-        xs.items ≡ held_by (release_number month revision) (rows_in_key_order (held_cmp T.Key.cmp) (held_key T.key)
+        xs.items ≡ held_by (release_number month revision)
+        (rows_in_key_order (held_cmp T.Key.cmp) (held_key T.key)
         (row_with_holder release_in T.table.after) (trees T.table.tree))) }
     ensures stand { Tells S.Store conn.old conn.new result (λ trees _.
         AllStandOf (row_with_holder release_in T.table.after) (release_number month revision) (trees T.table.tree)) }

@@ -1,4 +1,4 @@
-//! What the tables hold of an office but for its releases, read whole.
+//! An office but for its releases, read whole from the tables.
 ghost use Rattle.std.specs.Prelude.{◌≡◌};
 ghost use Rattle.cpi_store.specs.Office.{public_part};
 ghost use Rattle.cpi_sql_rows.specs.Common.{state, ArePlansTaken, IsSurveyOf, Looks};
@@ -13,7 +13,7 @@ use cpi_survey::Public;
 use sqlite::{Alter, Connection};
 use std::alloc::Global;
 
-// What everybody may see.
+// The public part of an office: items, plans and calendar.
 fn read_public<S: Alter>(conn: &mut Connection<S>, alloc: Global) -> Result<Public, Unread>
     ensures look { Looks (state S.Store conn.old) (state S.Store conn.new) result }
     ensures read { Tells S.Store conn.old conn.new result (λ trees public. public ≡ public_part (office_in trees)) }
@@ -26,7 +26,8 @@ fn read_public<S: Alter>(conn: &mut Connection<S>, alloc: Global) -> Result<Publ
     Ok(Public::from_parts(items, plans, rows))
 }
 
-/// What the tables hold of an office but for its releases. For n rows it takes O(n log n) steps.
+/// An office but for its releases, read from the tables. For n rows it takes O(n log n) steps. It is an error if the
+/// store fails, the types refuse a row, or memory is refused.
 pub fn read_survey<S: Alter>(conn: &mut Connection<S>, alloc: Global) -> Result<Survey, Unread>
     ensures look { Looks (state S.Store conn.old) (state S.Store conn.new) result }
     ensures read { Tells S.Store conn.old conn.new result IsSurveyOf }

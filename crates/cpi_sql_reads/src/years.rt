@@ -28,11 +28,11 @@ pub trait YearRow: Stored {
     /// The table, and the statement that asks for the rows of a year, by their keys.
     ghost table: { HeldTable Self (is_first_parameter place) };
 
-    /// The statement.
+    /// The SELECT that asks for the rows of a year, by their keys.
     fn text() -> &'static str
         ensures { result.now ≡ table.text };
 
-    /// What it shows of a row stands for what the row does.
+    /// The statement's answers stand for the same as the rows.
     ghost holds: { Holds (year_in place) Self.Key.cmp Self.key Self.stands_for table };
 }
 
@@ -80,9 +80,9 @@ fn rows_of_year<S: Alter, T: YearRow>(
 ) -> Result<Vec<T>, Unread>
     ensures look { Looks (state S.Store conn.old) (state S.Store conn.new) result }
     ensures read { Tells S.Store conn.old conn.new result (λ trees xs.
-        xs.items ≡ held_by year (rows_in_key_order (held_cmp T.Key.cmp) (held_key T.key)
-        (row_with_holder (year_in T.place) T.table.after)
-        (trees T.table.tree))) }
+        xs.items ≡ held_by year
+        (rows_in_key_order (held_cmp T.Key.cmp) (held_key T.key)
+        (row_with_holder (year_in T.place) T.table.after) (trees T.table.tree))) }
     ensures stand { Tells S.Store conn.old conn.new result (λ trees _.
         AllStandFor (year_in T.place) (row_with_holder (year_in T.place) T.table.after) year (trees T.table.tree)) }
 {
@@ -97,7 +97,8 @@ fn know_plan(plan: &YearPlan)
     let _nodes = plan.nodes();
 }
 
-// The plan that the rows of a year make; none if it has no nodes.
+// The plan that the rows of a year make; none if it has no nodes. It is an error if the rows make no plan, or memory is
+// refused.
 fn made(
     alloc: Global,
     items: &RowsByKey<Item>,
@@ -139,7 +140,8 @@ fn plan_of<S: Alter>(
     made(alloc, items, year, &nodes, &places, &references)
 }
 
-/// The plans of all years, 2000 to 2199. A row that the types refuse, in a plan of one of these years, is an error.
+/// The plans of all years, 2000 to 2199. It is an error if the store fails, the types refuse a row of a plan of one of
+/// these years, or memory is refused.
 pub fn plans<S: Alter>(
     conn: &mut Connection<S>,
     alloc: Global,

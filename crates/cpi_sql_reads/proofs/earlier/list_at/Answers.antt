@@ -5,7 +5,7 @@ use Rattle.cpi_release.specs.FrozenMonths.{release_cmp}
 use Rattle.cpi_sql_rows.specs.Lists.{headers_in}
 use Rattle.cpi_sql_reads.specs.Headers.{holds_release}
 use Rattle.cpi_sql_reads.specs.ReleaseLists.{list_key}
-use Rattle.cpi_sql_reads.proofs.HeaderLists.{kept_is, key_is, list_read}
+use Rattle.cpi_sql_reads.proofs.HeaderLists.{cached_is, key_is, list_read}
 use Rattle.cpi_sql_reads.proofs.earlier.list_at.Goals as goal
 
 pub returns-in-Some-clause-asked : goal.returns-in-Some-clause-asked
@@ -17,7 +17,7 @@ returns-in-Some-clause-asked g c =
 
 pub returns-in-Some-clause-read : goal.returns-in-Some-clause-read
 returns-in-Some-clause-read g c = λ clean has is stand.
-    (kept_is g.T.ReleaseRow.table g.T.ReleaseRow.listed_by (state g.S.Store c.args.conn.now).now.trees
+    (cached_is g.T.ReleaseRow.table g.T.ReleaseRow.listed_by (state g.S.Store c.args.conn.now).now.trees
     c.args.lists.now.items c.args.month c.args.revision c.in-Some.list stand (sym c.in-Some.ensures.taken)).0
 
 pub returns-clause-read : goal.returns-clause-read

@@ -1,8 +1,8 @@
 use Rattle.cpi_sql_reads.proofs.groups.carried_before.Goals as goal
 
 pub returns-then-ne-clause-left : goal.returns-then-ne-clause-left
-returns-then-ne-clause-left g c = λ trees kept. record {
-  frozen = kept.frozen;
-  carried = c.latest_list.ensures.left trees kept.carried;
-  levels = kept.levels;
+returns-then-ne-clause-left g c = λ trees cached. record {
+  frozen = cached.frozen;
+  carried = c.latest_list.ensures.left trees cached.carried;
+  levels = cached.levels;
 }

@@ -22,36 +22,36 @@ returns-clause-look g c =
     c.in_ok-link_frozen.ensures.look
 
 pub returns-in_err-link_carried-clause-left : goal.returns-in_err-link_carried-clause-left
-returns-in_err-link_carried-clause-left g c = λ trees kept.
-    let last = c.in_ok-last_carried.ensures.left trees kept in record {
+returns-in_err-link_carried-clause-left g c = λ trees cached.
+    let last = c.in_ok-last_carried.ensures.left trees cached in record {
       frozen = last.frozen;
       carried = c.in_err-link_carried.ensures.left trees last.carried;
       levels = last.levels;
     }
 
 pub returns-in_err-link_frozen-clause-left : goal.returns-in_err-link_frozen-clause-left
-returns-in_err-link_frozen-clause-left g c = λ trees kept.
-    let last = c.in_ok-last_carried.ensures.left trees kept in record {
+returns-in_err-link_frozen-clause-left g c = λ trees cached.
+    let last = c.in_ok-last_carried.ensures.left trees cached in record {
       frozen = c.in_err-link_frozen.ensures.left trees last.frozen;
       carried = c.in_ok-link_carried.ensures.left trees last.carried;
       levels = last.levels;
     }
 
 pub returns-clause-left : goal.returns-clause-left
-returns-clause-left g c = λ trees kept.
-    let last = c.in_ok-last_carried.ensures.left trees kept in record {
+returns-clause-left g c = λ trees cached.
+    let last = c.in_ok-last_carried.ensures.left trees cached in record {
       frozen = c.in_ok-link_frozen.ensures.left trees last.frozen;
       carried = c.in_ok-link_carried.ensures.left trees last.carried;
       levels = last.levels;
     }
 
 pub returns-clause-read : goal.returns-clause-read
-returns-clause-read g c = λ clean has is kept.
+returns-clause-read g c = λ clean has is cached.
     let trees = (state g.S.Store c.args.conn.now).now.trees in
     let one = c.in_ok-last_carried.ensures.look in
     let two = c.in_ok-link_carried.ensures.look in
     let three = c.in_ok-link_frozen.ensures.look in
-    let last = c.in_ok-last_carried.ensures.left trees kept in
+    let last = c.in_ok-last_carried.ensures.left trees cached in
     let second = three.still.clean clean in
     let first = two.still.clean second in record {
       link_carried = later one (λ t. c.args.headers.now ≡ headers_in (t 26)
@@ -62,5 +62,5 @@ returns-clause-read g c = λ clean has is kept.
           → AreListsOf frozen_table (λ r. r.frozen) t c.carried_before.new.lists.frozen.items
           → IsLatest frozen_table (λ r. r.frozen) t c.args.link c.in_ok-link_frozen.link_frozen)
           three c.in_ok-link_frozen.ensures.read clean has is last.frozen;
-      last_carried = c.in_ok-last_carried.ensures.read first has is kept;
+      last_carried = c.in_ok-last_carried.ensures.read first has is cached;
     }

@@ -17,21 +17,21 @@ use Rattle.cpi_sql_reads.specs.ReleaseLists.{IsLatest}
 use Rattle.cpi_sql_reads.specs.declared.groups.EarlierLists.{EarlierLists}
 use Rattle.cpi_sql_reads.proofs.groups.samples.Goals as goal
 
-pub returns-in_err-earlier-clause-kept : goal.returns-in_err-earlier-clause-kept
-returns-in_err-earlier-clause-kept g c = λ clean has is kept.
-    c.in_err-earlier.ensures.left (state g.S.Store c.args.conn.now).now.trees kept
+pub returns-in_err-earlier-clause-cached : goal.returns-in_err-earlier-clause-cached
+returns-in_err-earlier-clause-cached g c = λ clean has is cached.
+    c.in_err-earlier.ensures.left (state g.S.Store c.args.conn.now).now.trees cached
 
-pub returns-in_err-keep_earlier-clause-kept : goal.returns-in_err-keep_earlier-clause-kept
-returns-in_err-keep_earlier-clause-kept g c = λ clean has is kept.
+pub returns-in_err-cache_earlier-clause-cached : goal.returns-in_err-cache_earlier-clause-cached
+returns-in_err-cache_earlier-clause-cached g c = λ clean has is cached.
     let trees = (state g.S.Store c.args.conn.now).now.trees in
-    c.keep_earlier.ensures trees c.args.link c.args.last (c.in_ok-earlier.ensures.left trees kept)
-    (c.in_ok-earlier.ensures.read clean has is kept)
+    c.cache_earlier.ensures trees c.args.link c.args.last (c.in_ok-earlier.ensures.left trees cached)
+    (c.in_ok-earlier.ensures.read clean has is cached)
 
-pub returns-clause-kept : goal.returns-clause-kept
-returns-clause-kept g c = λ clean has is kept.
+pub returns-clause-cached : goal.returns-clause-cached
+returns-clause-cached g c = λ clean has is cached.
     let trees = (state g.S.Store c.args.conn.now).now.trees in
-    c.keep_earlier.ensures trees c.args.link c.args.last (c.in_ok-earlier.ensures.left trees kept)
-    (c.in_ok-earlier.ensures.read clean has is kept)
+    c.cache_earlier.ensures trees c.args.link c.args.last (c.in_ok-earlier.ensures.left trees cached)
+    (c.in_ok-earlier.ensures.read clean has is cached)
 
 -- the carried prices of the month before are those of its latest release
 before_latest : (trees : Trees) (link last : ℕ) (earlier : EarlierLists) → AreEarlier trees link last earlier
@@ -45,28 +45,29 @@ before_latest trees link last earlier are = elim (cases_Bool (last == link)) [
 ]
 
 -- what a call answers is answered under another error
-kept_ok : {A E F : Type 0} (r : Result A E) (q : Result A F) (N : E → Type 0) (P : A → Type 0) → is_ok q ≡ is_ok r
-    → MatchResult r (λ x. q ≡ Ok x) N → IfOk r P → IfOk q P
-kept_ok (Ok x) q N P same is h = rw is h
-kept_ok (Err e) (Ok y) N P same is h = absurd (let never : true ≡ false = same in cc)
-kept_ok (Err e) (Err f) N P same is h = tt
+ok_with_another_error : {A E F : Type 0} (r : Result A E) (q : Result A F) (N : E → Type 0) (P : A → Type 0)
+    → is_ok q ≡ is_ok r → MatchResult r (λ x. q ≡ Ok x) N → IfOk r P → IfOk q P
+ok_with_another_error (Ok x) q N P same is h = rw is h
+ok_with_another_error (Err e) (Ok y) N P same is h = absurd (let never : true ≡ false = same in cc)
+ok_with_another_error (Err e) (Err f) N P same is h = tt
 
 pub returns-clause-read : goal.returns-clause-read
-returns-clause-read g c = λ clean has is kept plan link last quoted.
+returns-clause-read g c = λ clean has is cached plan link last quoted.
     let trees = (state g.S.Store c.args.conn.now).now.trees in
     let s : Sources = office_sources (office_in trees) in
-    let are = c.in_ok-earlier.ensures.read clean has is kept in
+    let are = c.in_ok-earlier.ensures.read clean has is cached in
     let before = before_latest trees c.args.link c.args.last c.in_ok-earlier.earlier are in
-    kept_ok c.groups_after-made.result c.map_err.result _ _ c.map_err.ensures.variant c.map_err.ensures.cases
+    ok_with_another_error c.groups_after-made.result c.map_err.result _ _ c.map_err.ensures.variant
+    c.map_err.ensures.cases
     (if_ok c.groups_after-made.result _ _ c.groups_after-made.ensures (λ v made. λ p fit. made s plan
     (c.rows_in.ensures.rows ∙ are.link_carried.rows ∙ ap (carried_of s.releases) link)
     (c.rows_in-2.ensures.rows ∙ are.link_frozen.rows ∙ ap (frozen_of s.releases) link)
     (c.rows_before.ensures ∙ before.rows ∙ ap (carried_of s.releases) last) (sym (quoted fit)) p fit))
 
 pub returns-clause-stand : goal.returns-clause-stand
-returns-clause-stand g c = λ clean has is kept link last.
+returns-clause-stand g c = λ clean has is cached link last.
     let trees = (state g.S.Store c.args.conn.now).now.trees in
-    let are = c.in_ok-earlier.ensures.read clean has is kept in
+    let are = c.in_ok-earlier.ensures.read clean has is cached in
     let before = before_latest trees c.args.link c.args.last c.in_ok-earlier.earlier are in
     on_any c.map_err.result _ (record {
       link_carried = subst (λ m. LatestStands carried_in_row 30 m trees) link are.link_carried.stand;

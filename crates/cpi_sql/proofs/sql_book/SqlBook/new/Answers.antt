@@ -4,7 +4,7 @@ use Rattle.cpi_sql.proofs.sql_book.SqlBook.new.Goals as goal
 pub invariant_of-result : goal.invariant_of-result
 invariant_of-result g c = λ clean. record {
   tables = c.in-Ok.ensures.ready clean;
-  kept = record {
+  cached = record {
     survey = λ t. absurd (let no = t in cc);
     headers = λ t. absurd (let no = t in cc);
     lists = c.none.ensures _;

@@ -7,13 +7,13 @@ invariant_of-self g c =
     look_sound (state g.S.Store c.self.inside.conn) (state g.S.Store c.read_headers.new.conn) _ _
     c.read_headers.ensures.look.still c.self.invariant
     (λ clean st. record {
-      survey = st.kept.survey;
+      survey = st.cached.survey;
       headers = λ _. c.in-Ok.ensures.read clean st.tables;
-      lists = st.kept.lists;
-      samples = st.kept.samples;
+      lists = st.cached.lists;
+      samples = st.cached.samples;
     })
 
 pub invariant_of-self-in-Err : goal.invariant_of-self-in-Err
 invariant_of-self-in-Err g c =
     look_sound (state g.S.Store c.self.inside.conn) (state g.S.Store c.read_headers.new.conn) _ _
-    c.read_headers.ensures.look.still c.self.invariant (λ clean st. st.kept)
+    c.read_headers.ensures.look.still c.self.invariant (λ clean st. st.cached)

@@ -14,5 +14,5 @@ returns-clause-reads g c =
     let reads = rw (← c.self.view_is) at c.in_ok-ready_headers.ensures.reads in
     then_found _ _ _ now _ _ _ _ reads c.counted.ensures (λ clean found is.
     (rw is at c.frozen_months-found.ensures) ∙ ap months_of
-    (c.deref.ensures.value ∙ ((c.self.invariant clean).kept.headers ready).read)
+    (c.deref.ensures.value ∙ ((c.self.invariant clean).cached.headers ready).read)
     ∙ sym (months_are now.now.trees) ∙ ap (λ (o : Office). frozen_months o.releases) (reads.keeps.kept clean))

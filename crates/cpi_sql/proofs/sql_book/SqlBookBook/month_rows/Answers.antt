@@ -13,5 +13,5 @@ returns-clause-reads g c =
     then_found _ _ _ (state g.S.Store c.self.inside.conn) _ _ _ _ reads c.counted.ensures (λ clean found is.
     subst (λ (o : Office). are_by_series frozen_serial (quotes_of_month c.args.month o) ≡ true →
     found.items ≡ quotes_of_month c.args.month o)
-    (((c.self.invariant clean).kept.survey ready).read ∙ ap survey_of (reads.keeps.kept clean))
+    (((c.self.invariant clean).cached.survey ready).read ∙ ap survey_of (reads.keeps.kept clean))
     (rw is at c.month_rows-found.ensures))

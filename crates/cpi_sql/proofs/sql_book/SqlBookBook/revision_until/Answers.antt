@@ -16,7 +16,7 @@ returns-clause-reads g c =
     let reads = rw (← c.self.view_is) at c.in_ok-ready_headers.ensures.reads in
     rw (← c.self.view_is) (then_shown _ _ _ _ _ reads (λ clean.
     c.revision_published.ensures ∙ ap (latest_revision c.args.month c.args.until)
-    (c.deref.ensures.value ∙ ((c.self.invariant clean).kept.headers ready).read)
+    (c.deref.ensures.value ∙ ((c.self.invariant clean).cached.headers ready).read)
     ∙ sym (revision_is now.now.trees c.args.month c.args.until)
     ∙ ap (λ (o : Office). option_map (λ (t : PublishedTable). t.revision)
     (table_until c.args.month None c.args.until o.releases)) (reads.keeps.kept clean)))

@@ -22,7 +22,7 @@ returns-then-not-is_there g c =
     let no : c.is_there.result ≡ false = search rules in
     let told = λ (clean : IsCleanBook now). sym no ∙ c.is_there.ensures
     ∙ ap (is_header_there c.args.month c.args.revision c.args.until)
-    (c.deref.ensures.value ∙ ((c.self.invariant clean).kept.headers ready).read) in (
+    (c.deref.ensures.value ∙ ((c.self.invariant clean).cached.headers ready).read) in (
       (
         refl,
         (λ _. tt),
@@ -33,7 +33,7 @@ returns-then-not-is_there g c =
               ∙ ap (λ (o : Office). option_map (λ (t : PublishedTable). t.levels)
               (table_until c.args.month (Some c.args.revision) c.args.until o.releases)) (read.keeps.kept clean)),
           (λ clean. table_taken (state g.S.Store c.args.self.now.held).now now.now _ _ _ false (same clean) (told clean)
-              ((c.self.invariant clean).kept.headers ready).taken (λ never. absurd (let e = never in cc))),
+              ((c.self.invariant clean).cached.headers ready).taken (λ never. absurd (let e = never in cc))),
         ),
       ),
       record { reads = tt },
@@ -43,15 +43,15 @@ pub invariant_of-self-2 : goal.invariant_of-self-2
 invariant_of-self-2 g c =
     let ready = rw (← c.self.view_is) at c.in_ok-ready_headers.ensures.ready in
     lists_sound (state g.S.Store c.self.inside.conn) (state g.S.Store c.ready_table-read.new.conn) _ _
-    c.ready_table-read.ensures.look.still c.self.invariant (λ clean st. c.ready_table-read.ensures.kept clean st.tables
-    (c.deref-2.ensures.value ∙ (st.kept.headers ready).read) st.kept.lists)
+    c.ready_table-read.ensures.look.still c.self.invariant (λ clean st. c.ready_table-read.ensures.cached clean st.tables
+    (c.deref-2.ensures.value ∙ (st.cached.headers ready).read) st.cached.lists)
 
 pub invariant_of-self-in-Break-branch-2 : goal.invariant_of-self-in-Break-branch-2
 invariant_of-self-in-Break-branch-2 g c =
     let ready = rw (← c.self.view_is) at c.in_ok-ready_headers.ensures.ready in
     lists_sound (state g.S.Store c.self.inside.conn) (state g.S.Store c.ready_table-read.new.conn) _ _
-    c.ready_table-read.ensures.look.still c.self.invariant (λ clean st. c.ready_table-read.ensures.kept clean st.tables
-    (c.deref-2.ensures.value ∙ (st.kept.headers ready).read) st.kept.lists)
+    c.ready_table-read.ensures.look.still c.self.invariant (λ clean st. c.ready_table-read.ensures.cached clean st.tables
+    (c.deref-2.ensures.value ∙ (st.cached.headers ready).read) st.cached.lists)
 
 pub returns : goal.returns
 returns g c =
@@ -62,12 +62,12 @@ returns g c =
     let same = rw (← c.self.view_is) at c.in_ok-ready_headers.ensures.now in
     let yes : c.is_there.result ≡ true = search rules in
     let before = λ (clean : IsCleanBook new). c.ready_table-read.ensures.look.still.clean clean in
-    let headers = λ (clean : IsCleanBook new). (c.self.invariant (before clean)).kept.headers ready in
+    let headers = λ (clean : IsCleanBook new). (c.self.invariant (before clean)).cached.headers ready in
     let told = λ (clean : IsCleanBook new). sym yes ∙ c.is_there.ensures
     ∙ ap (is_header_there c.args.month c.args.revision c.args.until) (c.deref.ensures.value ∙ (headers clean).read) in
     let tables = λ (clean : IsCleanBook new).
-    (c.ready_table-read.ensures.kept clean (c.self.invariant (before clean)).tables
-    (c.deref-2.ensures.value ∙ (headers clean).read) (c.self.invariant (before clean)).kept.lists).levels in
+    (c.ready_table-read.ensures.cached clean (c.self.invariant (before clean)).tables
+    (c.deref-2.ensures.value ∙ (headers clean).read) (c.self.invariant (before clean)).cached.lists).levels in
     let there = on_ok _ c.in_ok-counted.ensures c.ready_table-read.ensures.ready
     (subst (λ hs. IsTrue (holds_release c.args.month c.args.revision hs))
     (c.deref.ensures.value ∙ sym c.deref-2.ensures.value)

@@ -14,6 +14,6 @@ returns-clause-reads g c =
     let reads = rw (← c.self.view_is) at c.in_ok-ready_headers.ensures.reads in
     then_found _ _ _ now _ _ _ _ reads c.counted.ensures (λ clean found is.
     (rw is at c.published_months-found.ensures) ∙ ap (months_until c.args.until)
-    (c.deref.ensures.value ∙ ((c.self.invariant clean).kept.headers ready).read)
+    (c.deref.ensures.value ∙ ((c.self.invariant clean).cached.headers ready).read)
     ∙ sym (tables_are now.now.trees c.args.until)
     ∙ ap (λ (o : Office). map frozen_month_of (published_until c.args.until o.releases)) (reads.keeps.kept clean))

@@ -19,8 +19,8 @@ pub invariant_of-self : goal.invariant_of-self
 invariant_of-self g c =
     lists_sound (state g.S.Store c.self.inside.conn) (state g.S.Store c.chained_level-found.new.conn) _ _
     c.chained_level-found.ensures.look.still c.self.invariant
-    (λ clean st. c.chained_level-found.ensures.kept clean st.tables
-    (c.deref.ensures.value ∙ (st.kept.headers (ready g c)).read) st.kept.lists)
+    (λ clean st. c.chained_level-found.ensures.cached clean st.tables
+    (c.deref.ensures.value ∙ (st.cached.headers (ready g c)).read) st.cached.lists)
 
 pub returns-clause-reads : goal.returns-clause-reads
 returns-clause-reads g c =
@@ -33,7 +33,7 @@ returns-clause-reads g c =
     let before = c.chained_level-found.ensures.look.still.clean clean in
     let st = c.self.invariant before in
     (rw is at (c.chained_level-found.ensures.read clean st.tables
-    (c.deref.ensures.value ∙ (st.kept.headers (ready g c)).read) st.kept.lists))
+    (c.deref.ensures.value ∙ (st.cached.headers (ready g c)).read) st.cached.lists))
     ∙ ap (λ (o : Office). level_at_month o.releases c.args.month c.args.code) (read.keeps.kept before)))
 
 pub returns-clause-rows : goal.returns-clause-rows
@@ -43,5 +43,5 @@ returns-clause-rows g c = λ clean.
     let st = c.self.invariant before in
     subst (λ (d : Database). OnOk c.counted.result (LatestStands level_in_row 32 c.args.month d.trees)) (same before)
     (answers _ _ _ c.counted.ensures
-    (c.chained_level-found.ensures.taken clean st.tables (c.deref.ensures.value ∙ (st.kept.headers (ready g c)).read)
-    st.kept.lists))
+    (c.chained_level-found.ensures.taken clean st.tables (c.deref.ensures.value ∙ (st.cached.headers (ready g c)).read)
+    st.cached.lists))

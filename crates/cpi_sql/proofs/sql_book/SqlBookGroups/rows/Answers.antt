@@ -28,13 +28,13 @@ invariant_of-self g c =
     look_sound (state g.S.Store c.self.inside.conn) (state g.S.Store c.sample_of-found.new.conn) _ _
     c.sample_of-found.ensures.look.still c.self.invariant
     (λ clean st. record {
-      survey = st.kept.survey;
-      headers = st.kept.headers;
+      survey = st.cached.survey;
+      headers = st.cached.headers;
       lists = c.sample_of-found.ensures.lists clean st.tables
-          (c.deref.ensures.value ∙ (st.kept.headers (ready g c).0).read) st.kept.lists;
-      samples = c.sample_of-found.ensures.kept clean st.tables
-          (c.deref.ensures.value ∙ (st.kept.headers (ready g c).0).read) st.kept.lists
-          (st.kept.survey (ready g c).1).read st.kept.samples;
+          (c.deref.ensures.value ∙ (st.cached.headers (ready g c).0).read) st.cached.lists;
+      samples = c.sample_of-found.ensures.cached clean st.tables
+          (c.deref.ensures.value ∙ (st.cached.headers (ready g c).0).read) st.cached.lists
+          (st.cached.survey (ready g c).1).read st.cached.samples;
     })
 
 pub returns-clause-reads : goal.returns-clause-reads
@@ -52,8 +52,8 @@ returns-clause-reads g c =
     IsAfterFrozen (office_sources o) c.args.month →
     rows.items ≡ group_of (office_sources o) c.args.month c.args.code)
     (read.keeps.kept before) (λ fit _ after. rw is at (
-    c.sample_of-found.ensures.read clean st.tables (c.deref.ensures.value ∙ (st.kept.headers (ready g c).0).read)
-    st.kept.lists (st.kept.survey (ready g c).1).read st.kept.samples fit
+    c.sample_of-found.ensures.read clean st.tables (c.deref.ensures.value ∙ (st.cached.headers (ready g c).0).read)
+    st.cached.lists (st.cached.survey (ready g c).1).read st.cached.samples fit
     (late (office_sources (office_in now.now.trees)) c.args.month fit.0 after)))))
 
 pub returns-clause-lists : goal.returns-clause-lists
@@ -65,8 +65,8 @@ returns-clause-lists g c = λ clean.
     let st = c.self.invariant before in
     subst (λ (d : Database). OnOk c.counted.result (SamplesTaken c.args.month d.trees)) same
     (answers _ _ _ c.counted.ensures
-    (c.sample_of-found.ensures.taken clean st.tables (c.deref.ensures.value ∙ (st.kept.headers (ready g c).0).read)
-    st.kept.lists (st.kept.survey (ready g c).1).read st.kept.samples))
+    (c.sample_of-found.ensures.taken clean st.tables (c.deref.ensures.value ∙ (st.cached.headers (ready g c).0).read)
+    st.cached.lists (st.cached.survey (ready g c).1).read st.cached.samples))
 
 pub returns-in_err-map_err-2-clause-reads : goal.returns-in_err-map_err-2-clause-reads
 returns-in_err-map_err-2-clause-reads g c =
