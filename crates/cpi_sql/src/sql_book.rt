@@ -1,4 +1,4 @@
-//! The office in a database: a book whose survey is read once and kept, and whose releases stay in the tables.
+//! The office in a database: a book whose survey is read once and cached, and whose releases stay in the tables.
 ghost use Rattle.std.specs.Borrow.{sem};
 ghost use Rattle.std.specs.Option.{option_copied};
 ghost use Rattle.std.specs.Prelude.{◌≡◌, MatchResult};
@@ -52,24 +52,27 @@ use sqlite::{Alter, Connection};
 use std::alloc::Global;
 use std::marker::Model;
 
-/// An office in a database, over the tables of schema 2, which hold each revision of each month. The survey is read
-/// once, by the first request that needs it, and kept in memory from then on; so are what the releases say beside their
-/// lists, the samples of the month that is being frozen, and of the lists of releases the last few that were asked for
-/// or put: tables, and the frozen quotes and carried prices that the next freeze begins with. Each write changes what
-/// is kept, or drops it.
+/// An office in a database, over the tables of schema 2, which contain each revision of each month. The first request
+/// that needs the survey reads it, and it is cached from then on. The headers of the releases are cached too, and the
+/// samples of the month that is being frozen. Of the lists of releases the cache has the few that were used or put
+/// last: tables, and the frozen quotes and carried prices that the next freeze begins with. Each write changes the
+/// caches or drops what is out of date.
 #[derive(Drop)]
 pub struct SqlBook<S: Alter> {
     conn: Connection<S>,
-    // the office but for its releases
+    // the office but for its releases, once it is read
     survey: Survey,
+    // whether the survey is read
     is_read: bool,
-    // of all releases, by month and revision
+    // of all releases, by month and revision, once they are read
     headers: Vec<Header>,
+    // whether the headers are read
     has_headers: bool,
-    // of earlier releases: what a freeze read or put, and the tables that were asked for
+    // lists of earlier releases: those that a freeze read or put, and the tables that requests asked for
     lists: CachedLists,
-    // the samples of the month that is being frozen; none once anything is written
+    // the samples of the month that is being frozen; none after a write
     samples: CachedSamples,
+    // how many calls have failed
     failed: Failures,
     alloc: Global,
 }
@@ -103,19 +106,19 @@ impl<S: Alter> Model for SqlBook<S> {
 /// A database that couldn't be opened as an office, and its connection.
 #[derive(Drop)]
 pub struct Unopened<S: Alter> {
-    /// Why.
+    /// Why it couldn't be opened.
     pub fault: OpenFault,
     /// The connection, which shows what it showed.
     pub conn: Connection<S>,
 }
 
 impl<S: Alter + Drop> SqlBook<S> {
-    /// The office in the database. If it has no table, the tables are made, all or none. Else they have to be those of
-    /// the office with the row 2 in `version`, and no row changes, or those of schema 1 with the row 1, which are
-    /// migrated, all or none. After that a crash leaves what is there. On a fault the database is as it was; the schema
-    /// is unknown only if `version` can be read and says another number. The fault comes with the connection: no contract
-    /// can say what a connection holds once it is let go. A caller that wants only the fault writes
-    /// `map_err(|unopened| unopened.fault)`.
+    /// The office in the database. If the database has no table, the tables are made, all or none. Otherwise they have
+    /// to be those of the office with the row 2 in `version`, and no row changes, or those of schema 1 with the row 1,
+    /// which are migrated, all or none. After that a crash leaves what is there. On a fault the database is as it was;
+    /// the fault is that of an unknown schema only if `version` can be read and has another number. The fault comes
+    /// with the connection: no contract can say what a connection holds once it is dropped. A caller that wants only
+    /// the fault writes `map_err(|unopened| unopened.fault)`.
     pub fn new(alloc: Global, conn: Connection<S>) -> Result<SqlBook<S>, Unopened<S>>
         requires { (state S.Store conn).in_transaction ≡ false }
         ensures { MatchResult result (IsOpenedOffice S.Store conn) (λ e. IsUnopened S.Store conn e.fault e.conn) }
@@ -147,7 +150,7 @@ impl<S: Alter + Drop> SqlBook<S> {
     }
 }
 
-// What was found; or the fault, and one more failure is counted.
+// The answer that was found, or this fault. A fault is one more failure, and is counted.
 fn counted<T, E: Drop, F: Drop>(
     failed: &mut Failures,
     found: Result<T, E>,
@@ -161,7 +164,8 @@ fn counted<T, E: Drop, F: Drop>(
     }
 }
 
-// What a write answers. Once its rows are stored they endure, and no samples are kept that were made before.
+// The answer to a write. Rows that are stored endure, and the samples that were made before are dropped. If the write
+// failed, that is a fault, and one more failure is counted.
 fn stored<S: Alter>(
     put: Result<(), Unread>,
     conn: &Connection<S>,
@@ -181,7 +185,8 @@ fn stored<S: Alter>(
 }
 
 impl<S: Alter> SqlBook<S> {
-    // Reads the survey, unless it is read.
+    // Reads the survey, unless it is cached. It is a fault if the store fails, a row can't be read, or memory is
+    // refused.
     fn ready_survey(&mut self) -> Result<(), StoreFault>
         ensures reads { ReadsOffice S.Store self.old self.new result (λ _ _. ⊤) }
         ensures now { KeepsRows S.Store self.old self.new }
@@ -202,7 +207,8 @@ impl<S: Alter> SqlBook<S> {
         }
     }
 
-    // Reads the headers of the releases, unless they are read.
+    // Reads the headers of the releases, unless they are cached. It is a fault if the store fails, a row can't be read,
+    // or memory is refused.
     fn ready_headers(&mut self) -> Result<(), StoreFault>
         ensures reads { ReadsOffice S.Store self.old self.new result (λ _ _. ⊤) }
         ensures now { KeepsRows S.Store self.old self.new }
@@ -391,8 +397,8 @@ impl<S: Alter> Book for SqlBook<S> {
 
     fn month_rows(&mut self, month: Month) -> Result<Vec<FrozenQuote>, StoreFault>
         ensures reads { ReadsOffice S.Store self.old self.new result (λ office found.
-            are_by_series frozen_serial (quotes_of_month month office) ≡ true → found.items ≡ quotes_of_month month
-            office) }
+            are_by_series frozen_serial (quotes_of_month month office) ≡ true →
+            found.items ≡ quotes_of_month month office) }
         ensures taken { RestsOn S.Store self.old self.new result AreTaken }
     {
         self.ready_survey()?;
@@ -472,10 +478,11 @@ impl<S: Alter> Book for SqlBook<S> {
     }
 
     fn put_collector(&mut self, registration: Registration) -> Result<(), StoreFault> {
-        let holder = registration;
+        // the borrow checker follows a struct that is passed by value once, so the second call takes a copy
+        let copy = registration;
         let put = put_collector(&mut self.conn, self.alloc, registration);
         stored(put, &self.conn, &mut self.samples, &mut self.failed)?;
-        follow_collector(&mut self.survey, &mut self.is_read, holder);
+        follow_collector(&mut self.survey, &mut self.is_read, copy);
         Ok(())
     }
 
@@ -491,10 +498,11 @@ impl<S: Alter> Book for SqlBook<S> {
         registration: Registration,
         assigned: Assigned,
     ) -> Result<(), StoreFault> {
-        let holder = registration;
+        // the borrow checker follows a struct that is passed by value once, so the second call takes a copy
+        let copy = registration;
         let put = put_assignment(&mut self.conn, self.alloc, registration, &assigned);
         stored(put, &self.conn, &mut self.samples, &mut self.failed)?;
-        follow_assignment(&mut self.survey, &mut self.is_read, holder, assigned);
+        follow_assignment(&mut self.survey, &mut self.is_read, copy, assigned);
         Ok(())
     }
 
@@ -506,10 +514,11 @@ impl<S: Alter> Book for SqlBook<S> {
     }
 
     fn put_quote(&mut self, registration: Registration, quote: Quote) -> Result<(), StoreFault> {
-        let holder = registration;
+        // the borrow checker follows a struct that is passed by value once, so the second call takes a copy
+        let copy = registration;
         let put = put_quote(&mut self.conn, registration, quote);
         stored(put, &self.conn, &mut self.samples, &mut self.failed)?;
-        follow_quote(&mut self.survey, &mut self.is_read, holder, quote);
+        follow_quote(&mut self.survey, &mut self.is_read, copy, quote);
         Ok(())
     }
 
