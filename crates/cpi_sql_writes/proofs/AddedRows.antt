@@ -1,7 +1,7 @@
 -- Rows added to those of a holder one by one, and rows dropped before.
 use Rattle.std.proofs.Common.{◌≡◌, ◌⊎◌, inl, inr, ℕ, List, [], ◌∷◌, ◌++◌, Bool, true, false, Some, Option}
 use Rattle.std.proofs.Common.{Result, refl, sym, ap, subst, ◌∙◌, ◌+◌, arith, take, drop, slice_range}
-use Rattle.std.proofs.lemmas.Bool.{cases_Bool}
+use Rattle.std.proofs.lemmas.Bool.{cases_Bool, true≢false}
 use Rattle.std.proofs.Math.Seq.{take-add}
 use Rattle.std.specs.Prelude.{is_some}
 use Rattle.std.specs.declared.cmp.Ordering.{Ordering}
@@ -21,12 +21,9 @@ use Rattle.cpi_sql_writes.proofs.Replaced.{Replaced, replaced}
 use Rattle.cpi_sql_writes.proofs.Withins.{inside_here, inside_then, on_given, on_then}
 use Rattle.cpi_sql_rows.proofs.Lists.{some_is}
 
-true_false : true ≡ false → ⊥
-true_false e = cc
-
 -- a step leaves the table ready for the next
-pub step_ready : (tree : ℕ) (Rows : List Row → List Row → Type 0) (a b : State) → IsRowStep tree Rows a b →
-    IsReady tree b
+pub step_ready : (tree : ℕ) (Rows : List Row → List Row → Type 0) (a b : State) → IsRowStep tree Rows a b
+    → IsReady tree b
 step_ready tree Rows a b p = record { schema = p.schema; rowids = p.rowids }
 
 -- two steps on the rows of one table
@@ -131,7 +128,7 @@ module _ {X : Type 0} (entry : Row → Option (ℕ × X)) where
       → Replaces entry is_of GoesBy xs old new → AllStandFor holder entry number new
   unfolding AllStandFor
   all_stand holder is_of GoesBy number named each xs old new p r h e = elim ((p.2 number named).others r h) [
-    | inl was ↦ absurd (true_false (sym (each r e) ∙ ((p.1 r).0 was).1))
+    | inl was ↦ absurd (true≢false (sym (each r e) ∙ ((p.1 r).0 was).1))
     | inr it ↦ ap is_some it.2
   ]
 
@@ -155,7 +152,7 @@ module _ {X : Type 0} (entry : Row → Option (ℕ × X)) where
           others = λ r n x h e. elim (adds.others r h) [
             | inl was ↦
                 let it = (p.1 r).0 was in
-                inr (λ same. true_false (sym (each r x (e ∙ ap (λ k. Some (k, x)) same)) ∙ it.1), it.0)
+                inr (λ same. true≢false (sym (each r x (e ∙ ap (λ k. Some (k, x)) same)) ∙ it.1), it.0)
             | inr it ↦
                 let pair : ◌≡◌ {A = ℕ × X} (n, x) (number, it.0) = some_is (sym e ∙ it.2) in
                 inl (ap (λ (q : ℕ × X). q.0) pair, subst (Has xs) (sym (ap (λ (q : ℕ × X). q.1) pair)) it.1)

@@ -2,17 +2,15 @@
 use Rattle.std.proofs.Common.{◌≡◌, ◌≢◌, ◌⊎◌, inl, inr, ℕ, true, false, eqb, List, [], ◌∷◌, Some, None}
 use Rattle.std.proofs.Common.{Option, refl, sym, ap, subst, ◌∙◌}
 use Rattle.std.specs.Prelude.{option_map}
-use Rattle.std.specs.List.{AllByRecursion}
-use Rattle.std.specs.List.Sorted.{IsStrictlySortedBy}
 use Rattle.std.specs.Ordering.{nat_cmp}
-use Rattle.std.specs.declared.cmp.Ordering.TheVariants.{Less, Equal}
+use Rattle.std.specs.declared.cmp.Ordering.TheVariants.{Equal}
 use Rattle.std.specs.Cmp.{tied_itself}
 use Rattle.std.proofs.lemmas.Bool.Decides.{eqb_tells}
 use Rattle.std.proofs.lemmas.Cmp.{nat_cmp_total, ranked}
 use Rattle.sqlite_rules.specs.Lists.{Has}
 use Rattle.sqlite_rules.proofs.ProbeLemmas.{has_mapped, mapped_has}
 use Rattle.sqlite.specs.State.{State}
-use Rattle.cpi_rows.specs.Keyed.{IsInOrder, row_by_number}
+use Rattle.cpi_rows.specs.Keyed.{row_by_number}
 use Rattle.cpi_rows.specs.Held.{held_by, held_cmp, held_key}
 use Rattle.cpi_rows.proofs.Found.{at_key}
 use Rattle.cpi_rows.proofs.Places.{put_in_order}
@@ -20,6 +18,7 @@ use Rattle.cpi_store.specs.declared.given.Given.{Given}
 use Rattle.cpi_store.specs.declared.series_move.SeriesMove.{SeriesMove}
 use Rattle.cpi_store.specs.Office.{HandsOver, put_given, given_until, row_until, end_given, given_over}
 use Rattle.cpi_store.specs.Office.{hand_over}
+use Rattle.cpi_store.proofs.GivenRows.{AreInOrder, end_in_order}
 use Rattle.cpi_sql_rows.specs.Lists.{office_in, assignments_in, assignment_in_row, releases_in}
 use Rattle.cpi_sql_writes.specs.GivenColumns.{CanHandOver, IsNumberFree, PutsGiven}
 use Rattle.cpi_sql_rows.specs.Shelf.{HasTables, IsDone, IsKeyed, Takes}
@@ -39,16 +38,13 @@ slot_of g = g.assignment.slot
 abbrev key : ℕ × Given → ℕ × ℕ
 key = held_key slot_of
 
-abbrev AreInOrder : List (ℕ × Given) → Type 0
-AreInOrder rows = IsInOrder (held_cmp nat_cmp) key rows
-
 -- ---- what ends is put over what stands
 
 -- a row of the slot ends, and every other row stays
-either : (n slot last : ℕ) (r : ℕ × Given)
+row_ends_or_stays : (n slot last : ℕ) (r : ℕ × Given)
     → ((r.0 ≡ n) × (slot_of r.1 ≡ slot) × (row_until n slot last r ≡ (r.0, given_until last r.1)))
     ⊎ (((r.0 ≡ n) × (slot_of r.1 ≡ slot) → ⊥) × (row_until n slot last r ≡ r))
-either n slot last r = by (eqb_tells r.0 n) (eqb_tells (slot_of r.1) slot)
+row_ends_or_stays n slot last r = by (eqb_tells r.0 n) (eqb_tells (slot_of r.1) slot)
   where
     by : ((eqb r.0 n ≡ true) × (r.0 ≡ n)) ⊎ ((eqb r.0 n ≡ false) × (r.0 ≢ n))
         → ((eqb (slot_of r.1) slot ≡ true) × (slot_of r.1 ≡ slot))
@@ -58,25 +54,6 @@ either n slot last r = by (eqb_tells r.0 n) (eqb_tells (slot_of r.1) slot)
     by (inl a) (inl b) = inl (a.1, b.1, rw (a.0, b.0) refl)
     by (inl a) (inr b) = inr (λ both. b.1 both.1, rw (a.0, b.0) refl)
     by (inr a) b = inr (λ both. a.1 both.0, rw a.0 refl)
-
-key_until : (n slot last : ℕ) (r : ℕ × Given) → key (row_until n slot last r) ≡ key r
-key_until n slot last r = elim (either n slot last r) [ inl ends ↦ ap key ends.2 | inr stays ↦ ap key stays.1 ]
-
-ended_in_order : (n slot last : ℕ) (rows : List (ℕ × Given)) → AreInOrder rows
-    → AreInOrder (end_given n slot last rows)
-unfolding IsStrictlySortedBy
-ended_in_order n slot last [] sorted = tt
-ended_in_order n slot last (r ∷ rows) sorted = (above rows sorted.0, ended_in_order n slot last rows sorted.1)
-  where
-    above : (rs : List (ℕ × Given)) → AllByRecursion (λ s. held_cmp nat_cmp (key r) (key s) ≡ Less) rs
-        → AllByRecursion (λ s. held_cmp nat_cmp (key (row_until n slot last r)) (key s) ≡ Less)
-        (end_given n slot last rs)
-    above [] all = tt
-    above (s ∷ rs) all = (
-      ap (λ k. held_cmp nat_cmp k (key (row_until n slot last s))) (key_until n slot last r)
-          ∙ ap (λ k. held_cmp nat_cmp (key r) k) (key_until n slot last s) ∙ all.0,
-      above rs all.1,
-    )
 
 record IsThere (n slot last : ℕ) (g : Given) (rows : List (ℕ × Given)) : Type 0 where
   pub found : Given
@@ -99,8 +76,8 @@ there n slot last g rows e = by (row_by_number slot_of slot (held_by n rows)) re
     }
 
 module _ (n : ℕ) (g : Given) (rows : List (ℕ × Given)) (sorted : AreInOrder rows)
-    (stands : option_map (given_until g.assignment.last_month) (row_by_number slot_of (slot_of g) (held_by n rows)) ≡
-    Some g) where
+    (stands : option_map (given_until g.assignment.last_month) (row_by_number slot_of (slot_of g) (held_by n rows))
+    ≡ Some g) where
   abbrev last : ℕ
   last = g.assignment.last_month
 
@@ -122,7 +99,7 @@ module _ (n : ℕ) (g : Given) (rows : List (ℕ × Given)) (sorted : AreInOrder
   ended_has : (x : ℕ × Given) → Has (end_given n (slot_of g) last rows) x → Has (put_given n g rows) x
   ended_has x h =
       let y = has_mapped (row_until n (slot_of g) last) rows x h in
-      elim (either n (slot_of g) last y.0) [
+      elim (row_ends_or_stays n (slot_of g) last y.0) [
         | inl ends ↦
             let is : x ≡ (n, g) = y.2 ∙ ends.2
             ∙ ap (λ (r : ℕ × Given). (r.0, given_until last r.1)) (one y.0 y.1 ends.0 ends.1)
@@ -137,13 +114,13 @@ module _ (n : ℕ) (g : Given) (rows : List (ℕ × Given)) (sorted : AreInOrder
   has_ended x h = elim (put_has (held_total nat_cmp_total) key (n, g) rows x h) [
     | inl is ↦
         let made = mapped_has (row_until n (slot_of g) last) rows (n, it.found) it.has in
-        elim (either n (slot_of g) last (n, it.found)) [
+        elim (row_ends_or_stays n (slot_of g) last (n, it.found)) [
           | inl ends ↦ subst (Has (end_given n (slot_of g) last rows)) (ends.2 ∙ ap (λ z. (n, z)) it.ends ∙ sym is) made
           | inr stays ↦ absurd (stays.0 (refl, it.slot_is))
         ]
     | inr was ↦
         let made = mapped_has (row_until n (slot_of g) last) rows x was.0 in
-        elim (either n (slot_of g) last x) [
+        elim (row_ends_or_stays n (slot_of g) last x) [
           | inl ends ↦ absurd (was.1 (rw (ends.0, ends.1) (tied_itself (held_total nat_cmp_total) (n, slot_of g))))
           | inr stays ↦ subst (Has (end_given n (slot_of g) last rows)) stays.1 made
         ]
@@ -151,7 +128,7 @@ module _ (n : ℕ) (g : Given) (rows : List (ℕ × Given)) (sorted : AreInOrder
 
   pub ended_put : end_given n (slot_of g) last rows ≡ put_given n g rows
   ended_put = same_in_order (held_total nat_cmp_total) key (end_given n (slot_of g) last rows) (put_given n g rows)
-      (ended_in_order n (slot_of g) last rows sorted) (put_in_order (held_total nat_cmp_total) key rows (n, g) sorted)
+      (end_in_order n (slot_of g) last rows sorted) (put_in_order (held_total nat_cmp_total) key rows (n, g) sorted)
       ended_has has_ended
 
 -- ---- the new slot stays free

@@ -6,6 +6,7 @@ use Rattle.std.specs.declared.cmp.Ordering.TheVariants.{Less, Equal}
 use Rattle.std.specs.Ordering.{nat_cmp}
 use Rattle.std.specs.Cmp.{tied_itself}
 use Rattle.std.specs.List.Sorted.{IsStrictlySortedBy}
+use Rattle.std.proofs.lemmas.Bool.{true≢false}
 use Rattle.std.proofs.lemmas.Cmp.{nat_cmp_total}
 use Rattle.std.proofs.lemmas.Map.Keys.{sorted_tail}
 use Rattle.sqlite.specs.Tree.{Trees}
@@ -40,12 +41,9 @@ use Rattle.cpi_sql_writes.proofs.PlanLists.{made_put}
 use Rattle.cpi_sql_rows.proofs.YearLemmas.{stored_is}
 use Rattle.cpi_sql_rows.proofs.Lists.{some_is}
 
-true_false : true ≡ false → ⊥
-true_false e = cc
-
 -- ---- elementary codes
 none_below : (c : Code) → is_code_elementary c ≡ true → c.aggregate ≡ None → ⊥
-none_below c e none = true_false (sym e ∙ ap is_some none)
+none_below c e none = true≢false (sym e ∙ ap is_some none)
 
 fits_same : (x y : Option ℕ) → (x ≡ None → ⊥) → fits x y ≡ true → x ≡ y
 fits_same None y some h = absurd (some refl)
@@ -86,8 +84,8 @@ below_elementary c d e h = at (c.division == 0) refl (sym (at_or_below-parts c d
 
 -- ---- the weight of an elementary aggregate
 module _ (c : Code) (elementary : is_code_elementary c ≡ true) where
-  nothing : (xs : List Weight) → ((z : Weight) → Has xs z → is_code_at_or_below c z.code ≡ false) →
-      weight_under c xs ≡ 0
+  nothing : (xs : List Weight) → ((z : Weight) → Has xs z → is_code_at_or_below c z.code ≡ false)
+      → weight_under c xs ≡ 0
   nothing [] h = refl
   nothing (x ∷ xs) h =
       let sum : weight_under c (x ∷ xs) ≡ 0 + weight_under c xs = under_cons c x xs false (h x (inl refl)) in
@@ -115,7 +113,7 @@ module _ (c : Code) (elementary : is_code_elementary c ≡ true) where
           let rest = nothing xs (λ z k. other z k here (is_code_at_or_below c z.code) refl) in
           under_cons c x xs true f ∙ ap (λ n. x.parts + n) rest ∙ omega arith ∙ ap (λ (w : Weight). w.parts) (sym is)
       at true f (inr k) later = absurd (clash u k (sym (below_elementary c x.code elementary f) ∙ e))
-      at false f (inl is) later = absurd (true_false (sym (below_itself c)
+      at false f (inl is) later = absurd (true≢false (sym (below_itself c)
           ∙ ap (is_code_at_or_below c) (e ∙ ap (λ (w : Weight). w.code) is) ∙ f))
       at false f (inr k) later =
           let sum : weight_under c (x ∷ xs) ≡ 0 + weight_under c xs = under_cons c x xs false f in
@@ -128,10 +126,10 @@ weights_has ns w h =
     let kept = has_filtered (λ (n : Node). is_code_elementary n.code) ns it.0 it.1 in
     (it.0, kept.0, kept.1, it.2)
 
-has_weights : (ns : List Node) (n : Node) → Has ns n → is_code_elementary n.code ≡ true → Has (weights_in ns)
-    (weight_of n)
-has_weights ns n h e = mapped_has weight_of (filter (λ n. is_code_elementary n.code) ns) n (has_kept
-    (λ (n : Node). is_code_elementary n.code) ns n h e)
+has_weights : (ns : List Node) (n : Node) → Has ns n → is_code_elementary n.code ≡ true
+    → Has (weights_in ns) (weight_of n)
+has_weights ns n h e = mapped_has weight_of (filter (λ n. is_code_elementary n.code) ns) n
+    (has_kept (λ (n : Node). is_code_elementary n.code) ns n h e)
 
 weights_in_order : (ns : List Node) → IsInOrder code_cmp (λ n. n.code) ns
     → IsInOrder code_cmp (λ w. w.code) (weights_in ns)
