@@ -12,20 +12,27 @@ use std::alloc::Global;
 /// The columns of a row of what a slot was given, but for its rowid.
 #[derive(Drop)]
 pub struct GivenColumns {
+    /// The collector's number.
     pub collector: u32,
+    /// The slot's number.
     pub slot: u32,
+    /// The outlet's number.
     pub outlet: u32,
+    /// The item's code.
     pub item: String,
     /// As year * 100 + month.
     pub first_month: u32,
     /// As year * 100 + month.
     pub last_month: u32,
+    /// The number of the collector that the series is named by.
     pub series_collector: u32,
+    /// The slot that the series is named by.
     pub series_slot: u32,
-    /// In minor units; NULL where no price was copied.
+    /// In minor units; NULL if no price was copied.
     pub copied: Option<u32>,
 }
 
+// The copied price in minor units, if there is one.
 fn copied_units(copied: Option<Price>) -> Option<u32>
     ensures { price_or_none (copied_column result) ≡ Some copied }
 {
@@ -35,7 +42,7 @@ fn copied_units(copied: Option<Price>) -> Option<u32>
     }
 }
 
-/// The columns that stand for what the collector's slot was given.
+/// The columns of the row of a collector's slot: its assignment and its series. It is an error if memory is refused.
 pub fn given_columns(
     alloc: Global,
     collector: CollectorId,

@@ -1,4 +1,4 @@
-//! A series is handed over: the former slot's row ends, and the new slot's row is put, both or neither.
+//! A series is handed over: the former slot's row ends, and the new slot's row is added, both or neither.
 ghost use Rattle.std.specs.Prelude.{◌≡◌};
 ghost use Rattle.cpi_store.specs.declared.given.Given.{Given};
 ghost use Rattle.cpi_store.specs.Office.{HandsOver};
@@ -17,7 +17,7 @@ use cpi_store::SeriesMove;
 use sqlite::{Alter, Connection, Transaction, params};
 use std::alloc::Global;
 
-// Runs a statement on the row with these columns.
+// Runs a statement of the transaction with these columns as its parameters.
 fn run_given<S: Alter>(
     tx: &mut Transaction<'_, S>,
     text: &str,
@@ -51,7 +51,7 @@ const REPLACE_GIVEN: &str =
      first_month = excluded.first_month, last_month = excluded.last_month, \
      series_collector = excluded.series_collector, series_slot = excluded.series_slot, copied = excluded.copied";
 
-// Puts the row of a slot over the one that stands.
+// Puts the row of a slot in place of the slot's former row, if it has one.
 fn replace_given<S: Alter>(
     tx: &mut Transaction<'_, S>,
     columns: &GivenColumns,
@@ -68,7 +68,7 @@ const ADD_GIVEN: &str =
     "INSERT INTO assignment_2 (collector, slot, outlet, item, first_month, last_month, series_collector, series_slot, \
      copied) VALUES (?1, ?2, ?3, ?4, ?5, ?6, ?7, ?8, ?9)";
 
-// Adds the row of a slot that is free.
+// Adds the row of a slot that is free. It is an error if the slot has a row.
 fn add_given<S: Alter>(tx: &mut Transaction<'_, S>, columns: &GivenColumns) -> Result<(), Unread>
     ensures same_reference { tx.new.conn.ghost_name ≡ tx.old.conn.ghost_name }
     ensures put { Within (state S.Store tx.old.conn.now) (state S.Store tx.new.conn.now) result
@@ -86,7 +86,7 @@ impl OneChange for SeriesMove {
 
     ghost leaves = { λ _ _. ⊤ };
 
-    // The two rows.
+    // Writes the two rows.
     fn write<S: Alter>(&self, tx: &mut Transaction<'_, S>, alloc: Global) -> Result<(), Unread> {
         let ended = &self.ended;
         let assignment = &self.assigned.assignment;
@@ -97,7 +97,8 @@ impl OneChange for SeriesMove {
     }
 }
 
-/// Ends the former assignment, and puts the new one, which has the same series: both, or neither.
+/// Ends the former assignment, and adds the new one, which has the same series: both, or neither. It is an error if a
+/// transaction is open, the store fails, or memory is refused.
 pub fn put_handover<S: Alter>(
     conn: &mut Connection<S>,
     alloc: Global,

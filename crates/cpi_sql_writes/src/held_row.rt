@@ -1,5 +1,5 @@
-//! The lists that a table keeps for its holders, the releases or the years: one of them put, within a transaction, in
-//! place of what stands for its holder.
+//! A table has a list of rows for each of its holders, a release or a year. Within a transaction, a holder's list is
+//! put in place of the rows that the holder has.
 ghost use Rattle.std.specs.Prelude.{◌<◌, ◌≡◌, ◌≤◌};
 ghost use Rattle.sqlite.specs.Table.{Table};
 ghost use Rattle.cpi_sql_rows.specs.Common.{ℕ, Bool, bound, IfOk, length, OnOk, Option, Row, state};
@@ -11,10 +11,10 @@ use sqlite::types::ValueRef;
 use sqlite::{Alter, Transaction};
 use std::alloc::Global;
 
-// The rows that one statement adds, where so many are left.
+// How many rows one statement adds, if so many are left.
 const AT_ONCE: usize = 32;
 
-// The columns of thirty-two rows of the widest table: so much room is taken once for the columns of a statement.
+// How many columns thirty-two rows of the widest table have. The columns of a statement are given this room at once.
 const ROOM: usize = AT_ONCE * 11;
 
 // Runs the INSERT of thirty-two rows, or of one. Its text begins with one row; each `twice` makes them twice as many.
@@ -40,9 +40,9 @@ macro_rules! insert_rows {
 
 pub(crate) use insert_rows;
 
-/// A row of a list that a table keeps for each of its holders.
+/// A row of a list of which a table has one for each holder.
 pub trait HeldRow {
-    /// What the rows of one list begin with.
+    /// The columns that the rows of one list begin with.
     type Holder: Copy;
 
     /// The texts among the row's columns that are made of its codes.
@@ -51,7 +51,7 @@ pub trait HeldRow {
     /// The table.
     ghost table: { Table };
 
-    /// What a row of the table stands for, beside the number of its holder.
+    /// The value that a row of the table stands for, with the number of its holder.
     ghost entry: { Row → Option (ℕ × Self) };
 
     /// Whether a row is the holder's.
@@ -63,17 +63,18 @@ pub trait HeldRow {
     /// Whether the texts are the row's.
     ghost spells: { Self → Self.Texts → Type 0 };
 
-    /// Drops the rows of the holder.
+    /// Drops the rows of the holder. It is an error if the store fails.
     fn drop_of<S: Alter>(tx: &mut Transaction<'_, S>, holder: Self::Holder) -> Result<(), Unread>
         ensures same_reference { tx.new.conn.ghost_name ≡ tx.old.conn.ghost_name }
         ensures dropped { Within (state S.Store tx.old.conn.now) (state S.Store tx.new.conn.now) result
             (Changes table.tree (Drops (is_of holder))) };
 
-    /// The texts of the row.
+    /// The texts of the row. It is an error if memory is refused.
     fn texts(&self, alloc: Global) -> Result<Self::Texts, Unread>
         ensures { IfOk result (λ texts. spells self.now texts) };
 
-    /// Puts the columns of the row in the list of the holder behind the others.
+    /// Adds the columns of the row in the holder's list after the others. It is an error if a column can't have its
+    /// value, or memory is refused.
     fn put_columns<'a>(
         &'a self,
         holder: Self::Holder,
@@ -84,7 +85,8 @@ pub trait HeldRow {
         ensures { OnOk result
             (PutsColumns table entry (goes_by holder) self.now (bound all.old.items) (bound all.new.items)) };
 
-    /// Adds the rows that have these columns, by one statement: thirty-two, or one.
+    /// Adds the rows that have these columns, by one statement: thirty-two rows if there are `many`, or one. It is an
+    /// error if the store fails.
     fn insert<S: Alter>(
         tx: &mut Transaction<'_, S>,
         columns: &[ValueRef<'_>],
@@ -96,7 +98,7 @@ pub trait HeldRow {
             AddsColumns table entry (goes_by holder) (rows_at_once many) (bound columns.now) old new) };
 }
 
-// The texts of each row.
+// The texts of each row. It is an error if memory is refused.
 fn texts_of<T: HeldRow>(alloc: Global, rows: &[T]) -> Result<Vec<T::Texts>, Unread>
     ensures { IfOk result (λ all. AreTextsOf T.spells rows.now all.items) }
 {
@@ -108,7 +110,8 @@ fn texts_of<T: HeldRow>(alloc: Global, rows: &[T]) -> Result<Vec<T::Texts>, Unre
     Ok(all)
 }
 
-// The columns of the rows, one row behind the other.
+// The columns of the rows, one row after the other. It is an error if a column can't have its value, or memory is
+// refused.
 fn columns_of<'a, T: HeldRow>(
     alloc: Global,
     holder: T::Holder,
@@ -125,7 +128,7 @@ fn columns_of<'a, T: HeldRow>(
     Ok(all)
 }
 
-// Adds the rows to those of the holder by one statement: thirty-two, or one.
+// Adds the rows to those of the holder by one statement: thirty-two rows if there are `many`, or one.
 fn add_at_once<S: Alter, T: HeldRow>(
     tx: &mut Transaction<'_, S>,
     alloc: Global,
@@ -143,7 +146,7 @@ fn add_at_once<S: Alter, T: HeldRow>(
     T::insert(tx, &columns, many)
 }
 
-// Adds the rows to those of the holder.
+// Adds the rows to those of the holder, thirty-two at a time while so many are left, and then one by one.
 fn add_all<S: Alter, T: HeldRow>(
     tx: &mut Transaction<'_, S>,
     alloc: Global,
@@ -167,7 +170,8 @@ fn add_all<S: Alter, T: HeldRow>(
     Ok(())
 }
 
-/// Puts the list of the holder in place of all that stand for it.
+/// Puts the list of the holder in place of the rows that the holder has. It is an error if the store fails, a column
+/// can't have its value, or memory is refused.
 pub fn replace<S: Alter, T: HeldRow>(
     tx: &mut Transaction<'_, S>,
     alloc: Global,

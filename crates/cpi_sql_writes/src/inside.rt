@@ -7,7 +7,7 @@ use cpi_sql_rows::Unread;
 use sqlite::{Alter, Transaction};
 use sqlite_value::value::ValueRef;
 
-/// Runs a statement of the transaction.
+/// Runs a statement of the transaction. It is an error if the store fails.
 pub fn run_inside<S: Alter>(
     tx: &mut Transaction<'_, S>,
     text: &str,

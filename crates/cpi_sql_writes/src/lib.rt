@@ -1,4 +1,4 @@
-//! The statements that put rows, a plan, a release and a hand-over into the tables of an office.
+//! The statements that put rows, a plan, a release and a handover into the tables of an office.
 #![tactic(auto)]
 
 mod given_columns;

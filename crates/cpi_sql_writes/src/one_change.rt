@@ -14,7 +14,7 @@ use cpi_sql_rows::{Unread, settle};
 use sqlite::{Alter, Connection, Transaction};
 use std::alloc::Global;
 
-/// What is written in one transaction.
+/// A change of the office that is made in one transaction.
 pub trait OneChange {
     /// The change of the office.
     ghost change: { Self → Change };
@@ -22,10 +22,10 @@ pub trait OneChange {
     /// Whether the office can take it.
     ghost fits: { Self → Office → Type 0 };
 
-    /// What is so of the tables afterwards, beside the change of the office.
+    /// A fact about the tables afterwards, besides the change of the office.
     ghost leaves: { Self → Trees → Type 0 };
 
-    /// Writes its rows.
+    /// Writes its rows. It is an error if the store fails, the tables can't take a row, or memory is refused.
     fn write<S: Alter>(&self, tx: &mut Transaction<'_, S>, alloc: Global) -> Result<(), Unread>
         ensures same_reference { tx.new.conn.ghost_name ≡ tx.old.conn.ghost_name }
         ensures written { Within (state S.Store tx.old.conn.now) (state S.Store tx.new.conn.now) result
@@ -34,7 +34,7 @@ pub trait OneChange {
             (λ old new. fits self.now (office_in old.now.trees) → LeavesTables (leaves self.now) old new) };
 }
 
-// In a transaction, which is rolled back where it fails.
+// Makes the change in a transaction, which is rolled back if it fails.
 fn in_transaction<S: Alter, C: OneChange>(
     conn: &mut Connection<S>,
     alloc: Global,
@@ -67,7 +67,8 @@ fn in_transaction<S: Alter, C: OneChange>(
     }
 }
 
-/// Makes the change, where no transaction is open.
+/// Makes the change in a transaction of its own. It is an error if a transaction is open already, the store fails, the
+/// tables can't take a row, or memory is refused. On an error the rows of a clean store are as before.
 pub fn make_change<S: Alter, C: OneChange>(
     conn: &mut Connection<S>,
     alloc: Global,

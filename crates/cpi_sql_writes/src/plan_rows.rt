@@ -75,7 +75,9 @@ impl HeldRow for Node {
 /// The codes of a place as texts.
 #[derive(Drop)]
 pub struct PlaceTexts {
+    /// The item's code.
     pub item: String,
+    /// The code of its elementary aggregate.
     pub aggregate: String,
 }
 
@@ -145,8 +147,8 @@ fn add_reference<S: Alter>(
 ) -> Result<(), Unread>
     ensures same_reference { tx.new.conn.ghost_name ≡ tx.old.conn.ghost_name }
     ensures added { Within (state S.Store tx.old.conn.now) (state S.Store tx.new.conn.now) result
-        (Changes table_of_plan_refs.tree (AddsTo reference_month_in_row (IsYearNumber year)
-        (references_for reference))) }
+        (Changes table_of_plan_refs.tree
+        (AddsTo reference_month_in_row (IsYearNumber year) (references_for reference))) }
 {
     match reference {
         Some(month) => run_inside(tx, ADD_REFERENCE, params![year, month_number(month)]),
@@ -154,7 +156,8 @@ fn add_reference<S: Alter>(
     }
 }
 
-/// Puts the reference month of a year, if the plan has one, in place of the one that stands.
+/// Puts the reference month of a year, if the plan has one, in place of the year's former one. It is an error if the
+/// store fails.
 pub fn replace_reference<S: Alter>(
     tx: &mut Transaction<'_, S>,
     year: u32,

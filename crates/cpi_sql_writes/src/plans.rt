@@ -1,4 +1,4 @@
-//! A year's plan: its rows take the place of those that stand, all of them or none.
+//! A year's plan: its rows replace those of the year's former plan, all of them or none.
 ghost use Rattle.std.specs.Prelude.{◌≡◌};
 ghost use Rattle.cpi_store.specs.Office.{PutsPlan};
 ghost use Rattle.cpi_sql_rows.specs.Common.{⊤, HasCleanDisk, IsTrue, OnOk, state};
@@ -19,7 +19,7 @@ impl OneChange for YearPlan {
 
     ghost leaves = { λ _ _. ⊤ };
 
-    // Its rows in place of those of its year.
+    // Puts its rows in place of those of its year.
     fn write<S: Alter>(&self, tx: &mut Transaction<'_, S>, alloc: Global) -> Result<(), Unread> {
         let year = u32::from(self.year());
         replace(tx, alloc, year, self.nodes())?;
@@ -28,7 +28,8 @@ impl OneChange for YearPlan {
     }
 }
 
-/// Puts a year's plan, over the one that stands if there is one: all of its rows, or none.
+/// Puts a year's plan, in place of the former one if there is one: all of its rows, or none. It is an error if a
+/// transaction is open, the store fails, or memory is refused.
 pub fn put_plan<S: Alter>(
     conn: &mut Connection<S>,
     alloc: Global,

@@ -13,7 +13,7 @@ use cpi_sql_rows::{Unread, moment_value};
 use sqlite::{Alter, Transaction, params};
 use std::alloc::{AllocError, Global};
 
-// A code, and the others after a space each.
+// The texts of a code and of the others, with a space before each of the others.
 fn spaced(alloc: Global, first: Code, others: &[Code]) -> Result<String, AllocError>
     ensures { IfOk result (λ s. string_bytes s ≡ carry_text (first ∷ others.now)) }
 {
@@ -26,7 +26,7 @@ fn spaced(alloc: Global, first: Code, others: &[Code]) -> Result<String, AllocEr
     Ok(text)
 }
 
-// The codes with a space between each two.
+// The texts of the codes, with a space between each two.
 fn carry_string(alloc: Global, codes: &[Code]) -> Result<String, Unread>
     ensures { IfOk result (λ s. string_bytes s ≡ carry_text codes.now) }
 {
@@ -39,7 +39,8 @@ fn carry_string(alloc: Global, codes: &[Code]) -> Result<String, Unread>
 const ADD_HEADER: &str =
     "INSERT INTO release_2 (month, revision, frozen_at, publishes, carry) VALUES (?1, ?2, ?3, ?4, ?5)";
 
-/// Adds the header of a release; the numbers are its own.
+/// Adds the header of a release; the numbers are its own. It is an error if the store fails, the table has such a
+/// header, or memory is refused.
 pub fn add_header<S: Alter>(
     tx: &mut Transaction<'_, S>,
     alloc: Global,

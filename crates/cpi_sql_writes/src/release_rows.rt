@@ -31,9 +31,11 @@ use std::alloc::Global;
 pub struct ReleaseNumbers {
     /// The month, as year * 100 + month.
     pub month: u32,
+    /// The revision, from 1.
     pub revision: u32,
 }
 
+// A flag as its column has it: 1 or 0.
 fn flag_number(flag: bool) -> u32
     ensures { flag_in_value (Int (pos result)) ≡ Some flag }
 {
@@ -102,6 +104,7 @@ impl HeldRow for FrozenQuote {
     }
 }
 
+// A number of ticks, as its column has it: a carried price, or the numerator of its scale.
 fn ticks_value(ticks: u64) -> ValueRef<'static>
     requires { IsTicks ticks }
     ensures value { owned result ≡ Int (pos ticks) }
@@ -110,6 +113,7 @@ fn ticks_value(ticks: u64) -> ValueRef<'static>
     ValueRef::Int(ticks as i64)
 }
 
+// The denominator of the carried price's scale, as its column has it.
 fn denominator(price: &CarriedPrice) -> u32
     ensures { number_within 1 GREATEST_PRICE (Int (pos result)) ≡ Some price.now.kden }
 {
@@ -182,6 +186,7 @@ impl HeldRow for CarriedPrice {
     }
 }
 
+// An index in millionths of a point, as its column has it.
 fn index_value(index: Index) -> ValueRef<'static>
     ensures value { owned result ≡ Int (pos index) }
     ensures range { number_within 1 MOST_INDEX (Int (pos index)) ≡ Some index }
@@ -189,6 +194,7 @@ fn index_value(index: Index) -> ValueRef<'static>
     ValueRef::Int(index.millionths() as i64)
 }
 
+// A chained level in millionths of a point, as its column has it.
 fn chained_value(level: ChainedLevel) -> ValueRef<'static>
     ensures value { owned result ≡ Int (pos level) }
     ensures range { number_within 1 MOST_LEVEL (Int (pos level)) ≡ Some level }
@@ -196,7 +202,7 @@ fn chained_value(level: ChainedLevel) -> ValueRef<'static>
     ValueRef::Int(level.millionths() as i64)
 }
 
-// The weight in use of a node with this code; an error says that it can't have it.
+// The weight in use of a node, as its column has it. It is an error if a node with this code can't have the weight.
 fn weight_value(code: Code, weight: NodeWeight) -> Result<ValueRef<'static>, Unread>
     ensures value { IfOk result (λ v. owned v ≡ Int (pos weight)) }
     ensures range { OnOk result (weight_from code (Int (pos weight)) ≡ Some weight) }
@@ -208,12 +214,14 @@ fn weight_value(code: Code, weight: NodeWeight) -> Result<ValueRef<'static>, Unr
     }
 }
 
+// The change on the month before, as its column has it.
 fn month_change(level: &Level) -> ValueRef<'static>
     ensures { owned result ≡ Int level.now.month_change }
 {
     ValueRef::Int(level.month_change)
 }
 
+// The change on the month twelve months before, as its column has it; NULL if the level has none.
 fn year_change(level: &Level) -> ValueRef<'static>
     ensures { owned result ≡ annual level.now.year_change }
 {

@@ -17,7 +17,7 @@ use cpi_sql_rows::{Unread, month_number};
 use sqlite::{Alter, Connection, Transaction};
 use std::alloc::Global;
 
-// The release's numbers, as each of its rows begins with them.
+// The numbers that each row of the release begins with.
 fn numbers_of(release: &Release) -> ReleaseNumbers
     ensures month { month_at result.month ≡ Some release.now.month }
     ensures revision { result.revision ≡ release.now.revision }
@@ -30,7 +30,7 @@ fn numbers_of(release: &Release) -> ReleaseNumbers
     }
 }
 
-// Whether the tables can hold it: its lists rise by their keys.
+// Whether the tables can take the release: its lists are strictly in the order of their keys.
 fn fits_tables(release: &Release) -> bool
     ensures { IsTrue result → FitsTables release.now }
 {
@@ -46,7 +46,7 @@ impl OneChange for Release {
 
     ghost leaves = { ListsStand };
 
-    // The header and the lists.
+    // Writes the header and the lists. It is an error if the tables can't take the release.
     fn write<S: Alter>(&self, tx: &mut Transaction<'_, S>, alloc: Global) -> Result<(), Unread> {
         if !fits_tables(self) {
             return Err(Unread);
@@ -59,8 +59,9 @@ impl OneChange for Release {
     }
 }
 
-/// Puts a release that isn't there yet: all of its rows, or none. What stands beside its number without a header is
-/// dropped.
+/// Puts a release that isn't there yet: all of its rows, or none. Rows with its number but without a header are
+/// dropped. It is an error if the lists aren't in the order of their keys, a transaction is open, the store fails, or
+/// memory is refused.
 pub fn put_release<S: Alter>(
     conn: &mut Connection<S>,
     alloc: Global,

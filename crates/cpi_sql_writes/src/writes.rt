@@ -1,10 +1,9 @@
-//! The statements that put one row.
+//! The statements that put one row each.
 ghost use Rattle.std.specs.Prelude.{◌≡◌};
 ghost use Rattle.cpi_codes.specs.declared.limits.TheConstants.{LAST_MOMENT};
 ghost use Rattle.cpi_store.specs.Office.{Assigns, PutsCalendar, PutsItem, PutsOutlet, Quotes, Registers};
 ghost use Rattle.cpi_sql_rows.specs.Common.{⊤, row_by_number, bound, false, HasCleanDisk, IfOk, Int, IsTrue, None};
-ghost use Rattle.cpi_sql_rows.specs.Common.{OnOk};
-ghost use Rattle.cpi_sql_rows.specs.Common.{pos, Some, state, string_bytes, Text};
+ghost use Rattle.cpi_sql_rows.specs.Common.{OnOk, pos, Some, state, string_bytes, Text};
 ghost use Rattle.cpi_sql_rows.specs.Lists.{registration_from, calendar_from, month_at, number_within};
 ghost use Rattle.cpi_sql_writes.specs.GivenColumns.{IsNumberFree};
 ghost use Rattle.cpi_sql_writes.specs.Within.{RunsAlone};
@@ -23,7 +22,7 @@ use sqlite::{Alter, Connection, params};
 use sqlite_value::value::ValueRef;
 use std::alloc::Global;
 
-// Runs the statement.
+// Runs the statement, which puts one row.
 fn put_row<S: Alter>(
     conn: &mut Connection<S>,
     text: &str,
@@ -35,7 +34,7 @@ fn put_row<S: Alter>(
     Ok(())
 }
 
-// The columns that stand for the registration.
+// The columns of a registration: the collector's number and key. It is an error if memory is refused.
 fn registration_columns(alloc: Global, registration: Registration) -> Result<(u32, String), Unread>
     ensures { IfOk result (λ p. registration_from (Int (pos p.0)) (Text (string_bytes p.1)) ≡ Some registration) }
 {
@@ -45,7 +44,7 @@ fn registration_columns(alloc: Global, registration: Registration) -> Result<(u3
 
 const PUT_COLLECTOR: &str = "INSERT INTO collector (number, key) VALUES (?1, ?2)";
 
-/// Puts a new collector.
+/// Puts a new collector. It is an error if a row has its number or key, the store fails, or memory is refused.
 pub fn put_collector<S: Alter>(
     conn: &mut Connection<S>,
     alloc: Global,
@@ -63,7 +62,7 @@ pub fn put_collector<S: Alter>(
 
 const PUT_OUTLET: &str = "INSERT INTO outlet (number, name) VALUES (?1, ?2)";
 
-/// Puts a new outlet.
+/// Puts a new outlet. It is an error if a row has its number, or the store fails.
 pub fn put_outlet<S: Alter>(conn: &mut Connection<S>, outlet: &Outlet) -> Result<(), Unread>
     ensures written { Written (PutsOutlet outlet.now)
         (λ office. row_by_number (λ u. u.number) outlet.now.number office.outlets ≡ None)
@@ -78,14 +77,14 @@ pub fn put_outlet<S: Alter>(conn: &mut Connection<S>, outlet: &Outlet) -> Result
 
 const PUT_ITEM: &str = "INSERT INTO item (code, text, unit, low, high) VALUES (?1, ?2, ?3, ?4, ?5)";
 
-/// Puts a new item.
+/// Puts a new item. It is an error if a row has its code, the store fails, or memory is refused.
 pub fn put_item<S: Alter>(
     conn: &mut Connection<S>,
     alloc: Global,
     item: &Item,
 ) -> Result<(), Unread>
-    ensures written { Written (PutsItem item.now) (λ office. row_by_number (λ i. i.code) item.now.code
-        office.items ≡ None)
+    ensures written { Written (PutsItem item.now)
+        (λ office. row_by_number (λ i. i.code) item.now.code office.items ≡ None)
         (state S.Store conn.old) (state S.Store conn.new) result }
     ensures open { HasCleanDisk (state S.Store conn.new) → (state S.Store conn.old).in_transaction ≡ false
         → OnOk result (IsTrue (state S.Store conn.new).is_open) }
@@ -106,7 +105,8 @@ const PUT_ASSIGNMENT: &str =
     "INSERT INTO assignment_2 (collector, slot, outlet, item, first_month, last_month, series_collector, series_slot, \
      copied) VALUES (?1, ?2, ?3, ?4, ?5, ?6, ?7, ?8, ?9)";
 
-/// Puts a new assignment of the collector, which names its own series.
+/// Puts a new assignment of the collector, whose series is named by its own slot. It is an error if the slot has a row,
+/// the store fails, or memory is refused.
 pub fn put_assignment<S: Alter>(
     conn: &mut Connection<S>,
     alloc: Global,
@@ -144,15 +144,15 @@ const PUT_QUOTE: &str =
      ON CONFLICT (collector, slot, month) DO UPDATE SET collector = excluded.collector, slot = excluded.slot, \
      month = excluded.month, mark = excluded.mark, value = excluded.value, receipt = excluded.receipt";
 
-/// Puts a quote of the collector, over the one of its slot and month if there is one. An error comes too where its
-/// receipt is none that a collector is given.
+/// Puts a quote of the collector, in place of the one of its slot and month if there is one. It is an error if the
+/// receipt is past the last one that a collector is given, or the store fails.
 pub fn put_quote<S: Alter>(
     conn: &mut Connection<S>,
     registration: Registration,
     quote: Quote,
 ) -> Result<(), Unread>
-    ensures written { Written (Quotes registration quote) (λ _. ⊤) (state S.Store conn.old)
-        (state S.Store conn.new) result }
+    ensures written { Written (Quotes registration quote) (λ _. ⊤)
+        (state S.Store conn.old) (state S.Store conn.new) result }
     ensures open { HasCleanDisk (state S.Store conn.new) → (state S.Store conn.old).in_transaction ≡ false
         → OnOk result (IsTrue (state S.Store conn.new).is_open) }
 {
@@ -176,7 +176,8 @@ fn know_moment(moment: Moment)
     let _value = moment_value(moment);
 }
 
-// The month's number; what the row's columns are then stands for the row.
+// The row's month, as year * 100 + month. The other calls are for the proof, which learns that the row's four columns
+// stand for the row.
 fn day_number(row: CalendarRow) -> u32
     ensures month { month_at result ≡ Some row.month }
     ensures is { calendar_from (Int (pos result)) (Int (pos row.opens)) (Int (pos row.closes)) (Int (pos row.publishes))
@@ -193,7 +194,7 @@ const PUT_CALENDAR: &str =
      ON CONFLICT (month) DO UPDATE SET opens = excluded.opens, closes = excluded.closes, \
      publishes = excluded.publishes";
 
-/// Puts a month's calendar row, over the one that stands if there is one.
+/// Puts a month's calendar row, in place of the former one if there is one. It is an error if the store fails.
 pub fn put_calendar<S: Alter>(conn: &mut Connection<S>, row: CalendarRow) -> Result<(), Unread>
     ensures written { Written (PutsCalendar row) (λ _. ⊤) (state S.Store conn.old) (state S.Store conn.new) result }
     ensures open { HasCleanDisk (state S.Store conn.new) → (state S.Store conn.old).in_transaction ≡ false
