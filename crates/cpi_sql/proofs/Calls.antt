@@ -1,4 +1,4 @@
--- The calls of a book over a database: what they show, and what a crash leaves.
+-- The calls of a book over a database: their answers, and what a crash leaves.
 use Rattle.std.proofs.Common.{◌≡◌, ◌⊎◌, ℕ, Result, Ok, Err, IsTrue, false, arith, ap, inl, inr, refl, subst, sym}
 use Rattle.std.proofs.Common.{◌∙◌}
 use Rattle.std.specs.Prelude.{OnOk}

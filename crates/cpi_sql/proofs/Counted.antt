@@ -1,21 +1,21 @@
--- What is answered, where what was found is answered or a failure is counted.
+-- The answer of a call that answers what it found, or counts a failure.
 use Rattle.std.proofs.Common.{◌≡◌, ℕ, true, Result, Ok, Err, refl}
 use Rattle.std.specs.Result.{is_ok}
 use Rattle.std.specs.Prelude.{OnErr, OnOk}
 use Rattle.cpi_sql.specs.Calls.{IsCounted}
 
 module _ {T E F : Type 0} {before after : ℕ} where
-  -- where something is answered it was found
+  -- an answer was found
   pub on_ok : {P : Type 0} {u : T} (found : Result T E) → IsCounted {F = F} found (Ok u) before after → OnOk found P → P
   on_ok (Ok x) counted p = p
   on_ok (Err e) counted p = absurd (let no = counted.failed in cc)
 
-  -- where a fault is answered nothing was found
+  -- if the answer is a fault, nothing was found
   pub on_err : {P : Type 0} {f : F} (found : Result T E) → IsCounted found (Err f) before after → OnErr found P → P
   on_err (Ok x) counted p = absurd (let no = counted.answered in cc)
   on_err (Err e) counted p = p
 
-  -- what holds where something was found holds where it is answered
+  -- a fact about what was found is one about the answer
   pub answers : (P : Type 0) (found : Result T E) (result : Result T F) → IsCounted found result before after
       → OnOk found P → OnOk result P
   answers P (Ok x) result counted p = rw counted.answered p

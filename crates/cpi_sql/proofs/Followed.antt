@@ -74,7 +74,7 @@ kept_sound {put = put} old new c written counted sound = λ clean.
     }
 
 module _ {X : Type 0} (entry : Row → Option X) (old new : List Row) (takes : Takes entry old new) where
-  -- where the types took each row, they take each row after a write
+  -- if the types took each row, they take each row after a write
   still_taken : AllStand entry old → AllStand entry new
   unfolding Takes AllStand
   still_taken all r h = elim (takes r h) [ inl was ↦ all r was | inr stands ↦ stands ]

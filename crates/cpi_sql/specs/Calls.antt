@@ -1,4 +1,4 @@
--- What the calls of a book over a database say of the office that it holds, and of its tables.
+-- Answers of a book over a database, about its office and its tables.
 use Rattle.std.specs.Prelude.{◌≡◌, ◌+◌, ℕ, true, Result, Ok, IfOk, OnErr, OnOk}
 use Rattle.std.specs.Result.{IsErr}
 use Rattle.sqlite.specs.Held.{state}
@@ -11,7 +11,7 @@ use Rattle.cpi_sql_rows.specs.Lists.{header_in, headers_in, level_in_row, releas
 use Rattle.cpi_sql_rows.specs.Shelf.{AllStand, AllStandOf, IsCleanBook, Shelf, book_state}
 use Rattle.cpi_sql_rows.specs.Tables.{table_of_levels_2, table_of_releases_2}
 
--- what was found is answered; or a fault is, and one more failure is counted
+-- the answer is what was found, or it is a fault, and one more failure is counted
 pub record IsCounted {T E F : Type 0} (found : Result T E) (result : Result T F) (before after : ℕ) : Type 0 where
   pub answered : IfOk found (λ x. result ≡ Ok x)
   pub same : OnOk found (after ≡ before)
@@ -29,7 +29,7 @@ pub record IsTableTaken (month revision until : ℕ) (trees : Trees) : Type 0 wh
       → AllStandOf level_in_row (release_number month revision) (trees table_of_levels_2.tree)
 
 module _ {S : Type 0} (store : Ghosts S) (old new : Shelf S) where
-  -- where the book is clean, the rows are as they were
+  -- if the book is clean, the rows are as they were
   abbrev pub KeepsRows : Type 0
   KeepsRows = IsCleanBook (state store new.held) → (state store new.held).now ≡ (state store old.held).now
 
@@ -38,7 +38,7 @@ module _ {S : Type 0} (store : Ghosts S) (old new : Shelf S) where
   ReadsOffice result Shown =
       Reads (book_state store old) (book_state store new) result (Shown (book_state store old).held)
 
-  -- where the book is clean, what is answered rests on tables that are so
+  -- if the book is clean, an answer rests on tables for which this holds
   abbrev pub RestsOn : {T F : Type 0} → Result T F → (Trees → Type 0) → Type 0
   RestsOn result AreSo = IsCleanBook (state store new.held) → OnOk result (AreSo (state store old.held).now.trees)
 

@@ -1,4 +1,4 @@
--- What an open of a database as an office leaves.
+-- The state that an open of a database as an office leaves.
 use Rattle.std.specs.Prelude.{◌≡◌, false}
 use Rattle.sqlite.specs.Held.{Held, state}
 use Rattle.sqlite.specs.State.{Survives}

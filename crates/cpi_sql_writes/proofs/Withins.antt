@@ -4,6 +4,7 @@ use Rattle.sqlite.specs.State.{State, HasCleanDisk}
 use Rattle.sqlite.proofs.StateLemmas.{survives_then}
 use Rattle.cpi_sql_writes.specs.Within.{Inside, Within}
 
+-- what follows from the fact about an answer holds if the call answers
 pub on_then : {A E : Type 0} (r : Result A E) (P Q : Type 0) → OnOk r P → (P → Q) → OnOk r Q
 on_then (Ok a) P Q h f = f h
 on_then (Err e) P Q h f = tt
@@ -13,7 +14,7 @@ pub on_given : {A E : Type 0} (r : Result A E) (P Q : Type 0) → (P → OnOk r 
 on_given (Ok a) P Q f = f
 on_given (Err e) P Q f = tt
 
--- where the disk is clean it was before
+-- if the disk is clean, it was clean before
 pub clean_before : {P : Type 0} (a b : State) → Inside a b P → HasCleanDisk b → HasCleanDisk a
 clean_before a b p clean = omega (arith, p.survives.clean)
 

@@ -1,4 +1,4 @@
--- The columns of a row of what a slot was given, and what putting such a row does.
+-- The columns of a row of a slot, with its assignment and its series, and what putting such a row does.
 use Rattle.std.specs.Prelude.{◌≡◌, ℕ, pos, List, [], ◌∷◌, Option, Some, None, option_map}
 use Rattle.std.specs.String.{string_bytes}
 use Rattle.std.specs.Ordering.{nat_cmp}
@@ -14,7 +14,7 @@ use Rattle.cpi_sql_rows.specs.Lists.{given_from, assignment_in_row, assignments_
 use Rattle.cpi_sql_rows.specs.Shelf.{IsKeyed, Takes}
 use Rattle.cpi_sql_writes.specs.declared.given_columns.GivenColumns.{GivenColumns}
 
--- a copied price, or NULL where there is none
+-- a copied price, or NULL if there is none
 abbrev pub copied_column : Option ℕ → Value
 copied_column None = Null
 copied_column (Some p) = Int (pos p)
@@ -26,13 +26,13 @@ columns_of c =
     ∷ Int (pos c.first_month) ∷ Int (pos c.last_month) ∷ Int (pos c.series_collector) ∷ Int (pos c.series_slot)
     ∷ copied_column c.copied ∷ []
 
--- what the columns stand for, beside the collector's number
+-- the value that the columns stand for, with the collector's number
 abbrev pub given_of : GivenColumns → Option (ℕ × Given)
 given_of c = given_from (Int (pos c.collector)) (Int (pos c.slot)) (Int (pos c.outlet)) (Text (string_bytes c.item))
     (Int (pos c.first_month)) (Int (pos c.last_month)) (Int (pos c.series_collector)) (Int (pos c.series_slot))
     (copied_column c.copied)
 
--- what a collector's slot was given stands in the rows, in place of what was there
+-- the rows contain the slot's new row, in place of its former one
 abbrev pub PutsGiven : ℕ → Given → List Row → List Row → Type 0
 PutsGiven number g old new = IsKeyed (held_cmp nat_cmp) (held_key (λ g. g.assignment.slot)) assignment_in_row old →
     (assignments_in new ≡ put_given number g (assignments_in old))
@@ -43,7 +43,7 @@ PutsGiven number g old new = IsKeyed (held_cmp nat_cmp) (held_key (λ g. g.assig
 abbrev pub IsNumberFree : ℕ → ℕ → List (ℕ × Given) → Type 0
 IsNumberFree number slot rows = row_by_number (λ g. g.assignment.slot) slot (held_by number rows) ≡ None
 
--- the former slot was given what ends, but for its last month, and the new slot is free
+-- the former slot has the assignment that ends, but for its last month, and the new slot is free
 pub record CanHandOver (h : SeriesMove) (rows : List (ℕ × Given)) : Type 0 where
   pub stands : option_map (given_until h.ended.assignment.last_month)
       (row_by_number (λ g. g.assignment.slot) h.ended.assignment.slot (held_by h.former.number rows)) ≡ Some h.ended

@@ -5,7 +5,7 @@ use Rattle.sqlite.specs.Order.{Row, column}
 use Rattle.cpi_sql_rows.specs.Lists.{number_within}
 use Rattle.cpi_sql_rows.specs.Shelf.{equals}
 
--- whether a row is one of the year, which stands in one of its columns
+-- whether a row is one of the year, which is in one of its columns
 abbrev pub is_of_year : ℕ → ℕ → Row → Bool
 is_of_year place year r = equals (column r place) (Int (pos year))
 

@@ -30,7 +30,7 @@ is_of_release month revision r = equals (column r 1) (Int (pos month)) && equals
 abbrev pub IsReleaseNumber : ℕ → ℕ → ℕ → Type 0
 IsReleaseNumber month revision number = release_from_key (Int (pos month)) (Int (pos revision)) ≡ Some number
 
--- what a row stands for, beside the release that it begins with
+-- the value that a row stands for, with the release that it begins with
 abbrev pub beside_release : {X : Type 0} → (Row → Option X) → Row → Option (ℕ × X)
 beside_release from r =
     and_then (release_from_key (column r 1) (column r 2)) (λ n. and_then (from r) (λ x. Some (n, x)))
@@ -55,12 +55,12 @@ pub record IsHeaderStep (h : Header) (old new : State) : Type 0 where
   pub rows : AddsHeader h (old.now.trees table_of_releases_2.tree) (new.now.trees table_of_releases_2.tree)
   pub others : SameBut (table_of_releases_2.tree ∷ []) old.now.trees new.now.trees
 
--- The header is added, where its columns are these.
+-- the header is added, if its columns are these
 abbrev pub PutsHeader : ℕ → ℕ → Header → State → State → Type 0
 PutsHeader month revision h old new = old.now.schema ≡ office_schema → month_at month ≡ Some h.month
     → revision_from (Int (pos revision)) ≡ Some h.revision → IsHeaderStep h old new
 
--- what a release says beside its lists
+-- the header of a release: all but its lists
 abbrev pub header_of : Release → Header
 header_of r = record {
   month = r.month;
@@ -74,7 +74,7 @@ header_of r = record {
 abbrev pub IsNewRevision : Release → Office → Type 0
 IsNewRevision r office = row_at release_cmp release_key (r.month, r.revision) office.releases ≡ None
 
--- the tables can hold it: its lists rise by their keys, as reads give them
+-- the tables can take it: its lists are strictly in the order of their keys, as reads give them
 pub record FitsTables (r : Release) : Type 0 where
   pub frozen : IsInOrder nat_cmp frozen_serial r.frozen
   pub carried : IsInOrder nat_cmp carried_serial r.carried

@@ -1,4 +1,4 @@
--- What a statement and a call within a transaction leave, and what they do to the rows of one table.
+-- The state that a statement or a call within a transaction leaves, and its effect on the rows of one table.
 use Rattle.std.specs.Prelude.{◌≡◌, ◌⊎◌, ◌↔◌, ℕ, Bool, false, List, Option, Some, IsTrue, Result, Ok, OnOk, OnErr}
 use Rattle.sqlite.specs.Order.{Row}
 use Rattle.sqlite.specs.Tree.{Trees}
@@ -13,7 +13,7 @@ use Rattle.cpi_sql_rows.specs.Steps.{IsRowStep, outside}
 abbrev pub RanStatement : List ℕ → Row → State → State → Type 0
 RanStatement text params old new = (count : ℕ) × Executes text params old new (Ok count)
 
--- what one statement leaves that is a transaction of its own
+-- the state that a statement leaves which is a transaction of its own
 pub record RunsAlone {A E : Type 0} (text : List ℕ) (params : Row) (old new : State) (result : Result A E)
     : Type 0 where
   pub clean : IsCleanBook new → IsCleanBook old
@@ -22,13 +22,13 @@ pub record RunsAlone {A E : Type 0} (text : List ℕ) (params : Row) (old new : 
   pub kept : IsCleanBook new → old.in_transaction ≡ false → OnErr result (IsKept old new)
   pub crash : Survives old new (CommitsBy text params old)
 
--- the step is made where the disk is clean, and nothing of it is committed
+-- the step is made if the disk is clean, and nothing of it is committed
 pub record Inside (old new : State) (Step : Type 0) : Type 0 where
   pub step : HasCleanDisk new → IsTrue old.in_transaction → Step
   pub kept : HasCleanDisk new → KeepsCommit old new
   pub survives : Survives old new (λ _. ⊥)
 
--- the same of a call that may fail: the step is made where it doesn't
+-- the same of a call that may fail: the step is made if it doesn't
 abbrev pub Within : {A E : Type 0} → State → State → Result A E → (State → State → Type 0) → Type 0
 Within old new result Step = Inside old new (OnOk result (Step old new))
 
@@ -45,15 +45,15 @@ Changes tree Rows old new = IsReady tree old → IsRowStep tree Rows old new
 abbrev pub ChangesOffice : Change → State → State → Type 0
 ChangesOffice change old new = HasTables (outside old) → IsDone change (outside old) (outside new)
 
--- they leave tables of which this is so
+-- they leave tables that this holds for
 abbrev pub LeavesTables : (Trees → Type 0) → State → State → Type 0
 LeavesTables Left old new = HasTables (outside old) → Left new.now.trees
 
--- what is left are the rows that aren't the holder's
+-- the rows that are left aren't the holder's
 abbrev pub Drops : (Row → Bool) → List Row → List Row → Type 0
 Drops is_of rows left = (r : Row) → Has left r ↔ (Has rows r × (is_of r ≡ false))
 
--- what a row stands for, beside the number of its holder
+-- `entry` is the value that a row stands for, with the number of its holder
 module _ {X : Type 0} (entry : Row → Option (ℕ × X)) where
   -- the rows that are there, and those of the holder's list
   pub record Adds (number : ℕ) (xs : List X) (mid new : List Row) : Type 0 where

@@ -1,4 +1,4 @@
--- What a write of one change leaves.
+-- The state that a write of one change leaves.
 use Rattle.std.specs.Prelude.{Result, OnErr, OnOk}
 use Rattle.sqlite.specs.State.{State, Survives}
 use Rattle.cpi_store.specs.Office.{Change, Office}
