@@ -95,16 +95,15 @@ once_judges c Free = (refl, refl)
 once_judges c Same = (refl, refl)
 once_judges c Other = (refl, refl)
 
-pub unless_judges : (verdict_of_freeze : Bool) (f : Refusal) (c : Change) → Judges (Refuses f) → Judges
-    (unless_frozen verdict_of_freeze f c)
+pub unless_judges : (frozen : Bool) (f : Refusal) (c : Change) → Judges (Refuses f) → Judges (unless_frozen frozen f c)
 unless_judges true f c own = own
 unless_judges false f c own = (refl, refl)
 
-pub replaced_judges : (verdict_of_freeze : Bool) (f : Refusal) (c : Change) (s : Standing) → Judges (Refuses f) →
-    Judges (replacement_verdict verdict_of_freeze f c s)
-replaced_judges verdict_of_freeze f c Free own = unless_judges verdict_of_freeze f c own
-replaced_judges verdict_of_freeze f c Same own = (refl, refl)
-replaced_judges verdict_of_freeze f c Other own = unless_judges verdict_of_freeze f c own
+pub replaced_judges : (frozen : Bool) (f : Refusal) (c : Change) (s : Standing) → Judges (Refuses f) →
+    Judges (replacement_verdict frozen f c s)
+replaced_judges frozen f c Free own = unless_judges frozen f c own
+replaced_judges frozen f c Same own = (refl, refl)
+replaced_judges frozen f c Other own = unless_judges frozen f c own
 
 pub plan_judges : (months : List FrozenMonth) (r : Result (Plan × Standing) PlanFault) → Judges (plan_put months r)
 plan_judges months (Err fault) = (refl, refl)

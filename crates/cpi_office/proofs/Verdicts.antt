@@ -98,8 +98,8 @@ module _ (o : Office) where
       by false f = rw f tt
 
   -- what may be put unless it was frozen
-  unless_fair : (verdict_of_freeze : Bool) (f : Refusal) (c : Change) → (verdict_of_freeze ≡ false → Fair (Makes c)) →
-      Fair (unless_frozen verdict_of_freeze f c)
+  unless_fair : (frozen : Bool) (f : Refusal) (c : Change) → (frozen ≡ false → Fair (Makes c)) →
+      Fair (unless_frozen frozen f c)
   unless_fair true f c fair = tt
   unless_fair false f c fair = fair refl
 

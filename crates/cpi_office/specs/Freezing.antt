@@ -38,22 +38,21 @@ abbrev pub carry_judged : List Code → Option Plan → CalendarPart → Result 
 carry_judged carry plan row = if has_unweighed plan carry then Err (PlanFault UnknownAggregate) else Ok row
 
 abbrev pub plan_judged : List Plan → List FrozenMonth → List Code → CalendarPart → Result CalendarPart Refusal
-plan_judged plans verdict_of_freeze carry row =
-    if lacks_plan plans verdict_of_freeze row.month then Err NoPlan else carry_judged carry
-    (plan_for plans verdict_of_freeze row.month) row
+plan_judged plans frozen carry row =
+    if lacks_plan plans frozen row.month then Err NoPlan else carry_judged carry (plan_for plans frozen row.month) row
 
 abbrev pub row_judged : ℕ → List Plan → List FrozenMonth → List Code → Option CalendarPart → Result CalendarPart Refusal
-row_judged now plans verdict_of_freeze carry None = Err UnknownMonth
-row_judged now plans verdict_of_freeze carry (Some row) =
-    if nat_lt now row.closes then Err FreezeTooEarly else plan_judged plans verdict_of_freeze carry row
+row_judged now plans frozen carry None = Err UnknownMonth
+row_judged now plans frozen carry (Some row) =
+    if nat_lt now row.closes then Err FreezeTooEarly else plan_judged plans frozen carry row
 
 -- the calendar row of a month that may be frozen, or frozen again
 abbrev pub freeze_judged :
     ℕ → ℕ → List Code → List FrozenMonth → Option CalendarPart → List Plan → Result CalendarPart Refusal
-freeze_judged now month carry verdict_of_freeze row plans =
-    if keeps_frozen month (option_map (λ r. r.publishes) row) verdict_of_freeze then Err MonthFrozen
-    else if not (is_next_month month verdict_of_freeze) then Err FreezeOrder
-    else row_judged now plans verdict_of_freeze carry row
+freeze_judged now month carry frozen row plans =
+    if keeps_frozen month (option_map (λ r. r.publishes) row) frozen then Err MonthFrozen
+    else if not (is_next_month month frozen) then Err FreezeOrder
+    else row_judged now plans frozen carry row
 
 -- the same in an office
 abbrev pub freeze_judged_in : ℕ → ℕ → List Code → Office → Result CalendarPart Refusal
