@@ -1,4 +1,4 @@
--- A collector who bears the key is turned away from requests alone that aren't a collector's.
+-- Authorization: a collector whose key is known is turned away only from requests that aren't a collector's.
 use Rattle.std.proofs.Common.{◌≡◌, ℕ, Bool, false, Option, Some, None, refl, sym, ap, ◌∙◌}
 use Rattle.std.specs.Prelude.{IsTrue}
 use Rattle.std.proofs.lemmas.Bool.{false≢true}

@@ -9,7 +9,7 @@ use Rattle.cpi_release.specs.State.{State}
 use Rattle.cpi_office.specs.Calls.{ServesWhere, IsServed, is_failure_of}
 use Rattle.cpi_store.specs.Sound.{IsSound}
 use Rattle.cpi_office.specs.Served.{served_requests, all_served, all_told, NoneFails, IsRun}
-use Rattle.cpi_office.specs.NonInterference.{is_registration, told_to, requests_without, NonePassesOn, OthersMayDiffer}
+use Rattle.cpi_office.specs.NonInterference.{has_this_key, told_to, requests_without, NonePassesOn, OthersMayDiffer}
 use Rattle.cpi_office.specs.NonInterferenceOfRuns.{replies_to, AreToldAlone, IsWholeRun, RunsTellAlike}
 use Rattle.cpi_office.specs.declared.request.Ask.{Ask}
 use Rattle.cpi_office.specs.declared.reply.Reply.{Reply}
@@ -30,7 +30,7 @@ others_may_differ key asks others o s none none' same =
 -- the replies of a run, beside its requests
 told_is : (key : ℕ) (asks : List Ask) (o : Office) → replies_to key asks (replies asks o) ≡ told_to key asks o
 told_is key [] o = refl
-told_is key (a ∷ asks) o = ap (λ rs. (if is_registration key a.caller then reply_to a.now a.caller a.request o ∷
+told_is key (a ∷ asks) o = ap (λ rs. (if has_this_key key a.caller then reply_to a.now a.caller a.request o ∷
     [] else [])
     ++ rs) (told_is key asks (next a o))
 

@@ -17,7 +17,7 @@ use Rattle.cpi_survey.specs.Quote.{quote_key, quote_cmp, QuoteRow}
 use Rattle.cpi_store.specs.Outlet.{with_name}
 use Rattle.cpi_survey.specs.declared.assignment.Assigned.{Assigned}
 use Rattle.cpi_office.specs.Projections.{View, view, OwnView, own_view, own}
-use Rattle.cpi_office.specs.ProjectedChanges.{Sight, IsAssigned, HasEnded, sights, seen_if, is_borne, view_with, build}
+use Rattle.cpi_office.specs.ProjectedChanges.{Sight, IsAssigned, HasEnded, sights, seen_if, is_registration_of, view_with, build}
 use Rattle.cpi_office.specs.ProjectedChanges.{with_assigned}
 use Rattle.cpi_office.specs.ProjectedChanges.{with_end, with_quote}
 use Rattle.cpi_store.specs.Sound.{IsSound, HasItsRows, BearOwnKeys}
@@ -73,15 +73,15 @@ shows_calendar Desk t o r = refl
 module _ (key t : ℕ) (o : Office) (sorted : IsInOrder nat_cmp (λ b. b.number) o.collectors)
     (keys : BearOwnKeys o.collectors) (b : Registration)
     (found : row_by_number (λ b. b.number) b.number o.collectors ≡ Some b) where
-  borne : b.key ≡ key → registration_of key o.collectors ≡ Some b
-  borne same = ap (λ k. registration_of k o.collectors) (sym same) ∙ keys b.number b found
+  registered : b.key ≡ key → registration_of key o.collectors ≡ Some b
+  registered same = ap (λ k. registration_of k o.collectors) (sym same) ∙ keys b.number b found
 
   -- a list of rows of each collector's own is changed for one collector
   module _ (part : Registration → OwnView) (f : OwnView → OwnView) (mine : part b ≡ f (own_view o b))
       (others : (c : Registration) → c.number ≢ b.number → part c ≡ own_view o c) where
     own_mine : b.key ≡ key → option_map part (registration_of key o.collectors) ≡ option_map f
         (option_map (own_view o) (registration_of key o.collectors))
-    own_mine same = rw (borne same) (ap Some mine)
+    own_mine same = rw (registered same) (ap Some mine)
 
     own_other : b.key ≢ key → option_map part (registration_of key o.collectors) ≡ option_map (own_view o)
         (registration_of key o.collectors)
@@ -146,7 +146,7 @@ module _ (key t : ℕ) (o : Office) (sorted : IsInOrder nat_cmp (λ b. b.number)
   -- with these assignments of all collectors, the view is the one before with this row if the caller is the collector
   abbrev ShowsGiven : List (ℕ × Given) → Sight → Type 0
   ShowsGiven rows row = view (Collector key) t (record o { assignments = rows }) ≡ build (view (Collector key) t o)
-      (seen_if (is_borne (Collector key) b) row)
+      (seen_if (is_registration_of (Collector key) b) row)
 
   shows_own_given : (a : Assigned) (series : SeriesId) → a ≡ with_name o.outlets a.assignment →
       ShowsGiven (put_given b.number (record { assignment = a.assignment; series = series }) o.assignments)
@@ -267,10 +267,10 @@ shows_own_handover key t o s h former taker named =
     }
 
     ends : List Sight
-    ends = seen_if (is_borne (Collector key) h.former) (HasEnded h.ended.assignment.slot h.ended.assignment.last_month)
+    ends = seen_if (is_registration_of (Collector key) h.former) (HasEnded h.ended.assignment.slot h.ended.assignment.last_month)
 
     begins : List Sight
-    begins = seen_if (is_borne (Collector key) h.taker) (IsAssigned h.assigned)
+    begins = seen_if (is_registration_of (Collector key) h.taker) (IsAssigned h.assigned)
 
 pub shows_handover : (k : Caller) (t : ℕ) (o : Office) → IsSound o → (h : SeriesMove) →
     row_by_number (λ b. b.number) h.former.number o.collectors ≡ Some h.former →

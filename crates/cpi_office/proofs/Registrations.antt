@@ -1,4 +1,4 @@
--- Who bears a key, who has a number, and what a collector holds.
+-- The collector of a key, the collector of a number, and the rows that a collector holds.
 use Rattle.std.proofs.Common.{◌≡◌, ◌≢◌, ℕ, Bool, true, false, eqb, List, [], ◌∷◌, ◌++◌, map, Some, None, Option, refl}
 use Rattle.std.proofs.Common.{sym, ap, ◌∙◌, subst, inl, inr}
 use Rattle.std.specs.Prelude.{filter, ◌⊎◌, IsSome}
@@ -22,44 +22,42 @@ use Rattle.cpi_rows.proofs.Puts.{parted, first_apart, at-put_found, at-put_other
 abbrev number : Registration → ℕ
 number b = b.number
 
--- who bears a key has a number under which nobody else is found
+-- a key's collector is found by the number: nobody else has it
 pub record IsListed (key : ℕ) (b : Registration) (bs : List Registration) : Type 0 where
   pub found : row_by_number (λ b. b.number) b.number bs ≡ Some b
-  pub bears : b.key ≡ key
+  pub key_is : b.key ≡ key
 
 pub registration_listed : (key : ℕ) (b : Registration) (bs : List Registration) → IsInOrder nat_cmp (λ b. b.number) bs →
     registration_of key bs ≡ Some b → IsListed key b bs
-registration_listed key b [] sorted borne = let no : None ≡ Some b = borne in cc
-registration_listed key b (x ∷ bs) sorted borne = by (eqb_tells x.key key)
+registration_listed key b [] sorted known = let no : None ≡ Some b = known in cc
+registration_listed key b (x ∷ bs) sorted known = by (eqb_tells x.key key)
     (registration_listed key b bs (sorted_tail _ x bs sorted))
   where
     by : ((eqb x.key key ≡ true) × (x.key ≡ key)) ⊎ ((eqb x.key key ≡ false) × (x.key ≢ key)) →
         (registration_of key bs ≡ Some b → IsListed key b bs) → IsListed key b (x ∷ bs)
     by (inl same) rest =
-        let here : Some x ≡ Some b = rw same.0 at borne in
+        let here : Some x ≡ Some b = rw same.0 at known in
         let is : x ≡ b = cc in
         record {
           found = rw (← is, ap is_eq (tied_itself nat_cmp_total x.number)) refl;
-          bears =
-              ap (λ b. b.key) (sym is) ∙ same.1;
+          key_is = ap (λ b. b.key) (sym is) ∙ same.1;
         }
     by (inr apart) rest =
-        let listed = rest (rw apart.0 at borne) in
+        let listed = rest (rw apart.0 at known) in
         record {
           found = rw (first_apart nat_cmp_total number b.number x b bs sorted listed.found) listed.found;
-          bears
-              = listed.bears;
+          key_is = listed.key_is;
         }
 
 -- another collector has another number
 pub numbers_apart : (key : ℕ) (b other : Registration) (bs : List Registration) → IsInOrder nat_cmp (λ b. b.number) bs →
     row_by_number (λ b. b.number) b.number bs ≡ Some b → b.key ≢ key → registration_of key bs ≡ Some other →
     other.number ≢ b.number
-numbers_apart key b other bs sorted found apart borne same =
-    let listed = registration_listed key other bs sorted borne in
+numbers_apart key b other bs sorted found apart known same =
+    let listed = registration_listed key other bs sorted known in
     let both : Some other ≡ Some b = sym listed.found ∙ ap (λ n. row_by_number number n bs) same ∙ found in
     let is : other ≡ b = cc in
-    apart (ap (λ b. b.key) (sym is) ∙ listed.bears)
+    apart (ap (λ b. b.key) (sym is) ∙ listed.key_is)
 
 -- a new registration among the others
 registration_new : (key : ℕ) (b : Registration) (xs ys : List Registration) → eqb b.key key ≡ true → registration_of key
@@ -98,14 +96,14 @@ module _ (b : Registration) (bs : List Registration) (sorted : IsInOrder nat_cmp
       registration_of key (put_by (λ b. b.number) b bs) ≡ registration_of key bs
   registration-put_other key e = registration_passed key b _ _ e ∙ ap (registration_of key) all_others
 
-  -- each still bears a key of its own
+  -- each collector still has a key that no other has
   pub keys-put : BearOwnKeys bs → registration_of b.key bs ≡ None → BearOwnKeys (put_by (λ b. b.number) b bs)
   keys-put keys free n x found = by (eqb_tells b.number n)
     where
       other : (eqb b.key x.key ≡ true) × (b.key ≡ x.key) ⊎ (eqb b.key x.key ≡ false) × (b.key ≢ x.key) →
           registration_of x.key bs ≡ Some x → registration_of x.key (put_by (λ b. b.number) b bs) ≡ Some x
-      other (inl same) borne = let no : None ≡ Some x = sym free ∙ ap (λ k. registration_of k bs) same.1 ∙ borne in cc
-      other (inr apart) borne = registration-put_other x.key apart.0 ∙ borne
+      other (inl same) known = let no : None ≡ Some x = sym free ∙ ap (λ k. registration_of k bs) same.1 ∙ known in cc
+      other (inr apart) known = registration-put_other x.key apart.0 ∙ known
 
       by : ((eqb b.number n ≡ true) × (b.number ≡ n)) ⊎ ((eqb b.number n ≡ false) × (b.number ≢ n)) →
           registration_of x.key (put_by (λ b. b.number) b bs) ≡ Some x
@@ -120,7 +118,7 @@ module _ (b : Registration) (bs : List Registration) (sorted : IsInOrder nat_cmp
 
 -- ---- what a number holds
 
--- who has no rows' number holds none
+-- a number that no collector has holds no rows
 pub none_held : {X : Type 0} (n : ℕ) (bs : List Registration) (rows : List (ℕ × X)) →
     AllByRecursion (λ row. IsSome (row_by_number (λ b. b.number) row.0 bs)) rows → row_by_number (λ b. b.number) n
     bs ≡ None →
@@ -133,7 +131,7 @@ none_held n bs (r ∷ rows) all none = by (eqb_tells r.0 n) (none_held n bs rows
     by (inl same) rest = absurd (false≢true (subst IsSome (ap (λ k. row_by_number number k bs) same.1 ∙ none) all.0))
     by (inr apart) rest = rw apart.0 rest
 
--- who has no assignment has no quote
+-- a collector without assignments has no quotes
 pub none_quoted : (n : ℕ) (given : List (ℕ × Given)) (rows : List (ℕ × QuoteRow)) → held_by n given ≡ [] →
     AllByRecursion (HasItsAssignment given) rows → held_by n rows ≡ []
 none_quoted n given [] none all = refl

@@ -151,12 +151,12 @@ module _ (o : Office) where
   in_slot_of n slot = row_by_number (λ (g : Given). g.assignment.slot) slot (held_by n o.assignments)
 
   -- who is found by a number has it
-  bears_number : (n : ℕ) (b : Registration) → row_by_number (λ b. b.number) n o.collectors ≡ Some b → b.number ≡ n
-  bears_number n b e = at_key (λ b. b.number) n b o.collectors e
+  number_is : (n : ℕ) (b : Registration) → row_by_number (λ b. b.number) n o.collectors ≡ Some b → b.number ≡ n
+  number_is n b e = at_key (λ b. b.number) n b o.collectors e
 
   found_itself : (n : ℕ) (b : Registration) → row_by_number (λ b. b.number) n o.collectors ≡ Some b →
       row_by_number (λ b. b.number) b.number o.collectors ≡ Some b
-  found_itself n b e = ap (λ k. row_by_number (λ b. b.number) k o.collectors) (bears_number n b e) ∙ e
+  found_itself n b e = ap (λ k. row_by_number (λ b. b.number) k o.collectors) (number_is n b e) ∙ e
 
   module _ (n : ℕ) (x : Assignment) (made : IsWellMade (n, x)) where
     to_collector_fair : (w : Option Registration) → row_by_number (λ b. b.number) n o.collectors ≡ w → in_slot_of n
@@ -166,7 +166,7 @@ module _ (o : Office) where
         Fair (to_collector (with_name o.outlets x) w)
     to_collector_fair None e free outlet item = tt
     to_collector_fair (Some b) e free outlet item =
-        let same = bears_number n b e in (
+        let same = number_is n b e in (
           ap (λ k. in_slot_of k x.slot) same ∙ free,
           found_itself n b e,
           outlet,
@@ -179,7 +179,7 @@ module _ (o : Office) where
         in_slot_of n x.slot ≡ Some (first_of_series n x) → Fair (standing_for (with_name o.outlets x) w)
     standing_fair None e there = tt
     standing_fair (Some b) e there =
-        let same = bears_number n b e in (
+        let same = number_is n b e in (
           ap (λ k. in_slot_of k x.slot) same ∙ there ∙ ap (λ k. Some (first_of_series k x)) (sym same),
           found_itself n b e,
           refl,
@@ -266,7 +266,7 @@ module _ (o : Office) where
               item = refl;
               outlet = refl;
               new = free;
-              taker = subst (λ n. 1 ≤ n) (sym (bears_number h.to c to)) (leb-true 1 h.to first.0);
+              taker = subst (λ n. 1 ≤ n) (sym (number_is h.to c to)) (leb-true 1 h.to first.0);
               slot = (leb-true 1 h.new_slot first.1, leb-true h.new_slot 400 last.1);
               unquoted = ap (λ k. has_quotes_since k h.month (held_by b.number o.quotes)) former_slot ∙ unquoted;
             }
@@ -454,7 +454,7 @@ entered_holds o s key now entry = by (registration_of key o.collectors) refl
     by (Some b) e =
         let listed = registration_listed key b o.collectors s.collectors e in
         subst (λ k. Holds (Some (decision_verdict (record { number = b.number; key = k }) entry
-        (entry_decision now entry (public_part o) (own_part b.number o)))) o) listed.bears
+        (entry_decision now entry (public_part o) (own_part b.number o)))) o) listed.key_is
         (decided_meets o b listed.found now entry)
 
 module _ (now : ℕ) (o : Office) where

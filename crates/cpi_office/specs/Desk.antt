@@ -24,7 +24,7 @@ item_put i old = put_once (PutsItem i) (standing same_item i old)
 abbrev pub outlet_put : Outlet → Option Outlet → Verdict
 outlet_put u old = put_once (PutsOutlet u) (standing same_outlet u old)
 
--- judged by who has the number, and who bears the key
+-- judged by the registration with the number, and by the one with the key
 abbrev pub registration_verdict : Registration → Option Registration → Option Registration → Verdict
 registration_verdict b None None = Makes (Registers b)
 registration_verdict b None (Some other) = Refuses Taken

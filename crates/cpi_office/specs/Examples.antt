@@ -267,7 +267,7 @@ WorkLists = Answers
 
 -- ---- callers
 
--- all callers list the items, but not one whose key nobody bears
+-- every caller may list the items, except one whose key is unknown
 abbrev pub ItemsOfAll : Type 0
 ItemsOfAll = Answers
     (by_public 1500 request.Items ∷ by_key 1500 key_a request.Items ∷ by_desk request.Items

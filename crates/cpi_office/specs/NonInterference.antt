@@ -12,10 +12,10 @@ use Rattle.cpi_office.specs.declared.reply.Reply.{Reply}
 use Rattle.cpi_office.specs.declared.caller.Caller.{Caller}
 use Rattle.cpi_office.specs.declared.caller.Caller.TheVariants.{Public, Collector, Desk}
 
-abbrev pub is_registration : ℕ → Caller → Bool
-is_registration key (Collector k) = k == key
-is_registration key Public = false
-is_registration key Desk = false
+abbrev pub has_this_key : ℕ → Caller → Bool
+has_this_key key (Collector k) = k == key
+has_this_key key Public = false
+has_this_key key Desk = false
 
 -- a collector with another key
 abbrev pub is_other : ℕ → Caller → Bool
@@ -30,7 +30,7 @@ requests_without key asks = filter (λ a. not (is_other key a.caller)) asks
 abbrev pub told_to : ℕ → List Ask → Office → List Reply
 told_to key [] o = []
 told_to key (a ∷ asks) o =
-    (if is_registration key a.caller then reply_to a.now a.caller a.request o ∷ [] else []) ++ told_to key asks
+    (if has_this_key key a.caller then reply_to a.now a.caller a.request o ∷ [] else []) ++ told_to key asks
     (next a o)
 
 -- a request by which something of one collector's prices comes to others: a freeze, or a hand-over

@@ -4,7 +4,7 @@ use Rattle.cpi_release.specs.State.{State}
 use Rattle.cpi_store.specs.Office.{Office}
 use Rattle.cpi_store.specs.Sound.{IsSound}
 use Rattle.cpi_office.specs.Served.{all_served, all_told, NoneFails, RunOverBook}
-use Rattle.cpi_office.specs.NonInterference.{is_registration, told_to, requests_without, NonePassesOn}
+use Rattle.cpi_office.specs.NonInterference.{has_this_key, told_to, requests_without, NonePassesOn}
 use Rattle.cpi_office.specs.declared.request.Ask.{Ask}
 use Rattle.cpi_office.specs.declared.reply.Reply.{Reply}
 
@@ -13,7 +13,7 @@ abbrev pub replies_to : ℕ → List Ask → List Reply → List Reply
 replies_to key [] rs = []
 replies_to key (a ∷ asks) [] = []
 replies_to key (a ∷ asks) (r ∷ rs) =
-    (if is_registration key a.caller then r ∷ [] else []) ++ replies_to key asks rs
+    (if has_this_key key a.caller then r ∷ [] else []) ++ replies_to key asks rs
 
 -- Where neither a freeze nor a hand-over is among the requests: those aside that were answered 90, each collector is
 -- told what would be told if all requests of all other collectors were left out.

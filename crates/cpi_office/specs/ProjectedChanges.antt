@@ -30,10 +30,10 @@ pub data Sight : Type 0 where
   HasQuoted : QuoteRow → Sight
   SeesTable : PublishedTable → Sight
 
-abbrev pub is_borne : Caller → Registration → Bool
-is_borne (caller.Collector key) b = b.key == key
-is_borne caller.Public b = false
-is_borne caller.Desk b = false
+abbrev pub is_registration_of : Caller → Registration → Bool
+is_registration_of (caller.Collector key) b = b.key == key
+is_registration_of caller.Public b = false
+is_registration_of caller.Desk b = false
 
 abbrev pub seen_if : Bool → Sight → List Sight
 seen_if sees s = if sees then s ∷ [] else []
@@ -45,13 +45,13 @@ sights k t (PutsItem i) = SeesItem i ∷ []
 sights k t (PutsPlan p) = SeesPlan p ∷ []
 sights k t (PutsCalendar r) = SeesCalendar r ∷ []
 sights k t (PutsOutlet u) = []
-sights k t (Registers b) = seen_if (is_borne k b) (IsRegistered b.number)
-sights k t (Assigns b a) = seen_if (is_borne k b) (IsAssigned a)
+sights k t (Registers b) = seen_if (is_registration_of k b) (IsRegistered b.number)
+sights k t (Assigns b a) = seen_if (is_registration_of k b) (IsAssigned a)
 -- of a hand-over each of the two sees the own side alone
 sights k t (HandsOver h) =
-    seen_if (is_borne k h.former) (HasEnded h.ended.assignment.slot h.ended.assignment.last_month)
-    ++ seen_if (is_borne k h.taker) (IsAssigned h.assigned)
-sights k t (Quotes b q) = seen_if (is_borne k b) (HasQuoted q)
+    seen_if (is_registration_of k h.former) (HasEnded h.ended.assignment.slot h.ended.assignment.last_month)
+    ++ seen_if (is_registration_of k h.taker) (IsAssigned h.assigned)
+sights k t (Quotes b q) = seen_if (is_registration_of k b) (HasQuoted q)
 sights k t (Freezes r) = seen_if (nat_le r.publishes t) (SeesTable (published_table r))
 
 abbrev pub sights_of : Caller → ℕ → List Change → List Sight

@@ -1,4 +1,4 @@
-//! What each caller may ask, and what answers it.
+//! Authorization: the requests that each caller may make, and the function that answers each.
 ghost use Rattle.std.specs.Prelude.{◌≡◌, IsTrue, Some, None, IsSome};
 ghost use Rattle.cpi_rows.specs.Keyed.{row_by_number};
 ghost use Rattle.cpi_store.specs.Office.{Quotes};
@@ -29,7 +29,7 @@ use cpi_codes::{Key, Moment};
 use cpi_store::{Book, Registration, StoreFault};
 use std::alloc::Global;
 
-/// Answers the public.
+/// Answers the public, which may list items and tables and read a table.
 pub fn serve_public<B: Book>(alloc: Global, book: &mut B, now: Moment, request: Request) -> Reply
     ensures serves { let o = (B.state book.old).held in
         Serves (B.state book.old) (B.state book.new) result
@@ -45,7 +45,7 @@ pub fn serve_public<B: Book>(alloc: Global, book: &mut B, now: Moment, request: 
     }
 }
 
-/// Answers whoever sends the key.
+/// Answers a caller who sends a key: the collector whose key it is, or else [`Refusal::UnknownKey`].
 pub fn serve_collector<B: Book>(
     alloc: Global,
     book: &mut B,
@@ -66,7 +66,7 @@ pub fn serve_collector<B: Book>(
     }
 }
 
-/// Answers a collector who bears the key.
+/// Answers the collector whose key was sent.
 fn serve_known<B: Book>(
     alloc: Global,
     book: &mut B,
@@ -94,7 +94,7 @@ fn serve_known<B: Book>(
     }
 }
 
-/// Answers the desk.
+/// Answers the desk, which may do all but a collector's own requests.
 pub fn serve_desk<B: Book>(alloc: Global, book: &mut B, now: Moment, request: Request) -> Reply
     ensures serves { let o = (B.state book.old).held in
         ServesWhere (B.state book.old) (B.state book.new) (IsSound o) result

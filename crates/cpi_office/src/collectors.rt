@@ -11,7 +11,8 @@ use crate::refusal::Refusal;
 use crate::reply::Reply;
 use cpi_store::{Book, Registration, StoreFault};
 
-/// Registers a collector, unless the number or the key stands and not both together.
+/// Registers a collector. If the number or the key is taken, but not both by this collector, the answer is
+/// [`Refusal::Taken`].
 pub fn register<B: Book>(book: &mut B, registration: Registration) -> Reply
     ensures { let o = (B.state book.old).held in
         let v = registration_verdict registration (row_by_number (λ b. b.number) registration.number o.collectors)
@@ -35,7 +36,7 @@ pub fn register<B: Book>(book: &mut B, registration: Registration) -> Reply
     }
 }
 
-/// Who has the number, and who bears the key.
+/// The registration with the number, and the one with the key.
 fn find_registrations<B: Book>(
     book: &mut B,
     registration: Registration,

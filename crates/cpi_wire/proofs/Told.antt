@@ -6,7 +6,7 @@ use Rattle.std.specs.Bool.{⊤}
 use Rattle.cpi_codes.specs.Zone.{ZoneRule}
 use Rattle.cpi_release.specs.State.{State}
 use Rattle.cpi_store.specs.Office.{Office}
-use Rattle.cpi_office.specs.NonInterference.{is_registration, is_other, requests_without}
+use Rattle.cpi_office.specs.NonInterference.{has_this_key, is_other, requests_without}
 use Rattle.cpi_office.specs.NonInterferenceOfRuns.{replies_to, IsWholeRun}
 use Rattle.cpi_office.specs.declared.caller.Caller.{Caller}
 use Rattle.cpi_office.specs.declared.caller.Caller.TheVariants.{Public, Collector, Desk}
@@ -122,7 +122,7 @@ all_asked (k ∷ ks) = requests_of_record k ++ all_asked ks
 -- ---- the replies that stand beside the collector's requests are those to the collector's records
 
 module _ (key : ℕ) (t : ℕ) (c : Caller) (more : List Asking) (rest : List Reply) where
-  rows-own : is_registration key c ≡ true → (rows : List (Option Request)) (rs : List Reply) → Fit rows rs
+  rows-own : has_this_key key c ≡ true → (rows : List (Option Request)) (rs : List Reply) → Fit rows rs
       → replies_to key (rows_asked t c rows ++ more) (rows_replied rows rs ++ rest) ≡ rows_replied rows rs
       ++ replies_to key more rest
   rows-own e [] [] h = refl
@@ -131,7 +131,7 @@ module _ (key : ℕ) (t : ℕ) (c : Caller) (more : List Asking) (rest : List Re
   rows-own e (None ∷ rows) (r ∷ rs) h = rows-own e rows rs h.1
   rows-own e (Some q ∷ rows) (r ∷ rs) h = rw e (ap (λ (z : List Reply). r ∷ z) (rows-own e rows rs h))
 
-  rows-not : is_registration key c ≡ false → (rows : List (Option Request)) (rs : List Reply) → Fit rows rs
+  rows-not : has_this_key key c ≡ false → (rows : List (Option Request)) (rs : List Reply) → Fit rows rs
       → replies_to key (rows_asked t c rows ++ more) (rows_replied rows rs ++ rest) ≡ replies_to key more rest
   rows-not e [] [] h = refl
   rows-not e [] (r ∷ rs) h = absurd h

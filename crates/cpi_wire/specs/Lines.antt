@@ -8,7 +8,7 @@ use Rattle.cpi_office.specs.Runs.{trace}
 use Rattle.cpi_office.specs.ProjectedChanges.{Sight, sights_of}
 use Rattle.cpi_office.specs.Served.{all_served, NoneFails}
 use Rattle.cpi_store.specs.Sound.{IsSound}
-use Rattle.cpi_office.specs.NonInterference.{is_registration, is_other, NonePassesOn}
+use Rattle.cpi_office.specs.NonInterference.{has_this_key, is_other, NonePassesOn}
 use Rattle.cpi_office.specs.declared.caller.Caller.{Caller}
 use Rattle.cpi_office.specs.declared.caller.Caller.TheVariants.{Desk}
 use Rattle.cpi_office.specs.declared.reply.Reply.{Reply}
@@ -77,8 +77,8 @@ LinesAreAlike {B} {C} state state' =
 
 abbrev pub is_own : ℕ → Ask → Bool
 is_own key ask.Bad = false
-is_own key (ask.One t c r) = is_registration key c
-is_own key (ask.Import t c rows) = is_registration key c
+is_own key (ask.One t c r) = has_this_key key c
+is_own key (ask.Import t c rows) = has_this_key key c
 
 -- the record comes from a collector with another key
 abbrev pub is_others : ℕ → Ask → Bool
