@@ -1,4 +1,4 @@
--- What a judged freeze owes to the making of its release.
+-- A freeze that isn't refused meets the preconditions of its release.
 use Rattle.std.proofs.Common.{◌≡◌, ◌≢◌, ◌⊎◌, inl, inr, eqb, ℕ, ◌+◌, ◌-◌, ◌≤◌, ◌<◌, suc, ◌++◌, true, false, List, []}
 use Rattle.std.proofs.Common.{◌∷◌, Some, None, Option, refl, sym, ap, subst, ◌∙◌, arith}
 use Rattle.std.specs.Prelude.{◌%◌, ◌==◌, IsSome, if◌then◌else◌}
@@ -17,7 +17,7 @@ use Rattle.cpi_release.specs.Releases.{latest_release}
 use Rattle.cpi_release.specs.declared.release.Release.{Release}
 use Rattle.cpi_release.specs.declared.frozen_month.FrozenMonth.{FrozenMonth}
 use Rattle.cpi_store.specs.Released.{AreReleased}
-use Rattle.cpi_office.specs.FreezePreconditions.{FollowsRelease, IsOwed, JudgedIsOwed}
+use Rattle.cpi_office.specs.FreezePreconditions.{FollowsRelease, MeetsPreconditions, JudgedMeetsPreconditions}
 use Rattle.cpi_store.proofs.History.{plan_same, next_after, again_or_next, month_up}
 use Rattle.cpi_office.proofs.Judged.{judged_follows, judged_month}
 
@@ -110,10 +110,10 @@ module _ (plans : List Plan) (month : ℕ) where
           (year_of month) plans else None) (none_there x rs sorted month more) in
           absurd (false≢true (subst IsSome none some))
 
-  pub owed : (rs : List Release) → IsInOrder release_cmp release_key rs → AreReleased plans [] rs →
-      is_next_month month (frozen_months rs) ≡ true → IsOwed plans rs (asked_plan rs) month
-  owed [] sorted all e = record { plan_is = refl; after = λ some. absurd (false≢true some) }
-  owed (x ∷ rs) sorted all e = record {
+  pub next_meets_preconditions : (rs : List Release) → IsInOrder release_cmp release_key rs → AreReleased plans [] rs →
+      is_next_month month (frozen_months rs) ≡ true → MeetsPreconditions plans rs (asked_plan rs) month
+  next_meets_preconditions [] sorted all e = record { plan_is = refl; after = λ some. absurd (false≢true some) }
+  next_meets_preconditions (x ∷ rs) sorted all e = record {
     plan_is = sym (plan_same plans month (x ∷ rs));
     after = λ some. by (last_frozen (frozen_months (x ∷ rs))) refl (later x rs sorted some);
   }
@@ -149,9 +149,9 @@ module _ (plans : List Plan) (month : ℕ) where
             omega (arith, december, less),
           )
 
-pub judged_is_owed : JudgedIsOwed
-judged_is_owed o now month carry row s e =
+pub judged_meets_preconditions : JudgedMeetsPreconditions
+judged_meets_preconditions o now month carry row s e =
     let same : row.month ≡ month = judged_month now month carry o.releases o.calendar o.plans row e in
-    owed o.plans row.month o.releases s.releases s.released
+    next_meets_preconditions o.plans row.month o.releases s.releases s.released
     (ap (λ k. is_next_month k (frozen_months o.releases)) same
     ∙ judged_follows now month carry o.releases o.calendar o.plans row e)

@@ -23,7 +23,7 @@ use Rattle.cpi_office.specs.Calls.{is_unavailable}
 use Rattle.cpi_office.specs.Freezing.{frozen_with, unless_fault, IsMade, fault_refusal, release_verdict}
 use Rattle.cpi_office.specs.Verdicts.{Refuses}
 use Rattle.cpi_office.specs.declared.refusal.Refusal.TheVariants.{Unavailable}
-use Rattle.cpi_office.proofs.FreezePreconditions.{owed}
+use Rattle.cpi_office.proofs.FreezePreconditions.{next_meets_preconditions}
 
 -- what the groups make is what is made of the office
 pub made_is : (wanted : Option IndexFault) (release : Release) (made : Result Release FreezeFault) →
@@ -53,7 +53,8 @@ fault_told wanted (Index (OutOfRange code)) made = inl (ap release_verdict (made
 pub asked_for : (o : Office) → IsSound o → (now : ℕ) (row : CalendarPart) (carry : List Code) →
     is_next_month row.month (frozen_months o.releases) ≡ true →
     MayFreeze (office_sources o) (plan_for o.plans (frozen_months o.releases) row.month) (frozen_with now row carry o)
-asked_for o s now row carry next = let w = owed o.plans row.month o.releases s.releases s.released next in
+asked_for o s now row carry next =
+    let w = next_meets_preconditions o.plans row.month o.releases s.releases s.released next in
     record { plan_is = w.plan_is; quotes = refl; after = λ some. (w.after some).0 }
 
 pub asked_back : (s t : Sources) (p q : Option Plan) (x y : Freeze) → s ≡ t → p ≡ q → x ≡ y → MayFreeze t q y →

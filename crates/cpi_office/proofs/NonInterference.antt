@@ -1,4 +1,4 @@
--- Other collectors' requests change nothing that a collector is told.
+-- Non-interference, by unwinding: two offices that differ only in other collectors' quotes stay so, and reply alike.
 use Rattle.std.proofs.Common.{◌≡◌, ◌≢◌, ℕ, true, false, eqb, List, [], ◌∷◌, ◌++◌, Some, None, Option, refl, sym, ap}
 use Rattle.std.proofs.Common.{◌∙◌, inl, inr, Result, Ok, Err}
 use Rattle.std.specs.Prelude.{◌⊎◌, IsFalse}
@@ -31,7 +31,7 @@ use Rattle.cpi_office.proofs.RebuiltProjections.{rebuilt, next_sound}
 abbrev bare : Office → Office
 bare o = record o { quotes = [] }
 
--- the desk's commands do not look at quotes, but for a freeze
+-- the desk's commands don't depend on quotes, except a freeze and a hand-over
 commanded_bare : (now : ℕ) (r : Request) (o : Office) → IsFalse (passes_on r) →
     command_verdict now r (bare o) ≡ command_verdict now r o
 commanded_bare now request.Items o h = refl
@@ -70,7 +70,7 @@ module _ (key : ℕ) where
   abbrev Mine : Caller
   Mine = caller.Collector key
 
-  -- two offices that differ in other collectors' quotes alone
+  -- two offices that differ only in other collectors' quotes: the relation of the unwinding
   record Agrees (o u : Office) : Type 0 where
     pub left : IsSound o
     pub right : IsSound u

@@ -1,4 +1,4 @@
--- Two offices over books of any two kinds answer a caller alike who saw the same.
+-- Non-interference between two offices over books of any two kinds.
 use Rattle.std.proofs.Common.{◌≡◌, ◌≢◌, ℕ, List, inl, inr, sym, ap, ◌∙◌}
 use Rattle.std.proofs.lemmas.Bool.{false≢true}
 use Rattle.cpi_store.specs.Office.{Office}

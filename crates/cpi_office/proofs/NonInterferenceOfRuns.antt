@@ -1,4 +1,4 @@
--- What a run over a book tells one collector.
+-- Non-interference of runs over books.
 use Rattle.std.proofs.Common.{◌≡◌, ℕ, List, [], ◌∷◌, ◌++◌, length, refl, sym, ap, ◌∙◌, arith, inl, inr, Bool, true}
 use Rattle.std.proofs.Common.{false}
 use Rattle.std.specs.Prelude.{IsFalse, if◌then◌else◌}
@@ -10,7 +10,7 @@ use Rattle.cpi_office.specs.Calls.{ServesWhere, IsServed, is_failure_of}
 use Rattle.cpi_store.specs.Sound.{IsSound}
 use Rattle.cpi_office.specs.Served.{served_requests, all_served, all_told, NoneFails, IsRun}
 use Rattle.cpi_office.specs.NonInterference.{has_this_key, told_to, requests_without, NonePassesOn, OthersMayDiffer}
-use Rattle.cpi_office.specs.NonInterferenceOfRuns.{replies_to, AreToldAlone, IsWholeRun, RunsTellAlike}
+use Rattle.cpi_office.specs.NonInterferenceOfRuns.{replies_to, IsNonInterfering, IsWholeRun, RunsTellAlike}
 use Rattle.cpi_office.specs.declared.request.Ask.{Ask}
 use Rattle.cpi_office.specs.declared.reply.Reply.{Reply}
 use Rattle.cpi_office.specs.RebuiltProjections.{IsRebuilt}
@@ -30,9 +30,9 @@ others_may_differ key asks others o s none none' same =
 -- the replies of a run, beside its requests
 told_is : (key : ℕ) (asks : List Ask) (o : Office) → replies_to key asks (replies asks o) ≡ told_to key asks o
 told_is key [] o = refl
-told_is key (a ∷ asks) o = ap (λ rs. (if has_this_key key a.caller then reply_to a.now a.caller a.request o ∷
-    [] else [])
-    ++ rs) (told_is key asks (next a o))
+told_is key (a ∷ asks) o =
+    ap (λ rs. (if has_this_key key a.caller then reply_to a.now a.caller a.request o ∷ [] else []) ++ rs)
+    (told_is key asks (next a o))
 
 none_served : (asks : List Ask) (rs : List Reply) → NonePassesOn asks → NonePassesOn (all_served asks rs)
 none_served [] rs none = tt
@@ -44,14 +44,14 @@ none_served (a ∷ asks) (r ∷ rs) none = by (is_failure_of r) refl (none_serve
     by true e rest = rw e rest
     by false e rest = rw e (none.0, rest)
 
-pub told_alone : (o u : Office) (asks : List Ask) (rs : List Reply) → IsSound o → IsRun o asks rs u →
-    AreToldAlone o asks rs
-told_alone o u asks rs s run none key =
+pub run_is_non_interfering : (o u : Office) (asks : List Ask) (rs : List Reply) → IsSound o → IsRun o asks rs u →
+    IsNonInterfering o asks rs
+run_is_non_interfering o u asks rs s run none key =
     let front = all_served asks rs in
     ap (replies_to key front) (sym run.answers) ∙ told_is key front o
     ∙ others_do_not_matter key front o s (none_served asks rs none)
 
--- where none fails, all requests are served
+-- if no request fails, all are served
 all_are_served : (asks : List Ask) (rs : List Reply) → length rs ≡ length asks → NoneFails rs →
     all_served asks rs ≡ asks
 all_are_served [] rs same none = refl
@@ -71,7 +71,7 @@ module _ (old new : State Office) (asks : List Ask) (rs : List Reply) where
       let told = all_are_told rs whole.served in
       ap (λ xs. replies_to key xs rs) (sym served)
       ∙ ap (replies_to key (all_served asks rs)) (sym told)
-      ∙ told_alone old.held new.held asks rs whole.sound (whole.ran.run whole.clean whole.sound) none key
+      ∙ run_is_non_interfering old.held new.held asks rs whole.sound (whole.ran.run whole.clean whole.sound) none key
       ∙ ap (λ xs. told_to key (requests_without key xs) old.held) served
 
 pub runs_tell_alike : {B C : Type 0} (state : B → State Office) (state' : C → State Office) → RunsTellAlike state state'

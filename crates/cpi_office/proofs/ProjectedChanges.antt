@@ -1,4 +1,4 @@
--- What each accepted change does to each caller's view at each moment.
+-- Projections: the effect of each accepted change on each caller's view at each moment.
 use Rattle.std.proofs.Common.{◌≡◌, ◌≢◌, ℕ, Bool, true, false, eqb, List, [], ◌∷◌, ◌++◌, map, Some, None, Option, refl}
 use Rattle.std.proofs.Common.{sym, ap, ◌∙◌, inl, inr}
 use Rattle.std.specs.Prelude.{◌⊎◌, IsSome, option_map, nat_le, filter}
@@ -17,7 +17,8 @@ use Rattle.cpi_survey.specs.Quote.{quote_key, quote_cmp, QuoteRow}
 use Rattle.cpi_store.specs.Outlet.{with_name}
 use Rattle.cpi_survey.specs.declared.assignment.Assigned.{Assigned}
 use Rattle.cpi_office.specs.Projections.{View, view, OwnView, own_view, own}
-use Rattle.cpi_office.specs.ProjectedChanges.{Sight, IsAssigned, HasEnded, sights, seen_if, is_registration_of, view_with, build}
+use Rattle.cpi_office.specs.ProjectedChanges.{Sight, IsAssigned, HasEnded, sights, seen_if, view_with, build}
+use Rattle.cpi_office.specs.ProjectedChanges.{is_registration_of}
 use Rattle.cpi_office.specs.ProjectedChanges.{with_assigned}
 use Rattle.cpi_office.specs.ProjectedChanges.{with_end, with_quote}
 use Rattle.cpi_store.specs.Sound.{IsSound, HasItsRows, BearOwnKeys}
@@ -267,7 +268,8 @@ shows_own_handover key t o s h former taker named =
     }
 
     ends : List Sight
-    ends = seen_if (is_registration_of (Collector key) h.former) (HasEnded h.ended.assignment.slot h.ended.assignment.last_month)
+    ends = seen_if (is_registration_of (Collector key) h.former)
+        (HasEnded h.ended.assignment.slot h.ended.assignment.last_month)
 
     begins : List Sight
     begins = seen_if (is_registration_of (Collector key) h.taker) (IsAssigned h.assigned)

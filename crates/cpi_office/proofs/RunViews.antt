@@ -1,4 +1,4 @@
--- What a run over a book did, seen by each caller.
+-- Projections of a run over a book: the view of each caller is rebuilt.
 use Rattle.std.proofs.Common.{◌≡◌, ℕ, zero, suc, Bool, true, false, List, [], ◌∷◌, Some, None, refl, sym, ap, ◌∙◌, take}
 use Rattle.std.specs.Prelude.{IsFalse, slice_get}
 use Rattle.std.proofs.lemmas.Bool.{false≢true}

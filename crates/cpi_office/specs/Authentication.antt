@@ -1,4 +1,4 @@
--- Answer and change for a collector, by who was found to bear the key.
+-- Authentication: a key is looked up, and its registration, if there is one, decides the answer and the change.
 use Rattle.std.specs.Prelude.{ℕ, Option, option_map}
 use Rattle.cpi_store.specs.declared.registration.Registration.{Registration}
 use Rattle.cpi_store.specs.Office.{Office, public_part}
@@ -10,7 +10,7 @@ use Rattle.cpi_office.specs.Verdicts.{after_verdict}
 use Rattle.cpi_office.specs.Entries.{of_collector}
 use Rattle.cpi_office.specs.Answers.{known_answer}
 
--- the view of whoever was found, or of one whom nobody knows
+-- the view of the registered collector, or of a caller whose key is unknown
 abbrev pub collector_view : ℕ → Office → Option Registration → View
 collector_view now o registration = record {
   public = public_part o;
@@ -18,9 +18,11 @@ collector_view now o registration = record {
   tables = published_until now o.releases;
 }
 
+-- the reply to a request that came with a key of this registration
 abbrev pub collector_reply : ℕ → Request → Office → Option Registration → Reply
-collector_reply now r o registration = known_answer now r (collector_view now o registration)
-    (option_map (own_view o) registration)
+collector_reply now r o registration =
+    known_answer now r (collector_view now o registration) (option_map (own_view o) registration)
 
+-- the office after such a request
 abbrev pub collector_after : ℕ → ℕ → Request → Office → Option Registration → Office
 collector_after key now r o registration = after_verdict (of_collector key now r (collector_view now o registration)) o

@@ -1,5 +1,6 @@
--- What one collector is told, whatever other collectors ask: where nothing is passed on by the requests. The table of a
--- frozen month is made of everybody's quotes, and with a series that is handed over goes its last price.
+-- Non-interference: the replies to a collector don't depend on the requests of other collectors, as long as no request
+-- passes data on. A freeze does: the table of a month is computed from all quotes. A hand-over does too: the last price
+-- goes with the series.
 use Rattle.std.specs.List.{AllByRecursion}
 use Rattle.std.specs.Prelude.{◌≡◌, ℕ, Bool, true, IsFalse, false, not, ◌==◌, List, [], ◌∷◌, ◌++◌, filter, if◌then◌else◌}
 use Rattle.cpi_store.specs.Office.{Office}
@@ -12,17 +13,19 @@ use Rattle.cpi_office.specs.declared.reply.Reply.{Reply}
 use Rattle.cpi_office.specs.declared.caller.Caller.{Caller}
 use Rattle.cpi_office.specs.declared.caller.Caller.TheVariants.{Public, Collector, Desk}
 
+-- the caller is the collector with this key
 abbrev pub has_this_key : ℕ → Caller → Bool
 has_this_key key (Collector k) = k == key
 has_this_key key Public = false
 has_this_key key Desk = false
 
--- a collector with another key
+-- the caller is a collector with another key
 abbrev pub is_other : ℕ → Caller → Bool
 is_other key (Collector k) = not (k == key)
 is_other key Public = false
 is_other key Desk = false
 
+-- the requests without those of other collectors: the purge of a statement of non-interference
 abbrev pub requests_without : ℕ → List Ask → List Ask
 requests_without key asks = filter (λ a. not (is_other key a.caller)) asks
 
@@ -30,10 +33,10 @@ requests_without key asks = filter (λ a. not (is_other key a.caller)) asks
 abbrev pub told_to : ℕ → List Ask → Office → List Reply
 told_to key [] o = []
 told_to key (a ∷ asks) o =
-    (if has_this_key key a.caller then reply_to a.now a.caller a.request o ∷ [] else []) ++ told_to key asks
-    (next a o)
+    (if has_this_key key a.caller then reply_to a.now a.caller a.request o ∷ [] else [])
+    ++ told_to key asks (next a o)
 
--- a request by which something of one collector's prices comes to others: a freeze, or a hand-over
+-- a request that passes prices of one collector on to others: a freeze or a hand-over
 abbrev pub passes_on : Request → Bool
 passes_on (Freeze month carry) = true
 passes_on (HandOver h) = true
@@ -43,15 +46,15 @@ passes_on _ = false
 abbrev pub NonePassesOn : List Ask → Type 0
 NonePassesOn asks = AllByRecursion (λ a. IsFalse (passes_on a.request)) asks
 
--- Where neither a freeze nor a hand-over is among the requests, a collector is told the same if all requests of all
--- other collectors are left out.
+-- Non-interference: if neither a freeze nor a hand-over is among the requests, the replies to a collector stay the same
+-- when all requests of all other collectors are left out.
 abbrev pub OthersDoNotMatter : Type 0
 OthersDoNotMatter =
     (key : ℕ) (asks : List Ask) (o : Office) → IsSound o → NonePassesOn asks →
     told_to key asks o ≡ told_to key (requests_without key asks) o
 
--- Where neither a freeze nor a hand-over is among the requests, a collector is told the same by two lists of requests
--- that differ in the requests of other collectors alone.
+-- The same of two lists: if neither a freeze nor a hand-over is among them, and they differ only in the requests of
+-- other collectors, then the replies to the collector are the same.
 abbrev pub OthersMayDiffer : Type 0
 OthersMayDiffer =
     (key : ℕ) (asks others : List Ask) (o : Office) → IsSound o → NonePassesOn asks → NonePassesOn others →

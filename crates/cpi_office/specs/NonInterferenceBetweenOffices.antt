@@ -1,4 +1,5 @@
--- Two offices over books of any two kinds answer a caller alike who saw the same.
+-- Non-interference between two offices, over books of any two kinds: if a caller has seen the same of both, both give
+-- that caller the same reply. Freezes, hand-overs and embargoed tables are included.
 use Rattle.std.specs.Prelude.{◌≡◌, ◌≢◌, ℕ, IsFalse, List}
 use Rattle.cpi_release.specs.State.{State}
 use Rattle.cpi_store.specs.Office.{Office}
@@ -14,7 +15,7 @@ use Rattle.cpi_office.specs.declared.caller.Caller.{Caller}
 use Rattle.cpi_office.specs.declared.caller.Caller.TheVariants.{Desk}
 use Rattle.cpi_office.specs.declared.request.Request.{Request}
 
--- a run from a sound office, and then one more request, whose reply doesn't say that the office is unavailable
+-- a run from a sound office, and then one more request, which isn't answered 90
 pub record AsksAfter (old mid new : State Office) (asks : List Ask) (rs : List Reply) (t : ℕ) (k : Caller) (r : Request)
     (reply : Reply) : Type 0 where
   pub sound : IsSound old.held
@@ -23,8 +24,8 @@ pub record AsksAfter (old mid new : State Office) (asks : List Ask) (rs : List R
   pub clean : new.is_clean
   pub told : IsFalse (is_failure_of reply)
 
--- Two runs over books of any two kinds: where a caller starts with one view and sees one list of accepted rows, the
--- next request of that caller gets one reply, whatever else was asked, frozen or embargoed.
+-- Non-interference between two offices: if a caller starts with the same view of both and has seen the same accepted
+-- rows since, the next request of that caller gets the same reply from both, whatever others sent.
 abbrev pub RepliesAreAlike : {B C : Type 0} → (B → State Office) → (C → State Office) → Type 0
 RepliesAreAlike {B} {C} state state' =
     (t : ℕ) (k : Caller) (r : Request) (asks others : List Ask) (rs ss : List Reply) (reply reply' : Reply)

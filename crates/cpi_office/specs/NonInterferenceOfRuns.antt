@@ -1,4 +1,4 @@
--- What one collector is told by runs over books.
+-- Non-interference of the program: the same of the replies that `Office::run` gives over a book.
 use Rattle.std.specs.Prelude.{◌≡◌, ℕ, List, [], ◌∷◌, ◌++◌, length, if◌then◌else◌}
 use Rattle.cpi_release.specs.State.{State}
 use Rattle.cpi_store.specs.Office.{Office}
@@ -8,17 +8,17 @@ use Rattle.cpi_office.specs.NonInterference.{has_this_key, told_to, requests_wit
 use Rattle.cpi_office.specs.declared.request.Ask.{Ask}
 use Rattle.cpi_office.specs.declared.reply.Reply.{Reply}
 
--- the replies that stand beside the requests that come with the key
+-- the replies to the requests that come with the key
 abbrev pub replies_to : ℕ → List Ask → List Reply → List Reply
 replies_to key [] rs = []
 replies_to key (a ∷ asks) [] = []
 replies_to key (a ∷ asks) (r ∷ rs) =
     (if has_this_key key a.caller then r ∷ [] else []) ++ replies_to key asks rs
 
--- Where neither a freeze nor a hand-over is among the requests: those aside that were answered 90, each collector is
--- told what would be told if all requests of all other collectors were left out.
-abbrev pub AreToldAlone : Office → List Ask → List Reply → Type 0
-AreToldAlone o asks rs =
+-- Non-interference of a run: if neither a freeze nor a hand-over is among the requests, each collector gets the replies
+-- that a run without the requests of all other collectors would give. Requests that were answered 90 don't count.
+abbrev pub IsNonInterfering : Office → List Ask → List Reply → Type 0
+IsNonInterfering o asks rs =
     NonePassesOn asks → (key : ℕ) →
     replies_to key (all_served asks rs) (all_told rs) ≡ told_to key (requests_without key (all_served asks rs)) o
 
@@ -30,8 +30,8 @@ pub record IsWholeRun (old new : State Office) (asks : List Ask) (rs : List Repl
   pub each : length rs ≡ length asks
   pub served : NoneFails rs
 
--- Two runs over books that hold the same lists, with neither a freeze nor a hand-over among their requests, tell a
--- collector the same where the requests differ in those of other collectors alone.
+-- Non-interference of two runs over books that hold the same lists: if neither a freeze nor a hand-over is among the
+-- requests, and these differ only in those of other collectors, the replies to the collector are the same.
 abbrev pub RunsTellAlike : {B C : Type 0} → (B → State Office) → (C → State Office) → Type 0
 RunsTellAlike {B} {C} state state' =
     (key : ℕ) (asks others : List Ask) (rs ss : List Reply) (old new : B) (old' new' : C) →

@@ -1,4 +1,4 @@
--- What a caller sees of what was accepted, and the view with it.
+-- The projection of accepted changes to the rows that one caller sees, and the view with those rows.
 use Rattle.std.specs.Prelude.{ℕ, Bool, false, ◌==◌, nat_le, if◌then◌else◌}
 use Rattle.std.specs.Prelude.{List, [], ◌∷◌, ◌++◌, Option, Some, None, option_map}
 use Rattle.std.specs.List.{flat_map}
@@ -19,7 +19,7 @@ use Rattle.cpi_office.specs.declared.caller.Caller.{Caller}
 use Rattle.cpi_office.specs.declared.caller.Caller.TheVariants as caller
 use Rattle.cpi_office.specs.Runs.{changes}
 
--- A row of a caller's own view.
+-- a row that a caller sees
 pub data Sight : Type 0 where
   SeesItem : Item → Sight
   SeesPlan : Plan → Sight
@@ -30,6 +30,7 @@ pub data Sight : Type 0 where
   HasQuoted : QuoteRow → Sight
   SeesTable : PublishedTable → Sight
 
+-- the registration is the caller's own
 abbrev pub is_registration_of : Caller → Registration → Bool
 is_registration_of (caller.Collector key) b = b.key == key
 is_registration_of caller.Public b = false
@@ -38,8 +39,8 @@ is_registration_of caller.Desk b = false
 abbrev pub seen_if : Bool → Sight → List Sight
 seen_if sees s = if sees then s ∷ [] else []
 
--- Of what was accepted, a caller sees at t the public specification, what was accepted from or for that caller, and the
--- tables that are published by t.
+-- the rows of one change that a caller sees at t: the public specification, the caller's own rows, and tables published
+-- by t
 abbrev pub sights : Caller → ℕ → Change → List Sight
 sights k t (PutsItem i) = SeesItem i ∷ []
 sights k t (PutsPlan p) = SeesPlan p ∷ []
@@ -47,13 +48,14 @@ sights k t (PutsCalendar r) = SeesCalendar r ∷ []
 sights k t (PutsOutlet u) = []
 sights k t (Registers b) = seen_if (is_registration_of k b) (IsRegistered b.number)
 sights k t (Assigns b a) = seen_if (is_registration_of k b) (IsAssigned a)
--- of a hand-over each of the two sees the own side alone
+-- of a hand-over each of the two collectors sees only the own side
 sights k t (HandsOver h) =
     seen_if (is_registration_of k h.former) (HasEnded h.ended.assignment.slot h.ended.assignment.last_month)
     ++ seen_if (is_registration_of k h.taker) (IsAssigned h.assigned)
 sights k t (Quotes b q) = seen_if (is_registration_of k b) (HasQuoted q)
 sights k t (Freezes r) = seen_if (nat_le r.publishes t) (SeesTable (published_table r))
 
+-- the projection of a list of changes
 abbrev pub sights_of : Caller → ℕ → List Change → List Sight
 sights_of k t changes = flat_map (sights k t) changes
 
@@ -84,6 +86,7 @@ view_with (IsAssigned a) v = record v { own = option_map (with_assigned a) v.own
 view_with (HasEnded slot last_month) v = record v { own = option_map (with_end slot last_month) v.own }
 view_with (HasQuoted q) v = record v { own = option_map (with_quote q) v.own }
 
+-- the view with these rows, one after the other
 abbrev pub build : View → List Sight → View
 build v [] = v
 build v (s ∷ sights) = build (view_with s v) sights

@@ -1,4 +1,4 @@
--- What one caller may see of an office.
+-- The projection of an office to what one caller may see at a moment: the caller's view.
 use Rattle.std.specs.Prelude.{ℕ, List, Option, None, option_map}
 use Rattle.cpi_survey.specs.Public.{PublicPart}
 use Rattle.cpi_survey.specs.Own.{OwnPart}
@@ -23,12 +23,12 @@ pub record View : Type 0 where
 abbrev pub own_view : Office → Registration → OwnView
 own_view o b = record { number = b.number; part = own_part b.number o }
 
--- the own part of whoever bears the key; the public and the desk have none
+-- the own part of the collector whose key it is; the public and the desk have none
 abbrev pub own : Caller → Office → Option OwnView
 own (Collector key) o = option_map (own_view o) (registration_of key o.collectors)
 own Public o = None
 own Desk o = None
 
--- what a caller may see of the office at a moment
+-- the projection: what a caller may see of the office at a moment, in seconds since 1970 UTC
 abbrev pub view : Caller → ℕ → Office → View
 view k t o = record { public = public_part o; own = own k o; tables = published_until t o.releases }

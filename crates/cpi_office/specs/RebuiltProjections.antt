@@ -1,4 +1,5 @@
--- What a run over a book did, seen by each caller.
+-- Projections after a run: each caller's view is rebuilt from the view before and the accepted rows that the caller
+-- sees, so it depends on nothing else.
 use Rattle.std.specs.Prelude.{◌≡◌, ◌≢◌, ℕ, IsFalse, List, Some, slice_get, take}
 use Rattle.cpi_store.specs.Office.{Office}
 use Rattle.cpi_office.specs.Projections.{view}
@@ -12,23 +13,22 @@ use Rattle.cpi_office.specs.declared.reply.Reply.{Reply}
 use Rattle.cpi_office.specs.declared.caller.Caller.{Caller}
 use Rattle.cpi_office.specs.declared.caller.Caller.TheVariants.{Desk}
 
--- What each caller may see at each moment is what the caller could see before, with the accepted rows that the caller
--- sees.
+-- each caller's view at each moment is the view before, with the accepted rows that the caller sees
 abbrev pub AreRebuilt : Office → List Ask → List Reply → Office → Type 0
 AreRebuilt o asks rs u =
     (k : Caller) (t : ℕ) → view k t u ≡ build (view k t o) (sights_of k t (trace (all_served asks rs) o))
 
 -- the same of one request
 abbrev pub IsRebuilt : Office → Ask → Reply → Office → Type 0
-IsRebuilt o a r u = (k : Caller) (t : ℕ) → view k t u ≡ build (view k t o)
-    (sights_of k t (trace (served_requests a r) o))
+IsRebuilt o a r u =
+    (k : Caller) (t : ℕ) → view k t u ≡ build (view k t o) (sights_of k t (trace (served_requests a r) o))
 
--- the requests that were served before the place, with what each was answered
+-- the requests before the place, without those that were answered 90
 abbrev pub served_before : ℕ → List Ask → List Reply → List Ask
 served_before place asks rs = all_served (take place asks) (take place rs)
 
--- Each reply to a collector or to the public, but for those that say that the office is unavailable, is the answer from
--- what the caller could see before the run, with the accepted rows that the caller has seen since.
+-- Each reply but 90 to a collector or to the public is the answer from the caller's view before the run, with the
+-- accepted rows that the caller has seen since.
 abbrev pub AreFromViews : Office → List Ask → List Reply → Type 0
 AreFromViews o asks rs =
     (place : ℕ) (a : Ask) (r : Reply) →

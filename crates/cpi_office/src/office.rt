@@ -38,6 +38,7 @@ impl<B: Book> Office<B> {
         book
     }
 
+    // The allocator that answers take memory from.
     pub(crate) fn allocator(&self) -> Global {
         self.alloc
     }
@@ -45,14 +46,14 @@ impl<B: Book> Office<B> {
     /// Answers a request at a moment, in seconds since 1970 UTC.
     ///
     /// From a sound office the reply and the change are those of the definitions, or the reply is
-    /// [`Refusal::Unavailable`] and nothing is changed. The public and the desk are never told that in place of
-    /// [`Refusal::NotForCaller`], and in place of it or of [`Refusal::UnknownKey`] a collector is told it only where a
+    /// [`Refusal::Unavailable`] and nothing is changed. The public and the desk never get that reply in place of
+    /// [`Refusal::NotForCaller`], and a collector gets it in place of that one or of [`Refusal::UnknownKey`] only if a
     /// look-up of the book failed during the call.
     ///
-    /// What each caller may see at each moment is then what the caller could see before, with what the caller sees of
-    /// what was accepted. Whoever asks for a table, and isn't told that the office is unavailable, is told the printed
-    /// form of the one that the definitions of the index give over the quotes and weights that were frozen, in the
-    /// revision that is named or the latest that is published; where they give none, that there is no table.
+    /// Each caller's view at each moment is then the view before, with the accepted rows that the caller sees. If a
+    /// caller who isn't turned away asks for a table, the reply, unless it is [`Refusal::Unavailable`], is the printed
+    /// form of the one that the definitions of the index give over the frozen quotes and weights, in the revision that
+    /// is named or the latest that is published, or [`Refusal::NoTable`] if they give none.
     ///
     /// Over a book that keeps its rows, a crash at the end of the call leaves the office as it could be left before, or
     /// the office after the request; once the reply isn't [`Refusal::Unavailable`], the office after it.

@@ -16,8 +16,8 @@ use Rattle.cpi_office.specs.Served.{RunOverBook}
 use Rattle.cpi_office.specs.declared.request.Ask.{Ask}
 use Rattle.cpi_office.specs.declared.reply.Reply.{Reply}
 use Rattle.cpi_office.proofs.Served.{ran_more, run_sound}
-use Rattle.cpi_office.proofs.NonInterferenceOfRuns.{told_alone}
-use Rattle.cpi_office.specs.NonInterferenceOfRuns.{AreToldAlone}
+use Rattle.cpi_office.proofs.NonInterferenceOfRuns.{run_is_non_interfering}
+use Rattle.cpi_office.specs.NonInterferenceOfRuns.{IsNonInterfering}
 use Rattle.cpi_office.proofs.office.Office.run.Goals as goal
 
 -- one request more is carried out
@@ -72,17 +72,17 @@ returns-in_err-push-clause-sound g c = λ clean s.
     (state c.loop-ask.self.book).held n.0 c.loop-ask.told.items
     (n.3.run (c.handle-reply.ensures.serves.was_clean clean) s) s)
 
-pub returns-clause-told : goal.returns-clause-told
-returns-clause-told g c = λ clean s.
+pub returns-clause-non_interference : goal.returns-clause-non_interference
+returns-clause-non_interference g c = λ clean s.
     let n = c.loop-ask.invariant in
     let state = g.B.Book.state in
     let none_left : into_iter_items c.next.new.self ≡ [] = nil_from_length (into_iter_items c.next.new.self)
     (sym c.next.new.self.rest.ok.0 ∙ c.in_default.ensures.cases.1) in
     let whole : c.args.asks.items ≡ n.0 = n.1 ∙ ap (λ ys. n.0 ++ ys) (c.in_default.ensures.items ∙ none_left)
     ∙ append-nil n.0 in
-    subst (λ asks. AreToldAlone (state c.args.self.now.book).held asks c.loop-ask.told.items) (sym whole)
-    (told_alone (state c.args.self.now.book).held (state c.loop-ask.self.book).held n.0 c.loop-ask.told.items s
-    (n.3.run clean s))
+    subst (λ asks. IsNonInterfering (state c.args.self.now.book).held asks c.loop-ask.told.items) (sym whole)
+    (run_is_non_interfering (state c.args.self.now.book).held (state c.loop-ask.self.book).held n.0
+    c.loop-ask.told.items s (n.3.run clean s))
 
 pub returns-clause-views : goal.returns-clause-views
 returns-clause-views g c = λ clean s.
