@@ -1,55 +1,25 @@
 -- Each change that is made keeps an office sound.
-use Rattle.std.proofs.Common.{◌≡◌, Bool, true, false, List, [], ◌∷◌, ◌++◌, refl, sym, subst}
-use Rattle.std.specs.Prelude.{filter, IsSome}
-use Rattle.std.specs.declared.cmp.Ordering.{Ordering}
-use Rattle.std.specs.Ordering.{nat_cmp, is_lt, is_gt}
-use Rattle.std.specs.List.{AllByRecursion}
+use Rattle.std.proofs.Common.{[], refl, sym, subst}
+use Rattle.std.specs.Prelude.{IsSome}
+use Rattle.std.specs.Ordering.{nat_cmp}
 use Rattle.std.proofs.lemmas.Cmp.{nat_cmp_total}
-use Rattle.cpi_rows.specs.Keyed.{with_row}
 use Rattle.cpi_rows.specs.Held.{held_cmp, held_key}
 use Rattle.cpi_store.specs.Office.{Office, Change, office_with, PutsItem, PutsPlan, PutsCalendar, Registers, PutsOutlet}
 use Rattle.cpi_store.specs.Office.{Assigns, HandsOver, Quotes, Freezes}
 use Rattle.cpi_survey.specs.Quote.{quote_key, quote_cmp}
 use Rattle.cpi_store.specs.FrozenLists.{HasFrozenList}
 use Rattle.cpi_store.specs.Sound.{IsSound, HasItsRows, HasItsAssignment, HasNodesInOrder}
+use Rattle.cpi_rows.proofs.Held.{held_total}
+use Rattle.cpi_rows.proofs.Lists.{all_put, all_weaker}
 use Rattle.cpi_rows.proofs.Places.{put_in_order}
 use Rattle.cpi_rows.proofs.Puts.{at-put_some}
+use Rattle.cpi_survey.proofs.Latest.{quote_order}
 use Rattle.cpi_office.proofs.Registrations.{keys-put}
-use Rattle.cpi_office.proofs.Stood.{held_total, quote_total}
 use Rattle.cpi_release.specs.FrozenMonths.{release_cmp, release_key}
 use Rattle.cpi_store.proofs.Released.{release_total, newly_frozen, released_more, replanned}
 use Rattle.cpi_store.proofs.Changes.{IsNewlyGiven, sound_given, given_assigned, quoted_assigned, frozen_assigned}
 use Rattle.cpi_store.proofs.Changes.{rows_assigned, given_handed, quoted_handed, frozen_handed, rows_handed}
 use Rattle.cpi_office.proofs.Accepted.{Fits}
-
--- ---- what holds of each row
-
-pub all_weaker : {X : Type 0} (P Q : X → Type 0) → ((x : X) → P x → Q x) → (xs : List X) → AllByRecursion P xs →
-    AllByRecursion Q xs
-all_weaker P Q f [] all = tt
-all_weaker P Q f (x ∷ xs) all = (f x all.0, all_weaker P Q f xs all.1)
-
-all_filtered : {X : Type 0} (P : X → Type 0) (p : X → Bool) (xs : List X) → AllByRecursion P xs →
-    AllByRecursion P (filter p xs)
-all_filtered P p [] all = tt
-all_filtered P p (x ∷ xs) all = by (p x) refl (all_filtered P p xs all.1)
-  where
-    by : (s : Bool) → p x ≡ s → AllByRecursion P (filter p xs) → AllByRecursion P (filter p (x ∷ xs))
-    by true e rest = rw e (all.0, rest)
-    by false e rest = rw e rest
-
-all_joined : {X : Type 0} (P : X → Type 0) (xs ys : List X) → AllByRecursion P xs → AllByRecursion P ys →
-    AllByRecursion P (xs ++ ys)
-all_joined P [] ys a b = b
-all_joined P (x ∷ xs) ys a b = (a.0, all_joined P xs ys a.1 b)
-
-pub all-put : {X K : Type 0} (P : X → Type 0) (cmp : K → K → Ordering) (key : X → K) (row : X) (rows : List X) →
-    P row → AllByRecursion P rows → AllByRecursion P (with_row cmp key row rows)
-all-put P cmp key row rows one all =
-    all_joined P _ _ (all_filtered P (λ r. is_lt (cmp (key r) (key row))) rows all)
-    (one, all_filtered P (λ r. is_gt (cmp (key r) (key row))) rows all)
-
--- ---- each change
 
 pub stays_sound : (c : Change) (o : Office) → IsSound o → Fits c o → IsSound (office_with c o)
 stays_sound (PutsItem i) o s h = record {
@@ -89,7 +59,7 @@ stays_sound (PutsPlan p) o s h = record {
   series = s.series;
   apart = s.apart;
   frozen = s.frozen;
-  nodes = all-put HasNodesInOrder nat_cmp (λ y. y.year) p o.plans h.1 s.nodes;
+  nodes = all_put HasNodesInOrder nat_cmp (λ y. y.year) p o.plans h.1 s.nodes;
   released = replanned o.plans p s.plans [] o.releases h.0 s.released;
 }
 stays_sound (PutsCalendar r) o s h = record {
@@ -198,8 +168,8 @@ stays_sound (HandsOver h) o s fits =
       released = s.released;
     }
 stays_sound (Quotes b q) o s h = record {
-  quotes = put_in_order (held_total quote_total) (held_key quote_key) o.quotes (b.number, q) s.quotes;
-  quoted = all-put (HasItsAssignment o.assignments) (held_cmp quote_cmp) (held_key quote_key)
+  quotes = put_in_order (held_total quote_order) (held_key quote_key) o.quotes (b.number, q) s.quotes;
+  quoted = all_put (HasItsAssignment o.assignments) (held_cmp quote_cmp) (held_key quote_key)
       (b.number, q) o.quotes h.1 s.quoted;
   items = s.items;
   plans = s.plans;
@@ -232,7 +202,7 @@ stays_sound (Freezes r) o s h = record {
   made = s.made;
   series = s.series;
   apart = s.apart;
-  frozen = all-put (HasFrozenList o.assignments) release_cmp release_key r o.releases (newly_frozen o s r h.2) s.frozen;
+  frozen = all_put (HasFrozenList o.assignments) release_cmp release_key r o.releases (newly_frozen o s r h.2) s.frozen;
   nodes = s.nodes;
   released = released_more o.plans o.releases s.releases r s.released h.1;
 }

@@ -1,7 +1,7 @@
 -- The items of a plan that was built are known.
-use Rattle.std.proofs.Common.{◌≡◌, ℕ, Bool, true, false, not, List, [], ◌∷◌, Option, Some, None, Result, Ok, Err, refl}
+use Rattle.std.proofs.Common.{◌≡◌, ℕ, Bool, false, not, List, [], ◌∷◌, Option, Some, None, Result, Ok, Err, refl}
 use Rattle.std.proofs.Common.{ap, ◌∙◌, subst}
-use Rattle.std.specs.Prelude.{if◌then◌else◌, ◌||◌, ◌==◌}
+use Rattle.std.specs.Prelude.{◌==◌}
 use Rattle.std.specs.List.{AllByRecursion, list_any}
 use Rattle.std.specs.Ordering.{nat_cmp}
 use Rattle.cpi_codes.specs.declared.codes.Code.{Code}
@@ -19,15 +19,13 @@ use Rattle.cpi_plan.specs.Planned.{plan_from_body, rows_in_order}
 use Rattle.cpi_plan.specs.Planned.{first_untitled}
 use Rattle.cpi_office.specs.Replacing.{plan_standing}
 use Rattle.cpi_office.specs.declared.standing.Standing.{Standing}
-use Rattle.cpi_office.proofs.Kept.{all-put}
-
-either : (a b : Bool) → (a || b) ≡ false → (a ≡ false) × (b ≡ false)
-either true b h = cc
-either false b h = (refl, h)
+use Rattle.cpi_rows.proofs.Lists.{all_put}
+use Rattle.cpi_rows.proofs.Truth.{or_false_first, or_false_second}
+use Rattle.cpi_office.proofs.Judged.{passed}
 
 none_is : {X : Type 0} (p : X → Bool) (xs : List X) → list_any p xs ≡ false → AllByRecursion (λ x. p x ≡ false) xs
 none_is p [] h = tt
-none_is p (x ∷ xs) h = let both = either (p x) (list_any p xs) h in (both.0, none_is p xs both.1)
+none_is p (x ∷ xs) h = (or_false_first (p x) (list_any p xs) h, none_is p xs (or_false_second (p x) (list_any p xs) h))
 
 is_none_of : {X : Type 0} (p : X → Bool) (xs : List X) → AllByRecursion (λ x. p x ≡ false) xs → list_any p xs ≡ false
 is_none_of p [] h = refl
@@ -37,18 +35,12 @@ module _ (known : List Item) where
   all_known : (places : List Place) → AllByRecursion (λ p. is_unknown_item known p ≡ false) places →
       AllByRecursion (λ p. is_unknown_item known p ≡ false) (rows_in_order nat_cmp (λ p. p.item) places)
   all_known [] h = tt
-  all_known (p ∷ ps) h = all-put (λ p. is_unknown_item known p ≡ false) nat_cmp (λ p. p.item) p _ h.0 (all_known ps h.1)
+  all_known (p ∷ ps) h = all_put (λ p. is_unknown_item known p ≡ false) nat_cmp (λ p. p.item) p _ h.0 (all_known ps h.1)
 
   known_in_order : (places : List Place) → has_unknown_item known places ≡ false →
       has_unknown_item known (rows_in_order nat_cmp (λ p. p.item) places) ≡ false
   known_in_order places h = is_none_of (is_unknown_item known) _
       (all_known places (none_is (is_unknown_item known) places h))
-
--- what is answered after a test that wasn't met
-after_test : {A E : Type 0} (t : Bool) (f : E) (rest : Result A E) (x : A) → (if t then Err f else rest) ≡ Ok x →
-    (t ≡ false) × (rest ≡ Ok x)
-after_test true f rest x h = let no : Err f ≡ Ok x = h in cc
-after_test false f rest x h = (refl, h)
 
 abbrev value_or : {A E : Type 0} → A → Result A E → A
 value_or x (Ok y) = y
@@ -57,10 +49,10 @@ value_or x (Err f) = x
 placed_known : (year : ℕ) (b : Body) (p : Plan) → plan_if_placed year b ≡ Ok p → has_unknown_item b.known
     p.places ≡ false
 placed_known year b p h =
-    let one = after_test (has_unknown_item b.known b.places) UnknownItem _ p h in
-    let two = after_test (not (are_items_once b.places)) ItemTwice _ p one.1 in
-    let three = after_test (has_unplaced_item b.weights b.places) UnknownAggregate _ p two.1 in
-    let four = after_test (not (has_fit_reference year b.references)) Reference _ p three.1 in
+    let one = passed (has_unknown_item b.known b.places) UnknownItem _ p h in
+    let two = passed (not (are_items_once b.places)) ItemTwice _ p one.1 in
+    let three = passed (has_unplaced_item b.weights b.places) UnknownAggregate _ p two.1 in
+    let four = passed (not (has_fit_reference year b.references)) Reference _ p three.1 in
     let is : plan_from_body year b ≡ p = ap (value_or p) four.1 in
     subst (λ (q : Plan). has_unknown_item b.known q.places ≡ false) is (known_in_order b.known b.places one.0)
 
@@ -72,10 +64,10 @@ titled_known year b p None h = placed_known year b p h
 pub planned_known : (year : ℕ) (b : Body) (p : Plan) → plan_or_fault year b ≡ Ok p → has_unknown_item b.known
     p.places ≡ false
 planned_known year b p h =
-    let one = after_test (not (are_codes_once b.titles b.weights)) DuplicateCode _ p h in
-    let two = after_test (not (are_all_elementary b.weights b.places)) NotElementary _ p one.1 in
-    let three = after_test (has_zero_weight b.weights) ZeroWeight _ p two.1 in
-    let four = after_test (not (total_weight b.weights == 1000000)) (WeightSum (total_weight b.weights)) _ p three.1 in
+    let one = passed (not (are_codes_once b.titles b.weights)) DuplicateCode _ p h in
+    let two = passed (not (are_all_elementary b.weights b.places)) NotElementary _ p one.1 in
+    let three = passed (has_zero_weight b.weights) ZeroWeight _ p two.1 in
+    let four = passed (not (total_weight b.weights == 1000000)) (WeightSum (total_weight b.weights)) _ p three.1 in
     titled_known year b p (first_untitled b.titles b.weights) four.1
 
 -- the same of a plan that was judged

@@ -17,6 +17,7 @@ use Rattle.cpi_store.specs.declared.registration.Registration.{Registration}
 use Rattle.cpi_store.specs.declared.outlet.Outlet.{Outlet}
 use Rattle.cpi_store.specs.declared.given.Given.{Given}
 use Rattle.cpi_survey.specs.Quote.{QuoteRow}
+use Rattle.cpi_store.proofs.Added.{registration_new, registration_passed}
 use Rattle.cpi_rows.proofs.Puts.{parted, first_apart, at-put_found, at-put_other, row_at-put_same}
 
 abbrev number : Registration → ℕ
@@ -59,28 +60,7 @@ numbers_apart key b other bs sorted found apart known same =
     let is : other ≡ b = cc in
     apart (ap (λ b. b.key) (sym is) ∙ listed.key_is)
 
--- a new registration among the others
-registration_new : (key : ℕ) (b : Registration) (xs ys : List Registration) → eqb b.key key ≡ true → registration_of key
-    (xs ++ ys) ≡ None →
-    registration_of key (xs ++ b ∷ ys) ≡ Some b
-registration_new key b [] ys e none = rw e refl
-registration_new key b (x ∷ xs) ys e none = by (eqb x.key key) refl (registration_new key b xs ys e)
-  where
-    by : (s : Bool) → eqb x.key key ≡ s → (registration_of key (xs ++ ys) ≡ None → registration_of key (xs ++ b ∷ ys) ≡
-        Some b) →
-        registration_of key (x ∷ xs ++ b ∷ ys) ≡ Some b
-    by true f rest = let no : Some x ≡ None = rw f at none in cc
-    by false f rest = rw f (rest (rw f at none))
-
-registration_passed : (key : ℕ) (b : Registration) (xs ys : List Registration) → eqb b.key key ≡ false →
-    registration_of key (xs ++ b ∷ ys) ≡ registration_of key (xs ++ ys)
-registration_passed key b [] ys e = rw e refl
-registration_passed key b (x ∷ xs) ys e = by (eqb x.key key) refl (registration_passed key b xs ys e)
-  where
-    by : (s : Bool) → eqb x.key key ≡ s → registration_of key (xs ++ b ∷ ys) ≡ registration_of key (xs ++ ys) →
-        registration_of key (x ∷ xs ++ b ∷ ys) ≡ registration_of key (x ∷ xs ++ ys)
-    by true f rest = rw f refl
-    by false f rest = rw f rest
+-- ---- after a registration is added
 
 module _ (b : Registration) (bs : List Registration) (sorted : IsInOrder nat_cmp (λ b. b.number) bs)
     (none : row_by_number (λ b. b.number) b.number bs ≡ None) where

@@ -1,8 +1,9 @@
 -- Rows that are the same are equal.
-use Rattle.std.proofs.Common.{◌≡◌, ℕ, Bool, true, false, List, Some, None, Option, refl, ap}
+use Rattle.std.proofs.Common.{◌≡◌, ℕ, true, false, List, Some, None, Option, refl, ap}
 use Rattle.std.specs.Prelude.{◌&&◌, ◌==◌}
 use Rattle.std.specs.Cmp.Lexicographic.{bytes_decides}
 use Rattle.std.proofs.lemmas.Bool.{eqb-true, false≢true}
+use Rattle.cpi_rows.proofs.Truth.{and_both, same_of_equal}
 use Rattle.cpi_codes.specs.Text.{same_text}
 use Rattle.cpi_plan.specs.Items.{same_item}
 use Rattle.cpi_plan.specs.Calendar.{same_calendar, CalendarPart}
@@ -60,47 +61,39 @@ mark_equal (Other p) (Missing s) e = absurd (false≢true e)
 mark_equal (Other p) (Comparable q) e = absurd (false≢true e)
 mark_equal (Other p) (Other q) e = ap Other (eqb-true p q e)
 
-both : (s t : Bool) → (s && t) ≡ true → (s ≡ true) × (t ≡ true)
-both true true e = (refl, refl)
-both true false e = absurd (false≢true e)
-both false t e = absurd (false≢true e)
-
-same_number : (x y : ℕ) → (x == y) ≡ true → x ≡ y
-same_number x y e = eqb-true x y e
-
 pub item_equal : (a b : Item) → same_item a b ≡ true → a ≡ b
 item_equal a b e =
-    let h = both (a.code == b.code && same_text a.text b.text && same_text a.unit b.unit && a.low == b.low)
+    let h = and_both (a.code == b.code && same_text a.text b.text && same_text a.unit b.unit && a.low == b.low)
     (a.high == b.high) e in
-    let i = both (a.code == b.code && same_text a.text b.text && same_text a.unit b.unit) (a.low == b.low) h.0 in
-    let j = both (a.code == b.code && same_text a.text b.text) (same_text a.unit b.unit) i.0 in
-    let k = both (a.code == b.code) (same_text a.text b.text) j.0 in
+    let i = and_both (a.code == b.code && same_text a.text b.text && same_text a.unit b.unit) (a.low == b.low) h.0 in
+    let j = and_both (a.code == b.code && same_text a.text b.text) (same_text a.unit b.unit) i.0 in
+    let k = and_both (a.code == b.code) (same_text a.text b.text) j.0 in
     λ n. record {
-      code = same_number a.code b.code k.0 n;
+      code = same_of_equal a.code b.code k.0 n;
       text = text_equal a.text b.text k.1 n;
       unit =
           text_equal a.unit b.unit j.1 n;
-      low = same_number a.low b.low i.1 n;
-      high = same_number a.high b.high h.1 n;
+      low = same_of_equal a.low b.low i.1 n;
+      high = same_of_equal a.high b.high h.1 n;
     }
 
 pub calendar_equal : (a b : CalendarPart) → same_calendar a b ≡ true → a ≡ b
 calendar_equal a b e =
-    let h = both (a.month == b.month && a.opens == b.opens && a.closes == b.closes) (a.publishes == b.publishes) e in
-    let i = both (a.month == b.month && a.opens == b.opens) (a.closes == b.closes) h.0 in
-    let j = both (a.month == b.month) (a.opens == b.opens) i.0 in
+    let h = and_both (a.month == b.month && a.opens == b.opens && a.closes == b.closes) (a.publishes == b.publishes) e in
+    let i = and_both (a.month == b.month && a.opens == b.opens) (a.closes == b.closes) h.0 in
+    let j = and_both (a.month == b.month) (a.opens == b.opens) i.0 in
     λ n. record {
-      month = same_number a.month b.month j.0 n;
-      opens = same_number a.opens b.opens j.1 n;
+      month = same_of_equal a.month b.month j.0 n;
+      opens = same_of_equal a.opens b.opens j.1 n;
       closes =
-          same_number a.closes b.closes i.1 n;
-      publishes = same_number a.publishes b.publishes h.1 n;
+          same_of_equal a.closes b.closes i.1 n;
+      publishes = same_of_equal a.publishes b.publishes h.1 n;
     }
 
 pub registration_equal : (a b : Registration) → same_registration a b ≡ true → a ≡ b
 registration_equal a b e =
-    let h = both (a.number == b.number) (a.key == b.key) e in
-    λ n. record { number = same_number a.number b.number h.0 n; key = same_number a.key b.key h.1 n }
+    let h = and_both (a.number == b.number) (a.key == b.key) e in
+    λ n. record { number = same_of_equal a.number b.number h.0 n; key = same_of_equal a.key b.key h.1 n }
 
 price_equal : (p q : Option ℕ) → same_price p q ≡ true → p ≡ q
 price_equal None None e = refl
@@ -111,29 +104,29 @@ price_equal (Some p) (Some q) e = ap Some (eqb-true p q e)
 pub assignment_equal : (a b : Assignment) → same_assignment a b ≡ true → a ≡ b
 assignment_equal a b e =
     let placed = a.slot == b.slot && a.outlet == b.outlet && a.item == b.item in
-    let g = both (placed && a.first_month == b.first_month && a.last_month == b.last_month)
+    let g = and_both (placed && a.first_month == b.first_month && a.last_month == b.last_month)
     (same_price a.copied b.copied) e in
-    let h = both (placed && a.first_month == b.first_month) (a.last_month == b.last_month) g.0 in
-    let i = both placed (a.first_month == b.first_month) h.0 in
-    let j = both (a.slot == b.slot && a.outlet == b.outlet) (a.item == b.item) i.0 in
-    let k = both (a.slot == b.slot) (a.outlet == b.outlet) j.0 in
+    let h = and_both (placed && a.first_month == b.first_month) (a.last_month == b.last_month) g.0 in
+    let i = and_both placed (a.first_month == b.first_month) h.0 in
+    let j = and_both (a.slot == b.slot && a.outlet == b.outlet) (a.item == b.item) i.0 in
+    let k = and_both (a.slot == b.slot) (a.outlet == b.outlet) j.0 in
     λ n. record {
-      slot = same_number a.slot b.slot k.0 n;
-      outlet = same_number a.outlet b.outlet k.1 n;
-      item = same_number a.item b.item j.1 n;
-      first_month = same_number a.first_month b.first_month i.1 n;
-      last_month = same_number a.last_month b.last_month h.1 n;
+      slot = same_of_equal a.slot b.slot k.0 n;
+      outlet = same_of_equal a.outlet b.outlet k.1 n;
+      item = same_of_equal a.item b.item j.1 n;
+      first_month = same_of_equal a.first_month b.first_month i.1 n;
+      last_month = same_of_equal a.last_month b.last_month h.1 n;
       copied = price_equal a.copied b.copied g.1 n;
     }
 
 pub series_equal : (s t : SeriesId) → same_series s t ≡ true → s ≡ t
 series_equal s t e =
-    let h = both (s.collector == t.collector) (s.slot == t.slot) e in
-    λ n. record { collector = same_number s.collector t.collector h.0 n; slot = same_number s.slot t.slot h.1 n }
+    let h = and_both (s.collector == t.collector) (s.slot == t.slot) e in
+    λ n. record { collector = same_of_equal s.collector t.collector h.0 n; slot = same_of_equal s.slot t.slot h.1 n }
 
 pub given_equal : (a b : Given) → same_given a b ≡ true → a ≡ b
 given_equal a b e =
-    let h = both (same_assignment a.assignment b.assignment) (same_series a.series b.series) e in
+    let h = and_both (same_assignment a.assignment b.assignment) (same_series a.series b.series) e in
     λ n. record {
       assignment = assignment_equal a.assignment b.assignment h.0 n;
       series =
