@@ -50,15 +50,15 @@ Stood (PutsCalendar r) o = row_by_number (λ r. r.month) r.month o.calendar ≡ 
 Stood (Registers b) o = row_by_number (λ b. b.number) b.number o.collectors ≡ Some b
 Stood (PutsOutlet u) o = ⊤
 Stood (Assigns b a) o =
-    (row_by_number (λ g. g.assignment.slot) a.assignment.slot (held_by b.number o.assignments) ≡ Some
-    (first_of_series b.number a.assignment))
+    (row_by_number (λ g. g.assignment.slot) a.assignment.slot (held_by b.number o.assignments)
+    ≡ Some (first_of_series b.number a.assignment))
     × (row_by_number (λ b. b.number) b.number o.collectors ≡ Some b)
     × (a ≡ with_name o.outlets a.assignment)
 Stood (HandsOver h) o =
-    (row_by_number (λ g. g.assignment.slot) h.ended.assignment.slot (held_by h.former.number o.assignments) ≡
-    Some h.ended)
-    × (row_by_number (λ g. g.assignment.slot) h.assigned.assignment.slot (held_by h.taker.number o.assignments) ≡ Some
-    (given_over h))
+    (row_by_number (λ g. g.assignment.slot) h.ended.assignment.slot (held_by h.former.number o.assignments)
+    ≡ Some h.ended)
+    × (row_by_number (λ g. g.assignment.slot) h.assigned.assignment.slot (held_by h.taker.number o.assignments)
+    ≡ Some (given_over h))
     × (row_by_number (λ b. b.number) h.former.number o.collectors ≡ Some h.former)
     × (row_by_number (λ b. b.number) h.taker.number o.collectors ≡ Some h.taker)
     × (h.assigned ≡ with_name o.outlets h.assigned.assignment)

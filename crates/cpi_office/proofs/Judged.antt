@@ -98,13 +98,11 @@ module _ (now month : ℕ) (carry : List Code) (rs : List Release) (calendar : L
     (judged : freeze_judged now month carry (frozen_months rs) (row_by_number (λ r. r.month) month calendar) plans ≡ Ok
     row) where
   abbrev free : (keeps_frozen month (option_map (λ r. r.publishes) (row_by_number (λ r. r.month) month calendar))
-      (frozen_months rs) ≡ false) × ((if not (is_next_month month (frozen_months rs)) then Err FreezeOrder else
-      row_judged
-      now plans (frozen_months rs) carry (row_by_number (λ r. r.month) month calendar)) ≡ Ok row)
+      (frozen_months rs) ≡ false) × ((if not (is_next_month month (frozen_months rs)) then Err FreezeOrder
+      else row_judged now plans (frozen_months rs) carry (row_by_number (λ r. r.month) month calendar)) ≡ Ok row)
   free = passed (keeps_frozen month (option_map (λ r. r.publishes) (row_by_number (λ r. r.month) month calendar))
-      (frozen_months rs)) _ (if not (is_next_month month (frozen_months rs)) then Err FreezeOrder else row_judged
-      now plans
-      (frozen_months rs) carry (row_by_number (λ r. r.month) month calendar)) row judged
+      (frozen_months rs)) _ (if not (is_next_month month (frozen_months rs)) then Err FreezeOrder
+      else row_judged now plans (frozen_months rs) carry (row_by_number (λ r. r.month) month calendar)) row judged
 
   abbrev follows : (not (is_next_month month (frozen_months rs)) ≡ false)
       × (row_judged now plans (frozen_months rs) carry (row_by_number (λ r. r.month) month calendar) ≡ Ok row)

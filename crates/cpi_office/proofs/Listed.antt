@@ -18,8 +18,8 @@ pub registration_some : (key : ℕ) (b : Registration) (bs : List Registration) 
 registration_some key b [] known = let no : None ≡ Some b = known in cc
 registration_some key b (x ∷ bs) known = by (eqb x.key key) refl (registration_some key b bs)
   where
-    by : (t : Bool) → eqb x.key key ≡ t → (registration_of key bs ≡ Some b → IsSome
-        (row_by_number (λ b. b.number) b.number bs)) →
+    by : (t : Bool) → eqb x.key key ≡ t →
+        (registration_of key bs ≡ Some b → IsSome (row_by_number (λ b. b.number) b.number bs)) →
         IsSome (row_by_number (λ b. b.number) b.number (x ∷ bs))
     by true e rest =
         let here : Some x ≡ Some b = rw e at known in

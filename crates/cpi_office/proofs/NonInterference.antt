@@ -79,8 +79,8 @@ module _ (key : ℕ) where
 
   -- the same request on both, with one verdict
   both_go : (a : Ask) (o u : Office) → Agrees o u →
-      request_verdict a.now a.caller a.request o ≡ request_verdict a.now a.caller a.request u → Agrees (next a o)
-      (next a u)
+      request_verdict a.now a.caller a.request o ≡ request_verdict a.now a.caller a.request u →
+      Agrees (next a o) (next a u)
   both_go a o u agrees same =
       let v = request_verdict a.now a.caller a.request o in
       let w = request_verdict a.now a.caller a.request u in

@@ -46,8 +46,8 @@ abbrev value_or : {A E : Type 0} → A → Result A E → A
 value_or x (Ok y) = y
 value_or x (Err f) = x
 
-placed_known : (year : ℕ) (b : Body) (p : Plan) → plan_if_placed year b ≡ Ok p → has_unknown_item b.known
-    p.places ≡ false
+placed_known : (year : ℕ) (b : Body) (p : Plan) → plan_if_placed year b ≡ Ok p →
+    has_unknown_item b.known p.places ≡ false
 placed_known year b p h =
     let one = passed (has_unknown_item b.known b.places) UnknownItem _ p h in
     let two = passed (not (are_items_once b.places)) ItemTwice _ p one.1 in
@@ -61,8 +61,8 @@ titled_known : (year : ℕ) (b : Body) (p : Plan) (code : Option Code) → plan_
 titled_known year b p (Some code) h = let no : Err (TitleMissing code) ≡ Ok p = h in cc
 titled_known year b p None h = placed_known year b p h
 
-pub planned_known : (year : ℕ) (b : Body) (p : Plan) → plan_or_fault year b ≡ Ok p → has_unknown_item b.known
-    p.places ≡ false
+pub planned_known : (year : ℕ) (b : Body) (p : Plan) → plan_or_fault year b ≡ Ok p →
+    has_unknown_item b.known p.places ≡ false
 planned_known year b p h =
     let one = passed (not (are_codes_once b.titles b.weights)) DuplicateCode _ p h in
     let two = passed (not (are_all_elementary b.weights b.places)) NotElementary _ p one.1 in

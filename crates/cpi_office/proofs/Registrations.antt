@@ -100,9 +100,8 @@ module _ (b : Registration) (bs : List Registration) (sorted : IsInOrder nat_cmp
 
 -- a number that no collector has holds no rows
 pub none_held : {X : Type 0} (n : ℕ) (bs : List Registration) (rows : List (ℕ × X)) →
-    AllByRecursion (λ row. IsSome (row_by_number (λ b. b.number) row.0 bs)) rows → row_by_number (λ b. b.number) n
-    bs ≡ None →
-    held_by n rows ≡ []
+    AllByRecursion (λ row. IsSome (row_by_number (λ b. b.number) row.0 bs)) rows →
+    row_by_number (λ b. b.number) n bs ≡ None → held_by n rows ≡ []
 none_held n bs [] all none = refl
 none_held n bs (r ∷ rows) all none = by (eqb_tells r.0 n) (none_held n bs rows all.1 none)
   where

@@ -79,7 +79,8 @@ item_equal a b e =
 
 pub calendar_equal : (a b : CalendarPart) → same_calendar a b ≡ true → a ≡ b
 calendar_equal a b e =
-    let h = and_both (a.month == b.month && a.opens == b.opens && a.closes == b.closes) (a.publishes == b.publishes) e in
+    let h = and_both (a.month == b.month && a.opens == b.opens && a.closes == b.closes)
+    (a.publishes == b.publishes) e in
     let i = and_both (a.month == b.month && a.opens == b.opens) (a.closes == b.closes) h.0 in
     let j = and_both (a.month == b.month) (a.opens == b.opens) i.0 in
     λ n. record {

@@ -52,8 +52,8 @@ abbrev pub outlet_judged : Assigned → Option Outlet → Option Registration �
 outlet_judged a outlet registration = if is_none outlet then Refuses UnknownOutlet else to_collector a registration
 
 abbrev pub item_judged : Assigned → Option Item → Option Outlet → Option Registration → Verdict
-item_judged a item outlet registration = if is_none item then Refuses UnknownItem else outlet_judged a outlet
-    registration
+item_judged a item outlet registration =
+    if is_none item then Refuses UnknownItem else outlet_judged a outlet registration
 
 -- ---- a slot that isn't
 abbrev pub standing_for : Assigned → Option Registration → Verdict

@@ -24,8 +24,8 @@ computed_tables now o = published_until now (all_released o.plans (map freeze_of
 -- Of these the one of the month, printed: in the revision that is named, or else in the latest of them. Where there is
 -- none it is refused.
 abbrev pub computed_reply : ℕ → ℕ → Form → Option ℕ → Office → Reply
-computed_reply now month form revision o = reply_with_table form month
-    (asked_table month revision (computed_tables now o))
+computed_reply now month form revision o =
+    reply_with_table form month (asked_table month revision (computed_tables now o))
 
 -- the caller isn't turned away
 abbrev pub IsKnown : Caller → Office → Type 0

@@ -41,6 +41,5 @@ AnswersAreAlike =
 abbrev pub RepliesAreFromViews : Type 0
 RepliesAreFromViews =
     (before rest : List Ask) (a : Ask) (o : Office) → IsSound o → a.caller ≢ Desk →
-    slice_get (replies (before ++ a ∷ rest) o) (length before)
-    ≡ Some
+    slice_get (replies (before ++ a ∷ rest) o) (length before) ≡ Some
     (answer a.now a.caller a.request (build (view a.caller a.now o) (sights_of a.caller a.now (trace before o))))

@@ -1,4 +1,4 @@
-//! A collector's slot is given an assignment, as a series of its own.
+//! The desk gives a collector's slot an assignment, as a series of its own.
 ghost use Rattle.std.specs.Prelude.{◌≡◌, Some, None, IsSome, IfOk, is_none, option_map};
 ghost use Rattle.std.specs.Option.{option_copied};
 ghost use Rattle.cpi_rows.specs.Keyed.{row_by_number};
@@ -22,8 +22,10 @@ use cpi_store::{Book, Outlet, StoreFault};
 use cpi_survey::{Assigned, Assignment};
 use std::alloc::{AllocError, Global};
 
-/// Gives a slot of a collector what is sent for it, as a series of its own. A first month after the last is a bad
-/// request. What stands already is done, unless the slot took its series over.
+/// Gives a slot of a collector an assignment, as a series of its own.
+///
+/// A first month after the last is [`Refusal::BadRequest`]. A slot that has the same assignment already is
+/// [`Reply::Done`], unless it took its series over; any other assignment in the slot is [`Refusal::Taken`].
 pub fn assign<B: Book>(
     alloc: Global,
     book: &mut B,
@@ -40,7 +42,7 @@ pub fn assign<B: Book>(
     }
 }
 
-/// Whether the first month isn't after the last. Number and slot are within their limits by their types.
+// Whether the first month isn't after the last. Number and slot are within their limits by their types.
 fn is_assignable(collector: CollectorId, new_assignment: &NewAssignment) -> bool
     ensures { result ≡ may_be_assigned collector new_assignment.now }
 {
@@ -52,7 +54,7 @@ fn is_assignable(collector: CollectorId, new_assignment: &NewAssignment) -> bool
         && slot <= 400
 }
 
-/// The assignment that is sent. No price is copied.
+// The assignment of the request. No price is copied, since the series is new.
 fn assignment_of(new_assignment: NewAssignment) -> Assignment
     ensures { result ≡ assignment_sent new_assignment }
 {
@@ -66,7 +68,7 @@ fn assignment_of(new_assignment: NewAssignment) -> Assignment
     }
 }
 
-/// Gives a slot of a collector an assignment, as a series of its own.
+// Decides by the slot and the item: a free slot is given the assignment.
 fn assign_slot<B: Book>(
     alloc: Global,
     book: &mut B,
@@ -86,7 +88,7 @@ fn assign_slot<B: Book>(
     }
 }
 
-/// What stands in the slot, and whether the item is unknown.
+// Whether the slot is free or has the same or another assignment, and whether the item is unknown.
 fn find_slot<B: Book>(
     book: &mut B,
     collector: CollectorId,
@@ -101,6 +103,7 @@ fn find_slot<B: Book>(
     Ok((standing, parts.public.item(assignment.item).is_none()))
 }
 
+// Compares an assignment with the one of the slot.
 fn standing_assignment(assignment: &Assignment, old: Option<&Assigned>) -> Standing
     ensures { result ≡ standing same_assigned assignment.now (option_copied old.entry) }
 {
@@ -116,7 +119,7 @@ fn standing_assignment(assignment: &Assignment, old: Option<&Assigned>) -> Stand
     }
 }
 
-/// Answers an assignment that stands, if the slot names its series, and there is the collector.
+// Answers an assignment that the slot has already: done, if the slot began its series and the collector is registered.
 fn assign_again<B: Book>(book: &mut B, collector: CollectorId, slot: Slot) -> Reply
     ensures { let o = (B.state book.old).held in
         let first = is_first_series collector slot
@@ -135,7 +138,7 @@ fn assign_again<B: Book>(book: &mut B, collector: CollectorId, slot: Slot) -> Re
     }
 }
 
-/// Whether the slot names the series that it prices.
+// Whether the slot began the series that it prices, so that the series has its name.
 fn names_series<B: Book>(
     book: &mut B,
     collector: CollectorId,
@@ -151,7 +154,7 @@ fn names_series<B: Book>(
     }
 }
 
-/// Puts a new assignment, if there are its outlet and the collector.
+// Puts a new assignment, if its outlet is known and the collector is registered.
 fn assign_new<B: Book>(
     alloc: Global,
     book: &mut B,
@@ -177,7 +180,11 @@ fn assign_new<B: Book>(
     }
 }
 
-/// The assignment with its outlet's name, where the outlet is known.
+/// The assignment with its outlet's name, if the outlet is known.
+///
+/// # Errors
+///
+/// The store failed, or, inside, there is no memory for the name.
 pub fn name_outlet<B: Book>(
     alloc: Global,
     book: &mut B,
@@ -190,7 +197,7 @@ pub fn name_outlet<B: Book>(
     Ok(with_name(alloc, assignment, outlet))
 }
 
-/// The assignment with a copy of the name of its outlet.
+// The assignment with a copy of the name of its outlet, if there is one. Fails if there is no memory.
 fn with_name(
     alloc: Global,
     assignment: Assignment,
@@ -209,7 +216,7 @@ fn with_name(
     }
 }
 
-/// Puts a new assignment, if there is the collector.
+// Puts a new assignment, if the collector is registered.
 fn assign_to<B: Book>(book: &mut B, collector: CollectorId, assigned: Assigned) -> Reply
     requires made { (B.state book.old).is_clean → IsWellMade (collector, assigned.assignment) }
     requires free { (B.state book.old).is_clean →

@@ -1,4 +1,4 @@
-//! A month's row is put into the calendar.
+//! The desk puts a month's row into the calendar.
 ghost use Rattle.std.specs.Prelude.{◌≡◌, Some, None};
 ghost use Rattle.std.specs.Option.{option_copied};
 ghost use Rattle.cpi_rows.specs.Keyed.{row_by_number};
@@ -18,7 +18,8 @@ use crate::standing::Standing;
 use cpi_plan::CalendarRow;
 use cpi_store::{Book, StoreFault};
 
-/// Puts a month's row, over the one that stands if there is one.
+/// Puts a month's row, in place of the month's row if there is one. A row of a frozen month that doesn't reopen it is
+/// [`Refusal::MonthFrozen`].
 pub fn put_calendar<B: Book>(book: &mut B, row: CalendarRow) -> Reply
     ensures { let o = (B.state book.old).held in let v = scheduled_in row o in
         Serves (B.state book.old) (B.state book.new) result (verdict_reply v) (with_verdict v o) }
@@ -30,7 +31,7 @@ pub fn put_calendar<B: Book>(book: &mut B, row: CalendarRow) -> Reply
     }
 }
 
-/// Stores a month's row, unless the month was frozen and isn't reopened by it.
+// Stores a month's row, unless the month is frozen and the row doesn't reopen it.
 fn store_calendar<B: Book>(book: &mut B, row: CalendarRow) -> Reply
     ensures { let o = (B.state book.old).held in
         let kept = keeps_frozen row.month (Some row.publishes) (frozen_months o.releases) in
@@ -47,16 +48,17 @@ fn store_calendar<B: Book>(book: &mut B, row: CalendarRow) -> Reply
     }
 }
 
-/// What stands at the month of the row.
+// Whether the calendar has no row of the month, the same row or another.
 fn find_calendar<B: Book>(book: &mut B, row: &CalendarRow) -> Result<Standing, StoreFault>
     ensures { Reads (B.state book.old) (B.state book.new) result (λ found.
-        found ≡ standing same_calendar row.now (row_by_number (λ r. r.month) row.now.month
-        (B.state book.old).held.calendar)) }
+        found ≡ standing same_calendar row.now
+        (row_by_number (λ r. r.month) row.now.month (B.state book.old).held.calendar)) }
 {
     let public = book.public_part()?;
     Ok(standing_calendar(row, public.calendar_row(row.month())))
 }
 
+// Compares a row with the month's row in the calendar.
 fn standing_calendar(row: &CalendarRow, old: Option<&CalendarRow>) -> Standing
     ensures { result ≡ standing same_calendar row.now (option_copied old.entry) }
 {

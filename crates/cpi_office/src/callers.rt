@@ -66,7 +66,7 @@ pub fn serve_collector<B: Book>(
     }
 }
 
-/// Answers the collector whose key was sent.
+// Answers the collector whose key was sent.
 fn serve_known<B: Book>(
     alloc: Global,
     book: &mut B,

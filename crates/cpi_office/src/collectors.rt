@@ -1,4 +1,4 @@
-//! A collector is registered.
+//! The desk registers a collector.
 ghost use Rattle.std.specs.Prelude.{◌≡◌, Some, None};
 ghost use Rattle.cpi_rows.specs.Keyed.{row_by_number};
 ghost use Rattle.cpi_release.specs.State.{Reads};
@@ -36,7 +36,7 @@ pub fn register<B: Book>(book: &mut B, registration: Registration) -> Reply
     }
 }
 
-/// The registration with the number, and the one with the key.
+// The registration with the number, and the one with the key.
 fn find_registrations<B: Book>(
     book: &mut B,
     registration: Registration,

@@ -2,8 +2,8 @@
 use cpi_release::Revision;
 use std::marker::Model;
 
-/// Which table of a month is asked for: that of one revision, or else the latest that is published. It is seen as the
-/// revision, if it names one.
+/// The table of a month that a request asks for: that of a revision, or else the latest published one. The logic sees
+/// it as the revision, if it names one.
 #[derive(Clone, Copy, PartialEq, Eq)]
 pub struct Edition {
     revision: Option<Revision>,
@@ -22,14 +22,14 @@ impl Model for Edition {
 impl Edition {
     ghost use Rattle.std.specs.Prelude.{◌≡◌, Some, None};
 
-    /// The latest that is published.
+    /// The latest published table.
     pub fn latest() -> Edition
         ensures { result ≡ None }
     {
         Edition { revision: None }
     }
 
-    /// That of a revision.
+    /// The table of a revision.
     pub fn of(revision: Revision) -> Edition
         ensures { result ≡ Some revision }
     {

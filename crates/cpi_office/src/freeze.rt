@@ -1,4 +1,4 @@
-//! A month is frozen: its release is judged, made and put.
+//! The desk freezes a month: the freeze is judged, and the month's release is computed and stored.
 ghost use Rattle.std.specs.Prelude.{◌≡◌, ◌≢◌, ◌≤◌, ◌<◌, true, Err, IfOk, IfErr, IfSome, option_map};
 ghost use Rattle.std.specs.Option.{option_copied};
 ghost use Rattle.cpi_codes.specs.Month.{year_of};
@@ -28,7 +28,11 @@ use cpi_store::{Book, StoreFault};
 use cpi_survey::Public;
 use std::alloc::{AllocError, Global};
 
-/// Freezes a month: its release is made and put.
+/// Freezes a month: computes its release, with the aggregates whose prices may be carried, and stores it.
+///
+/// The refusals come in this order: [`Refusal::MonthFrozen`], [`Refusal::FreezeOrder`], [`Refusal::UnknownMonth`],
+/// [`Refusal::FreezeTooEarly`], [`Refusal::NoPlan`], [`Refusal::PlanFault`] of a carried code without weight, and
+/// [`Refusal::Index`].
 pub fn freeze<B: Book>(
     alloc: Global,
     book: &mut B,
@@ -47,7 +51,7 @@ pub fn freeze<B: Book>(
     }
 }
 
-/// The calendar row of a month that may be frozen, or why it may not.
+// The calendar row of a month that may be frozen, or the refusal.
 fn judge<B: Book>(
     book: &mut B,
     now: Moment,
@@ -63,6 +67,7 @@ fn judge<B: Book>(
     Ok(judge_month(now, month, carry, &frozen, public))
 }
 
+// The same, from the frozen months and the public part.
 fn judge_month(
     now: Moment,
     month: Month,
@@ -92,7 +97,7 @@ fn judge_month(
     }
 }
 
-/// When a month's table is to be published, if the month has a row.
+// The publishing moment of a month's table, in seconds since 1970 UTC, if the month has a row.
 fn publishes_of(row: Option<&CalendarRow>) -> Option<Moment>
     ensures { result ≡ option_map (λ r. r.publishes) (option_copied row.entry) }
 {
@@ -102,8 +107,8 @@ fn publishes_of(row: Option<&CalendarRow>) -> Option<Moment>
     }
 }
 
-/// Whether there is a plan of the month's year, and each code of the list has weight in it. The first release has no
-/// plan.
+// Accepts the row if there is a plan of the month's year and each carried code has weight in it. The first release has
+// no plan.
 fn judge_plan(
     carry: &[Code],
     frozen: &[FrozenMonth],
@@ -121,7 +126,7 @@ fn judge_plan(
     }
 }
 
-/// Whether each code of the list has weight in the plan.
+// Accepts the row if each carried code has weight in the plan.
 fn judge_carry(
     carry: &[Code],
     plan: Option<&YearPlan>,
@@ -136,14 +141,14 @@ fn judge_carry(
     }
 }
 
-/// Whether a code of the list has no weight in the plan.
+// Whether a carried code has no weight in the plan.
 fn has_weightless(carry: &[Code], plan: Option<&YearPlan>) -> bool
     ensures { result ≡ has_unweighed (option_copied plan.entry) carry.now }
 {
     carry.iter().any(|code| !has_weight(plan, code))
 }
 
-/// Whether the code has weight in the plan.
+// Whether the code has weight in the plan.
 fn has_weight(plan: Option<&YearPlan>, code: &Code) -> bool
     ensures { result ≡ may_be_weighed (option_copied plan.entry) code.now }
 {
@@ -153,7 +158,7 @@ fn has_weight(plan: Option<&YearPlan>, code: &Code) -> bool
     }
 }
 
-/// The plan of the month's year.
+// The plan of the month's year.
 fn year_plan(public: &Public, month: Month) -> Option<&YearPlan>
     ensures { option_copied result ≡ row_by_number (λ y. y.year) (year_of month) public.now.plans }
 {
@@ -163,14 +168,15 @@ fn year_plan(public: &Public, month: Month) -> Option<&YearPlan>
     }
 }
 
-/// Whether a month before this one was frozen.
+// Whether a month before this one is frozen.
 fn is_after_first(frozen: &[FrozenMonth], month: Month) -> bool
     ensures { result ≡ is_past_first_month month frozen.now }
 {
     frozen.iter().any(|frozen_month| frozen_month.month < month)
 }
 
-/// Whether the month is the last frozen one or the one after it, or a December where there is none.
+// Whether the month is the last frozen one or the one after it, or, if none is frozen, a December: the first link
+// month (CPI Manual, chapter 9).
 fn is_next(frozen: &[FrozenMonth], month: Month) -> bool
     ensures { result ≡ is_next_month month frozen.now }
 {
@@ -180,7 +186,7 @@ fn is_next(frozen: &[FrozenMonth], month: Month) -> bool
     }
 }
 
-/// The revision in which such a month is frozen, if it has fewer than nine.
+// The revision in which such a month is frozen, if it has fewer than nine.
 fn next_revision(frozen: &[FrozenMonth], month: Month) -> Revision
     ensures { revision_to_give month frozen.now ≤ 9 → result ≡ revision_to_give month frozen.now }
 {
@@ -190,7 +196,7 @@ fn next_revision(frozen: &[FrozenMonth], month: Month) -> Revision
     }
 }
 
-/// Makes the release of a month that may be frozen, and puts it.
+// Computes the release of a month that may be frozen, and stores it.
 fn release<B: Book>(
     alloc: Global,
     book: &mut B,
@@ -215,7 +221,7 @@ fn release<B: Book>(
     }
 }
 
-/// How it is told that a month has no release.
+// The refusal for a release that can't be computed: lack of memory and a failed read of the store are 90.
 fn refusal_of(fault: FreezeFault) -> Refusal
     ensures { result ≡ fault_refusal fault }
 {
@@ -225,8 +231,8 @@ fn refusal_of(fault: FreezeFault) -> Refusal
     }
 }
 
-/// The release of what is to be frozen, or its first fault, read from the book one aggregate at a time. From a sound
-/// office it is the one that the definitions give; from any, it is of the row's month.
+// Computes the release of the row's month, or its first fault, from a book that is read one aggregate at a time. From a
+// sound office the release is the one that the definitions give.
 fn make<B: Book>(
     alloc: Global,
     book: &mut B,
@@ -272,15 +278,15 @@ fn make<B: Book>(
     )
 }
 
-/// What the release of a month is made by: a copy of the plan of its year, none for the first release, and the
-/// revision that follows.
+// The basis of a month's release: a copy of the plan of its year, none for the first release, and the revision that
+// follows. It is read after the judgement, since a book lends its public part only until its next call.
 #[derive(Drop)]
 struct Basis {
     plan: Option<YearPlan>,
     revision: Revision,
 }
 
-/// What the release of a month is made by; none where memory is refused.
+// Finds the basis of a month's release; none if there is no memory for the copy.
 fn find_basis<B: Book>(
     alloc: Global,
     book: &mut B,
@@ -296,10 +302,11 @@ fn find_basis<B: Book>(
     Ok(basis_in(alloc, &frozen, public, month))
 }
 
+// The same, from the frozen months and the public part.
 fn basis_in(alloc: Global, frozen: &[FrozenMonth], public: &Public, month: Month) -> Option<Basis>
     ensures { IfSome result (λ basis. (basis.plan ≡ plan_for public.now.plans frozen.now month)
-        × (revision_to_give month frozen.now ≤ 9 → basis.revision ≡ revision_to_give month
-        frozen.now)) }
+        × (revision_to_give month frozen.now ≤ 9 →
+        basis.revision ≡ revision_to_give month frozen.now)) }
 {
     let Ok(plan) = copy_plan(alloc, frozen, public, month) else {
         return None;
@@ -310,6 +317,7 @@ fn basis_in(alloc: Global, frozen: &[FrozenMonth], public: &Public, month: Month
     })
 }
 
+// A copy of the plan of the month's year; none for the first release.
 fn copy_plan(
     alloc: Global,
     frozen: &[FrozenMonth],

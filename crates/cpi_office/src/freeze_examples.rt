@@ -3,7 +3,7 @@ ghost use Rattle.cpi_office.specs.FreezeExamples.{OneMonth, FreezeRefusals, With
 ghost use Rattle.cpi_office.specs.FreezeExamples.{Reopened, CachedFrozen, Backwards};
 
 /// Small runs with freezes, computed by the definitions: a month from its quotes to its table, the same month
-/// reopened and frozen again, and what is refused.
+/// reopened and frozen again, and refusals.
 pub fn worked_freezes()
     ensures one_month { OneMonth }
     ensures freeze_refusals { FreezeRefusals }

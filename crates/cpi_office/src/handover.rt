@@ -1,4 +1,4 @@
-//! A series is handed over from one slot to another.
+//! The desk hands a series over from one slot to another.
 ghost use Rattle.std.specs.Prelude.{◌≡◌, Some, None, Ok, IsSome, option_map, if◌then◌else◌};
 ghost use Rattle.std.specs.Option.{option_copied};
 ghost use Rattle.cpi_rows.specs.Keyed.{row_by_number};
@@ -25,7 +25,8 @@ use cpi_store::{Book, Given, Registration, SeriesMove, StoreFault};
 use cpi_survey::{Assignment, Own};
 use std::alloc::Global;
 
-/// Hands a series over from a slot of one collector to a free slot of another. What was handed over already is done.
+/// Hands a series over from a slot of one collector to a free slot of another, who may be the same. The new slot gets
+/// the former one's last price. A hand-over that was done before is [`Reply::Done`].
 pub fn hand_over<B: Book>(alloc: Global, book: &mut B, what: HandOver) -> Reply
     ensures { let o = (B.state book.old).held in let v = handed_over what o in
         ServesWhere (B.state book.old) (B.state book.new) (IsSound o) result (verdict_reply v) (with_verdict v o) }
@@ -37,7 +38,7 @@ pub fn hand_over<B: Book>(alloc: Global, book: &mut B, what: HandOver) -> Reply
     }
 }
 
-/// Whether the new collector's number and slot are within their limits, as they are by their types.
+// Whether the new collector's number and slot are within their limits, as they are by their types.
 fn can_take(what: &HandOver) -> bool
     ensures { result ≡ is_takeable what.now }
 {
@@ -46,7 +47,7 @@ fn can_take(what: &HandOver) -> bool
     1 <= number && 1 <= slot && slot <= 400
 }
 
-/// Hands a series over, if there are both collectors.
+// Hands a series over, if both collectors are registered.
 fn hand_over_between<B: Book>(alloc: Global, book: &mut B, what: HandOver) -> Reply
     ensures { let o = (B.state book.old).held in
         let v = over_collectors what o (row_by_number (λ b. b.number) what.from o.collectors)
@@ -63,7 +64,7 @@ fn hand_over_between<B: Book>(alloc: Global, book: &mut B, what: HandOver) -> Re
     }
 }
 
-/// Both collectors, as they are registered.
+// The registrations of both collectors.
 fn find_both<B: Book>(
     book: &mut B,
     from: CollectorId,
@@ -78,7 +79,7 @@ fn find_both<B: Book>(
     Ok((former, taker))
 }
 
-/// Hands a series over between collectors who are known.
+// Hands a series over between registered collectors, if the former one has the slot.
 fn hand_over_slot<B: Book>(
     alloc: Global,
     book: &mut B,
@@ -100,7 +101,7 @@ fn hand_over_slot<B: Book>(
     }
 }
 
-/// Hands a series over that the former collector has.
+// Hands a series over that the former collector has, if the new slot is free.
 fn hand_over_given<B: Book>(
     alloc: Global,
     book: &mut B,
@@ -122,7 +123,7 @@ fn hand_over_given<B: Book>(
     }
 }
 
-/// Answers where the new slot stands: done where it took over this series in this month.
+// Answers a hand-over whose new slot isn't free: done, if that slot took over this series in this month.
 fn answer_standing(what: HandOver, given: &Given, new: &Given) -> Reply
     ensures { result ≡ (if stands_over what given.now new.now then Reply.Done else Reply.Refused Refusal.Taken) }
 {
@@ -133,7 +134,7 @@ fn answer_standing(what: HandOver, given: &Given, new: &Given) -> Reply
     }
 }
 
-/// Whether the new slot took this series over in this month, and the former one ended with the month before.
+// Whether the new slot took this series over in this month, and the former one ended with the month before.
 fn took_over(what: HandOver, given: &Given, new: &Given) -> bool
     ensures { result ≡ stands_over what given.now new.now }
 {
@@ -143,7 +144,7 @@ fn took_over(what: HandOver, given: &Given, new: &Given) -> bool
         && given.assignment.last_month.next() == Some(what.month)
 }
 
-/// Hands a series over to a slot that is free.
+// Hands a series over to a slot that is free.
 fn hand_over_free<B: Book>(
     alloc: Global,
     book: &mut B,
@@ -164,7 +165,7 @@ fn hand_over_free<B: Book>(
     }
 }
 
-/// The new assignment, or why there is none: by the months, by what was frozen, and by the quotes that stand.
+// The new assignment, or the refusal: by the assignment's months, by the frozen months, and by the slot's quotes.
 fn judge<B: Book>(
     book: &mut B,
     what: &HandOver,
@@ -180,6 +181,7 @@ fn judge<B: Book>(
     Ok(judge_by(what, former, &frozen, own))
 }
 
+// The same, from the frozen months and the former collector's own part.
 fn judge_by(
     what: &HandOver,
     former: &Given,
@@ -199,14 +201,14 @@ fn judge_by(
     }
 }
 
-/// Whether the month is after the former slot's first month, and not after its last.
+// Whether the month is after the former slot's first month, and not after its last.
 fn is_within(what: &HandOver, former: &Given) -> bool
     ensures { result ≡ is_handed_within what.now former.now.assignment }
 {
     former.assignment.first_month < what.month && what.month <= former.assignment.last_month
 }
 
-/// Whether the month comes too late: it isn't after the last frozen one.
+// Whether the month comes too late: it isn't after the last frozen one.
 fn comes_late(month: Month, last: Option<&FrozenMonth>) -> bool
     ensures { result ≡ is_not_after month (option_copied last.entry) }
 {
@@ -216,7 +218,7 @@ fn comes_late(month: Month, last: Option<&FrozenMonth>) -> bool
     }
 }
 
-/// The new assignment: as the former one is, from the month on, with the former one's last price.
+// The new assignment: the former one from this month on, with the former one's last price.
 fn take_on(what: &HandOver, former: &Given, own: &Own) -> Assignment
     ensures { result ≡ taken_on what.now former.now.assignment own.now.quotes }
 {
@@ -231,7 +233,7 @@ fn take_on(what: &HandOver, former: &Given, own: &Own) -> Assignment
     }
 }
 
-/// Puts both assignments.
+// Ends the former assignment with the month before, names the new one's outlet, and stores both.
 fn put_over<B: Book>(
     alloc: Global,
     book: &mut B,
@@ -267,18 +269,18 @@ fn put_over<B: Book>(
     }
 }
 
-/// Stores both assignments.
+// Stores both assignments as one change.
 fn store_both<B: Book>(book: &mut B, handover: SeriesMove) -> Reply
     requires former { (B.state book.old).is_clean →
         row_by_number (λ b. b.number) handover.former.number (B.state book.old).held.collectors ≡ Some handover.former }
     requires taker { (B.state book.old).is_clean →
         row_by_number (λ b. b.number) handover.taker.number (B.state book.old).held.collectors ≡ Some handover.taker }
     requires stands { (B.state book.old).is_clean →
-        option_map (given_until handover.ended.assignment.last_month) (row_by_number (λ g. g.assignment.slot)
-        handover.ended.assignment.slot (held_by handover.former.number (B.state book.old).held.assignments))
-        ≡ Some handover.ended }
-    requires new { (B.state book.old).is_clean → row_by_number (λ g. g.assignment.slot)
-        handover.assigned.assignment.slot
+        option_map (given_until handover.ended.assignment.last_month)
+        (row_by_number (λ g. g.assignment.slot) handover.ended.assignment.slot
+        (held_by handover.former.number (B.state book.old).held.assignments)) ≡ Some handover.ended }
+    requires new { (B.state book.old).is_clean →
+        row_by_number (λ g. g.assignment.slot) handover.assigned.assignment.slot
         (held_by handover.taker.number (B.state book.old).held.assignments) ≡ None }
     requires outlet { (B.state book.old).is_clean →
         IsSome (row_by_number (λ u. u.number) handover.assigned.assignment.outlet (B.state book.old).held.outlets) }
@@ -293,7 +295,7 @@ fn store_both<B: Book>(book: &mut B, handover: SeriesMove) -> Reply
     }
 }
 
-/// What a slot was given, with this last month.
+// The former slot's assignment and series, with this last month.
 fn end_given(given: Given, last_month: Month) -> Given
     ensures { result ≡ given_until last_month given }
 {

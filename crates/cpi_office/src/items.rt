@@ -18,10 +18,10 @@ use cpi_rows::Rows;
 use cpi_store::{Book, StoreFault};
 use std::alloc::{AllocError, Global};
 
-/// Puts an item, unless its code stands with other content.
+/// Puts an item. A code that another item has is [`Refusal::Taken`].
 pub fn put_item<B: Book>(book: &mut B, item: Item) -> Reply
-    ensures { let o = (B.state book.old).held in let v = item_put item
-        (row_by_number (λ i. i.code) item.code o.items) in
+    ensures { let o = (B.state book.old).held in
+        let v = item_put item (row_by_number (λ i. i.code) item.code o.items) in
         Serves (B.state book.old) (B.state book.new) result (verdict_reply v) (with_verdict v o) }
 {
     match find_item(book, &item) {
@@ -46,7 +46,7 @@ pub fn items<B: Book>(alloc: Global, book: &mut B) -> Reply
     }
 }
 
-/// What stands at the code of the item.
+// Whether no item has the code, the same item or another.
 fn find_item<B: Book>(book: &mut B, item: &Item) -> Result<Standing, StoreFault>
     ensures { Reads (B.state book.old) (B.state book.new) result (λ found.
         found ≡ standing same_item item.now (row_by_number (λ i. i.code) item.now.code (B.state book.old).held.items)) }
@@ -55,6 +55,7 @@ fn find_item<B: Book>(book: &mut B, item: &Item) -> Result<Standing, StoreFault>
     Ok(standing_item(item, public.item(item.code)))
 }
 
+// Compares an item with the one of its code.
 fn standing_item(item: &Item, old: Option<&Item>) -> Standing
     ensures { result ≡ standing same_item item.now (option_copied old.entry) }
 {
@@ -70,6 +71,7 @@ fn standing_item(item: &Item, old: Option<&Item>) -> Standing
     }
 }
 
+// A copy of the items. Fails, inside, if there is no memory.
 fn read_items<B: Book>(
     alloc: Global,
     book: &mut B,

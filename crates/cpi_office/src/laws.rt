@@ -49,8 +49,8 @@ pub fn tables_are_computed()
 {}
 
 /// Non-interference: the replies to a collector don't depend on the requests of other collectors, if neither a freeze
-/// nor a hand-over is among the requests. (The table of a frozen month is computed from the quotes of all collectors, so
-/// a published table may differ; and the collector who takes a series over gets its last price.)
+/// nor a hand-over is among the requests. (The table of a frozen month is computed from the quotes of all collectors,
+/// so a published table may differ; and the collector who takes a series over gets its last price.)
 ///
 /// From a sound office the replies to a collector are the same, one by one, if all requests of all other collectors
 /// are left out of the list. So two lists that differ only in other collectors' requests give the same replies,
@@ -79,9 +79,9 @@ pub fn runs_tell_alike<B: Book, C: Book>()
 /// Non-interference between two offices: if both have the same projection to a caller, both answer that caller alike.
 ///
 /// Take two runs, over books of any two kinds, from sound offices. Freezes, hand-overs and embargoed tables are
-/// included. If a caller's view at a moment was the same at the start of both, and the caller has seen the same accepted rows
-/// since, then a request of that caller at that moment gets the same reply from both, unless one of the replies is
-/// [`Refusal::Unavailable`]. The caller isn't the desk, which sees all.
+/// included. If a caller's view at a moment was the same at the start of both, and the caller has seen the same
+/// accepted rows since, then a request of that caller at that moment gets the same reply from both, unless one of the
+/// replies is [`Refusal::Unavailable`]. The caller isn't the desk, which sees all.
 pub fn replies_are_alike<B: Book, C: Book>()
     ensures { RepliesAreAlike B.state C.state }
 {}

@@ -1,4 +1,4 @@
-//! An outlet is put.
+//! The desk puts an outlet.
 ghost use Rattle.std.specs.Prelude.{◌≡◌, Some, None};
 ghost use Rattle.std.specs.Option.{option_copied};
 ghost use Rattle.cpi_rows.specs.Keyed.{row_by_number};
@@ -14,7 +14,7 @@ use crate::reply::Reply;
 use crate::standing::Standing;
 use cpi_store::{Book, Outlet, StoreFault};
 
-/// Puts an outlet, unless its number stands with other content.
+/// Puts an outlet. A number that another outlet has is [`Refusal::Taken`].
 pub fn put_outlet<B: Book>(book: &mut B, outlet: Outlet) -> Reply
     ensures { let o = (B.state book.old).held in
         let v = outlet_put outlet (row_by_number (λ u. u.number) outlet.number o.outlets) in
@@ -31,7 +31,7 @@ pub fn put_outlet<B: Book>(book: &mut B, outlet: Outlet) -> Reply
     }
 }
 
-/// What stands at the number of the outlet.
+// Whether no outlet has the number, the same outlet or another.
 fn find_outlet<B: Book>(book: &mut B, outlet: &Outlet) -> Result<Standing, StoreFault>
     ensures { Reads (B.state book.old) (B.state book.new) result (λ found.
         let old = row_by_number (λ u. u.number) outlet.now.number (B.state book.old).held.outlets in
@@ -41,6 +41,7 @@ fn find_outlet<B: Book>(book: &mut B, outlet: &Outlet) -> Result<Standing, Store
     Ok(standing_outlet(outlet, old))
 }
 
+// Compares an outlet with the one of its number.
 fn standing_outlet(outlet: &Outlet, old: Option<&Outlet>) -> Standing
     ensures { result ≡ standing same_outlet outlet.now (option_copied old.entry) }
 {

@@ -3,8 +3,8 @@ ghost use Rattle.cpi_office.specs.PlanExamples.{EachFault, FaultsChangeNothing, 
 ghost use Rattle.cpi_office.specs.PlanExamples.{PlansAreSeen, PlansByYear, ItemsFirst, PlansOfTheDesk};
 ghost use Rattle.cpi_office.specs.PlanExamples.{ReferenceStands, NoFirstReference};
 
-/// Small runs with plans, computed by the definitions: each fault of what is sent for a year, what stands already,
-/// and what is replaced.
+/// Small runs with plans, computed by the definitions: each fault of a plan, a plan that is there already, and a plan
+/// that is replaced.
 pub fn worked_plans()
     ensures each_fault { EachFault }
     ensures faults_change_nothing { FaultsChangeNothing }

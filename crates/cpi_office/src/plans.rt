@@ -1,4 +1,4 @@
-//! A year's plan is made of what was sent, and put.
+//! The desk puts the plan of a year: titles, weights, places of items and references.
 ghost use Rattle.std.specs.Prelude.{◌≡◌, IfOk, false};
 ghost use Rattle.std.specs.Option.{option_copied};
 ghost use Rattle.cpi_release.specs.State.{Reads};
@@ -22,7 +22,8 @@ use cpi_rows::RowsByKey;
 use cpi_store::{Book, StoreFault};
 use std::alloc::{AllocError, Global};
 
-/// Puts the plan of what was sent for a year, over the one that stands if there is one.
+/// Puts the plan of a year, in place of the year's plan if there is one. A plan of a year with a frozen month is
+/// [`Refusal::PlanFrozen`].
 pub fn put_plan<B: Book>(alloc: Global, book: &mut B, year: Year, body: PlanBody) -> Reply
     ensures { let o = (B.state book.old).held in let v = planned_in year body o in
         Serves (B.state book.old) (B.state book.new) result (verdict_reply v) (with_verdict v o) }
@@ -35,7 +36,7 @@ pub fn put_plan<B: Book>(alloc: Global, book: &mut B, year: Year, body: PlanBody
     }
 }
 
-/// The plan of what was sent, and whether it stands already.
+// Builds the plan, or its first fault, and compares it with the year's plan. Fails, inside, if there is no memory.
 fn find_plan<B: Book>(
     alloc: Global,
     book: &mut B,
@@ -56,7 +57,7 @@ fn find_plan<B: Book>(
     }
 }
 
-/// The plan of what was sent, or its fault.
+// Builds the plan, or its first fault. Fails if there is no memory.
 fn build(
     alloc: Global,
     year: Year,
@@ -84,6 +85,7 @@ fn build(
     }
 }
 
+// Compares a plan with the one of its year.
 fn standing_plan(plan: &YearPlan, old: Option<&YearPlan>) -> Standing
     ensures { result ≡ standing same_plan plan.now (option_copied old.entry) }
 {
@@ -99,7 +101,7 @@ fn standing_plan(plan: &YearPlan, old: Option<&YearPlan>) -> Standing
     }
 }
 
-/// Stores a plan, unless a month of its year was frozen.
+// Stores a plan, unless a month of its year is frozen.
 fn store_plan<B: Book>(book: &mut B, plan: YearPlan) -> Reply
     requires known { (B.state book.old).is_clean → has_unknown_item (B.state book.old).held.items plan.places ≡ false }
     ensures { let o = (B.state book.old).held in

@@ -1,4 +1,4 @@
-//! A collector's quotes are listed.
+//! A collector lists the own quotes.
 ghost use Rattle.std.specs.Prelude.{◌≡◌, IfOk};
 ghost use Rattle.cpi_rows.specs.Held.{held_by};
 ghost use Rattle.cpi_release.specs.State.{Reads};
@@ -32,6 +32,7 @@ pub fn quotes<B: Book>(
     }
 }
 
+// A copy of these quotes. Fails, inside, if there is no memory.
 fn read_quotes<B: Book>(
     alloc: Global,
     book: &mut B,

@@ -6,10 +6,10 @@ use cpi_codes::Price;
 use cpi_index::IndexFault;
 use cpi_plan::PlanFault;
 
-/// Why a request is refused. Each refusal has a number, by which it is told.
+/// The reason why a request is refused. Answers contain its number.
 #[derive(Clone, Copy, Debug, PartialEq, Eq)]
 pub enum Refusal {
-    /// The record is none of the forms, or outside the limits.
+    /// The record has none of the forms, or a value is outside its limits.
     BadRequest,
     /// No collector has the key.
     UnknownKey,
@@ -32,16 +32,16 @@ pub enum Refusal {
     OutOfTolerance {
         /// The last price.
         last: Price,
-        /// The least price that is taken unconfirmed.
+        /// The least price that needs no confirmation.
         low: u64,
-        /// The greatest price that is taken unconfirmed.
+        /// The greatest price that needs no confirmation.
         high: u64,
     },
     /// The collector's greatest receipt is 1,000,000.
     ReceiptsUsedUp,
     /// No table of the month is published by now.
     NoTable,
-    /// The code, number, key or slot stands with other content.
+    /// Another row has the code, number, key or slot.
     Taken,
     /// An assignment's item isn't known.
     UnknownItem,
@@ -49,9 +49,9 @@ pub enum Refusal {
     UnknownOutlet,
     /// An assignment's collector isn't known.
     UnknownCollector,
-    /// What was sent for a year is no plan: its first fault, which is never want of memory.
+    /// The plan of a year has a fault: the first one, which is never lack of memory.
     PlanFault(PlanFault),
-    /// A month of the year was frozen.
+    /// A month of the year is frozen.
     PlanFrozen,
     /// The month isn't the one after the last frozen one, or the first isn't a December.
     FreezeOrder,
@@ -59,18 +59,18 @@ pub enum Refusal {
     FreezeTooEarly,
     /// There is no plan of the month's year.
     NoPlan,
-    /// There is no index of the month: its first fault, which is never want of memory.
+    /// The index of the month can't be computed: the first fault, which is never lack of memory.
     Index(IndexFault),
-    /// The month was frozen, or one after it.
+    /// The month, or a later one, is frozen.
     MonthFrozen,
-    /// A quote of the slot that is to be handed over stands for the month of the hand-over, or for a later one.
+    /// The slot that is to be handed over has a quote of the month of the hand-over, or of a later one.
     QuotesStand,
-    /// Memory was refused, or the store failed during the request.
+    /// There was no memory, or the store failed during the request.
     Unavailable,
 }
 
 impl Refusal {
-    /// The number by which the refusal is told.
+    /// The refusal's number, in answers.
     pub fn number(self) -> u16
         ensures { result ≡ refusal_number self }
     {

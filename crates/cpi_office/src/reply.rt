@@ -5,14 +5,14 @@ use cpi_release::{FrozenMonth, PrintedTable};
 use cpi_rows::Rows;
 use cpi_survey::{Quote, WorkRow};
 
-/// What a request is answered.
+/// The reply to a request.
 #[derive(Drop)]
 pub enum Reply {
     /// The entry is stored under this receipt, 1 to 1,000,000.
     Receipt(u32),
-    /// The command is carried out, or its content stood already.
+    /// The command is carried out, or was before.
     Done,
-    /// What there is to be priced in a month, by slot.
+    /// The work list of a month, by slot.
     Work(Rows<WorkRow>),
     /// Quotes by month, and then by slot.
     Quotes(Rows<Quote>),
@@ -22,6 +22,6 @@ pub enum Reply {
     Tables(Rows<FrozenMonth>),
     /// A printed table.
     Table(PrintedTable),
-    /// Nothing was changed.
+    /// The request is refused, and nothing was changed.
     Refused(Refusal),
 }

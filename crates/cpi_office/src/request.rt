@@ -8,7 +8,7 @@ use cpi_rows::Rows;
 use cpi_store::{Outlet, Registration};
 use cpi_survey::Entry;
 
-/// What a free slot is given: an item to be priced in an outlet, from the first month to the last.
+/// The assignment of a free slot: an item to be priced in an outlet, from the first month to the last.
 #[derive(Clone, Copy, PartialEq, Eq)]
 pub struct NewAssignment {
     pub slot: Slot,
@@ -33,40 +33,40 @@ pub struct HandOver {
     pub month: Month,
 }
 
-/// What is asked of the office.
+/// A request to the office, with the callers who may make it.
 #[derive(Drop)]
 pub enum Request {
-    /// The items; of all callers.
+    /// The items; any caller.
     Items,
-    /// The months and revisions whose tables are published; of all callers.
+    /// The months and revisions whose tables are published; any caller.
     Tables,
-    /// The table of a month, printed, in the edition that is asked for; of all callers.
+    /// The printed table of a month, in this edition; any caller.
     Table(Month, Form, Edition),
-    /// The caller's own quotes from the first month to the last, none where the first is after the last; of collectors.
+    /// The caller's own quotes from the first month to the last, none if the first is after the last; collectors.
     Quotes(Month, Month),
-    /// The caller's own work list of a month; of collectors.
+    /// The caller's own work list of a month; collectors.
     Work(Month),
-    /// An entry of a quote; of collectors.
+    /// An entry of a quote; collectors.
     Submit(Entry),
-    /// A new item; of the desk, as are all further ones.
+    /// A new item; the desk, which makes all further requests too.
     PutItem(Item),
     /// A new collector with a new key.
     Register(Registration),
     /// A new outlet.
     PutOutlet(Outlet),
-    /// What a free slot of the collector is for.
+    /// An assignment of a free slot of the collector.
     Assign(CollectorId, NewAssignment),
     /// The hand-over of a series.
     HandOver(HandOver),
-    /// What there is for the plan of a year: titles, weights, and the aggregates of items.
+    /// The plan of a year: titles, weights, the aggregates of items, and references.
     PutPlan(Year, PlanBody),
-    /// The window and the publishing moment of a month.
+    /// The collection window and the publishing moment of a month.
     PutCalendar(CalendarRow),
-    /// The freeze of a month, with the aggregates that may be carried unchanged.
+    /// The freeze of a month, with the aggregates whose prices may be carried.
     Freeze(Month, Rows<Code>),
 }
 
-/// One request, with who makes it and when.
+/// One request, with its caller and its moment.
 #[derive(Drop)]
 pub struct Ask {
     /// Seconds since 1970 UTC. Moments may go backwards from one request to the next.

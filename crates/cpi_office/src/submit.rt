@@ -1,4 +1,4 @@
-//! A collector's entry is decided, and a new quote stored.
+//! A collector enters a quote: the entry is decided, and a new quote is stored.
 ghost use Rattle.std.specs.Prelude.{◌≡◌, ◌<◌, IsSome};
 ghost use Rattle.cpi_rows.specs.Keyed.{row_by_number};
 ghost use Rattle.cpi_rows.specs.Held.{held_by};
@@ -18,7 +18,10 @@ use cpi_codes::{CollectorId, Moment};
 use cpi_store::{Book, Registration, StoreFault};
 use cpi_survey::{Decision, Entry, Quote};
 
-/// Answers an entry of a collector.
+/// Answers an entry of a collector at a moment, in seconds since 1970 UTC.
+///
+/// It states the change as a verdict, as the answers of all requests do; `submit` states it as the quote that is
+/// stored, which is what each arm of its body shows.
 pub fn enter<B: Book>(book: &mut B, now: Moment, registration: Registration, entry: Entry) -> Reply
     requires known { (B.state book.old).is_clean →
         IsSome (row_by_number (λ b. b.number) registration.number (B.state book.old).held.collectors) }
@@ -30,7 +33,7 @@ pub fn enter<B: Book>(book: &mut B, now: Moment, registration: Registration, ent
     submit(book, now, registration, entry)
 }
 
-/// Decides an entry of a collector, and stores a new quote.
+// Decides an entry of a collector, and stores a new quote.
 fn submit<B: Book>(book: &mut B, now: Moment, registration: Registration, entry: Entry) -> Reply
     requires known { (B.state book.old).is_clean →
         IsSome (row_by_number (λ b. b.number) registration.number (B.state book.old).held.collectors) }
@@ -45,7 +48,7 @@ fn submit<B: Book>(book: &mut B, now: Moment, registration: Registration, entry:
     }
 }
 
-/// Decides an entry of a collector.
+// Decides an entry of a collector by the public part and the collector's own.
 fn decide<B: Book>(
     book: &mut B,
     now: Moment,
@@ -59,7 +62,7 @@ fn decide<B: Book>(
     Ok(parts.own.submit(parts.public, now, entry))
 }
 
-/// Tells what was decided, and stores a new quote.
+// Answers a decision, and stores its new quote, if it has one.
 fn carry_out<B: Book>(
     book: &mut B,
     registration: Registration,
@@ -67,8 +70,8 @@ fn carry_out<B: Book>(
 ) -> Reply
     requires known { (B.state book.old).is_clean →
         IsSome (row_by_number (λ b. b.number) registration.number (B.state book.old).held.collectors) }
-    requires new { (B.state book.old).is_clean → IsNewReceipt decision.now
-        (own_part registration.number (B.state book.old).held) }
+    requires new { (B.state book.old).is_clean →
+        IsNewReceipt decision.now (own_part registration.number (B.state book.old).held) }
     ensures { Serves (B.state book.old) (B.state book.new) result
         (decision_reply decision.now) (office_with_quote registration decision.now (B.state book.old).held) }
 {
@@ -79,7 +82,7 @@ fn carry_out<B: Book>(
     }
 }
 
-/// Stores a new quote.
+// Stores a new quote, and answers its receipt.
 fn store_quote<B: Book>(book: &mut B, registration: Registration, quote: Quote) -> Reply
     requires known { (B.state book.old).is_clean →
         IsSome (row_by_number (λ b. b.number) registration.number (B.state book.old).held.collectors) }

@@ -1,4 +1,4 @@
-//! The published tables: they are listed, and one is printed.
+//! Callers list the published tables and read one.
 ghost use Rattle.std.specs.Prelude.{◌≡◌, Some, map, option_map, IfOk};
 ghost use Rattle.std.specs.Option.{option_copied};
 ghost use Rattle.cpi_release.specs.PublishedTables.{asked_table, frozen_month_of, published_until, printed_bytes};
@@ -16,7 +16,7 @@ use cpi_rows::Rows;
 use cpi_store::{Book, StoreFault};
 use std::alloc::{AllocError, Global};
 
-/// Lists the months and revisions whose tables are published by now.
+/// Lists the months and revisions whose tables are published by now, in seconds since 1970 UTC.
 pub fn tables<B: Book>(book: &mut B, now: Moment) -> Reply
     ensures { let o = (B.state book.old).held in
         Serves (B.state book.old) (B.state book.new) result
@@ -28,7 +28,8 @@ pub fn tables<B: Book>(book: &mut B, now: Moment) -> Reply
     }
 }
 
-/// Prints the table of a month in the edition that is asked for, if it is published by now.
+/// Prints the table of a month in this edition, if it is published by now. Else the answer is [`Refusal::NoTable`],
+/// which doesn't show whether there is a table under embargo.
 pub fn table<B: Book>(
     alloc: Global,
     book: &mut B,
@@ -48,7 +49,7 @@ pub fn table<B: Book>(
     }
 }
 
-/// The printed table that is asked for, if it is published by now.
+// The printed table in this edition, if it is published by now. Fails, inside, if there is no memory.
 fn read_table<B: Book>(
     alloc: Global,
     book: &mut B,
@@ -71,7 +72,7 @@ fn read_table<B: Book>(
     }
 }
 
-/// The printed table of a revision, if it is published by now.
+// The printed table of a revision, if it is published by now. Fails, inside, if there is no memory.
 fn print_revision<B: Book>(
     alloc: Global,
     book: &mut B,
@@ -90,6 +91,7 @@ fn print_revision<B: Book>(
     Ok(printed_of(alloc, form, month, revision, found))
 }
 
+// Prints the rows of a table, if there are any. Fails if there is no memory.
 fn printed_of(
     alloc: Global,
     form: Form,

@@ -1,4 +1,4 @@
-//! A collector's work list of a month.
+//! A collector reads the own work list of a month.
 ghost use Rattle.std.specs.Prelude.{◌≡◌, IfOk};
 ghost use Rattle.cpi_release.specs.State.{Reads};
 ghost use Rattle.cpi_store.specs.Office.{own_part, public_part};
@@ -14,7 +14,7 @@ use cpi_store::{Book, StoreFault};
 use cpi_survey::WorkRow;
 use std::alloc::{AllocError, Global};
 
-/// Lists what the collector has to price in the month, by slot.
+/// Lists the collector's slots that are to be priced in the month.
 pub fn work<B: Book>(alloc: Global, book: &mut B, collector: CollectorId, month: Month) -> Reply
     ensures { let o = (B.state book.old).held in
         Serves (B.state book.old) (B.state book.new) result
@@ -26,6 +26,7 @@ pub fn work<B: Book>(alloc: Global, book: &mut B, collector: CollectorId, month:
     }
 }
 
+// The work list, or its refusal. Fails, inside, if there is no memory.
 fn read_work<B: Book>(
     alloc: Global,
     book: &mut B,
@@ -40,7 +41,7 @@ fn read_work<B: Book>(
     Ok(parts.own.work(alloc, parts.public, month))
 }
 
-/// The reply with a work list, or with its refusal.
+// The reply with a work list, or with its refusal.
 fn work_reply(answer: Result<Rows<WorkRow>, cpi_survey::Refusal>) -> Reply
     ensures { result ≡ work_reply answer }
 {
