@@ -11,6 +11,7 @@ use Rattle.cpi_store.specs.Office.{Office}
 use Rattle.cpi_wire.specs.Answer.{Answer}
 use Rattle.cpi_wire.specs.declared.fault.WireFault.{WireFault}
 use Rattle.cpi_wire.specs.declared.fault.WireFault.TheVariants as fault
+use Rattle.cpi_wire.specs.declared.limits.TheConstants.{MOST_RECORDS}
 use Rattle.cpi_wire.specs.Answers.{Answers, Begins, InTurn, Tells}
 use Rattle.cpi_wire.specs.Input.{Record, AreFirst}
 use Rattle.cpi_wire.specs.Record.{ask_of}
@@ -76,7 +77,7 @@ module _ {B : Type 0} (zone : ZoneRule) (state : B → State Office) where
   -- given up between two records
   pub gave-up-between : (input : Option (List ℕ)) (old new : B) (was is : Option (List ℕ)) (e : WireFault)
       (rows : List Record) (replies : List Answer)
-      → e ≢ fault.Write → length rows ≤ 1000000 → IfSome input (AreFirst rows) →
+      → e ≢ fault.Write → length rows ≤ MOST_RECORDS → IfSome input (AreFirst rows) →
       AnswersAll zone state old rows replies new → Told replies was is
       → GaveUp zone state input old new was is e
   gave-up-between input old new was is e rows replies other few first answers told = record {
@@ -94,7 +95,7 @@ module _ {B : Type 0} (zone : ZoneRule) (state : B → State Office) where
   -- given up in a record, for want of memory
   pub gave-up-in : (input : Option (List ℕ)) (old mid new : B) (was is : Option (List ℕ))
       (rows : List Record) (replies : List Answer) (row : Record)
-      → length rows < 1000000 → IfSome input (AreFirst (rows ++ row ∷ []))
+      → length rows < MOST_RECORDS → IfSome input (AreFirst (rows ++ row ∷ []))
       → AnswersAll zone state old rows replies mid → Told replies was is
       → Begins state mid (ask_of zone row) new
       → GaveUp zone state input old new was is fault.NoMemory
@@ -113,7 +114,7 @@ module _ {B : Type 0} (zone : ZoneRule) (state : B → State Office) where
   -- given up in the line of a record
   pub gave-up-at : (input : Option (List ℕ)) (old mid new : B) (was so_far is : Option (List ℕ))
       (rows : List Record) (replies : List Answer) (row : Record) (line : List ℕ) (count : ℕ)
-      → length rows < 1000000 → IfSome input (AreFirst (rows ++ row ∷ []))
+      → length rows < MOST_RECORDS → IfSome input (AreFirst (rows ++ row ∷ []))
       → AnswersAll zone state old rows replies mid → Told replies was so_far
       → Tells state mid (ask_of zone row) line new → count < length line → Appends so_far is (take count line)
       → GaveUp zone state input old new was is fault.Write

@@ -9,6 +9,7 @@ pub mod Importing
 pub mod Places
 pub mod PlanRead
 pub mod Reading
+pub mod RowLimits
 pub mod Runs
 pub mod Alike
 pub mod TableLines

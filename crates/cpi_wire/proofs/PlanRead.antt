@@ -1,7 +1,6 @@
 -- The rows of a plan's body, one after the other.
 use Rattle.std.proofs.Common.{◌≡◌, ◌∙◌, sym, ap, refl, ℕ, List, [], ◌∷◌, ◌++◌, ◌<◌, ◌≤◌, length, Option, Some, None}
 use Rattle.std.proofs.Common.{Bool, true, false, nat_lt, if◌then◌else◌, arith, append_assoc, length-append}
-use Rattle.std.proofs.lemmas.Bool.Decides.{nat_tests}
 use Rattle.cpi_plan.specs.declared.plan_bodies.PlanBody.{PlanBody}
 use Rattle.cpi_plan.specs.declared.plan_rows.Title.{Title}
 use Rattle.cpi_plan.specs.declared.plan_rows.Weight.{Weight}
@@ -12,6 +11,8 @@ use Rattle.cpi_wire.specs.Input.{Record, AreFirst, records_of}
 use Rattle.cpi_wire.specs.PlanBody.{titles_of, weights_of_rows, places_of, references_of, told_by, plan_rows, body_of}
 use Rattle.cpi_wire.specs.PlanRows.{spelled_plan_row}
 use Rattle.cpi_codes.specs.Following.{◌>>=◌}
+use Rattle.cpi_wire.specs.declared.limits.TheConstants.{MOST_ROWS}
+use Rattle.cpi_wire.proofs.RowLimits.{within-limit, past-limit}
 
 -- ---- one row more
 
@@ -170,22 +171,18 @@ rows-more given rows fields one e f = rows-append given (fields ∷ []) ∙ rw (
 
 -- ---- the body
 
-small : (n : ℕ) → n ≤ 20000 → nat_lt 20000 n ≡ false
-small n h = grind (arith, nat_tests)
-
-large : (n : ℕ) → 20000 < n → nat_lt 20000 n ≡ true
-large n h = grind (arith, nat_tests)
-
 pub body-whole : (text : List ℕ) (given : List Record) (rows : List PlanRow) → given ≡ records_of text →
-    length given ≤ 20000 → plan_rows given ≡ Some rows
+    length given ≤ MOST_ROWS → plan_rows given ≡ Some rows
     → Some (told_by rows) ≡ body_of text
 unfolding body_of
-body-whole text given rows e h r = rw (← e, small (length given) h, r) refl
+body-whole text given rows e h r = rw (← e, within-limit (length given) h, r) refl
 
-pub body-long : (text : List ℕ) (given : List Record) → AreFirst given text → 20000 < length given → None ≡ body_of text
+pub body-long : (text : List ℕ) (given : List Record) → AreFirst given text → MOST_ROWS < length given
+    → None ≡ body_of text
 unfolding body_of
 body-long text given first h =
-    let t : nat_lt 20000 (length (records_of text)) ≡ true = large _ (rw (first.1, length-append) (omega arith)) in
+    let t : nat_lt MOST_ROWS (length (records_of text)) ≡ true =
+        past-limit _ (rw (first.1, length-append) (omega arith)) in
     rw t refl
 
 pub body-bad : (text : List ℕ) (given : List Record) (rows : List PlanRow) (fields : Record) →
@@ -195,7 +192,7 @@ unfolding body_of both
 body-bad text given rows fields first e f =
     let all : plan_rows (records_of text) ≡ None = ap plan_rows (first.1 ∙ append_assoc given (fields ∷ []) first.0)
     ∙ rows-append given (fields ∷ first.0) ∙ rw (e, f) refl in
-    by (nat_lt 20000 (length (records_of text))) (plan_rows (records_of text)) all
+    by (nat_lt MOST_ROWS (length (records_of text))) (plan_rows (records_of text)) all
   where
     by : (t : Bool) (o : Option (List PlanRow)) → o ≡ None →
         None ≡ (if t then None else (o >>= λ rows. Some (told_by rows)))

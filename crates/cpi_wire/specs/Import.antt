@@ -2,6 +2,7 @@
 use Rattle.std.specs.Prelude.{List, [], ◌∷◌, if◌then◌else◌, nat_lt, length, map, Option, Some, None}
 use Rattle.cpi_codes.specs.Zone.{ZoneRule}
 use Rattle.cpi_office.specs.declared.request.Request.{Request}
+use Rattle.cpi_wire.specs.declared.limits.TheConstants.{MOST_ROWS}
 use Rattle.cpi_wire.specs.Arguments.{Text}
 use Rattle.cpi_wire.specs.Input.{Record, records_of}
 use Rattle.cpi_wire.specs.Words.{spelled_word, spelled_request}
@@ -11,7 +12,7 @@ unfoldable pub row_asks : ZoneRule → Record → Option Request
 row_asks zone [] = None
 row_asks zone (word ∷ arguments) = spelled_request zone (spelled_word word) arguments
 
--- the rows of a body, where they are at most 20,000
+-- the rows of a body, if it has at most `MOST_ROWS`
 unfoldable pub rows_of_body : ZoneRule → Text → Option (List (Option Request))
 rows_of_body zone body =
-    if nat_lt 20000 (length (records_of body)) then None else Some (map (row_asks zone) (records_of body))
+    if nat_lt MOST_ROWS (length (records_of body)) then None else Some (map (row_asks zone) (records_of body))

@@ -5,6 +5,7 @@ use Rattle.cpi_plan.specs.declared.plan_bodies.PlanBody.{PlanBody}
 use Rattle.cpi_plan.specs.declared.plan_rows.Title.{Title}
 use Rattle.cpi_plan.specs.declared.plan_rows.Weight.{Weight}
 use Rattle.cpi_plan.specs.declared.plan_rows.Place.{Place}
+use Rattle.cpi_wire.specs.declared.limits.TheConstants.{MOST_ROWS}
 use Rattle.cpi_wire.specs.declared.plan_rows.PlanRow.{PlanRow}
 use Rattle.cpi_wire.specs.declared.plan_rows.PlanRow.TheVariants as row
 use Rattle.cpi_wire.specs.Arguments.{Text}
@@ -65,8 +66,8 @@ AddsRow old new fields true =
     × ((rows : List PlanRow) → old ≡ told_by rows → new ≡ told_by (rows ++ row ∷ []))
 AddsRow old new fields false = spelled_plan_row fields ≡ None
 
--- the body of at most 20,000 rows
+-- the body, if it has at most `MOST_ROWS` rows
 unfoldable pub body_of : Text → Option PlanBody
 body_of text =
-    if nat_lt 20000 (length (records_of text)) then None
+    if nat_lt MOST_ROWS (length (records_of text)) then None
     else (plan_rows (records_of text) >>= λ rows. Some (told_by rows))

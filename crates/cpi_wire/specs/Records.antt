@@ -9,6 +9,7 @@ use Rattle.cpi_store.specs.Office.{Office}
 use Rattle.cpi_wire.specs.Answer.{Answer}
 use Rattle.cpi_wire.specs.declared.fault.WireFault.{WireFault}
 use Rattle.cpi_wire.specs.declared.fault.WireFault.TheVariants as fault
+use Rattle.cpi_wire.specs.declared.limits.TheConstants.{MOST_RECORDS}
 use Rattle.cpi_wire.specs.Answers.{Answers, Begins, InTurn}
 use Rattle.cpi_wire.specs.Input.{Record, AreFirst, records_of}
 use Rattle.cpi_wire.specs.Record.{ask_of}
@@ -45,7 +46,7 @@ module _ {B : Type 0} (zone : ZoneRule) (state : B → State Office) where
     pub rows : List Record
     pub replies : List Answer
     pub all : IfSome input (λ xs. rows ≡ records_of xs)
-    pub few : length rows ≤ 1000000
+    pub few : length rows ≤ MOST_RECORDS
     pub answers : AnswersAll old rows replies new
     pub told : Told replies was is
 
@@ -64,7 +65,7 @@ module _ {B : Type 0} (zone : ZoneRule) (state : B → State Office) where
     pub mid : B
     pub next : Option Record
     pub first : IfSome input (AreFirst (rows ++ option_to_list next))
-    pub few : length (rows ++ option_to_list next) ≤ 1000000
+    pub few : length (rows ++ option_to_list next) ≤ MOST_RECORDS
     pub answers : AnswersAll old rows replies mid
     pub begun : BegunUntil e mid next new
     pub told : ToldUntil e replies was is

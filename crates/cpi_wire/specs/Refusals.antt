@@ -24,9 +24,13 @@ number_of_plan_fault plan.UnknownAggregate = 8
 number_of_plan_fault plan.NoMemory = 9
 number_of_plan_fault plan.Reference = 10
 
--- a sum of weights, as far as 64 bits tell it: no record sends more
+-- the greatest number of 64 bits
+abbrev pub most_u64 : ℕ
+most_u64 = 18446744073709551615
+
+-- a sum of weights, capped at the greatest number of 64 bits: the weights of no record have a greater sum
 abbrev pub sum_in_refusal : ℕ → ℕ
-sum_in_refusal found = if nat_le found 18446744073709551615 then found else 18446744073709551615
+sum_in_refusal found = if nat_le found most_u64 then found else most_u64
 
 -- the fault of a refusal by its number
 abbrev pub fault_by_number : ℕ → ℕ → Data

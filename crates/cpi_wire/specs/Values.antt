@@ -1,6 +1,8 @@
 -- The value of one field.
 use Rattle.std.specs.Prelude.{ℕ, if◌then◌else◌, Option, Some, None, bytes_eq, codes}
 use Rattle.std.specs.Result.{result_ok}
+use Rattle.cpi_codes.specs.declared.limits.TheConstants.{GREATEST_COLLECTOR, GREATEST_OUTLET, GREATEST_PRICE}
+use Rattle.cpi_codes.specs.declared.limits.TheConstants.{GREATEST_SLOT, LAST_MOMENT}
 use Rattle.cpi_codes.specs.Number.{number_in}
 use Rattle.cpi_codes.specs.Clock.{moment_in}
 use Rattle.cpi_codes.specs.Following.{◌>>=◌}
@@ -10,6 +12,7 @@ use Rattle.cpi_codes.specs.Name.{is_text_of_name}
 use Rattle.cpi_codes.specs.CodeOf.{spelled_code}
 use Rattle.cpi_codes.specs.CodeOrder.{is_code_elementary}
 use Rattle.cpi_codes.specs.declared.codes.Code.{Code}
+use Rattle.cpi_plan.specs.declared.limits.TheConstants.{ALL_PARTS, GREATEST_TOLERANCE, PER_MILLE}
 use Rattle.cpi_release.specs.declared.form.Form.{Form}
 use Rattle.cpi_release.specs.declared.form.Form.TheVariants as form
 use Rattle.cpi_survey.specs.declared.mark.Mark.{Mark}
@@ -19,7 +22,7 @@ use Rattle.cpi_survey.specs.declared.mark.Reason.TheVariants.{Stock, Closed, Gon
 use Rattle.cpi_wire.specs.Arguments.{Text}
 
 abbrev pub moment : Text → Option ℕ
-moment text = number_in 0 9999999999 text
+moment text = number_in 0 LAST_MOMENT text
 
 -- a value, or another where there is none
 abbrev pub or_else : {A : Type 0} → Option A → Option A → Option A
@@ -34,29 +37,29 @@ abbrev pub spelled_month : Text → Option ℕ
 spelled_month text = result_ok (month_of text)
 
 abbrev pub spelled_collector : Text → Option ℕ
-spelled_collector text = number_in 1 9999 text
+spelled_collector text = number_in 1 GREATEST_COLLECTOR text
 
 abbrev pub slot : Text → Option ℕ
-slot text = number_in 1 400 text
+slot text = number_in 1 GREATEST_SLOT text
 
 abbrev pub spelled_outlet : Text → Option ℕ
-spelled_outlet text = number_in 1 999999 text
+spelled_outlet text = number_in 1 GREATEST_OUTLET text
 
 abbrev pub year : Text → Option ℕ
 year text = number_in 2000 2199 text
 
 abbrev pub price : Text → Option ℕ
-price text = number_in 1 100000000 text
+price text = number_in 1 GREATEST_PRICE text
 
 abbrev pub low_tolerance : Text → Option ℕ
-low_tolerance text = number_in 1 1000 text
+low_tolerance text = number_in 1 PER_MILLE text
 
 abbrev pub high_tolerance : Text → Option ℕ
-high_tolerance text = number_in 1000 10000 text
+high_tolerance text = number_in PER_MILLE GREATEST_TOLERANCE text
 
 -- parts per million
 abbrev pub spelled_weight : Text → Option ℕ
-spelled_weight text = number_in 0 1000000 text
+spelled_weight text = number_in 0 ALL_PARTS text
 
 abbrev pub spelled_name : Text → Option Text
 spelled_name text = if is_text_of_name text then Some text else None

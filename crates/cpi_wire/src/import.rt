@@ -5,15 +5,13 @@ ghost use Rattle.cpi_wire.specs.Import.{row_asks, rows_of_body};
 
 use crate::fields::field_list;
 use crate::input::{next_row, record_reader};
+use crate::limits::MOST_ROWS;
 use crate::requests::ImportRows;
 use crate::words::{request_of, word_of};
 use cpi_codes::Zone;
 use cpi_office::Request;
 use csv::ByteRecord;
 use std::alloc::{AllocError, Global};
-
-/// How many rows one import has at most.
-const MAX_ROWS: u32 = 20_000;
 
 // The request of a row: its word and its arguments.
 fn row_request(alloc: Global, zone: &Zone, fields: &[&[u8]]) -> Result<Option<Request>, AllocError>
@@ -51,7 +49,7 @@ pub fn import_rows(
     let mut reader = record_reader(alloc, body);
     let mut row = ByteRecord::new(alloc);
     let mut rows = Vec::new(alloc);
-    for _ in 0..MAX_ROWS {
+    for _ in 0..MOST_ROWS {
         if !next_row(&mut reader, &mut row)? {
             return Ok(Some(ImportRows { rows }));
         }

@@ -6,14 +6,12 @@ ghost use Rattle.cpi_wire.specs.declared.plan_rows.PlanRow.{PlanRow as Row};
 
 use crate::fields::field_list;
 use crate::input::{next_row, record_reader};
+use crate::limits::MOST_ROWS;
 use crate::plan_rows::{PlanRow, plan_row};
 use cpi_plan::PlanBody;
 use cpi_rows::Rows;
 use csv::ByteRecord;
 use std::alloc::{AllocError, Global};
-
-/// How many rows the body of a plan has at most.
-const MAX_ROWS: u32 = 20_000;
 
 // Puts a row behind those of its kind.
 fn add(body: &mut PlanBody, row: PlanRow) -> Result<(), AllocError>
@@ -53,7 +51,7 @@ pub(crate) fn plan_body(alloc: Global, text: &[u8]) -> Result<Option<PlanBody>, 
         places: Rows::new(alloc),
         references: Rows::new(alloc),
     };
-    for _ in 0..MAX_ROWS {
+    for _ in 0..MOST_ROWS {
         if !next_row(&mut reader, &mut row)? {
             return Ok(Some(body));
         }

@@ -10,6 +10,7 @@ use crate::answers::answer_line;
 use crate::fault::WireFault;
 use crate::fields::field_list;
 use crate::input::{next_record, record_reader};
+use crate::limits::{MOST_CALLS, MOST_RECORDS};
 use crate::reader::CallCountingReader;
 use crate::record::request_of_record;
 use crate::write::write_whole;
@@ -19,12 +20,6 @@ use cpi_store::Book;
 use csv::{ByteRecord, Reader};
 use std::alloc::{AllocError, Global};
 use std::io::{Read, Write};
-
-/// How many records one replay takes.
-const MAX_RECORDS: u32 = 1_000_000;
-
-/// How many calls of `read` one replay makes.
-const MAX_CALLS: u32 = 20_000_000;
 
 // Carries out what the fields of the record ask, and gives the line of its answer. Without memory the record may have
 // been begun.
@@ -59,7 +54,7 @@ fn answer_records<R: Read, W: Write, B: Book>(
         office.old.book office.new.book (W.contents writer.old) (W.contents writer.new)) }
 {
     let mut row = ByteRecord::new(alloc);
-    for _ in 0..MAX_RECORDS {
+    for _ in 0..MOST_RECORDS {
         if !next_record(records, &mut row)? {
             return Ok(());
         }
@@ -88,6 +83,6 @@ pub fn replay<R: Read + Drop, W: Write, B: Book>(
     ensures err { IfErr result (GaveUp zone.now B.state (R.remaining reader)
         office.old.book office.new.book (W.contents writer.old) (W.contents writer.new)) }
 {
-    let mut records = record_reader(alloc, CallCountingReader::new(reader, MAX_CALLS));
+    let mut records = record_reader(alloc, CallCountingReader::new(reader, MOST_CALLS));
     answer_records(alloc, &mut records, writer, zone, office)
 }

@@ -7,12 +7,10 @@ ghost use Rattle.cpi_wire.specs.Values.{spelled_reason, spelled_elementary_code}
 ghost use Rattle.cpi_wire.specs.Values.{spelled_form};
 
 use cpi_codes::{Code, Moment, Month, Name, NameFault, Price, Zone, moment_at, number_of};
+use cpi_plan::ALL_PARTS;
 use cpi_release::Form;
 use cpi_survey::{Mark, Reason};
 use std::alloc::{AllocError, Global};
-
-/// The greatest weight, in parts per million.
-const MAX_WEIGHT: u64 = 1_000_000;
 
 /// A moment as a number, or as the civil text that a clock of the zone shows then.
 pub(crate) fn time_of(zone: &Zone, text: &[u8]) -> Option<Moment>
@@ -67,7 +65,7 @@ pub(crate) fn form_of(text: &[u8]) -> Option<Form>
 pub(crate) fn weight_of(text: &[u8]) -> Option<u32>
     ensures { result ≡ spelled_weight text.now }
 {
-    Some(number_of(text, 0, MAX_WEIGHT)? as u32)
+    Some(number_of(text, 0, ALL_PARTS)? as u32)
 }
 
 /// A name, title, unit or text; none where it isn't one.

@@ -1,31 +1,28 @@
 use Rattle.std.proofs.Common.{◌≡◌, rules, refl, ℕ, List, [], ◌∷◌, ◌++◌, ◌<◌, ◌≤◌, length, map, Some, None, arith}
 use Rattle.std.proofs.Common.{nat_lt, true, false, length-append}
 use Rattle.std.proofs.lemmas.List.{map-append}
-use Rattle.std.proofs.lemmas.Bool.Decides.{nat_tests}
 use Rattle.csv.specs.Records.{fields_of}
 use Rattle.cpi_codes.specs.Zone.{ZoneRule}
 use Rattle.cpi_wire.specs.Input.{Record, AreFirst, records_of}
 use Rattle.cpi_wire.specs.Import.{row_asks, rows_of_body}
+use Rattle.cpi_wire.specs.declared.limits.TheConstants.{MOST_ROWS}
+use Rattle.cpi_wire.proofs.RowLimits.{within-limit, past-limit}
 use Rattle.cpi_wire.proofs.Reading.{at-front}
 use Rattle.cpi_wire.proofs.import.import_rows.Goals as goal
 
-not-more : (n : ℕ) → n ≤ 20000 → nat_lt 20000 n ≡ false
-not-more n h = grind (arith, nat_tests)
-
-is-more : (n : ℕ) → 20000 < n → nat_lt 20000 n ≡ true
-is-more n h = grind (arith, nat_tests)
-
-few-rows : (zone : ZoneRule) (body : List ℕ) (given : List Record) → given ≡ records_of body → length given ≤ 20000 →
-    Some (map (row_asks zone) given) ≡ rows_of_body zone body
+few-rows : (zone : ZoneRule) (body : List ℕ) (given : List Record) → given ≡ records_of body
+    → length given ≤ MOST_ROWS → Some (map (row_asks zone) given) ≡ rows_of_body zone body
 unfolding rows_of_body
-few-rows zone body given e h = let t : nat_lt 20000 (length (records_of body)) ≡ false =
-    rw (← e) (not-more (length given) h) in rw (t, e) refl
+few-rows zone body given e h =
+    let t : nat_lt MOST_ROWS (length (records_of body)) ≡ false = rw (← e) (within-limit (length given) h) in
+    rw (t, e) refl
 
-many-rows : (zone : ZoneRule) (body : List ℕ) (given : List Record) → AreFirst given body → 20000 < length given →
+many-rows : (zone : ZoneRule) (body : List ℕ) (given : List Record) → AreFirst given body → MOST_ROWS < length given →
     None ≡ rows_of_body zone body
 unfolding rows_of_body
 many-rows zone body given first h =
-    let t : nat_lt 20000 (length (records_of body)) ≡ true = is-more _ (rw (first.1, length-append) (omega arith)) in
+    let t : nat_lt MOST_ROWS (length (records_of body)) ≡ true =
+        past-limit _ (rw (first.1, length-append) (omega arith)) in
     rw t refl
 
 pub returns-then-not-branch : goal.returns-then-not-branch
