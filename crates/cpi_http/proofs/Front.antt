@@ -10,6 +10,7 @@ use Rattle.httparse.specs.Grammar.{HasNoRequest, MayBecomeRequest}
 use Rattle.httparse.specs.declared.spans.HeaderSpan.{HeaderSpan}
 use Rattle.httparse.specs.declared.spans.RequestSpans.{RequestSpans}
 use Rattle.httparse.specs.Spans.{RequestOverflows, IsRequestAt, header_bytes, name_and_value}
+use Rattle.cpi_http.specs.declared.limits.TheConstants.{MOST_FIELDS, MOST_HEAD_BYTES}
 use Rattle.cpi_http.specs.Head.{ReadsHead, HasNoHead, NeverHasHead, MayGoOn}
 
 -- the last byte is b
@@ -77,17 +78,17 @@ pub no-head : (a : List ℕ) → HasNoRequest a → HasNoHead a
 no-head a none h rest r = none h rest r.reads
 
 -- with no head in as many bytes as a head may have, none comes
-pub too-long : (a : List ℕ) → HasNoRequest a → 8192 ≤ length a → NeverHasHead a
+pub too-long : (a : List ℕ) → HasNoRequest a → MOST_HEAD_BYTES ≤ length a → NeverHasHead a
 too-long a none long more h rest r =
     let s = r.short in
     none h _ (r.reads.0, front-within a more (print_request h) rest r.reads.1 (omega (arith, s, long)))
 
-pub refused : (a : List ℕ) → RequestOverflows 64 a → NeverHasHead a
+pub refused : (a : List ℕ) → RequestOverflows MOST_FIELDS a → NeverHasHead a
 refused a over more h rest r = let s = r.few in let t = over more h rest r.reads in omega (arith, s, t)
 
 -- a head that the parser found when its last byte came
 pub whole : (a : List ℕ) (b : ℕ) (headers : List HeaderSpan) (spans : RequestSpans) (h : RequestHead) → HasNoRequest a
-    → length a < 8192 → length headers ≡ 64
+    → length a < MOST_HEAD_BYTES → length headers ≡ MOST_FIELDS
     → IsRequestAt (a ++ b ∷ []) headers spans h → ReadsHead (a ++ b ∷ []) h []
 whole a b headers spans h none short room at =
     let nil = request-at-end a b h _ none at.reads in

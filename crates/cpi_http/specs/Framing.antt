@@ -4,15 +4,16 @@ use Rattle.std.specs.Prelude.{List, [], ◌∷◌, length, codes, Result, Ok, Er
 use Rattle.std.specs.List.{list_all}
 use Rattle.std.specs.Char.{is_ascii_digit}
 use Rattle.std.specs.Str.Parse.{digits_value}
+use Rattle.cpi_http.specs.declared.limits.TheConstants.{MOST_BODY_BYTES}
 use Rattle.cpi_http.specs.Fields.{Header, values_named}
 
 -- one or more digits
 abbrev pub is_digits : List ℕ → Bool
 is_digits text = nat_lt 0 (length text) && list_all is_ascii_digit text
 
--- a length up to 65,536
+-- a length up to `MOST_BODY_BYTES`
 abbrev pub in_limit : ℕ → Result ℕ ℕ
-in_limit n = if nat_le n 65536 then Ok n else Err 413
+in_limit n = if nat_le n MOST_BODY_BYTES then Ok n else Err 413
 
 -- the length that a value writes
 abbrev pub length_of_value : List ℕ → Result ℕ ℕ

@@ -1,20 +1,13 @@
 -- The head of a request within the limits of the office (RFC 9112, sections 2 to 5).
 use Rattle.std.specs.Prelude.{All, ◌⊎◌, ◌≢◌, ◌≡◌, ℕ, ◌≤◌, List, [], ◌∷◌, ◌++◌, length, Option, None, Some}
 use Rattle.httparse.specs.Grammar.{RequestHead, ReadsRequest, print_request, MayBecomeRequest}
-
--- the most bytes of a head, its empty line among them
-abbrev pub max_head_length : ℕ
-max_head_length = 8192
-
--- the most fields of a head
-abbrev pub max_fields : ℕ
-max_fields = 64
+use Rattle.cpi_http.specs.declared.limits.TheConstants.{MOST_FIELDS, MOST_HEAD_BYTES}
 
 -- the bytes are the head h, which is within the limits, and then rest
 pub record ReadsHead (bytes : List ℕ) (h : RequestHead) (rest : List ℕ) : Type 0 where
   pub reads : ReadsRequest bytes h rest
-  pub short : length (print_request h) ≤ max_head_length
-  pub few : length h.fields ≤ max_fields
+  pub short : length (print_request h) ≤ MOST_HEAD_BYTES
+  pub few : length h.fields ≤ MOST_FIELDS
 
 -- no head within the limits stands at the front
 abbrev pub HasNoHead : List ℕ → Type 0

@@ -5,11 +5,9 @@ ghost use Rattle.cpi_http.specs.Fields.{values_named};
 ghost use Rattle.cpi_http.specs.Framing.{length_of_value, body_length, framing_of};
 
 use crate::fields::{Named, find};
+use crate::limits::MOST_BODY_BYTES;
 use http::StatusCode;
 use httparse::spans::HeaderSpan;
-
-/// The most bytes of a body.
-const MAX_BODY_LENGTH: usize = 65_536;
 
 // The length that a value writes.
 fn length_of_value(value: &[u8]) -> Result<usize, StatusCode>
@@ -23,9 +21,9 @@ fn length_of_value(value: &[u8]) -> Result<usize, StatusCode>
         if !digit.is_ascii_digit() {
             return Err(StatusCode::BAD_REQUEST);
         }
-        length = (length * 10 + usize::from(*digit - b'0')).min(MAX_BODY_LENGTH + 1);
+        length = (length * 10 + usize::from(*digit - b'0')).min(MOST_BODY_BYTES + 1);
     }
-    if length > MAX_BODY_LENGTH {
+    if length > MOST_BODY_BYTES {
         return Err(StatusCode::PAYLOAD_TOO_LARGE);
     }
     Ok(length)

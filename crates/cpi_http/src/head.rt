@@ -3,7 +3,8 @@ ghost use Rattle.std.specs.Prelude.{◌≡◌, ◌≤◌, [], ◌∷◌, ◌++�
 ghost use Rattle.std.specs.Io.KnownBytes.{Consumes};
 ghost use Rattle.cpi_http.specs.HeadEnd.{HeadEndIs, IsFaultOfReading};
 
-use crate::read::{MAX_HEAD_LENGTH, read_byte};
+use crate::limits::{MOST_FIELDS, MOST_HEAD_BYTES};
+use crate::read::read_byte;
 use cpi_wire::WireFault;
 use httparse::Status;
 use httparse::spans::{HeaderSpan, RequestSpans, parse_request};
@@ -36,12 +37,12 @@ pub fn read_head<R: Read>(
     fields: &mut [HeaderSpan],
 ) -> Result<HeadEnd, WireFault>
     requires empty { buf.old.items ≡ [] }
-    requires room { length fields.old ≡ 64 }
+    requires room { length fields.old ≡ MOST_FIELDS }
     ensures bytes { OnOk result (Consumes (R.remaining reader.old) (R.remaining reader.new) buf.new.items) }
     ensures fault { IfErr result IsFaultOfReading }
     ensures head { IfOk result (HeadEndIs buf.new.items fields.new (R.remaining reader.new)) }
 {
-    'bytes: while buf.len() < MAX_HEAD_LENGTH {
+    'bytes: while buf.len() < MOST_HEAD_BYTES {
         let Some(byte) = read_byte(reader, calls_left)? else {
             return Ok(HeadEnd::Cut);
         };

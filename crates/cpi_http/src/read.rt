@@ -6,15 +6,6 @@ ghost use Rattle.cpi_http.specs.Head.{byte_list};
 use cpi_wire::WireFault;
 use std::io::{ErrorKind, Read};
 
-/// How many calls of `read` one message may take.
-pub const MAX_CALLS: u32 = 80_000;
-
-/// The most bytes of a head, its empty line among them.
-pub const MAX_HEAD_LENGTH: usize = 8192;
-
-/// The most fields of a head.
-pub const MAX_FIELDS: usize = 64;
-
 /// Reads as `read` does, again where it was interrupted, while calls are left.
 pub fn read_some<R: Read>(
     reader: &mut R,

@@ -16,7 +16,7 @@ use crate::bytes::front_of;
 use crate::called::called_of;
 use crate::framing::framing;
 use crate::head::{HeadEnd, read_head};
-use crate::read::{MAX_CALLS, MAX_FIELDS};
+use crate::limits::{MOST_BYTES_WITH_HEAD, MOST_CALLS, MOST_FIELDS};
 use crate::responses::{Response, refusal, respond};
 use crate::routes::{Route, all_routes};
 use cpi_codes::{Key, Moment, Zone};
@@ -27,9 +27,6 @@ use http::StatusCode;
 use httparse::spans::EMPTY_HEADER_SPAN;
 use std::alloc::{AllocError, Global};
 use std::io::{Read, Write};
-
-/// How many bytes of a body are written together with the head.
-const BODY_WITH_HEAD: usize = 65_536;
 
 /// What became of a connection's message.
 #[derive(Clone, Copy, PartialEq, Eq)]
@@ -59,7 +56,7 @@ fn send<W: Write>(alloc: Global, writer: &mut W, response: &Response) -> Result<
         (http_of response.now.status response.now.content response.now.body.items)) }
 {
     let size = response.body.len();
-    let (begun, rest) = response.body.split_at(size.min(BODY_WITH_HEAD));
+    let (begun, rest) = response.body.split_at(size.min(MOST_BYTES_WITH_HEAD));
     let front = front_of(alloc, response.status, response.content, size, begun)?;
     write_both(writer, &front, rest)?;
     Ok(Served::Answered(response.status, response.failed))
@@ -129,8 +126,8 @@ fn serve_body<R: Read, W: Write, B: Book>(
 }
 
 /// Reads one HTTP message at a moment, in seconds since 1970 UTC, carries out on the office what it asks, and writes
-/// its response. Civil times are read by the clock of the zone. The desk's key makes its registration the desk; any other key
-/// is a collector's; without a key the caller is the public.
+/// its response. Civil times are read by the clock of the zone. A message with the desk's key comes from the desk, one
+/// with any other key from a collector, and one without a key from the public.
 ///
 /// The message is judged in this order: whole (or `Cut`: nothing is done or written); its head, of at most 8,192 bytes
 /// and 64 fields (400); no transfer coding (501); its length, one number (400) up to 65,536 (413); its route (404); its
@@ -158,9 +155,9 @@ pub fn serve_one<R: Read, W: Write, B: Book>(
     let Ok(routes) = all_routes(alloc) else {
         return Err(WireFault::NoMemory);
     };
-    let mut calls_left = MAX_CALLS;
+    let mut calls_left = MOST_CALLS;
     let mut buf = Vec::new(alloc);
-    let mut fields = [EMPTY_HEADER_SPAN; MAX_FIELDS];
+    let mut fields = [EMPTY_HEADER_SPAN; MOST_FIELDS];
     let spans = match read_head(reader, &mut calls_left, &mut buf, &mut fields)? {
         HeadEnd::Whole(spans) => spans,
         HeadEnd::Malformed => return refuse(alloc, writer, StatusCode::BAD_REQUEST),

@@ -1,6 +1,7 @@
 use Rattle.std.proofs.Common.{◌≡◌, length, ◌-◌, vec_len}
 use Rattle.std.specs.Io.KnownBytes.{Consumes}
 use Rattle.httparse.specs.Grammar.{HasNoRequest}
+use Rattle.cpi_http.specs.declared.limits.TheConstants.{MOST_FIELDS, MOST_HEAD_BYTES}
 use Rattle.cpi_http.specs.Head.{MayGoOn}
 use Rattle.cpi_http.proofs.head.read_head.Given as goal
 
@@ -9,8 +10,8 @@ invariant-bytes g l = record {
   bytes : Consumes (g.R.Read.remaining l.fn.reader) (g.R.Read.remaining l.reader) l.buf.items;
   none : HasNoRequest l.buf.items;
   goes_on : MayGoOn l.buf.items;
-  room : length l.fields ≡ 64;
+  room : length l.fields ≡ MOST_FIELDS;
 }
 
 abbrev pub decreases-bytes : goal.decreases-bytes
-decreases-bytes g l = 8192 - vec_len l.buf
+decreases-bytes g l = MOST_HEAD_BYTES - vec_len l.buf
