@@ -25,5 +25,5 @@ gave-up-at-once state rule input was book = record {
   few = omega arith;
   answers = refl;
   begun = refl;
-  told = Appends-nil was;
+  written = Appends-nil was;
 }

@@ -38,7 +38,7 @@ said-bytes said failed r is =
 
 module _ {B : Type 0} (state : B → State Office) where
   -- what was carried out was begun
-  pub answered-begun : (old new : B) (asked : Ask) (told : Answer) → Answers state old asked told new
+  pub answered-begun : (old new : B) (asked : Ask) (answered : Answer) → Answers state old asked answered new
       → Begins state old asked new
   answered-begun old new ask.Bad (answer.One reply) a = a.1
   answered-begun old new ask.Bad (answer.Rows replies) a = absurd a
@@ -54,48 +54,48 @@ module _ {B : Type 0} (state : B → State Office) where
   }
 
   module _ (f : Framing) (old new : Option (List ℕ)) (c : ServedChange B) where
-    pub sent-ok : (m : MessageAsks) (told : Answer) (r : Result Served WireFault) (bytes : List ℕ) (status : ℕ)
+    pub sent-ok : (m : MessageAsks) (answered : Answer) (r : Result Served WireFault) (bytes : List ℕ) (status : ℕ)
         (failed : Bool)
-        → StreamGives f old new m → Answers state c.before (ask_in m) told c.now
-        → bytes ≡ body_bytes (response_to m told) → status ≡ (response_to m told).status
-        → failed ≡ some_fails (all_replies told)
+        → StreamGives f old new m → Answers state c.before (ask_in m) answered c.now
+        → bytes ≡ body_bytes (response_to m answered) → status ≡ (response_to m answered).status
+        → failed ≡ some_fails (all_replies answered)
         → IfOk r (λ served. served ≡ Answered status failed) → OnOk r (Appends c.written c.writing bytes)
         → IfOk r (IsServed state f old new c)
-    sent-ok m told (Ok served) bytes status failed gives answers same st fa is sent =
+    sent-ok m answered (Ok served) bytes status failed gives answers same st fa is sent =
         subst (IsServed state f old new c) (sym is) (record {
           asked = m;
-          told = told;
+          answered = answered;
           gives = gives;
           answers = answers;
           written = subst (Appends c.written c.writing) same sent;
           status_is = st;
           failed_is = fa;
         })
-    sent-ok m told (Err e) bytes status failed gives answers same st fa is sent = tt
+    sent-ok m answered (Err e) bytes status failed gives answers same st fa is sent = tt
 
-    send-failed : (m : MessageAsks) (told : Answer) (bytes : List ℕ) (e : WireFault)
-        → StreamGives f old new m → Answers state c.before (ask_in m) told c.now → bytes ≡ body_bytes
-        (response_to m told)
+    send-failed : (m : MessageAsks) (answered : Answer) (bytes : List ℕ) (e : WireFault)
+        → StreamGives f old new m → Answers state c.before (ask_in m) answered c.now → bytes ≡ body_bytes
+        (response_to m answered)
         → SendFails c.written c.writing bytes e → GaveUp state f old new c e
-    send-failed m told bytes fault.Read gives answers same h = absurd h
-    send-failed m told bytes fault.Write gives answers same h = record {
+    send-failed m answered bytes fault.Read gives answers same h = absurd h
+    send-failed m answered bytes fault.Write gives answers same h = record {
       asked = m;
-      told = told;
+      answered = answered;
       count = h.0;
       gives = gives;
       answers = answers;
       short = subst (λ l. h.0 < length l) same h.1;
       written = subst (λ l. Appends c.written c.writing (take h.0 l)) same h.2;
     }
-    send-failed m told bytes fault.NoMemory gives answers same h =
-        (inr (m, gives, answered-begun c.before c.now (ask_in m) told answers), h)
+    send-failed m answered bytes fault.NoMemory gives answers same h =
+        (inr (m, gives, answered-begun c.before c.now (ask_in m) answered answers), h)
 
-    pub sent-err : (m : MessageAsks) (told : Answer) (r : Result Served WireFault) (bytes : List ℕ)
-        → StreamGives f old new m → Answers state c.before (ask_in m) told c.now → bytes ≡ body_bytes
-        (response_to m told)
+    pub sent-err : (m : MessageAsks) (answered : Answer) (r : Result Served WireFault) (bytes : List ℕ)
+        → StreamGives f old new m → Answers state c.before (ask_in m) answered c.now → bytes ≡ body_bytes
+        (response_to m answered)
         → IfErr r (SendFails c.written c.writing bytes) → IfErr r (GaveUp state f old new c)
-    sent-err m told (Ok served) bytes gives answers same h = tt
-    sent-err m told (Err e) bytes gives answers same h = send-failed m told bytes e gives answers same h
+    sent-err m answered (Ok served) bytes gives answers same h = tt
+    sent-err m answered (Err e) bytes gives answers same h = send-failed m answered bytes e gives answers same h
 
     -- memory ran out while the message was carried out
     pub gave-up-memory : (m : MessageAsks) → StreamGives f old new m → Begins state c.before (ask_in m) c.now
@@ -190,7 +190,7 @@ module _ (s : Setting) (head : List ℕ) (h : RequestHead) (size : Result ℕ �
     )
     served-headed (Answered status failed) is = record {
       asked = is.asked;
-      told = is.told;
+      answered = is.answered;
       gives = gives-headed is.asked is.gives;
       answers = is.answers;
       written = is.written;
@@ -203,7 +203,7 @@ module _ (s : Setting) (head : List ℕ) (h : RequestHead) (size : Result ℕ �
     gave-up-headed fault.Read is = is
     gave-up-headed fault.Write is = record {
       asked = is.asked;
-      told = is.told;
+      answered = is.answered;
       count = is.count;
       gives = gives-headed is.asked is.gives;
       answers = is.answers;

@@ -5,23 +5,23 @@ use Rattle.cpi_store.specs.Office.{Office}
 use Rattle.cpi_office.specs.declared.request.Request.TheVariants.{Table}
 use Rattle.cpi_office.proofs.ComputedTables.{run_tables}
 use Rattle.cpi_wire.specs.Answers.{Answers}
+use Rattle.cpi_wire.specs.Laws.{requests_of_asks, replies_of_asks}
 use Rattle.cpi_wire.specs.declared.asks.Ask.TheVariants as ask
-use Rattle.cpi_wire.proofs.TableLines.{told-computed}
-use Rattle.cpi_http.specs.Laws.{TableResponsesAreComputed, MessagesTellTables, requests_of_messages}
-use Rattle.cpi_http.specs.Laws.{replies_to_messages}
+use Rattle.cpi_wire.proofs.TableLines.{answer-is-computed}
+use Rattle.cpi_http.specs.Laws.{TableResponsesAreComputed, MessagesReportTables}
 use Rattle.cpi_http.specs.Response.{ask_in, response_to, body_bytes}
-use Rattle.cpi_http.proofs.Alike.{are_a_run, meets}
+use Rattle.cpi_http.proofs.Alike.{messages_are_a_run, meets}
 
 module _ {B : Type 0} (state : B → State Office) where
   pub table_responses_are_computed : TableResponsesAreComputed state
-  table_responses_are_computed s k taken m told start is now month form revision asks known =
-      ap (λ x. body_bytes (response_to x told)) asks
+  table_responses_are_computed s k taken m answered start is now month form revision asks known =
+      ap (λ x. body_bytes (response_to x answered)) asks
       ∙ ap (λ a. body_bytes (response_to (Ok (ask.One now k (Table month form revision))) a))
-      (told-computed state now month form revision k is.mid is.end told
-      (subst (λ x. Answers state is.mid (ask_in x) told is.end) asks is.one) is.clean
-      (meets state s k start taken m told is).0 known is.served)
+      (answer-is-computed state now month form revision k is.mid is.end answered
+      (subst (λ x. Answers state is.mid (ask_in x) answered is.end) asks is.one) is.clean
+      (meets state s k start taken m answered is).0 known is.served)
 
-  pub messages_tell_tables : MessagesTellTables state
-  messages_tell_tables old new asks answers a clean s =
-      run_tables (state old).held (state new).held (requests_of_messages asks) (replies_to_messages asks answers) s
-      ((are_a_run state old new asks answers a).run clean s)
+  pub messages_report_tables : MessagesReportTables state
+  messages_report_tables old new asks answers a clean s =
+      run_tables (state old).held (state new).held (requests_of_asks asks) (replies_of_asks asks answers) s
+      ((messages_are_a_run state old new asks answers a).run clean s)

@@ -1,5 +1,5 @@
 -- What the responses to a caller hang on.
-use Rattle.std.specs.Prelude.{◌≡◌, ◌≢◌, ℕ, List, [], ◌∷◌, ◌++◌, Option, Some, Ok}
+use Rattle.std.specs.Prelude.{◌≡◌, ◌≢◌, ℕ, List, ◌++◌, Option, Some, Ok}
 use Rattle.cpi_release.specs.State.{State}
 use Rattle.cpi_release.specs.declared.form.Form.{Form}
 use Rattle.cpi_store.specs.Office.{Office}
@@ -11,12 +11,10 @@ use Rattle.cpi_office.specs.ProjectedChanges.{Sight, sights_of}
 use Rattle.cpi_office.specs.Projections.{view}
 use Rattle.cpi_office.specs.declared.caller.Caller.{Caller}
 use Rattle.cpi_office.specs.declared.caller.Caller.TheVariants.{Desk}
-use Rattle.cpi_office.specs.declared.reply.Reply.{Reply}
-use Rattle.cpi_office.specs.declared.request.Ask.{Ask as Asking}
 use Rattle.cpi_office.specs.declared.request.Request.TheVariants.{Table}
 use Rattle.cpi_wire.specs.Answer.{Answer}
 use Rattle.cpi_wire.specs.Answers.{Answers, InTurn}
-use Rattle.cpi_wire.specs.Laws.{requests_of_record, replies_of_record}
+use Rattle.cpi_wire.specs.Laws.{requests_of_asks, replies_of_asks}
 use Rattle.cpi_wire.specs.Lines.{IsFrom, all_replies, moment_of}
 use Rattle.cpi_wire.specs.declared.asks.Ask.{Ask}
 use Rattle.cpi_wire.specs.declared.asks.Ask.TheVariants as ask
@@ -29,16 +27,6 @@ OneMessage =
     (s : Setting) (taken other left rest : List ℕ) (m n : MessageAsks) → taken ++ left ≡ other ++ rest →
     IsMessage s taken m → IsMessage s other n → m ≡ n
 
--- the requests of some messages, and of some records, in their order, and their replies
-abbrev pub requests_of_messages : List Ask → List Asking
-requests_of_messages [] = []
-requests_of_messages (one ∷ asks) = requests_of_record one ++ requests_of_messages asks
-
-abbrev pub replies_to_messages : List Ask → List Answer → List Reply
-replies_to_messages [] answers = []
-replies_to_messages (one ∷ asks) [] = []
-replies_to_messages (one ∷ asks) (told ∷ answers) = replies_of_record one told ++ replies_to_messages asks answers
-
 module _ {B : Type 0} (state : B → State Office) where
   -- each was carried out in turn, with its answer
   abbrev pub CarriedOut : B → List Ask → List Answer → B → Type 0
@@ -46,8 +34,8 @@ module _ {B : Type 0} (state : B → State Office) where
 
   -- From a sound office some messages were answered, and records, and then one message of the caller, over a store that
   -- was clean then, and without a reply that the office is unavailable.
-  pub record IsTold (s : Setting) (k : Caller) (start : B) (taken : List ℕ) (m : MessageAsks) (told : Answer) :
-      Type 0 where
+  pub record IsLastAnswer (s : Setting) (k : Caller) (start : B) (taken : List ℕ) (m : MessageAsks)
+      (answered : Answer) : Type 0 where
     pub asks : List Ask
     pub answers : List Answer
     pub mid : B
@@ -55,49 +43,50 @@ module _ {B : Type 0} (state : B → State Office) where
     pub sound : IsSound (state start).held
     pub before : CarriedOut start asks answers mid
     pub message : IsMessage s taken m
-    pub one : Answers state mid (ask_in m) told end
+    pub one : Answers state mid (ask_in m) answered end
     pub clean : (state end).is_clean
     pub caller : IsFrom k (ask_in m)
-    pub served : NoneFails (all_replies told)
+    pub served : NoneFails (all_replies answered)
 
   -- what the caller has seen since the start of what was accepted before that message
-  abbrev pub seen_before : (s : Setting) (k : Caller) (start : B) (taken : List ℕ) (m : MessageAsks) (told : Answer)
-      → IsTold s k start taken m told → List Sight
-  seen_before s k start taken m told is =
-      let served = all_served (requests_of_messages is.asks) (replies_to_messages is.asks is.answers) in
+  abbrev pub seen_before : (s : Setting) (k : Caller) (start : B) (taken : List ℕ) (m : MessageAsks) (answered : Answer)
+      → IsLastAnswer s k start taken m answered → List Sight
+  seen_before s k start taken m answered is =
+      let served = all_served (requests_of_asks is.asks) (replies_of_asks is.asks is.answers) in
       sights_of k (moment_of (ask_in m)) (trace served (state start).held)
 
 -- messages that were carried out in turn are a run of their requests
 abbrev pub AreMessagesOfARun : {B : Type 0} → (B → State Office) → Type 0
-AreMessagesOfARun {B} state = (old new : B) (asks : List Ask) (answers : List Answer) → CarriedOut state old asks
-    answers new →
-    RunOverBook (state old) (state new) (requests_of_messages asks) (replies_to_messages asks answers)
+AreMessagesOfARun {B} state =
+    (old new : B) (asks : List Ask) (answers : List Answer) → CarriedOut state old asks answers new →
+    RunOverBook (state old) (state new) (requests_of_asks asks) (replies_of_asks asks answers)
 
 -- In two runs under one zone and one desk key, over books of any two kinds: where they show a collector, or the public,
 -- the same at the moment of a message, at the start and of what was accepted since, the same message of that caller has
 -- the same response, byte for byte, whatever all others sent.
 abbrev pub ResponsesAreAlike : {B C : Type 0} → (B → State Office) → (C → State Office) → Type 0
 ResponsesAreAlike {B} {C} state state' =
-    (s : Setting) (k : Caller) (taken : List ℕ) (m n : MessageAsks) (told told' : Answer) (start : B) (start' : C)
-    (is : IsTold state s k start taken m told) (is' : IsTold state' s k start' taken n told') → k ≢ Desk →
+    (s : Setting) (k : Caller) (taken : List ℕ) (m n : MessageAsks) (answered answered' : Answer)
+    (start : B) (start' : C) (is : IsLastAnswer state s k start taken m answered)
+    (is' : IsLastAnswer state' s k start' taken n answered') → k ≢ Desk →
     view k (moment_of (ask_in m)) (state start).held ≡ view k (moment_of (ask_in m)) (state' start').held →
-    seen_before state s k start taken m told is ≡ seen_before state' s k start' taken n told' is' →
-    body_bytes (response_to m told) ≡ body_bytes (response_to n told')
+    seen_before state s k start taken m answered is ≡ seen_before state' s k start' taken n answered' is' →
+    body_bytes (response_to m answered) ≡ body_bytes (response_to n answered')
 
 -- From a sound office some messages were answered, and then one that asks for a table: its response is that of the
 -- printed table that the index gives over the quotes and weights frozen by then, in the revision that is named, or else
 -- in the latest that is published; where there is none, that of the refusal.
 abbrev pub TableResponsesAreComputed : {B : Type 0} → (B → State Office) → Type 0
 TableResponsesAreComputed {B} state =
-    (s : Setting) (k : Caller) (taken : List ℕ) (m : MessageAsks) (told : Answer) (start : B)
-    (is : IsTold state s k start taken m told) (now month : ℕ) (form : Form) (revision : Option ℕ) →
+    (s : Setting) (k : Caller) (taken : List ℕ) (m : MessageAsks) (answered : Answer) (start : B)
+    (is : IsLastAnswer state s k start taken m answered) (now month : ℕ) (form : Form) (revision : Option ℕ) →
     m ≡ Ok (ask.One now k (Table month form revision)) → IsKnown k (state is.mid).held →
-    body_bytes (response_to m told)
+    body_bytes (response_to m answered)
     ≡ body_bytes (said_of (Some form) (computed_reply now month form revision (state is.mid).held))
 
 -- All replies of messages in turn to requests for tables, the rows of their imports among them, are so.
-abbrev pub MessagesTellTables : {B : Type 0} → (B → State Office) → Type 0
-MessagesTellTables {B} state =
+abbrev pub MessagesReportTables : {B : Type 0} → (B → State Office) → Type 0
+MessagesReportTables {B} state =
     (old new : B) (asks : List Ask) (answers : List Answer) → CarriedOut state old asks answers new →
     (state new).is_clean → IsSound (state old).held →
-    TellTables (state old).held (requests_of_messages asks) (replies_to_messages asks answers)
+    TellTables (state old).held (requests_of_asks asks) (replies_of_asks asks answers)

@@ -53,15 +53,15 @@ said_of f reply = in_json (status_of_reply reply) (line_of_reply reply)
 
 -- an import that was carried out has the status 200, whatever its rows were told
 abbrev pub said_to : Ask → Answer → Said
-said_to ask.Bad told = in_json 400 (answer_line told)
+said_to ask.Bad answered = in_json 400 (answer_line answered)
 said_to (ask.One now caller request) (answer.One reply) = said_of (form_asked request) reply
 said_to (ask.One now caller request) (answer.Rows replies) = in_json 200 (answer_line (answer.Rows replies))
-said_to (ask.Import now caller rows) told = in_json 200 (answer_line told)
+said_to (ask.Import now caller rows) answered = in_json 200 (answer_line answered)
 
 -- a message that is refused is told so by its status
 abbrev pub response_to : MessageAsks → Answer → Said
-response_to (Ok ask) told = said_to ask told
-response_to (Err status) told = in_json status (answer_line told)
+response_to (Ok ask) answered = said_to ask answered
+response_to (Err status) answered = in_json status (answer_line answered)
 
 abbrev pub body_bytes : Said → List ℕ
 body_bytes said = http_of said.status said.content said.body
@@ -79,5 +79,5 @@ ask_in (Err status) = ask.Bad
 -- the message was carried out, and this is the response
 abbrev pub IsCarriedOut : {B : Type 0} (state : B → State Office) → MessageAsks → B → B → Response → Type 0
 IsCarriedOut state m old new response =
-    (told : Answer) × Answers state old (ask_in m) told new
-    × SaysResponse (response_to m told) (some_fails (all_replies told)) response
+    (answered : Answer) × Answers state old (ask_in m) answered new
+    × SaysResponse (response_to m answered) (some_fails (all_replies answered)) response

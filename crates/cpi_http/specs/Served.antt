@@ -59,12 +59,12 @@ module _ {B : Type 0} (state : B → State Office) (f : Framing) (old new : Opti
   -- a message was read, carried out and answered in these bytes
   pub record IsAnswered (status : ℕ) (failed : Bool) : Type 0 where
     pub asked : MessageAsks
-    pub told : Answer
+    pub answered : Answer
     pub gives : StreamGives f old new asked
-    pub answers : Answers state c.before (ask_in asked) told c.now
-    pub written : Appends c.written c.writing (body_bytes (response_to asked told))
-    pub status_is : status ≡ (response_to asked told).status
-    pub failed_is : failed ≡ some_fails (all_replies told)
+    pub answers : Answers state c.before (ask_in asked) answered c.now
+    pub written : Appends c.written c.writing (body_bytes (response_to asked answered))
+    pub status_is : status ≡ (response_to asked answered).status
+    pub failed_is : failed ≡ some_fails (all_replies answered)
 
   -- a message was answered, or the stream ended within one: then nothing was done and nothing written
   abbrev pub IsServed : Served → Type 0
@@ -74,12 +74,12 @@ module _ {B : Type 0} (state : B → State Office) (f : Framing) (old new : Opti
   -- a message was carried out, and of its response a part alone was written
   pub record IsCutOff : Type 0 where
     pub asked : MessageAsks
-    pub told : Answer
+    pub answered : Answer
     pub count : ℕ
     pub gives : StreamGives f old new asked
-    pub answers : Answers state c.before (ask_in asked) told c.now
-    pub short : count < length (body_bytes (response_to asked told))
-    pub written : Appends c.written c.writing (take count (body_bytes (response_to asked told)))
+    pub answers : Answers state c.before (ask_in asked) answered c.now
+    pub short : count < length (body_bytes (response_to asked answered))
+    pub written : Appends c.written c.writing (take count (body_bytes (response_to asked answered)))
 
   -- the connection was given up: nothing was done; the message was carried out, but not answered whole; or memory was
   -- refused, and the message was not begun, or some first commands of it were carried out

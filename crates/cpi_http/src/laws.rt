@@ -1,6 +1,6 @@
 //! What holds of the definitions.
 ghost use Rattle.cpi_http.specs.Laws.{AreMessagesOfARun, OneMessage, ResponsesAreAlike};
-ghost use Rattle.cpi_http.specs.Laws.{TableResponsesAreComputed, MessagesTellTables};
+ghost use Rattle.cpi_http.specs.Laws.{TableResponsesAreComputed, MessagesReportTables};
 
 use cpi_store::Book;
 
@@ -35,5 +35,5 @@ pub fn responses_are_alike<B: Book, C: Book>()
 /// row of an import.
 pub fn tables_are_sent<B: Book>()
     ensures responses { TableResponsesAreComputed B.state }
-    ensures replies { MessagesTellTables B.state }
+    ensures replies { MessagesReportTables B.state }
 {}

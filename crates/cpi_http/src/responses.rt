@@ -13,7 +13,7 @@ use crate::statuses::status_of_reply;
 use cpi_office::{Office, Refusal, Reply, Request};
 use cpi_release::{Form, PrintedTable};
 use cpi_store::Book;
-use cpi_wire::{Ask, RowsTold, answer_rows, is_failure, reply_line};
+use cpi_wire::{Ask, ImportAnswer, answer_rows, is_failure, reply_line};
 use http::StatusCode;
 use std::alloc::{AllocError, Global};
 
@@ -114,7 +114,7 @@ pub(crate) fn respond<B: Book>(
             reply_response(alloc, form, &reply)
         }
         Ask::Import(now, caller, rows) => {
-            let RowsTold { line, failed } = answer_rows(alloc, office, now, &caller, rows)?;
+            let ImportAnswer { line, failed } = answer_rows(alloc, office, now, &caller, rows)?;
             Ok(Response {
                 status: StatusCode::OK,
                 content: Content::Json,

@@ -10,7 +10,7 @@ use cpi_plan::{CalendarRow, Item};
 use cpi_release::Release;
 use cpi_rows::{gathered_put, gathered_rows, put_same, puts_other, puts_own};
 use cpi_store::{FailBook, VecBook};
-use cpi_wire::{lines_are_alike, records_are_a_run, replays_tell_alike, tables_are_told};
+use cpi_wire::{lines_are_alike, records_are_a_run, replays_answer_alike, tables_are_reported};
 
 #[test]
 fn the_laws_hold_of_books_and_rows() {
@@ -18,7 +18,7 @@ fn the_laws_hold_of_books_and_rows() {
     replies_are_alike::<VecBook, FailBook<VecBook>>();
     records_are_a_run::<FailBook<VecBook>>();
     lines_are_alike::<VecBook, FailBook<VecBook>>();
-    replays_tell_alike::<VecBook, FailBook<VecBook>>();
+    replays_answer_alike::<VecBook, FailBook<VecBook>>();
     puts_own::<Item>();
     puts_other::<CalendarRow>();
     put_same::<Release>();
@@ -29,7 +29,7 @@ fn the_laws_hold_of_books_and_rows() {
 #[test]
 fn the_laws_hold_of_tables_and_messages() {
     tables_are_computed();
-    tables_are_told::<FailBook<VecBook>>();
+    tables_are_reported::<FailBook<VecBook>>();
     tables_are_sent::<FailBook<VecBook>>();
     one_message();
     messages_are_a_run::<FailBook<VecBook>>();

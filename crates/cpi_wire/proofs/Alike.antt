@@ -11,8 +11,7 @@ use Rattle.cpi_office.specs.Answers.{answer as answer_from}
 use Rattle.cpi_office.specs.Entries.{of_collector}
 use Rattle.cpi_office.specs.Verdicts.{accepted_changes}
 use Rattle.cpi_office.specs.ProjectedChanges.{sights_of, build}
-use Rattle.cpi_office.specs.Calls.{ServesWhere}
-use Rattle.cpi_office.specs.Calls.{is_failure_of}
+use Rattle.cpi_office.specs.Calls.{ServesWhere, is_failure_of}
 use Rattle.cpi_office.specs.Served.{all_served, NoneFails}
 use Rattle.cpi_store.specs.Sound.{IsSound}
 use Rattle.cpi_office.specs.declared.caller.Caller.{Caller}
@@ -30,10 +29,10 @@ use Rattle.cpi_wire.specs.declared.asks.Ask.TheVariants as ask
 use Rattle.cpi_wire.specs.Answers.{Answers, RowsAnswer}
 use Rattle.cpi_wire.specs.Input.{Record}
 use Rattle.cpi_wire.specs.Laws.{requests_of_records, replies_of}
-use Rattle.cpi_wire.specs.Lines.{IsFrom, moment_of, IsTold, all_replies, seen_before, LinesAreAlike}
+use Rattle.cpi_wire.specs.Lines.{IsFrom, moment_of, IsLastAnswer, all_replies, seen_before, LinesAreAlike}
 use Rattle.cpi_wire.specs.Record.{ask_of}
 use Rattle.cpi_wire.specs.Rows.{answer_line}
-use Rattle.cpi_wire.proofs.Runs.{are_a_run}
+use Rattle.cpi_wire.proofs.Runs.{records_are_a_run}
 
 -- ---- one request, over two offices that show the caller the same
 
@@ -46,12 +45,12 @@ module _ (t : ℕ) (k : Caller) (other : k ≢ Desk) (o u : Office) (same : view
       by (Collector key) h e = ap (answer_from t (Collector key) r) e
       by Desk h e = absurd (h refl)
 
-  accepted-alike : (r : Request) → accepted_changes (request_verdict t k r o) ≡ accepted_changes
-      (request_verdict t k r u)
+  accepted-alike : (r : Request)
+      → accepted_changes (request_verdict t k r o) ≡ accepted_changes (request_verdict t k r u)
   accepted-alike r = by k other same
     where
-      by : (c : Caller) → c ≢ Desk → view c t o ≡ view c t u → accepted_changes (request_verdict t c r o) ≡
-          accepted_changes (request_verdict t c r u)
+      by : (c : Caller) → c ≢ Desk → view c t o ≡ view c t u
+          → accepted_changes (request_verdict t c r o) ≡ accepted_changes (request_verdict t c r u)
       by Public h e = refl
       by (Collector key) h e = ap (λ v. accepted_changes (of_collector key t r v)) e
       by Desk h e = absurd (h refl)
@@ -89,8 +88,8 @@ module _ {B : Type 0} (state : B → State Office) where
       subst (λ y. (state y).is_clean) a.1.1 (rows-clean t k a.0 q rows rs a.2 clean)
   rows-clean t k p q (Some row ∷ rows) (r ∷ rs) a clean = a.1.was_clean (rows-clean t k a.0 q rows rs a.2 clean)
 
-  pub record-clean : (p q : B) (asked : Ask) (told : Answer) → Answers state p asked told q → (state q).is_clean →
-      (state p).is_clean
+  pub record-clean : (p q : B) (asked : Ask) (answered : Answer) → Answers state p asked answered q
+      → (state q).is_clean → (state p).is_clean
   record-clean p q ask.Bad (answer.One reply) a clean = subst (λ y. (state y).is_clean) a.1 clean
   record-clean p q ask.Bad (answer.Rows replies) a clean = absurd a
   record-clean p q (ask.One t k r) (answer.One reply) a clean = a.was_clean clean
@@ -99,14 +98,15 @@ module _ {B : Type 0} (state : B → State Office) where
   record-clean p q (ask.Import t k rows) (answer.Rows replies) a clean = rows-clean t k p q rows replies a clean
 
   -- the office that a caller's record meets, and what it shows the caller
-  pub meets : (zone : ZoneRule) (k : Caller) (start : B) (row : Record) (told : Answer)
-      (is : IsTold state zone k start row told)
+  pub meets : (zone : ZoneRule) (k : Caller) (start : B) (row : Record) (answered : Answer)
+      (is : IsLastAnswer state zone k start row answered)
       → IsSound (state is.mid).held
       × (view k (moment_of (ask_of zone row)) (state is.mid).held
-      ≡ build (view k (moment_of (ask_of zone row)) (state start).held) (seen_before state zone k start row told is))
-  meets zone k start row told is =
-      let ran = are_a_run state zone start is.mid is.rows is.replies is.before in
-      let run = ran.run (record-clean is.mid is.end (ask_of zone row) told is.one is.clean) is.sound in
+      ≡ build (view k (moment_of (ask_of zone row)) (state start).held)
+      (seen_before state zone k start row answered is))
+  meets zone k start row answered is =
+      let ran = records_are_a_run state zone start is.mid is.rows is.replies is.before in
+      let run = ran.run (record-clean is.mid is.end (ask_of zone row) answered is.one is.clean) is.sound in
       let front = all_served (requests_of_records zone is.rows) (replies_of zone is.rows is.replies) in (
         subst IsSound (sym run.office) (sound_runs front (state start).held is.sound),
         ap (view k (moment_of (ask_of zone row))) run.office
@@ -118,10 +118,9 @@ module _ {B : Type 0} (state : B → State Office) where
 module _ {B C : Type 0} (state : B → State Office) (state' : C → State Office)
     (k : Caller) (other : k ≢ Desk) where
   rows-alike : (t : ℕ) (p p' : B) (q q' : C) (rows : List (Option Request)) (rs ss : List Reply)
-      → RowsAnswer state t k p rows rs p' → RowsAnswer state' t k q rows ss q' → (state p').is_clean →
-      (state' q').is_clean
-      → IsSound (state p).held → IsSound (state' q).held → view k t (state p).held ≡ view k t (state' q).held →
-      NoneFails rs → NoneFails ss → rs ≡ ss
+      → RowsAnswer state t k p rows rs p' → RowsAnswer state' t k q rows ss q'
+      → (state p').is_clean → (state' q').is_clean → IsSound (state p).held → IsSound (state' q).held
+      → view k t (state p).held ≡ view k t (state' q).held → NoneFails rs → NoneFails ss → rs ≡ ss
   rows-alike t p p' q q' [] [] [] a b c d s z e f g = refl
   rows-alike t p p' q q' [] (r ∷ rs) ss a b c d s z e f g = absurd a
   rows-alike t p p' q q' [] [] (x ∷ ss) a b c d s z e f g = absurd b
@@ -143,14 +142,14 @@ module _ {B C : Type 0} (state : B → State Office) (state' : C → State Offic
       (ap (view k t) here.1 ∙ view-alike t k other (state p).held (state' q).held e row s z
       ∙ sym (ap (view k t) there.1)) f.1 g.1)
 
-  pub record-alike : (asked : Ask) (p p' : B) (q q' : C) (told told' : Answer) → IsFrom k asked
-      → Answers state p asked told p' → Answers state' q asked told' q' → (state p').is_clean → (state' q').is_clean
-      → IsSound (state p).held → IsSound (state' q).held → view k (moment_of asked) (state p).held ≡ view k
-      (moment_of asked) (state' q).held
-      → NoneFails (all_replies told) → NoneFails (all_replies told') → told ≡ told'
+  pub record-alike : (asked : Ask) (p p' : B) (q q' : C) (answered answered' : Answer) → IsFrom k asked
+      → Answers state p asked answered p' → Answers state' q asked answered' q'
+      → (state p').is_clean → (state' q').is_clean → IsSound (state p).held → IsSound (state' q).held
+      → view k (moment_of asked) (state p).held ≡ view k (moment_of asked) (state' q).held
+      → NoneFails (all_replies answered) → NoneFails (all_replies answered') → answered ≡ answered'
   record-alike ask.Bad p p' q q' (answer.One r) (answer.One x) by a b c d s z e f g = ap answer.One (a.0 ∙ sym b.0)
   record-alike ask.Bad p p' q q' (answer.One r) (answer.Rows ss) by a b c d s z e f g = absurd b
-  record-alike ask.Bad p p' q q' (answer.Rows rs) told' by a b c d s z e f g = absurd a
+  record-alike ask.Bad p p' q q' (answer.Rows rs) answered' by a b c d s z e f g = absurd a
   record-alike (ask.One t j row) p p' q q' (answer.One r) (answer.One x) by a b c d s z e f g =
       let mine = subst (λ i. ServesWhere (state p) (state p') (IsSound (state p).held) r
       (reply_to t i row (state p).held) (after_one t i row (state p).held)) by a in
@@ -160,18 +159,18 @@ module _ {B C : Type 0} (state : B → State Office) (state' : C → State Offic
       ∙ reply-alike t k other (state p).held (state' q).held e row
       ∙ sym (is-served state' t k row q q' x yours d z g.0).0)
   record-alike (ask.One t j row) p p' q q' (answer.One r) (answer.Rows ss) by a b c d s z e f g = absurd b
-  record-alike (ask.One t j row) p p' q q' (answer.Rows rs) told' by a b c d s z e f g = absurd a
+  record-alike (ask.One t j row) p p' q q' (answer.Rows rs) answered' by a b c d s z e f g = absurd a
   record-alike (ask.Import t j rows) p p' q q' (answer.Rows rs) (answer.Rows ss) by a b c d s z e f g =
       ap answer.Rows (rows-alike t p p' q q' rows rs ss (subst (λ i. RowsAnswer state t i p rows rs p') by a)
       (subst (λ i. RowsAnswer state' t i q rows ss q') by b) c d s z e f g)
   record-alike (ask.Import t j rows) p p' q q' (answer.Rows rs) (answer.One x) by a b c d s z e f g = absurd b
-  record-alike (ask.Import t j rows) p p' q q' (answer.One r) told' by a b c d s z e f g = absurd a
+  record-alike (ask.Import t j rows) p p' q q' (answer.One r) answered' by a b c d s z e f g = absurd a
 
 pub lines_are_alike : {B C : Type 0} (state : B → State Office) (state' : C → State Office)
     → LinesAreAlike state state'
-lines_are_alike state state' zone k row told told' start start' is is' other same shown =
-    let here = meets state zone k start row told is in
-    let there = meets state' zone k start' row told' is' in
-    ap answer_line (record-alike state state' k other (ask_of zone row) is.mid is.end is'.mid is'.end told told'
+lines_are_alike state state' zone k row answered answered' start start' is is' other same shown =
+    let here = meets state zone k start row answered is in
+    let there = meets state' zone k start' row answered' is' in
+    ap answer_line (record-alike state state' k other (ask_of zone row) is.mid is.end is'.mid is'.end answered answered'
     is.caller is.one is'.one is.clean is'.clean here.0 there.0
     (here.1 ∙ ap₂ build same shown ∙ sym there.1) is.served is'.served)

@@ -12,44 +12,45 @@ use Rattle.cpi_wire.specs.Answer.{Answer}
 use Rattle.cpi_wire.specs.declared.fault.WireFault.{WireFault}
 use Rattle.cpi_wire.specs.declared.fault.WireFault.TheVariants as fault
 use Rattle.cpi_wire.specs.declared.limits.TheConstants.{MOST_RECORDS}
-use Rattle.cpi_wire.specs.Answers.{Answers, Begins, InTurn, Tells}
+use Rattle.cpi_wire.specs.Answers.{Answers, Begins, InTurn, AnswersWithLine}
 use Rattle.cpi_wire.specs.Input.{Record, AreFirst}
 use Rattle.cpi_wire.specs.Record.{ask_of}
-use Rattle.cpi_wire.specs.Records.{Told, ToldUntil, CutOff, AnswersAll, BegunUntil, GaveUp}
+use Rattle.cpi_wire.specs.Records.{LinesAreWritten, LinesAreWrittenUntil, LineIsCutOff, AnswersAll, BegunUntil, GaveUp}
 use Rattle.cpi_wire.specs.Rows.{answer_line}
 
 concat-more : (lines : List (List ℕ)) (line : List ℕ) → concat (lines ++ line ∷ []) ≡ concat lines ++ line
 concat-more [] line = append-nil line
 concat-more (l ∷ ls) line = ap (λ (z : List ℕ). l ++ z) (concat-more ls line) ∙ sym (append_assoc l (concat ls) line)
 
-pub told-none : (old : Option (List ℕ)) → Told [] old old
-told-none old = Appends-nil old
+pub none-written : (old : Option (List ℕ)) → LinesAreWritten [] old old
+none-written old = Appends-nil old
 
 -- one line more
-pub told-more : (replies : List Answer) (reply : Answer) (old mid new : Option (List ℕ)) → Told replies old mid →
-    Appends mid new (answer_line reply) → Told (replies ++ reply ∷ []) old new
-told-more replies reply old mid new told line =
+pub more-written : (replies : List Answer) (reply : Answer) (old mid new : Option (List ℕ))
+    → LinesAreWritten replies old mid → Appends mid new (answer_line reply)
+    → LinesAreWritten (replies ++ reply ∷ []) old new
+more-written replies reply old mid new written line =
     rw (map-append answer_line replies (reply ∷ []), concat-more)
-    (Appends-trans old mid new (concat (map answer_line replies)) (answer_line reply) told line)
+    (Appends-trans old mid new (concat (map answer_line replies)) (answer_line reply) written line)
 
 -- whole lines are what a fault leaves, unless it is one of the writer
-pub told-whole : (e : WireFault) (replies : List Answer) (old new : Option (List ℕ)) → e ≢ fault.Write →
-    Told replies old new → ToldUntil e replies old new
-told-whole fault.Read replies old new other told = told
-told-whole fault.Write replies old new other told = absurd (other refl)
-told-whole fault.NoMemory replies old new other told = told
+pub whole-written : (e : WireFault) (replies : List Answer) (old new : Option (List ℕ)) → e ≢ fault.Write →
+    LinesAreWritten replies old new → LinesAreWrittenUntil e replies old new
+whole-written fault.Read replies old new other written = written
+whole-written fault.Write replies old new other written = absurd (other refl)
+whole-written fault.NoMemory replies old new other written = written
 
 -- of one line more a part was written
 pub cut-off : (replies : List Answer) (reply : Answer) (old mid new : Option (List ℕ)) (count : ℕ)
-    → Told replies old mid → count < length (answer_line reply)
-    → Appends mid new (take count (answer_line reply)) → CutOff (replies ++ reply ∷ []) old new
-cut-off replies reply old mid new count told short line = record {
+    → LinesAreWritten replies old mid → count < length (answer_line reply)
+    → Appends mid new (take count (answer_line reply)) → LineIsCutOff (replies ++ reply ∷ []) old new
+cut-off replies reply old mid new count written short line = record {
   front = replies;
   last = reply;
   count = count;
   split = refl;
   short = short;
-  written = Appends-trans old mid new (concat (map answer_line replies)) (take count (answer_line reply)) told line;
+  written = Appends-trans old mid new (concat (map answer_line replies)) (take count (answer_line reply)) written line;
 }
 
 -- one more in turn
@@ -78,9 +79,9 @@ module _ {B : Type 0} (zone : ZoneRule) (state : B → State Office) where
   pub gave-up-between : (input : Option (List ℕ)) (old new : B) (was is : Option (List ℕ)) (e : WireFault)
       (rows : List Record) (replies : List Answer)
       → e ≢ fault.Write → length rows ≤ MOST_RECORDS → IfSome input (AreFirst rows) →
-      AnswersAll zone state old rows replies new → Told replies was is
+      AnswersAll zone state old rows replies new → LinesAreWritten replies was is
       → GaveUp zone state input old new was is e
-  gave-up-between input old new was is e rows replies other few first answers told = record {
+  gave-up-between input old new was is e rows replies other few first answers written = record {
     rows = rows;
     replies = replies;
     mid = new;
@@ -89,17 +90,17 @@ module _ {B : Type 0} (zone : ZoneRule) (state : B → State Office) where
     few = rw (append-nil rows) few;
     answers = answers;
     begun = none-begun e new;
-    told = told-whole e replies was is other told;
+    written = whole-written e replies was is other written;
   }
 
   -- given up in a record, for want of memory
   pub gave-up-in : (input : Option (List ℕ)) (old mid new : B) (was is : Option (List ℕ))
       (rows : List Record) (replies : List Answer) (row : Record)
       → length rows < MOST_RECORDS → IfSome input (AreFirst (rows ++ row ∷ []))
-      → AnswersAll zone state old rows replies mid → Told replies was is
+      → AnswersAll zone state old rows replies mid → LinesAreWritten replies was is
       → Begins state mid (ask_of zone row) new
       → GaveUp zone state input old new was is fault.NoMemory
-  gave-up-in input old mid new was is rows replies row few first answers told begun = record {
+  gave-up-in input old mid new was is rows replies row few first answers written begun = record {
     rows = rows;
     replies = replies;
     mid = mid;
@@ -108,24 +109,24 @@ module _ {B : Type 0} (zone : ZoneRule) (state : B → State Office) where
     few = rw length-append (omega arith);
     answers = answers;
     begun = begun;
-    told = told;
+    written = written;
   }
 
   -- given up in the line of a record
   pub gave-up-at : (input : Option (List ℕ)) (old mid new : B) (was so_far is : Option (List ℕ))
       (rows : List Record) (replies : List Answer) (row : Record) (line : List ℕ) (count : ℕ)
       → length rows < MOST_RECORDS → IfSome input (AreFirst (rows ++ row ∷ []))
-      → AnswersAll zone state old rows replies mid → Told replies was so_far
-      → Tells state mid (ask_of zone row) line new → count < length line → Appends so_far is (take count line)
+      → AnswersAll zone state old rows replies mid → LinesAreWritten replies was so_far
+      → AnswersWithLine state mid (ask_of zone row) line new → count < length line → Appends so_far is (take count line)
       → GaveUp zone state input old new was is fault.Write
-  gave-up-at input old mid new was so_far is rows replies row line n few first answers told one short part = record {
+  gave-up-at input old mid new was so_far is rows replies row line n few first answers written one short part = record {
     rows = rows ++ row ∷ [];
-    replies = replies ++ one.told ∷ [];
+    replies = replies ++ one.answered ∷ [];
     mid = new;
     next = None;
     first = rw (append-nil (rows ++ row ∷ [])) first;
     few = rw (append-nil (rows ++ row ∷ []), length-append) (omega arith);
-    answers = answers-more old mid new rows replies row one.told answers one.answers;
+    answers = answers-more old mid new rows replies row one.answered answers one.answers;
     begun = (refl, refl);
-    told = cut-off replies one.told was so_far is n told (rw (← one.line_is) short) (rw (← one.line_is) part);
+    written = cut-off replies one.answered was so_far is n written (rw (← one.line_is) short) (rw (← one.line_is) part);
   }

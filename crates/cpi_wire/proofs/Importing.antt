@@ -15,7 +15,8 @@ use Rattle.cpi_wire.specs.declared.asks.Ask.{Ask}
 use Rattle.cpi_wire.specs.declared.asks.Ask.TheVariants as ask
 use Rattle.cpi_wire.specs.Answer as answer
 use Rattle.cpi_office.specs.Calls.{is_failure_of}
-use Rattle.cpi_wire.specs.Answers.{Begins, FirstRowsAnswer, IsServed, RowAnswers, RowsAnswer, Tells, some_fails}
+use Rattle.cpi_wire.specs.Answers.{Begins, FirstRowsAnswer, IsServed, RowAnswers, RowsAnswer, AnswersWithLine}
+use Rattle.cpi_wire.specs.Answers.{some_fails}
 use Rattle.cpi_wire.specs.Line.{data_of, line_of_reply}
 use Rattle.cpi_wire.specs.Rows.{added_text, rows_line}
 use Rattle.cpi_wire.proofs.Answered.{in-turn-more}
@@ -117,12 +118,12 @@ module _ {B : Type 0} (state : B → State Office) (now : ℕ) (caller : Caller)
 
   -- and its reply was written
   pub so-far-more : (old mid new : B) (rows rest more : List (Option Request)) (is_first failed fails : Bool)
-      (line told : List ℕ) (row : Option Request) (reply : Reply)
+      (line grown : List ℕ) (row : Option Request) (reply : Reply)
       → RowsSoFar old rows rest is_first failed line mid → rest ≡ row ∷ more
       → RowAnswers state now caller mid row reply new
-      → told ≡ line ++ added_text is_first reply → fails ≡ is_failure_of reply
-      → RowsSoFar old rows more false (failed || fails) told new
-  so-far-more old mid new rows rest more is_first failed fails line told row reply so_far next one text same = record {
+      → grown ≡ line ++ added_text is_first reply → fails ≡ is_failure_of reply
+      → RowsSoFar old rows more false (failed || fails) grown new
+  so-far-more old mid new rows rest more is_first failed fails line grown row reply so_far next one text same = record {
     front = so_far.front ++ row ∷ [];
     replies = so_far.replies ++ reply ∷ [];
     split = split-more rows so_far.front rest more row so_far.split next;
@@ -150,11 +151,11 @@ module _ {B : Type 0} (state : B → State Office) (now : ℕ) (caller : Caller)
   }
 
   -- no row is left, and the line was ended
-  pub rows-whole : (old new : B) (rows rest : List (Option Request)) (is_first failed : Bool) (line told : List ℕ)
-      → RowsSoFar old rows rest is_first failed line new → rest ≡ [] → told ≡ line ++ codes "]}\n"
-      → (replies : List Reply) × RowsAnswer state now caller old rows replies new × (told ≡ rows_line replies)
+  pub rows-whole : (old new : B) (rows rest : List (Option Request)) (is_first failed : Bool) (line grown : List ℕ)
+      → RowsSoFar old rows rest is_first failed line new → rest ≡ [] → grown ≡ line ++ codes "]}\n"
+      → (replies : List Reply) × RowsAnswer state now caller old rows replies new × (grown ≡ rows_line replies)
       × (failed ≡ some_fails replies)
-  rows-whole old new rows rest is_first failed line told so_far none text =
+  rows-whole old new rows rest is_first failed line grown so_far none text =
       let all = so_far.split ∙ ap (λ ys. so_far.front ++ ys) none ∙ append-nil so_far.front in
       (so_far.replies, rw all so_far.answers, text ∙ rw so_far.written (line-joined so_far.replies), so_far.fails)
 
@@ -171,21 +172,24 @@ module _ {B : Type 0} (state : B → State Office) (now : ℕ) (caller : Caller)
     answers = (new, one, refl);
   }
 
-  pub tells-one : (old new : B) (request : Request) (reply : Reply) (line : List ℕ)
+  pub line-of-one : (old new : B) (request : Request) (reply : Reply) (line : List ℕ)
       → IsServed state now caller old request reply new → line ≡ line_of_reply reply
-      → Tells state old (ask.One now caller request) line new
-  tells-one old new request reply line one text = record { told = answer.One reply; answers = one; line_is = text }
+      → AnswersWithLine state old (ask.One now caller request) line new
+  line-of-one old new request reply line one text =
+      record { answered = answer.One reply; answers = one; line_is = text }
 
-  pub tells-rows : (old new : B) (rows : List (Option Request)) (line : List ℕ) (failed : Bool)
+  pub line-of-rows : (old new : B) (rows : List (Option Request)) (line : List ℕ) (failed : Bool)
       → ((replies : List Reply) × RowsAnswer state now caller old rows replies new × (line ≡ rows_line replies)
       × (failed ≡ some_fails replies))
-      → Tells state old (ask.Import now caller rows) line new
-  tells-rows old new rows line failed told = record { told = answer.Rows told.0; answers = told.1; line_is = told.2 }
+      → AnswersWithLine state old (ask.Import now caller rows) line new
+  line-of-rows old new rows line failed whole =
+      record { answered = answer.Rows whole.0; answers = whole.1; line_is = whole.2 }
 
 module _ {B : Type 0} (state : B → State Office) where
-  pub tells-bad : (old : B) (line : List ℕ) → line ≡ line_of_reply (Refused BadRequest) → Tells state old
-      ask.Bad line old
-  tells-bad old line text = record { told = answer.One (Refused BadRequest); answers = (refl, refl); line_is = text }
+  pub line-of-bad : (old : B) (line : List ℕ) → line ≡ line_of_reply (Refused BadRequest)
+      → AnswersWithLine state old ask.Bad line old
+  line-of-bad old line text =
+      record { answered = answer.One (Refused BadRequest); answers = (refl, refl); line_is = text }
 
   -- nothing was carried out
   pub none-begun : (old : B) (asked : Ask) → Begins state old asked old

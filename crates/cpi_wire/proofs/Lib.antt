@@ -13,4 +13,4 @@ pub mod RowLimits
 pub mod Runs
 pub mod Alike
 pub mod TableLines
-pub mod Told
+pub mod OwnAnswers

@@ -8,7 +8,8 @@ use Rattle.cpi_plan.specs.declared.plan_rows.Place.{Place}
 use Rattle.cpi_wire.specs.declared.plan_rows.PlanRow.{PlanRow}
 use Rattle.cpi_wire.specs.declared.plan_rows.PlanRow.TheVariants as row
 use Rattle.cpi_wire.specs.Input.{Record, AreFirst, records_of}
-use Rattle.cpi_wire.specs.PlanBody.{titles_of, weights_of_rows, places_of, references_of, told_by, plan_rows, body_of}
+use Rattle.cpi_wire.specs.PlanBody.{titles_of, weights_of_rows, places_of, references_of, body_of_rows}
+use Rattle.cpi_wire.specs.PlanBody.{plan_rows, body_of}
 use Rattle.cpi_wire.specs.PlanRows.{spelled_plan_row}
 use Rattle.cpi_codes.specs.Following.{◌>>=◌}
 use Rattle.cpi_wire.specs.declared.limits.TheConstants.{MOST_ROWS}
@@ -17,7 +18,7 @@ use Rattle.cpi_wire.proofs.RowLimits.{within-limit, past-limit}
 -- ---- one row more
 
 title-more : (rows : List PlanRow) (t : Title) →
-    told_by (rows ++ row.Title t ∷ []) ≡ record {
+    body_of_rows (rows ++ row.Title t ∷ []) ≡ record {
       titles = titles_of rows ++ t ∷ [];
       weights =
           weights_of_rows rows;
@@ -39,7 +40,7 @@ title-more (row.Reference m ∷ rows) t = ap (λ (b : PlanBody).
     (title-more rows t)
 
 weight-more : (rows : List PlanRow) (v : Weight) →
-    told_by (rows ++ row.Weight v ∷ []) ≡ record {
+    body_of_rows (rows ++ row.Weight v ∷ []) ≡ record {
       titles = titles_of rows;
       weights = weights_of_rows rows
           ++ v ∷ [];
@@ -61,7 +62,7 @@ weight-more (row.Reference m ∷ rows) v = ap (λ (b : PlanBody).
     (weight-more rows v)
 
 place-more : (rows : List PlanRow) (q : Place) →
-    told_by (rows ++ row.Place q ∷ []) ≡ record {
+    body_of_rows (rows ++ row.Place q ∷ []) ≡ record {
       titles = titles_of rows;
       weights = weights_of_rows rows;
       places =
@@ -83,7 +84,7 @@ place-more (row.Reference m ∷ rows) q = ap (λ (b : PlanBody).
     (place-more rows q)
 
 reference-more : (rows : List PlanRow) (n : ℕ) →
-    told_by (rows ++ row.Reference n ∷ []) ≡ record {
+    body_of_rows (rows ++ row.Reference n ∷ []) ≡ record {
       titles = titles_of rows;
       weights = weights_of_rows rows;
       places =
@@ -110,30 +111,30 @@ reference-more (row.Reference m ∷ rows) n = ap
     }) (reference-more rows n)
 
 -- a body with one row more
-pub with-title : (b : PlanBody) (rows : List PlanRow) (t : Title) → b ≡ told_by rows →
+pub with-title : (b : PlanBody) (rows : List PlanRow) (t : Title) → b ≡ body_of_rows rows →
     record { titles = b.titles ++ t ∷ []; weights = b.weights; places = b.places; references = b.references } ≡
-    told_by (rows ++ row.Title t ∷ [])
+    body_of_rows (rows ++ row.Title t ∷ [])
 with-title b rows t e = ap (λ (b : PlanBody).
     record { titles = b.titles ++ t ∷ []; weights = b.weights; places = b.places; references = b.references }) e
     ∙ sym (title-more rows t)
 
-pub with-weight : (b : PlanBody) (rows : List PlanRow) (v : Weight) → b ≡ told_by rows →
+pub with-weight : (b : PlanBody) (rows : List PlanRow) (v : Weight) → b ≡ body_of_rows rows →
     record { titles = b.titles; weights = b.weights ++ v ∷ []; places = b.places; references = b.references } ≡
-    told_by (rows ++ row.Weight v ∷ [])
+    body_of_rows (rows ++ row.Weight v ∷ [])
 with-weight b rows v e = ap (λ (b : PlanBody).
     record { titles = b.titles; weights = b.weights ++ v ∷ []; places = b.places; references = b.references }) e
     ∙ sym (weight-more rows v)
 
-pub with-place : (b : PlanBody) (rows : List PlanRow) (q : Place) → b ≡ told_by rows →
+pub with-place : (b : PlanBody) (rows : List PlanRow) (q : Place) → b ≡ body_of_rows rows →
     record { titles = b.titles; weights = b.weights; places = b.places ++ q ∷ []; references = b.references } ≡
-    told_by (rows ++ row.Place q ∷ [])
+    body_of_rows (rows ++ row.Place q ∷ [])
 with-place b rows q e = ap (λ (b : PlanBody).
     record { titles = b.titles; weights = b.weights; places = b.places ++ q ∷ []; references = b.references }) e
     ∙ sym (place-more rows q)
 
-pub with-reference : (b : PlanBody) (rows : List PlanRow) (n : ℕ) → b ≡ told_by rows →
+pub with-reference : (b : PlanBody) (rows : List PlanRow) (n : ℕ) → b ≡ body_of_rows rows →
     record { titles = b.titles; weights = b.weights; places = b.places; references = b.references ++ n ∷ [] } ≡
-    told_by (rows ++ row.Reference n ∷ [])
+    body_of_rows (rows ++ row.Reference n ∷ [])
 with-reference b rows n e = ap (λ (b : PlanBody).
     record { titles = b.titles; weights = b.weights; places = b.places; references = b.references ++ n ∷ [] }) e
     ∙ sym (reference-more rows n)
@@ -173,7 +174,7 @@ rows-more given rows fields one e f = rows-append given (fields ∷ []) ∙ rw (
 
 pub body-whole : (text : List ℕ) (given : List Record) (rows : List PlanRow) → given ≡ records_of text →
     length given ≤ MOST_ROWS → plan_rows given ≡ Some rows
-    → Some (told_by rows) ≡ body_of text
+    → Some (body_of_rows rows) ≡ body_of text
 unfolding body_of
 body-whole text given rows e h r = rw (← e, within-limit (length given) h, r) refl
 
@@ -182,7 +183,7 @@ pub body-long : (text : List ℕ) (given : List Record) → AreFirst given text 
 unfolding body_of
 body-long text given first h =
     let t : nat_lt MOST_ROWS (length (records_of text)) ≡ true =
-        past-limit _ (rw (first.1, length-append) (omega arith)) in
+    past-limit _ (rw (first.1, length-append) (omega arith)) in
     rw t refl
 
 pub body-bad : (text : List ℕ) (given : List Record) (rows : List PlanRow) (fields : Record) →
@@ -195,6 +196,6 @@ body-bad text given rows fields first e f =
     by (nat_lt MOST_ROWS (length (records_of text))) (plan_rows (records_of text)) all
   where
     by : (t : Bool) (o : Option (List PlanRow)) → o ≡ None →
-        None ≡ (if t then None else (o >>= λ rows. Some (told_by rows)))
+        None ≡ (if t then None else (o >>= λ rows. Some (body_of_rows rows)))
     by true o e = refl
     by false o e = rw e refl

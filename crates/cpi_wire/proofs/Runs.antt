@@ -1,6 +1,6 @@
--- Records that were answered in turn are a run of their requests.
+-- Records, or messages, that were answered in turn are a run of their requests.
 use Rattle.std.proofs.Common.{◌≡◌, ◌∙◌, refl, sym, ℕ, List, [], ◌∷◌, ◌++◌, length, Option, Some, None, append_assoc}
-use Rattle.std.proofs.Common.{length-append, arith, inr}
+use Rattle.std.proofs.Common.{length-append, map, ap, arith, inr}
 use Rattle.std.proofs.lemmas.List.{append-nil}
 use Rattle.cpi_codes.specs.Zone.{ZoneRule}
 use Rattle.cpi_release.specs.State.{State}
@@ -15,87 +15,115 @@ use Rattle.cpi_wire.specs.Answer.{Answer}
 use Rattle.cpi_wire.specs.Answer as answer
 use Rattle.cpi_wire.specs.declared.asks.Ask.{Ask}
 use Rattle.cpi_wire.specs.declared.asks.Ask.TheVariants as ask
-use Rattle.cpi_wire.specs.Answers.{Answers, RowsAnswer}
+use Rattle.cpi_wire.specs.Answers.{Answers, InTurn, RowsAnswer}
 use Rattle.cpi_wire.specs.Input.{Record}
 use Rattle.cpi_wire.specs.Record.{ask_of}
 use Rattle.cpi_wire.specs.Records.{AnswersAll}
 use Rattle.cpi_wire.specs.Laws.{AreRecordsOfARun, requests_of_record, replies_of_record, rows_asked, rows_replied}
-use Rattle.cpi_wire.specs.Laws.{requests_of_records, replies_of}
+use Rattle.cpi_wire.specs.Laws.{requests_of_asks, replies_of_asks, requests_of_records, replies_of}
+
+-- ---- the requests and the replies of records are those of what they ask
+
+pub requests-are : (zone : ZoneRule) (rows : List Record)
+    → requests_of_records zone rows ≡ requests_of_asks (map (ask_of zone) rows)
+requests-are zone [] = refl
+requests-are zone (row ∷ rows) =
+    ap (λ (z : List Asking). requests_of_record (ask_of zone row) ++ z) (requests-are zone rows)
+
+pub replies-are : (zone : ZoneRule) (rows : List Record) (answers : List Answer)
+    → replies_of zone rows answers ≡ replies_of_asks (map (ask_of zone) rows) answers
+replies-are zone [] answers = refl
+replies-are zone (row ∷ rows) [] = refl
+replies-are zone (row ∷ rows) (a ∷ answers) =
+    ap (λ (z : List Reply). replies_of_record (ask_of zone row) a ++ z) (replies-are zone rows answers)
+
+-- ---- runs
 
 module _ {B : Type 0} (state : B → State Office) where
   -- a run over a book, with a reply for each request
   abbrev pub IsRunSoFar : B → B → List Asking → List Reply → Type 0
-  IsRunSoFar start new front told = (length told ≡ length front) × RunOverBook (state start) (state new) front told
+  IsRunSoFar start new front replied =
+      (length replied ≡ length front) × RunOverBook (state start) (state new) front replied
 
   pub run-none : (old : B) → IsRunSoFar old old [] []
   run-none old = (
     refl,
     record {
       was_clean = λ clean. clean;
-      run =
-          λ clean s. record { answers = refl; office = refl };
+      run = λ clean s. record { answers = refl; office = refl };
       lasts = λ clean s none o left. inr (refl, left);
     },
   )
 
-  same-more : (front : List Asking) (told : List Reply) (a : Asking) (reply : Reply) → length told ≡ length front →
-      length (told ++ reply ∷ []) ≡ length (front ++ a ∷ [])
-  same-more front told a reply same = length-append told (reply ∷ []) ∙ omega (arith, same)
+  same-more : (front : List Asking) (replied : List Reply) (a : Asking) (reply : Reply)
+      → length replied ≡ length front → length (replied ++ reply ∷ []) ≡ length (front ++ a ∷ [])
+  same-more front replied a reply same = length-append replied (reply ∷ []) ∙ omega (arith, same)
       ∙ sym (length-append front (a ∷ []))
 
   -- the rows of an import more
-  run-rows : (start old new : B) (front : List Asking) (told : List Reply) (t : ℕ) (k : Caller)
+  run-rows : (start old new : B) (front : List Asking) (replied : List Reply) (t : ℕ) (k : Caller)
       (rows : List (Option Request)) (replies : List Reply)
-      → IsRunSoFar start old front told → RowsAnswer state t k old rows replies new
-      → IsRunSoFar start new (front ++ rows_asked t k rows) (told ++ rows_replied rows replies)
-  run-rows start old new front told t k [] [] ran a = rw (append-nil front, append-nil told, a) ran
-  run-rows start old new front told t k [] (p ∷ ps) ran a = absurd a
-  run-rows start old new front told t k (q ∷ qs) [] ran a = absurd a
-  run-rows start old new front told t k (None ∷ qs) (p ∷ ps) ran a =
-      run-rows start a.0 new front told t k qs ps (rw a.1.1 ran) a.2
-  run-rows start old new front told t k (Some r ∷ qs) (p ∷ ps) ran a =
+      → IsRunSoFar start old front replied → RowsAnswer state t k old rows replies new
+      → IsRunSoFar start new (front ++ rows_asked t k rows) (replied ++ rows_replied rows replies)
+  run-rows start old new front replied t k [] [] ran a = rw (append-nil front, append-nil replied, a) ran
+  run-rows start old new front replied t k [] (p ∷ ps) ran a = absurd a
+  run-rows start old new front replied t k (q ∷ qs) [] ran a = absurd a
+  run-rows start old new front replied t k (None ∷ qs) (p ∷ ps) ran a =
+      run-rows start a.0 new front replied t k qs ps (rw a.1.1 ran) a.2
+  run-rows start old new front replied t k (Some r ∷ qs) (p ∷ ps) ran a =
       let one : Asking = record { now = t; caller = k; request = r } in
-      let more = run-rows start a.0 new (front ++ one ∷ []) (told ++ p ∷ []) t k qs ps (
-        same-more front told one p ran.0,
-        ran_more (state start) (state old)
-            (state a.0) front told one p ran.0 ran.1 a.1,
+      let more = run-rows start a.0 new (front ++ one ∷ []) (replied ++ p ∷ []) t k qs ps (
+        same-more front replied one p ran.0,
+        ran_more (state start) (state old) (state a.0) front replied one p ran.0 ran.1 a.1,
       ) a.2 in
-      rw (append_assoc front (one ∷ []) (rows_asked t k qs), append_assoc told (p ∷ []) (rows_replied qs ps)) at more
+      rw (append_assoc front (one ∷ []) (rows_asked t k qs), append_assoc replied (p ∷ []) (rows_replied qs ps)) at more
 
   -- one record more
-  pub run-one : (start old new : B) (front : List Asking) (told : List Reply) (k : Ask) (reply : Answer)
-      → IsRunSoFar start old front told → Answers state old k reply new
-      → IsRunSoFar start new (front ++ requests_of_record k) (told ++ replies_of_record k reply)
-  run-one start old new front told ask.Bad (answer.One reply) ran a = rw (append-nil front, append-nil told, a.1) ran
-  run-one start old new front told ask.Bad (answer.Rows replies) ran a = absurd a
-  run-one start old new front told (ask.One t k r) (answer.One reply) ran a =
+  pub run-one : (start old new : B) (front : List Asking) (replied : List Reply) (k : Ask) (reply : Answer)
+      → IsRunSoFar start old front replied → Answers state old k reply new
+      → IsRunSoFar start new (front ++ requests_of_record k) (replied ++ replies_of_record k reply)
+  run-one start old new front replied ask.Bad (answer.One reply) ran a =
+      rw (append-nil front, append-nil replied, a.1) ran
+  run-one start old new front replied ask.Bad (answer.Rows replies) ran a = absurd a
+  run-one start old new front replied (ask.One t k r) (answer.One reply) ran a =
       let one : Asking = record { now = t; caller = k; request = r } in (
-        same-more front told one reply ran.0,
-        ran_more (state start) (state old)
-            (state new) front told one reply ran.0 ran.1 a,
+        same-more front replied one reply ran.0,
+        ran_more (state start) (state old) (state new) front replied one reply ran.0 ran.1 a,
       )
-  run-one start old new front told (ask.One t k r) (answer.Rows replies) ran a = absurd a
-  run-one start old new front told (ask.Import t k rows) (answer.One reply) ran a = absurd a
-  run-one start old new front told (ask.Import t k rows) (answer.Rows replies) ran a =
-      run-rows start old new front told t k rows replies ran a
+  run-one start old new front replied (ask.One t k r) (answer.Rows replies) ran a = absurd a
+  run-one start old new front replied (ask.Import t k rows) (answer.One reply) ran a = absurd a
+  run-one start old new front replied (ask.Import t k rows) (answer.Rows replies) ran a =
+      run-rows start old new front replied t k rows replies ran a
 
-  run-all : (zone : ZoneRule) (start old new : B) (front : List Asking) (told : List Reply) (rows : List Record)
-      (replies : List Answer)
-      → IsRunSoFar start old front told → AnswersAll zone state old rows replies new
-      → IsRunSoFar start new (front ++ requests_of_records zone rows) (told ++ replies_of zone rows replies)
-  run-all zone start old new front told [] [] ran a = rw (append-nil front, append-nil told, a) ran
-  run-all zone start old new front told [] (p ∷ ps) ran a = absurd a
-  run-all zone start old new front told (q ∷ qs) [] ran a = absurd a
-  run-all zone start old new front told (q ∷ qs) (p ∷ ps) ran a =
-      let k = ask_of zone q in
-      let more = run-all zone start a.0 new (front ++ requests_of_record k) (told ++ replies_of_record k p) qs ps
-      (run-one start old a.0 front told k p ran a.1) a.2 in
+  -- the requests of some records, or messages, more
+  run-asks : (start old new : B) (front : List Asking) (replied : List Reply) (asks : List Ask) (answers : List Answer)
+      → IsRunSoFar start old front replied → InTurn (Answers state) old asks answers new
+      → IsRunSoFar start new (front ++ requests_of_asks asks) (replied ++ replies_of_asks asks answers)
+  run-asks start old new front replied [] [] ran a = rw (append-nil front, append-nil replied, a) ran
+  run-asks start old new front replied [] (p ∷ ps) ran a = absurd a
+  run-asks start old new front replied (q ∷ qs) [] ran a = absurd a
+  run-asks start old new front replied (q ∷ qs) (p ∷ ps) ran a =
+      let more = run-asks start a.0 new (front ++ requests_of_record q) (replied ++ replies_of_record q p) qs ps
+      (run-one start old a.0 front replied q p ran a.1) a.2 in
       rw (
-        append_assoc front (requests_of_record k) (requests_of_records zone qs),
-        append_assoc told
-            (replies_of_record k p) (replies_of zone qs ps),
-      ) at
-      more
+        append_assoc front (requests_of_record q) (requests_of_asks qs),
+        append_assoc replied (replies_of_record q p) (replies_of_asks qs ps),
+      ) at more
 
-  pub are_a_run : AreRecordsOfARun state
-  are_a_run zone old new rows replies a = (run-all zone old old new [] [] rows replies (run-none old) a).1
+  pub asks-are-a-run : (old new : B) (asks : List Ask) (answers : List Answer)
+      → InTurn (Answers state) old asks answers new
+      → RunOverBook (state old) (state new) (requests_of_asks asks) (replies_of_asks asks answers)
+  asks-are-a-run old new asks answers a = (run-asks old old new [] [] asks answers (run-none old) a).1
+
+  asks-in-turn : (zone : ZoneRule) (old new : B) (rows : List Record) (replies : List Answer)
+      → AnswersAll zone state old rows replies new
+      → InTurn (Answers state) old (map (ask_of zone) rows) replies new
+  asks-in-turn zone old new [] [] a = a
+  asks-in-turn zone old new [] (p ∷ ps) a = absurd a
+  asks-in-turn zone old new (q ∷ qs) [] a = absurd a
+  asks-in-turn zone old new (q ∷ qs) (p ∷ ps) a = (a.0, a.1, asks-in-turn zone a.0 new qs ps a.2)
+
+  pub records_are_a_run : AreRecordsOfARun state
+  records_are_a_run zone old new rows replies a =
+      rw (requests-are zone rows, replies-are zone rows replies)
+      (asks-are-a-run old new (map (ask_of zone) rows) replies (asks-in-turn zone old new rows replies a))

@@ -60,10 +60,10 @@ module _ {B : Type 0} (state : B → State Office) where
   Answers old (ask.Import now caller rows) (answer.Rows replies) new = RowsAnswer now caller old rows replies new
 
   -- the record is answered, and this is the line of its answer
-  pub record Tells (old : B) (asked : Ask) (line : List ℕ) (new : B) : Type 0 where
-    pub told : Answer
-    pub answers : Answers old asked told new
-    pub line_is : line ≡ answer_line told
+  pub record AnswersWithLine (old : B) (asked : Ask) (line : List ℕ) (new : B) : Type 0 where
+    pub answered : Answer
+    pub answers : Answers old asked answered new
+    pub line_is : line ≡ answer_line answered
 
   -- some first rows were carried out, each answered in turn, and no other
   pub record FirstRowsAnswer (now : ℕ) (caller : Caller) (old : B) (rows : List (Option Request))

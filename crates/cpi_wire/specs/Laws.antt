@@ -36,11 +36,21 @@ requests_of_record (ask.Import t k rows) = rows_asked t k rows
 
 -- their replies
 abbrev pub replies_of_record : Ask → Answer → List Reply
-replies_of_record ask.Bad told = []
+replies_of_record ask.Bad answered = []
 replies_of_record (ask.One t k r) (answer.One reply) = reply ∷ []
 replies_of_record (ask.One t k r) (answer.Rows replies) = []
 replies_of_record (ask.Import t k rows) (answer.One reply) = []
 replies_of_record (ask.Import t k rows) (answer.Rows replies) = rows_replied rows replies
+
+-- the requests of some records, or messages, in their order, and their replies
+abbrev pub requests_of_asks : List Ask → List Asking
+requests_of_asks [] = []
+requests_of_asks (one ∷ asks) = requests_of_record one ++ requests_of_asks asks
+
+abbrev pub replies_of_asks : List Ask → List Answer → List Reply
+replies_of_asks [] answers = []
+replies_of_asks (one ∷ asks) [] = []
+replies_of_asks (one ∷ asks) (answered ∷ answers) = replies_of_record one answered ++ replies_of_asks asks answers
 
 abbrev pub requests_of_records : ZoneRule → List Record → List Asking
 requests_of_records zone [] = []

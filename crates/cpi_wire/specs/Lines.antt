@@ -42,22 +42,22 @@ all_replies (answer.Rows replies) = replies
 module _ {B : Type 0} (state : B → State Office) where
   -- From a sound office some records were answered, and then one of the caller, over a store that was clean then, and
   -- without a reply that the office is unavailable.
-  pub record IsTold (zone : ZoneRule) (k : Caller) (start : B) (row : Record) (told : Answer) : Type 0 where
+  pub record IsLastAnswer (zone : ZoneRule) (k : Caller) (start : B) (row : Record) (answered : Answer) : Type 0 where
     pub rows : List Record
     pub replies : List Answer
     pub mid : B
     pub end : B
     pub sound : IsSound (state start).held
     pub before : AnswersAll zone state start rows replies mid
-    pub one : Answers state mid (ask_of zone row) told end
+    pub one : Answers state mid (ask_of zone row) answered end
     pub clean : (state end).is_clean
     pub caller : IsFrom k (ask_of zone row)
-    pub served : NoneFails (all_replies told)
+    pub served : NoneFails (all_replies answered)
 
   -- what the caller has seen since the start of what was accepted before that record
-  abbrev pub seen_before : (zone : ZoneRule) (k : Caller) (start : B) (row : Record) (told : Answer)
-      → IsTold zone k start row told → List Sight
-  seen_before zone k start row told is =
+  abbrev pub seen_before : (zone : ZoneRule) (k : Caller) (start : B) (row : Record) (answered : Answer)
+      → IsLastAnswer zone k start row answered → List Sight
+  seen_before zone k start row answered is =
       let served = all_served (requests_of_records zone is.rows) (replies_of zone is.rows is.replies) in
       sights_of k (moment_of (ask_of zone row)) (trace served (state start).held)
 
@@ -66,12 +66,13 @@ module _ {B : Type 0} (state : B → State Office) where
 -- bytes, whatever all others sent. The tables published by that moment are among what is shown.
 abbrev pub LinesAreAlike : {B C : Type 0} → (B → State Office) → (C → State Office) → Type 0
 LinesAreAlike {B} {C} state state' =
-    (zone : ZoneRule) (k : Caller) (row : Record) (told told' : Answer) (start : B) (start' : C)
-    (is : IsTold state zone k start row told) (is' : IsTold state' zone k start' row told') → k ≢ Desk →
+    (zone : ZoneRule) (k : Caller) (row : Record) (answered answered' : Answer) (start : B) (start' : C)
+    (is : IsLastAnswer state zone k start row answered) (is' : IsLastAnswer state' zone k start' row answered') →
+    k ≢ Desk →
     view k (moment_of (ask_of zone row)) (state start).held
     ≡ view k (moment_of (ask_of zone row)) (state' start').held →
-    seen_before state zone k start row told is ≡ seen_before state' zone k start' row told' is' →
-    answer_line told ≡ answer_line told'
+    seen_before state zone k start row answered is ≡ seen_before state' zone k start' row answered' is' →
+    answer_line answered ≡ answer_line answered'
 
 -- ---- all lines to one collector
 
@@ -111,8 +112,8 @@ module _ {B : Type 0} (state : B → State Office) where
 
 -- Two replays under one zone without a freeze or a hand-over, over books of any two kinds that hold the same lists:
 -- where their records differ in those of other collectors alone, the lines to a collector are the same, byte for byte.
-abbrev pub ReplaysTellAlike : {B C : Type 0} → (B → State Office) → (C → State Office) → Type 0
-ReplaysTellAlike {B} {C} state state' =
+abbrev pub ReplaysAnswerAlike : {B C : Type 0} → (B → State Office) → (C → State Office) → Type 0
+ReplaysAnswerAlike {B} {C} state state' =
     (zone : ZoneRule) (key : ℕ) (old new : B) (old' new' : C)
     (rows others : List Record) (answers answers' : List Answer) →
     IsReplayed state zone old new rows answers → IsReplayed state' zone old' new' others answers' →

@@ -43,8 +43,8 @@ references_of (row.Place p ∷ rows) = references_of rows
 references_of (row.Reference m ∷ rows) = m ∷ references_of rows
 
 -- what the rows say, each kind in the order in which it stands
-abbrev pub told_by : List PlanRow → PlanBody
-told_by rows = record {
+abbrev pub body_of_rows : List PlanRow → PlanBody
+body_of_rows rows = record {
   titles = titles_of rows;
   weights = weights_of_rows rows;
   places = places_of rows;
@@ -63,11 +63,11 @@ plan_rows (fields ∷ more) = do
 abbrev pub AddsRow : PlanBody → PlanBody → Record → Bool → Type 0
 AddsRow old new fields true =
     (row : PlanRow) × (spelled_plan_row fields ≡ Some row)
-    × ((rows : List PlanRow) → old ≡ told_by rows → new ≡ told_by (rows ++ row ∷ []))
+    × ((rows : List PlanRow) → old ≡ body_of_rows rows → new ≡ body_of_rows (rows ++ row ∷ []))
 AddsRow old new fields false = spelled_plan_row fields ≡ None
 
 -- the body, if it has at most `MOST_ROWS` rows
 unfoldable pub body_of : Text → Option PlanBody
 body_of text =
     if nat_lt MOST_ROWS (length (records_of text)) then None
-    else (plan_rows (records_of text) >>= λ rows. Some (told_by rows))
+    else (plan_rows (records_of text) >>= λ rows. Some (body_of_rows rows))

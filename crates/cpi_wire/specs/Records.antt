@@ -16,11 +16,11 @@ use Rattle.cpi_wire.specs.Record.{ask_of}
 use Rattle.cpi_wire.specs.Rows.{answer_line}
 
 -- the lines of all the replies were written
-abbrev pub Told : List Answer → Option (List ℕ) → Option (List ℕ) → Type 0
-Told replies old new = Appends old new (concat (map answer_line replies))
+abbrev pub LinesAreWritten : List Answer → Option (List ℕ) → Option (List ℕ) → Type 0
+LinesAreWritten replies old new = Appends old new (concat (map answer_line replies))
 
 -- of the last line a part alone was written
-pub record CutOff (replies : List Answer) (old new : Option (List ℕ)) : Type 0 where
+pub record LineIsCutOff (replies : List Answer) (old new : Option (List ℕ)) : Type 0 where
   pub front : List Answer
   pub last : Answer
   pub count : ℕ
@@ -29,10 +29,10 @@ pub record CutOff (replies : List Answer) (old new : Option (List ℕ)) : Type 0
   pub written : Appends old new (concat (map answer_line front) ++ take count (answer_line last))
 
 -- what a fault leaves of the lines: after one of the writer all but the last stand whole, and else all of them
-abbrev pub ToldUntil : WireFault → List Answer → Option (List ℕ) → Option (List ℕ) → Type 0
-ToldUntil fault.Read replies old new = Told replies old new
-ToldUntil fault.Write replies old new = CutOff replies old new
-ToldUntil fault.NoMemory replies old new = Told replies old new
+abbrev pub LinesAreWrittenUntil : WireFault → List Answer → Option (List ℕ) → Option (List ℕ) → Type 0
+LinesAreWrittenUntil fault.Read replies old new = LinesAreWritten replies old new
+LinesAreWrittenUntil fault.Write replies old new = LineIsCutOff replies old new
+LinesAreWrittenUntil fault.NoMemory replies old new = LinesAreWritten replies old new
 
 -- with this clock for civil times, over a book of this state
 module _ {B : Type 0} (zone : ZoneRule) (state : B → State Office) where
@@ -48,7 +48,7 @@ module _ {B : Type 0} (zone : ZoneRule) (state : B → State Office) where
     pub all : IfSome input (λ xs. rows ≡ records_of xs)
     pub few : length rows ≤ MOST_RECORDS
     pub answers : AnswersAll old rows replies new
-    pub told : Told replies was is
+    pub written : LinesAreWritten replies was is
 
   -- what a fault leaves of one record more: without memory it may have been begun, and else there is none
   abbrev pub BegunUntil : WireFault → B → Option Record → B → Type 0
@@ -68,4 +68,4 @@ module _ {B : Type 0} (zone : ZoneRule) (state : B → State Office) where
     pub few : length (rows ++ option_to_list next) ≤ MOST_RECORDS
     pub answers : AnswersAll old rows replies mid
     pub begun : BegunUntil e mid next new
-    pub told : ToldUntil e replies was is
+    pub written : LinesAreWrittenUntil e replies was is

@@ -12,7 +12,7 @@ use Rattle.cpi_wire.specs.Answer.{Answer}
 use Rattle.cpi_wire.specs.Input.{Record}
 use Rattle.cpi_wire.specs.Laws.{requests_of_records, replies_of}
 use Rattle.cpi_wire.specs.Line.{line_of_reply}
-use Rattle.cpi_wire.specs.Lines.{IsTold}
+use Rattle.cpi_wire.specs.Lines.{IsLastAnswer}
 use Rattle.cpi_wire.specs.Record.{ask_of}
 use Rattle.cpi_wire.specs.Records.{AnswersAll}
 use Rattle.cpi_wire.specs.Rows.{answer_line}
@@ -23,14 +23,14 @@ use Rattle.cpi_wire.specs.declared.asks.Ask.TheVariants as ask
 -- latest that is published; where there is none, that of the refusal.
 abbrev pub TableLinesAreComputed : {B : Type 0} → (B → State Office) → Type 0
 TableLinesAreComputed {B} state =
-    (zone : ZoneRule) (k : Caller) (row : Record) (told : Answer) (start : B) (is : IsTold state zone k start row told)
-    (now month : ℕ) (form : Form) (revision : Option ℕ) →
+    (zone : ZoneRule) (k : Caller) (row : Record) (answered : Answer) (start : B)
+    (is : IsLastAnswer state zone k start row answered) (now month : ℕ) (form : Form) (revision : Option ℕ) →
     ask_of zone row ≡ ask.One now k (Table month form revision) → IsKnown k (state is.mid).held →
-    answer_line told ≡ line_of_reply (computed_reply now month form revision (state is.mid).held)
+    answer_line answered ≡ line_of_reply (computed_reply now month form revision (state is.mid).held)
 
 -- All replies of a replay to requests for tables, the rows of its imports among them, are so.
-abbrev pub ReplaysTellTables : {B : Type 0} → (B → State Office) → Type 0
-ReplaysTellTables {B} state =
+abbrev pub ReplaysReportTables : {B : Type 0} → (B → State Office) → Type 0
+ReplaysReportTables {B} state =
     (zone : ZoneRule) (old new : B) (rows : List Record) (answers : List Answer) →
     AnswersAll zone state old rows answers new → (state new).is_clean → IsSound (state old).held →
     TellTables (state old).held (requests_of_records zone rows) (replies_of zone rows answers)

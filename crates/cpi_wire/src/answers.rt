@@ -2,7 +2,7 @@
 ghost use Rattle.std.specs.Prelude.{◌≡◌, ◌++◌, List, IfOk, OnOk, OnErr};
 ghost use Rattle.cpi_office.specs.Calls.{is_failure_of};
 ghost use Rattle.cpi_office.specs.declared.reply.Reply.{Reply};
-ghost use Rattle.cpi_wire.specs.Answers.{Begins, FirstRowsAnswer, RowAnswers, RowsAnswer, Tells, some_fails};
+ghost use Rattle.cpi_wire.specs.Answers.{Begins, FirstRowsAnswer, RowAnswers, RowsAnswer, AnswersWithLine, some_fails};
 ghost use Rattle.cpi_wire.specs.Rows.{added_text, rows_line};
 
 use crate::asks::Ask;
@@ -16,7 +16,7 @@ use std::alloc::{AllocError, Global};
 
 /// What the rows of an import are told.
 #[derive(Drop)]
-pub struct RowsTold {
+pub struct ImportAnswer {
     /// The line of their replies.
     pub line: Vec<u8>,
     /// One of the replies is that the office is unavailable.
@@ -46,7 +46,7 @@ fn answer_request<B: Book>(
 }
 
 // Carries out one row of an import, adds its reply to the line, and tells whether the office was unavailable.
-fn tell_row<B: Book>(
+fn answer_import_row<B: Book>(
     alloc: Global,
     office: &mut Office<B>,
     now: Moment,
@@ -72,10 +72,10 @@ pub fn answer_rows<B: Book>(
     now: Moment,
     caller: &Caller,
     rows: ImportRows,
-) -> Result<RowsTold, AllocError>
-    ensures ok { IfOk result (λ told. (replies : List Reply)
+) -> Result<ImportAnswer, AllocError>
+    ensures ok { IfOk result (λ answer. (replies : List Reply)
         × RowsAnswer B.state now caller.now office.old.book rows replies office.new.book
-        × (told.line.items ≡ rows_line replies) × (told.failed ≡ some_fails replies)) }
+        × (answer.line.items ≡ rows_line replies) × (answer.failed ≡ some_fails replies)) }
     ensures err { OnErr result (FirstRowsAnswer B.state now caller.now office.old.book rows office.new.book) }
 {
     let mut line = begin_rows(alloc)?;
@@ -83,11 +83,11 @@ pub fn answer_rows<B: Book>(
     let mut failed = false;
     let mut rest = rows.rows.into_iter();
     while let Some(row) = rest.next() {
-        failed |= tell_row(alloc, office, now, caller, row, &mut line, is_first)?;
+        failed |= answer_import_row(alloc, office, now, caller, row, &mut line, is_first)?;
         is_first = false;
     }
     end_rows(&mut line)?;
-    Ok(RowsTold { line, failed })
+    Ok(ImportAnswer { line, failed })
 }
 
 /// Carries out what a record asks, and gives the line of its answer. Without memory the record may have been begun.
@@ -96,7 +96,7 @@ pub(crate) fn answer_line<B: Book>(
     office: &mut Office<B>,
     ask: Ask,
 ) -> Result<Vec<u8>, AllocError>
-    ensures ok { IfOk result (λ line. Tells B.state office.old.book ask line.items office.new.book) }
+    ensures ok { IfOk result (λ line. AnswersWithLine B.state office.old.book ask line.items office.new.book) }
     ensures err { OnErr result (Begins B.state office.old.book ask office.new.book) }
 {
     match ask {
@@ -106,7 +106,7 @@ pub(crate) fn answer_line<B: Book>(
             reply_line(alloc, &reply)
         }
         Ask::Import(now, caller, rows) => {
-            let RowsTold { line, .. } = answer_rows(alloc, office, now, &caller, rows)?;
+            let ImportAnswer { line, .. } = answer_rows(alloc, office, now, &caller, rows)?;
             Ok(line)
         }
     }

@@ -1,7 +1,7 @@
 //! What holds of the definitions.
 ghost use Rattle.cpi_wire.specs.Laws.{AreRecordsOfARun};
-ghost use Rattle.cpi_wire.specs.Lines.{LinesAreAlike, ReplaysTellAlike};
-ghost use Rattle.cpi_wire.specs.TableLines.{TableLinesAreComputed, ReplaysTellTables};
+ghost use Rattle.cpi_wire.specs.Lines.{LinesAreAlike, ReplaysAnswerAlike};
+ghost use Rattle.cpi_wire.specs.TableLines.{TableLinesAreComputed, ReplaysReportTables};
 
 use cpi_store::Book;
 
@@ -29,8 +29,8 @@ pub fn lines_are_alike<B: Book, C: Book>()
 /// collectors, so it tells of them, and with a series goes its last price. The books, of any two kinds, hold the same
 /// sound lists at the start, tables among them, and are clean at the end, and no reply says that the office is
 /// unavailable. Nothing is said of time.
-pub fn replays_tell_alike<B: Book, C: Book>()
-    ensures { ReplaysTellAlike B.state C.state }
+pub fn replays_answer_alike<B: Book, C: Book>()
+    ensures { ReplaysAnswerAlike B.state C.state }
 {}
 
 /// What is told of a table is the one that the definitions of the index give over the quotes and weights that were
@@ -40,7 +40,7 @@ pub fn replays_tell_alike<B: Book, C: Book>()
 /// where the store is clean once it is answered, and the reply doesn't say that the office is unavailable, its line is
 /// that of the printed table, or that of the refusal where there is none. And so it is of each reply to such a row of
 /// an import.
-pub fn tables_are_told<B: Book>()
+pub fn tables_are_reported<B: Book>()
     ensures lines { TableLinesAreComputed B.state }
-    ensures replies { ReplaysTellTables B.state }
+    ensures replies { ReplaysReportTables B.state }
 {}

@@ -25,13 +25,13 @@ mod values;
 mod words;
 mod write;
 
-pub use answers::{RowsTold, answer_rows, is_failure};
+pub use answers::{ImportAnswer, answer_rows, is_failure};
 pub use asks::Ask;
 pub use examples::worked_bodies;
 pub use fault::WireFault;
 pub use fields::field_list;
 pub use import::import_rows;
-pub use laws::{lines_are_alike, records_are_a_run, replays_tell_alike, tables_are_told};
+pub use laws::{lines_are_alike, records_are_a_run, replays_answer_alike, tables_are_reported};
 pub use limits::{MOST_CALLS, MOST_RECORDS, MOST_ROWS};
 pub use line::reply_line;
 pub use only_rows::only_row;

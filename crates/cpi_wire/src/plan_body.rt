@@ -1,7 +1,7 @@
 //! The body of a plan.
 ghost use Rattle.std.specs.Prelude.{◌≡◌, ◌++◌, [], ◌∷◌, List, IfOk, OnOk};
 ghost use Rattle.csv.specs.Records.{fields_of};
-ghost use Rattle.cpi_wire.specs.PlanBody.{AddsRow, body_of, told_by};
+ghost use Rattle.cpi_wire.specs.PlanBody.{AddsRow, body_of, body_of_rows};
 ghost use Rattle.cpi_wire.specs.declared.plan_rows.PlanRow.{PlanRow as Row};
 
 use crate::fields::field_list;
@@ -15,7 +15,8 @@ use std::alloc::{AllocError, Global};
 
 // Puts a row behind those of its kind.
 fn add(body: &mut PlanBody, row: PlanRow) -> Result<(), AllocError>
-    ensures { OnOk result ((rows : List Row) → body.old ≡ told_by rows → body.new ≡ told_by (rows ++ row ∷ [])) }
+    ensures { OnOk result ((rows : List Row) →
+        body.old ≡ body_of_rows rows → body.new ≡ body_of_rows (rows ++ row ∷ [])) }
 {
     match row {
         PlanRow::Title(title) => body.titles.push(title)?,

@@ -1,7 +1,7 @@
 //! The loop over the records of an input.
 ghost use Rattle.std.specs.Prelude.{ℕ, List, [], Option, IfOk, OnOk, OnErr, IfErr};
 ghost use Rattle.csv.specs.Records.{fields_of};
-ghost use Rattle.cpi_wire.specs.Answers.{Begins, Tells};
+ghost use Rattle.cpi_wire.specs.Answers.{Begins, AnswersWithLine};
 ghost use Rattle.cpi_wire.specs.Input.{IsAt};
 ghost use Rattle.cpi_wire.specs.Record.{ask_of};
 ghost use Rattle.cpi_wire.specs.Records.{AnsweredInput, GaveUp};
@@ -30,7 +30,7 @@ fn answer_row<B: Book>(
     row: &ByteRecord,
 ) -> Result<Vec<u8>, AllocError>
     ensures ok { IfOk result (λ line.
-        Tells B.state office.old.book (ask_of zone.now (fields_of row.now)) line.items office.new.book) }
+        AnswersWithLine B.state office.old.book (ask_of zone.now (fields_of row.now)) line.items office.new.book) }
     ensures err { OnErr result (Begins B.state office.old.book (ask_of zone.now (fields_of row.now)) office.new.book) }
 {
     let fields = field_list(alloc, row)?;

@@ -30,7 +30,7 @@ fn plan_fault_number(fault: PlanFault) -> u8
 }
 
 // A sum of weights, as far as 64 bits tell it.
-fn told_sum(found: u128) -> u64
+fn capped_sum(found: u128) -> u64
     ensures { result ≡ sum_in_refusal found }
 {
     if found <= u128::from(u64::MAX) {
@@ -53,7 +53,7 @@ fn plan_fault_value(alloc: Global, fault: PlanFault) -> Result<Value, AllocError
 {
     match fault {
         PlanFault::WeightSum(found) => {
-            json!(in alloc; {"fault": 4, "found": told_sum(found), "refused": 44})
+            json!(in alloc; {"fault": 4, "found": capped_sum(found), "refused": 44})
         }
         PlanFault::TitleMissing(code) => located_value(alloc, code, 5, 44),
         other => json!(in alloc; {"fault": plan_fault_number(other), "refused": 44}),

@@ -29,5 +29,5 @@ returns-in-One-clause-err g c =
 
 pub returns-in_ok-line-in-Import-clause-ok : goal.returns-in_ok-line-in-Import-clause-ok
 returns-in_ok-line-in-Import-clause-ok g c =
-    let told = c.in_ok-line-in-Import.ensures.ok in
-    rw c.in-Import.is (Rows told.0, told.1, (refl, refl, told.2, told.3))
+    let answered = c.in_ok-line-in-Import.ensures.ok in
+    rw c.in-Import.is (Rows answered.0, answered.1, (refl, refl, answered.2, answered.3))

@@ -10,15 +10,16 @@ returns-in_err-line-clause-err g c =
 
 pub returns-in_err-failed-clause-err : goal.returns-in_err-failed-clause-err
 returns-in_err-failed-clause-err g c =
-    let told = c.tell_row.ensures in
+    let answered = c.answer_import_row.ensures in
     on-err c.from_residual-in_err-failed.result
-    (first-rows _ _ _ _ _ _ _ _ _ _ _ _ c.in-Some.row told.0 c.loop-row.invariant c.in-Some.ensures.items told.1)
+    (first-rows _ _ _ _ _ _ _ _ _ _ _ _ c.in-Some.row answered.0 c.loop-row.invariant c.in-Some.ensures.items
+    answered.1)
 
 pub loop-row-preserved : goal.loop-row-preserved
 loop-row-preserved g c =
-    let told = c.in_ok-failed.ensures in
-    so-far-more _ _ _ _ _ _ _ _ _ _ _ _ _ _ c.in-Some.row told.0 c.loop-row.invariant c.in-Some.ensures.items told.1
-    told.2 told.3
+    let answered = c.in_ok-failed.ensures in
+    so-far-more _ _ _ _ _ _ _ _ _ _ _ _ _ _ c.in-Some.row answered.0 c.loop-row.invariant c.in-Some.ensures.items
+    answered.1 answered.2 answered.3
 
 pub returns-clause-ok : goal.returns-clause-ok
 returns-clause-ok g c =

@@ -22,7 +22,7 @@ many-rows : (zone : ZoneRule) (body : List ℕ) (given : List Record) → AreFir
 unfolding rows_of_body
 many-rows zone body given first h =
     let t : nat_lt MOST_ROWS (length (records_of body)) ≡ true =
-        past-limit _ (rw (first.1, length-append) (omega arith)) in
+    past-limit _ (rw (first.1, length-append) (omega arith)) in
     rw t refl
 
 pub returns-then-not-branch : goal.returns-then-not-branch

@@ -2,11 +2,11 @@ use Rattle.std.proofs.Common.{◌≡◌, rules, refl, [], ◌∷◌, ◌++◌, t
 use Rattle.std.proofs.lemmas.Result.{err_from_is_err_and}
 use Rattle.csv.specs.Records.{fields_of}
 use Rattle.cpi_wire.proofs.Reading.{at-front}
-use Rattle.cpi_wire.proofs.Answered.{told-none, told-more, answers-more, gave-up-between, gave-up-in, gave-up-at}
+use Rattle.cpi_wire.proofs.Answered.{none-written, more-written, answers-more, gave-up-between, gave-up-in, gave-up-at}
 use Rattle.cpi_wire.proofs.records.answer_records.Goals as goal
 
 pub loop-init : goal.loop-init
-loop-init g c = ([], [], λ input at. at, refl, told-none _, refl)
+loop-init g c = ([], [], λ input at. at, refl, none-written _, refl)
 
 pub loop-preserved : goal.loop-preserved
 loop-preserved g c =
@@ -14,13 +14,13 @@ loop-preserved g c =
     let n = inv.5 in
     let f = fields_of c.next_record.new.row in
     let one : c.in_ok-next_record.field-0 ≡ true = search rules in
-    let told = c.in_ok-line.ensures.ok in (
+    let line = c.in_ok-line.ensures.ok in (
       inv.0 ++ f ∷ [],
-      inv.1 ++ told.told ∷ [],
+      inv.1 ++ line.answered ∷ [],
       λ input at. (rw one at c.in_ok-next_record.ensures.ok) input inv.0 (inv.2 input at),
-      answers-more _ _ _ _ _ inv.0 inv.1 f told.told inv.3 told.answers,
-      told-more inv.1 _ _ _ _ inv.4
-          (rw (← told.line_is) (rw c.deref.ensures.value at c.in_ok-write_whole.ensures.whole)),
+      answers-more _ _ _ _ _ inv.0 inv.1 f line.answered inv.3 line.answers,
+      more-written inv.1 _ _ _ _ inv.4
+          (rw (← line.line_is) (rw c.deref.ensures.value at c.in_ok-write_whole.ensures.whole)),
       rw length-append (omega (arith, n)),
     )
 
@@ -83,7 +83,7 @@ returns-then-not-branch-clause-ok g c = λ input at.
       all = (rw none at c.in_ok-next_record.ensures.ok) input inv.0 (inv.2 input at);
       few = omega (arith, n);
       answers = inv.3;
-      told = inv.4;
+      written = inv.4;
     }
 
 pub returns-clause-ok : goal.returns-clause-ok
@@ -97,5 +97,5 @@ returns-clause-ok g c = λ input at.
       all = (rw none at c.in_ok-next_record-2.ensures.ok) input inv.0 (inv.2 input at);
       few = omega (arith, n);
       answers = inv.3;
-      told = inv.4;
+      written = inv.4;
     }

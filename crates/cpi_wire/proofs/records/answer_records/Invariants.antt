@@ -1,7 +1,7 @@
 use Rattle.std.proofs.Common.{◌≡◌, ℕ, List, [], Option, length}
 use Rattle.cpi_wire.specs.Answer.{Answer}
 use Rattle.cpi_wire.specs.Input.{Record}
-use Rattle.cpi_wire.specs.Records.{AnswersAll, Told}
+use Rattle.cpi_wire.specs.Records.{AnswersAll, LinesAreWritten}
 use Rattle.cpi_wire.specs.Input.{IsAt}
 use Rattle.cpi_wire.proofs.records.answer_records.Given as goal
 
@@ -11,5 +11,5 @@ invariant-loop g l = (rows : List Record) × (replies : List Answer)
     × ((input : Option (List ℕ)) → IsAt g.R.Read.remaining input [] l.fn.records →
     IsAt g.R.Read.remaining input rows l.records)
     × AnswersAll l.fn.zone g.B.Book.state l.fn.office.book rows replies l.office.book
-    × Told replies (g.W.Write.contents l.fn.writer) (g.W.Write.contents l.writer)
+    × LinesAreWritten replies (g.W.Write.contents l.fn.writer) (g.W.Write.contents l.writer)
     × (length rows ≡ l.counter)

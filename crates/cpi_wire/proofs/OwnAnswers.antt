@@ -1,4 +1,4 @@
--- The lines to a collector hang on what the office tells that collector.
+-- The lines to a collector depend only on the replies of the office to that collector.
 use mathlib.Core.Bool.{true≢false}
 use Rattle.std.proofs.Common.{◌≡◌, ◌∙◌, sym, ap, ap₂, refl, subst, ℕ, ◌+◌, List, [], ◌∷◌, ◌++◌, length, map, filter}
 use Rattle.std.proofs.Common.{Bool, true, false, not, Option, Some, None, if◌then◌else◌, ◌==◌, arith, length-append}
@@ -23,12 +23,12 @@ use Rattle.cpi_wire.specs.declared.asks.Ask.TheVariants as ask
 use Rattle.cpi_wire.specs.Answers.{Answers, RowsAnswer}
 use Rattle.cpi_wire.specs.Input.{Record}
 use Rattle.cpi_wire.specs.Laws.{requests_of_record, replies_of_record, rows_asked, rows_replied, requests_of_records}
-use Rattle.cpi_wire.specs.Laws.{replies_of}
-use Rattle.cpi_wire.specs.Lines.{is_own, is_others, records_without, own_answers, IsReplayed, ReplaysTellAlike}
+use Rattle.cpi_wire.specs.Laws.{requests_of_asks, replies_of_asks, replies_of}
+use Rattle.cpi_wire.specs.Lines.{is_own, is_others, records_without, own_answers, IsReplayed, ReplaysAnswerAlike}
 use Rattle.cpi_wire.specs.Record.{ask_of}
 use Rattle.cpi_wire.specs.Records.{AnswersAll}
 use Rattle.cpi_wire.specs.Rows.{answer_line}
-use Rattle.cpi_wire.proofs.Runs.{are_a_run}
+use Rattle.cpi_wire.proofs.Runs.{records_are_a_run, requests-are, replies-are}
 
 -- ---- the forms of answers
 
@@ -63,7 +63,7 @@ module _ {B : Type 0} (state : B → State Office) where
   rows-fit t c p q (None ∷ rows) (r ∷ rs) a = (a.1.0, rows-fit t c a.0 q rows rs a.2)
   rows-fit t c p q (Some x ∷ rows) (r ∷ rs) a = rows-fit t c a.0 q rows rs a.2
 
-  answer-fits : (p q : B) (k : Ask) (told : Answer) → Answers state p k told q → FitsAnswer k told
+  answer-fits : (p q : B) (k : Ask) (answered : Answer) → Answers state p k answered q → FitsAnswer k answered
   answer-fits p q ask.Bad (answer.One r) a = a.0
   answer-fits p q ask.Bad (answer.Rows rs) a = absurd a
   answer-fits p q (ask.One t c x) (answer.One r) a = tt
@@ -109,16 +109,6 @@ own-fit key (k ∷ ks) (a ∷ ans) h = by (is_own key k) (own-fit key ks ans h.1
     by true rest = (h.0, rest)
     by false rest = rest
 
--- all that these are told
-abbrev all_told : List Ask → List Answer → List Reply
-all_told [] ans = []
-all_told (k ∷ ks) [] = []
-all_told (k ∷ ks) (a ∷ ans) = replies_of_record k a ++ all_told ks ans
-
-abbrev all_asked : List Ask → List Asking
-all_asked [] = []
-all_asked (k ∷ ks) = requests_of_record k ++ all_asked ks
-
 -- ---- the replies that stand beside the collector's requests are those to the collector's records
 
 module _ (key : ℕ) (t : ℕ) (c : Caller) (more : List Asking) (rest : List Reply) where
@@ -159,23 +149,24 @@ record-not key (ask.One t c q) (answer.Rows rs) more rest h e = absurd h
 record-not key (ask.Import t c rows) (answer.One r) more rest h e = absurd h
 record-not key (ask.Import t c rows) (answer.Rows rs) more rest h e = rows-not key t c more rest e rows rs h
 
-told-own : (key : ℕ) (ks : List Ask) (ans : List Answer) → AllFit ks ans →
-    replies_to key (all_asked ks) (all_told ks ans) ≡ all_told (own_asks key ks) (own key ks ans)
-told-own key [] [] h = refl
-told-own key [] (a ∷ ans) h = absurd h
-told-own key (k ∷ ks) [] h = absurd h
-told-own key (k ∷ ks) (a ∷ ans) h = by (is_own key k) refl (told-own key ks ans h.1)
+replies-own : (key : ℕ) (ks : List Ask) (ans : List Answer) → AllFit ks ans →
+    replies_to key (requests_of_asks ks) (replies_of_asks ks ans) ≡ replies_of_asks (own_asks key ks) (own key ks ans)
+replies-own key [] [] h = refl
+replies-own key [] (a ∷ ans) h = absurd h
+replies-own key (k ∷ ks) [] h = absurd h
+replies-own key (k ∷ ks) (a ∷ ans) h = by (is_own key k) refl (replies-own key ks ans h.1)
   where
-    by : (mine : Bool) → is_own key k ≡ mine → replies_to key (all_asked ks) (all_told ks ans) ≡ all_told
-        (own_asks key ks) (own key ks ans)
-        → replies_to key (requests_of_record k ++ all_asked ks) (replies_of_record k a ++ all_told ks ans)
-        ≡ all_told (if mine then k ∷ own_asks key ks else own_asks key ks)
+    by : (mine : Bool) → is_own key k ≡ mine
+        → replies_to key (requests_of_asks ks) (replies_of_asks ks ans)
+        ≡ replies_of_asks (own_asks key ks) (own key ks ans)
+        → replies_to key (requests_of_record k ++ requests_of_asks ks) (replies_of_record k a ++ replies_of_asks ks ans)
+        ≡ replies_of_asks (if mine then k ∷ own_asks key ks else own_asks key ks)
         ((if mine then a ∷ [] else []) ++ own key ks ans)
-    by true e rest = record-own key k a (all_asked ks) (all_told ks ans) h.0 e
+    by true e rest = record-own key k a (requests_of_asks ks) (replies_of_asks ks ans) h.0 e
         ∙ ap (λ (z : List Reply). replies_of_record k a ++ z) rest
-    by false e rest = record-not key k a (all_asked ks) (all_told ks ans) h.0 e ∙ rest
+    by false e rest = record-not key k a (requests_of_asks ks) (replies_of_asks ks ans) h.0 e ∙ rest
 
--- ---- what is told has one reading
+-- ---- the replies have one reading: equal replies are of equal answers
 
 heads : (a b : Reply) (xs ys : List Reply) → (a ∷ xs) ≡ (b ∷ ys) → a ≡ b
 heads a b xs ys e = cc
@@ -208,29 +199,18 @@ record-same (ask.Import t c rows) (answer.Rows rs) (answer.Rows ss) x y f g e = 
 record-same (ask.Import t c rows) (answer.Rows rs) (answer.One s) x y f g e = absurd g
 record-same (ask.Import t c rows) (answer.One r) b x y f g e = absurd f
 
-told-same : (ks : List Ask) (ans bs : List Answer) → AllFit ks ans → AllFit ks bs → all_told ks ans ≡ all_told ks bs →
-    ans ≡ bs
-told-same [] [] [] f g e = refl
-told-same [] (a ∷ ans) bs f g e = absurd f
-told-same [] [] (b ∷ bs) f g e = absurd g
-told-same (k ∷ ks) [] bs f g e = absurd f
-told-same (k ∷ ks) (a ∷ ans) [] f g e = absurd g
-told-same (k ∷ ks) (a ∷ ans) (b ∷ bs) f g e =
-    let both = record-same k a b (all_told ks ans) (all_told ks bs) f.0 g.0 e in
-    ap₂ (λ z zs. z ∷ zs) both.0 (told-same ks ans bs f.1 g.1 both.1)
+replies-same : (ks : List Ask) (ans bs : List Answer) → AllFit ks ans → AllFit ks bs
+    → replies_of_asks ks ans ≡ replies_of_asks ks bs → ans ≡ bs
+replies-same [] [] [] f g e = refl
+replies-same [] (a ∷ ans) bs f g e = absurd f
+replies-same [] [] (b ∷ bs) f g e = absurd g
+replies-same (k ∷ ks) [] bs f g e = absurd f
+replies-same (k ∷ ks) (a ∷ ans) [] f g e = absurd g
+replies-same (k ∷ ks) (a ∷ ans) (b ∷ bs) f g e =
+    let both = record-same k a b (replies_of_asks ks ans) (replies_of_asks ks bs) f.0 g.0 e in
+    ap₂ (λ z zs. z ∷ zs) both.0 (replies-same ks ans bs f.1 g.1 both.1)
 
--- ---- records and their requests
-
-asked-is : (zone : ZoneRule) (rows : List Record) → requests_of_records zone rows ≡ all_asked (map (ask_of zone) rows)
-asked-is zone [] = refl
-asked-is zone (row ∷ rows) = ap (λ (z : List Asking). requests_of_record (ask_of zone row) ++ z) (asked-is zone rows)
-
-told-is : (zone : ZoneRule) (rows : List Record) (ans : List Answer) →
-    replies_of zone rows ans ≡ all_told (map (ask_of zone) rows) ans
-told-is zone [] ans = refl
-told-is zone (row ∷ rows) [] = refl
-told-is zone (row ∷ rows) (a ∷ ans) = ap (λ (z : List Reply). replies_of_record (ask_of zone row) a ++ z)
-    (told-is zone rows ans)
+-- ---- as many replies as requests
 
 rows-length : (t : ℕ) (c : Caller) (rows : List (Option Request)) (rs : List Reply) → Fit rows rs →
     length (rows_replied rows rs) ≡ length (rows_asked t c rows)
@@ -247,13 +227,14 @@ record-length (ask.One t c q) (answer.Rows rs) h = absurd h
 record-length (ask.Import t c rows) (answer.One r) h = absurd h
 record-length (ask.Import t c rows) (answer.Rows rs) h = rows-length t c rows rs h
 
-told-length : (ks : List Ask) (ans : List Answer) → AllFit ks ans → length (all_told ks ans) ≡ length (all_asked ks)
-told-length [] [] h = refl
-told-length [] (a ∷ ans) h = absurd h
-told-length (k ∷ ks) [] h = absurd h
-told-length (k ∷ ks) (a ∷ ans) h = length-append (replies_of_record k a) (all_told ks ans)
-    ∙ ap₂ (λ m n. m + n) (record-length k a h.0) (told-length ks ans h.1) ∙ sym
-    (length-append (requests_of_record k) (all_asked ks))
+replies-length : (ks : List Ask) (ans : List Answer) → AllFit ks ans
+    → length (replies_of_asks ks ans) ≡ length (requests_of_asks ks)
+replies-length [] [] h = refl
+replies-length [] (a ∷ ans) h = absurd h
+replies-length (k ∷ ks) [] h = absurd h
+replies-length (k ∷ ks) (a ∷ ans) h = length-append (replies_of_record k a) (replies_of_asks ks ans)
+    ∙ ap₂ (λ m n. m + n) (record-length k a h.0) (replies-length ks ans h.1) ∙ sym
+    (length-append (requests_of_record k) (requests_of_asks ks))
 
 -- ---- without other collectors
 
@@ -340,22 +321,22 @@ module _ {B : Type 0} (state : B → State Office) (zone : ZoneRule) (old new : 
 
   whole : IsWholeRun (state old) (state new) (requests_of_records zone rows) (replies_of zone rows ans)
   whole = record {
-    ran = are_a_run state zone old new rows ans is.each;
+    ran = records_are_a_run state zone old new rows ans is.each;
     clean = is.clean;
     sound = is.sound;
-    each = ap length (told-is zone rows ans) ∙ told-length (map (ask_of zone) rows) ans fits
-        ∙ sym (ap length (asked-is zone rows));
+    each = ap length (replies-are zone rows ans) ∙ replies-length (map (ask_of zone) rows) ans fits
+        ∙ sym (ap length (requests-are zone rows));
     served = is.served;
   }
 
-  told-to : (key : ℕ) → replies_to key (requests_of_records zone rows) (replies_of zone rows ans) ≡ all_told
-      (own_asks key (map (ask_of zone) rows)) (own key (map (ask_of zone) rows) ans)
-  told-to key = ap₂ (replies_to key) (asked-is zone rows) (told-is zone rows ans)
-      ∙ told-own key (map (ask_of zone) rows) ans fits
+  replies-to-own : (key : ℕ) → replies_to key (requests_of_records zone rows) (replies_of zone rows ans)
+      ≡ replies_of_asks (own_asks key (map (ask_of zone) rows)) (own key (map (ask_of zone) rows) ans)
+  replies-to-own key = ap₂ (replies_to key) (requests-are zone rows) (replies-are zone rows ans)
+      ∙ replies-own key (map (ask_of zone) rows) ans fits
 
-pub replays_tell_alike : {B C : Type 0} (state : B → State Office) (state' : C → State Office)
-    → ReplaysTellAlike state state'
-replays_tell_alike state state' zone key old new old' new' rows others ans bs is is' start same =
+pub replays_answer_alike : {B C : Type 0} (state : B → State Office) (state' : C → State Office)
+    → ReplaysAnswerAlike state state'
+replays_answer_alike state state' zone key old new old' new' rows others ans bs is is' start same =
     let mine = map (ask_of zone) rows in
     let yours = map (ask_of zone) others in
     let asks : own_asks key mine ≡ own_asks key yours =
@@ -365,11 +346,13 @@ replays_tell_alike state state' zone key old new old' new' rows others ans bs is
     (replies_of zone rows ans) (replies_of zone others bs)
     old new old' new' (whole state zone old new rows ans is) (whole state' zone old' new' others bs is') start
     is.none_passes_on is'.none_passes_on left in
-    let told : all_told (own_asks key mine) (own key mine ans) ≡ all_told (own_asks key mine) (own key yours bs) =
-    sym (told-to state zone old new rows ans is key) ∙ alike ∙ told-to state' zone old' new' others bs is' key
-    ∙ ap (λ ks. all_told ks (own key yours bs)) (sym asks) in
+    let answered : replies_of_asks (own_asks key mine) (own key mine ans)
+    ≡ replies_of_asks (own_asks key mine) (own key yours bs) =
+    sym (replies-to-own state zone old new rows ans is key) ∙ alike
+    ∙ replies-to-own state' zone old' new' others bs is' key
+    ∙ ap (λ ks. replies_of_asks ks (own key yours bs)) (sym asks) in
     let here = own-fit key mine ans (fits state zone old new rows ans is) in
     let there = subst (λ ks. AllFit ks (own key yours bs)) (sym asks)
     (own-fit key yours bs (fits state' zone old' new' others bs is')) in
-    ap (map answer_line) (own-is zone key rows ans ∙ told-same (own_asks key mine) (own key mine ans)
-    (own key yours bs) here there told ∙ sym (own-is zone key others bs))
+    ap (map answer_line) (own-is zone key rows ans ∙ replies-same (own_asks key mine) (own key mine ans)
+    (own key yours bs) here there answered ∙ sym (own-is zone key others bs))
