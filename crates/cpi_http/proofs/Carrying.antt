@@ -1,4 +1,4 @@
--- What was carried out, and its response.
+-- The message that was carried out, and its response.
 use Rattle.std.proofs.Common.{◌≡◌, ℕ, Bool, true, false, ◌||◌, Ok, Err, refl, subst}
 use Rattle.cpi_release.specs.State.{State}
 use Rattle.cpi_store.specs.Office.{Office}
@@ -30,8 +30,8 @@ module _ {B : Type 0} (state : B → State Office) where
   refused-carried status old r says = (answer.One (Refused BadRequest), (refl, refl), says)
 
   pub one-carried : (now : ℕ) (caller : Caller) (request : Request) (reply : Reply) (old new : B) (r : Response)
-      → IsServed state now caller old request reply new → SaysResponse (said_of (form_asked request) reply)
-      (is_failure_of reply) r
+      → IsServed state now caller old request reply new
+      → SaysResponse (said_of (form_asked request) reply) (is_failure_of reply) r
       → IsCarriedOut state (Ok (ask.One now caller request)) old new r
   one-carried now caller request reply old new r served says = (
     answer.One reply,

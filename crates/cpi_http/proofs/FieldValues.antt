@@ -12,8 +12,8 @@ use Rattle.cpi_http.specs.Fields.{Header, is_same_text, values_named, AreNamed}
 abbrev one : List ℕ → Header → List (List ℕ)
 one name h = if is_same_text h.0 name then h.1 ∷ [] else []
 
-values-append : (name : List ℕ) (xs ys : List Header) → values_named name (xs ++ ys) ≡ values_named name xs
-    ++ values_named name ys
+values-append : (name : List ℕ) (xs ys : List Header)
+    → values_named name (xs ++ ys) ≡ values_named name xs ++ values_named name ys
 values-append name xs ys = flat_map-append (one name) xs ys
 
 -- one field more
@@ -58,7 +58,7 @@ some values Of.Never is other = absurd (other refl)
 some values (Of.Once v) is other = let e = ap length is in omega (arith, e)
 some values Of.Again is other = omega (arith, is)
 
--- the name stands a second time
+-- the name comes a second time
 pub again : {X : Type 0} (name : List ℕ) (f : X → Header) (xs : List X) (i : ℕ) (d : X) (found : Named) → i < length xs
     → AreNamed (values_named name (map f (take i xs))) found → ¬ (found ≡ Of.Never)
     → is_same_text (f (get_or xs i d)).0 name ≡ true
@@ -70,9 +70,9 @@ again name f xs i d found inside before other same =
     let w = values-front name f xs (i + 1) in
     omega (arith, e, n, s, w)
 
--- the name stands for the first time
-pub first-name : {X : Type 0} (name : List ℕ) (f : X
-    → Header) (xs : List X) (i : ℕ) (d : X) (old new : Named) (v : Bor (List ℕ)) → i < length xs
+-- the name comes for the first time
+pub first-name : {X : Type 0} (name : List ℕ) (f : X → Header) (xs : List X) (i : ℕ) (d : X) (old new : Named)
+    (v : Bor (List ℕ)) → i < length xs
     → AreNamed (values_named name (map f (take i xs))) old → old ≡ Of.Never
     → is_same_text (f (get_or xs i d)).0 name ≡ true
     → new ≡ Of.Once v → v.now ≡ (f (get_or xs i d)).1 → AreNamed (values_named name (map f (take (i + 1) xs))) new

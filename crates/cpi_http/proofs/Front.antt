@@ -1,4 +1,4 @@
--- What can be said of a head from the bytes at the front of a stream.
+-- A head, and the bytes at the front of a stream.
 use Rattle.std.proofs.Common.{◌≡◌, ◌≢◌, ◌<◌, ◌≤◌, ℕ, List, [], ◌∷◌, ◌++◌, length, take, drop, get_or, refl, sym}
 use Rattle.std.proofs.Common.{ap, ◌∙◌, arith, append_assoc, append-nil, length-append, length-take, inl, inr}
 use Rattle.std.proofs.Math.Seq.{take-append_seam, get_or-append_seam}
@@ -38,7 +38,7 @@ last-same a c b d e =
     sym (get_or-append_seam a b [] 0) ∙ ap (λ l. get_or l (length a) 0) e ∙ ap (λ k. get_or (c ++ d ∷ []) k 0) n
     ∙ get_or-append_seam c d [] 0
 
--- a text that is not longer than the input stands at the front of the input
+-- the input begins with a text that is not longer than the input
 pub front-within : (input more text rest : List ℕ) → input ++ more ≡ text ++ rest → length text ≤ length input
     → input ≡ text ++ drop (length text) input
 front-within input more text rest e le =

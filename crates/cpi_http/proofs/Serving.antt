@@ -1,4 +1,4 @@
--- From what was read and what was sent to what one call did.
+-- From the bytes that were read and sent to the effect of one call.
 use Rattle.std.proofs.Common.{◌≡◌, ◌<◌, ℕ, Bool, List, [], ◌++◌, Option, Result, Ok, Err, IfOk, IfErr, OnOk}
 use Rattle.std.proofs.Common.{refl, sym, ap, ap₂, ◌∙◌, subst, inl, inr, length, take, append-nil}
 use Rattle.std.specs.Io.KnownBytes.{Consumes, Keeps, Appends}
@@ -37,7 +37,7 @@ said-bytes said failed r is =
     ap₂ (λ s t. http_of s t r.body.items) is.0 is.1 ∙ ap (http_of said.status said.content) is.2
 
 module _ {B : Type 0} (state : B → State Office) where
-  -- what was carried out was begun
+  -- a request that was carried out was begun
   pub answered-begun : (old new : B) (asked : Ask) (answered : Answer) → Answers state old asked answered new
       → Begins state old asked new
   answered-begun old new ask.Bad (answer.One reply) a = a.1
@@ -74,8 +74,8 @@ module _ {B : Type 0} (state : B → State Office) where
     sent-ok m answered (Err e) bytes status failed gives answers same st fa is sent = tt
 
     send-failed : (m : MessageAsks) (answered : Answer) (bytes : List ℕ) (e : WireFault)
-        → StreamGives f old new m → Answers state c.before (ask_in m) answered c.now → bytes ≡ body_bytes
-        (response_to m answered)
+        → StreamGives f old new m → Answers state c.before (ask_in m) answered c.now
+        → bytes ≡ body_bytes (response_to m answered)
         → SendFails c.written c.writing bytes e → GaveUp state f old new c e
     send-failed m answered bytes fault.Read gives answers same h = absurd h
     send-failed m answered bytes fault.Write gives answers same h = record {
@@ -91,8 +91,8 @@ module _ {B : Type 0} (state : B → State Office) where
         (inr (m, gives, answered-begun c.before c.now (ask_in m) answered answers), h)
 
     pub sent-err : (m : MessageAsks) (answered : Answer) (r : Result Served WireFault) (bytes : List ℕ)
-        → StreamGives f old new m → Answers state c.before (ask_in m) answered c.now → bytes ≡ body_bytes
-        (response_to m answered)
+        → StreamGives f old new m → Answers state c.before (ask_in m) answered c.now
+        → bytes ≡ body_bytes (response_to m answered)
         → IfErr r (SendFails c.written c.writing bytes) → IfErr r (GaveUp state f old new c)
     sent-err m answered (Ok served) bytes gives answers same h = tt
     sent-err m answered (Err e) bytes gives answers same h = send-failed m answered bytes e gives answers same h
@@ -167,8 +167,8 @@ module _ (s : Setting) (head : List ℕ) (h : RequestHead) (size : Result ℕ �
       (subst (λ x. IsBody s.now s.zone size x h.target body m) parts.called_is
       (subst (λ x. IsBody s.now s.zone size called x body m) parts.path_is is))
 
-  gives-headed : (m : MessageAsks) → StreamGives (bodies s.now s.zone size called path) mid new m → StreamGives
-      (messages s) old new m
+  gives-headed : (m : MessageAsks) → StreamGives (bodies s.now s.zone size called path) mid new m
+      → StreamGives (messages s) old new m
   gives-headed m gives = (
     head ++ gives.0,
     Consumes-trans old mid new head gives.0 taken gives.1,

@@ -42,8 +42,8 @@ pub message-unique : (s : Setting) (taken other left rest : List ℕ) (m n : Mes
     → IsMessage s taken m → IsMessage s other n → m ≡ n
 message-unique s taken other left rest _ _ e (malformed p) (malformed q) = refl
 message-unique s taken other left rest _ _ e (malformed p) (headed h body n reads is) =
-    absurd (p left h (body
-    ++ rest) (subst (λ l. ReadsHead l h (body ++ rest)) (sym e) (longer other body rest h reads)))
+    absurd (p left h (body ++ rest)
+    (subst (λ l. ReadsHead l h (body ++ rest)) (sym e) (longer other body rest h reads)))
 message-unique s taken other left rest _ _ e (headed h body m reads is) (malformed q) =
     absurd (q rest h (body ++ left) (subst (λ l. ReadsHead l h (body ++ left)) e (longer taken body left h reads)))
 message-unique s taken other left rest _ _ e (headed h body m reads is) (headed k text n reads' is') =

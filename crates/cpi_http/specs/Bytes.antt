@@ -11,7 +11,7 @@ media_type Json = codes "application/json"
 media_type Text = codes "text/plain; charset=utf-8"
 media_type Csv = codes "text/csv; charset=utf-8"
 
--- a line of a head
+-- a line of a head ends in CR LF
 abbrev pub line : List ℕ → List ℕ
 line text = text ++ codes "\r\n"
 

@@ -1,4 +1,4 @@
--- The route that a head calls, and who calls it; or the status that refuses the head.
+-- The route of a request and its caller, or the status that refuses it.
 use Rattle.std.specs.Prelude.{ℕ, List, Option, Some, None, Result, Ok, Err, codes}
 use Rattle.cpi_office.specs.declared.caller.Caller.{Caller}
 use Rattle.cpi_http.specs.declared.routes.Route.{Route}
@@ -13,7 +13,7 @@ abbrev pub with_caller : Route → Option Caller → Called
 with_caller route None = Err 400
 with_caller route (Some caller) = Ok (route, caller)
 
--- the route is looked for before the caller
+-- the route is judged before the caller: 404 comes before 400
 abbrev pub called_by : Option Route → Option Caller → Called
 called_by None caller = Err 404
 called_by (Some route) caller = with_caller route caller

@@ -6,7 +6,7 @@ use Rattle.cpi_office.specs.declared.caller.Caller.{Caller}
 use Rattle.cpi_office.specs.declared.caller.Caller.TheVariants.{Public, Collector, Desk}
 use Rattle.cpi_http.specs.Fields.{after_scheme}
 
--- whoever has the desk's key is the desk
+-- a message with the desk's key comes from the desk
 abbrev pub caller_of_key : ℕ → ℕ → Caller
 caller_of_key desk_key key = if key == desk_key then Desk else Collector key
 
@@ -17,7 +17,7 @@ caller_named desk_key value = do
   key ← key_of text
   Some (caller_of_key desk_key key)
 
--- no field is the public, and two are nobody
+-- without the field the caller is the public; with two there is no caller
 abbrev pub caller_in_fields : ℕ → List (List ℕ) → Option Caller
 caller_in_fields desk_key [] = Some Public
 caller_in_fields desk_key (value ∷ []) = caller_named desk_key value

@@ -3,17 +3,17 @@ use Rattle.std.specs.Prelude.{All, ◌⊎◌, ◌≢◌, ◌≡◌, ℕ, ◌≤�
 use Rattle.httparse.specs.Grammar.{RequestHead, ReadsRequest, print_request, MayBecomeRequest}
 use Rattle.cpi_http.specs.declared.limits.TheConstants.{MOST_FIELDS, MOST_HEAD_BYTES}
 
--- the bytes are the head h, which is within the limits, and then rest
+-- the bytes are the head h, which is within the limits, and then the rest
 pub record ReadsHead (bytes : List ℕ) (h : RequestHead) (rest : List ℕ) : Type 0 where
   pub reads : ReadsRequest bytes h rest
   pub short : length (print_request h) ≤ MOST_HEAD_BYTES
   pub few : length h.fields ≤ MOST_FIELDS
 
--- no head within the limits stands at the front
+-- the bytes begin with no head within the limits
 abbrev pub HasNoHead : List ℕ → Type 0
 HasNoHead bytes = (h : RequestHead) (rest : List ℕ) → ¬ (ReadsHead bytes h rest)
 
--- whatever bytes follow, no head within the limits stands at the front
+-- whatever bytes follow, they begin with no head within the limits
 abbrev pub NeverHasHead : List ℕ → Type 0
 NeverHasHead bytes = (more : List ℕ) → HasNoHead (bytes ++ more)
 

@@ -1,4 +1,4 @@
--- What reading the head of a request came to.
+-- How reading the head of a request ended.
 use Rattle.std.specs.Prelude.{⊤, ℕ, List, [], Option}
 use Rattle.std.specs.Io.KnownBytes.{IsAtEnd}
 use Rattle.httparse.specs.Grammar.{RequestHead}
@@ -10,14 +10,14 @@ use Rattle.cpi_wire.specs.declared.fault.WireFault.TheVariants as fault
 use Rattle.cpi_http.specs.declared.head.HeadEnd.{HeadEnd}
 use Rattle.cpi_http.specs.declared.head.HeadEnd.TheVariants.{Whole, Malformed, Cut}
 
--- the bytes that were taken, and those that are left, are as the answer says
+-- how reading ended is so by the bytes that were taken and those that are left
 abbrev pub HeadEndIs : List ℕ → List HeaderSpan → Option (List ℕ) → HeadEnd → Type 0
 HeadEndIs taken fields left (Whole spans) =
     (h : RequestHead) × ReadsHead taken h [] × IsRequestAt taken fields spans h × IsRequestWithin taken fields spans
 HeadEndIs taken fields left Malformed = NeverHasHead taken
 HeadEndIs taken fields left Cut = HasNoHead taken × MayGoOn taken × IsAtEnd left
 
--- a fault of reading, or want of memory
+-- a fault of reading, or lack of memory
 abbrev pub IsFaultOfReading : WireFault → Type 0
 IsFaultOfReading fault.Read = ⊤
 IsFaultOfReading fault.Write = ⊥

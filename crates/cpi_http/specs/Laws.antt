@@ -1,4 +1,4 @@
--- What the responses to a caller hang on.
+-- What the responses to a caller depend on.
 use Rattle.std.specs.Prelude.{◌≡◌, ◌≢◌, ℕ, List, ◌++◌, Option, Some, Ok}
 use Rattle.cpi_release.specs.State.{State}
 use Rattle.cpi_release.specs.declared.form.Form.{Form}
@@ -28,12 +28,12 @@ OneMessage =
     IsMessage s taken m → IsMessage s other n → m ≡ n
 
 module _ {B : Type 0} (state : B → State Office) where
-  -- each was carried out in turn, with its answer
+  -- the messages were carried out in turn, each with its answer
   abbrev pub CarriedOut : B → List Ask → List Answer → B → Type 0
   CarriedOut old asks answers new = InTurn (Answers state) old asks answers new
 
-  -- From a sound office some messages were answered, and records, and then one message of the caller, over a store that
-  -- was clean then, and without a reply that the office is unavailable.
+  -- The answer to the last message: from a sound office some messages were answered, and then this one of the caller.
+  -- The store was clean then, and no reply to it says that the office is unavailable.
   pub record IsLastAnswer (s : Setting) (k : Caller) (start : B) (taken : List ℕ) (m : MessageAsks)
       (answered : Answer) : Type 0 where
     pub asks : List Ask
@@ -48,9 +48,9 @@ module _ {B : Type 0} (state : B → State Office) where
     pub caller : IsFrom k (ask_in m)
     pub served : NoneFails (all_replies answered)
 
-  -- what the caller has seen since the start of what was accepted before that message
-  abbrev pub seen_before : (s : Setting) (k : Caller) (start : B) (taken : List ℕ) (m : MessageAsks) (answered : Answer)
-      → IsLastAnswer s k start taken m answered → List Sight
+  -- what the caller has seen since the start, of the changes accepted before that message
+  abbrev pub seen_before : (s : Setting) (k : Caller) (start : B) (taken : List ℕ) (m : MessageAsks)
+      (answered : Answer) → IsLastAnswer s k start taken m answered → List Sight
   seen_before s k start taken m answered is =
       let served = all_served (requests_of_asks is.asks) (replies_of_asks is.asks is.answers) in
       sights_of k (moment_of (ask_in m)) (trace served (state start).held)
@@ -61,9 +61,9 @@ AreMessagesOfARun {B} state =
     (old new : B) (asks : List Ask) (answers : List Answer) → CarriedOut state old asks answers new →
     RunOverBook (state old) (state new) (requests_of_asks asks) (replies_of_asks asks answers)
 
--- In two runs under one zone and one desk key, over books of any two kinds: where they show a collector, or the public,
--- the same at the moment of a message, at the start and of what was accepted since, the same message of that caller has
--- the same response, byte for byte, whatever all others sent.
+-- In two runs under one zone and one desk key, over books of any two kinds: if they show a collector, or the public,
+-- the same at the moment of a message, at the start and of the changes accepted since, then the same message of that
+-- caller has the same response, byte for byte, whatever all others sent.
 abbrev pub ResponsesAreAlike : {B C : Type 0} → (B → State Office) → (C → State Office) → Type 0
 ResponsesAreAlike {B} {C} state state' =
     (s : Setting) (k : Caller) (taken : List ℕ) (m n : MessageAsks) (answered answered' : Answer)
@@ -75,7 +75,7 @@ ResponsesAreAlike {B} {C} state state' =
 
 -- From a sound office some messages were answered, and then one that asks for a table: its response is that of the
 -- printed table that the index gives over the quotes and weights frozen by then, in the revision that is named, or else
--- in the latest that is published; where there is none, that of the refusal.
+-- in the latest that is published; if there is none, that of the refusal.
 abbrev pub TableResponsesAreComputed : {B : Type 0} → (B → State Office) → Type 0
 TableResponsesAreComputed {B} state =
     (s : Setting) (k : Caller) (taken : List ℕ) (m : MessageAsks) (answered : Answer) (start : B)
@@ -84,7 +84,7 @@ TableResponsesAreComputed {B} state =
     body_bytes (response_to m answered)
     ≡ body_bytes (said_of (Some form) (computed_reply now month form revision (state is.mid).held))
 
--- All replies of messages in turn to requests for tables, the rows of their imports among them, are so.
+-- All replies to requests for tables in messages that were carried out in turn, including rows of imports, are so.
 abbrev pub MessagesReportTables : {B : Type 0} → (B → State Office) → Type 0
 MessagesReportTables {B} state =
     (old new : B) (asks : List Ask) (answers : List Answer) → CarriedOut state old asks answers new →

@@ -1,4 +1,4 @@
--- One HTTP message: what it asks, check by check.
+-- One HTTP message: the request that it asks for, check by check.
 use Rattle.std.specs.Prelude.{◌≡◌, ℕ, ◌<◌, List, [], length, map, Option, Some, None, Result, Ok, Err}
 use Rattle.httparse.specs.Grammar.{RequestHead}
 use Rattle.httparse.specs.Spans.{name_and_value}
@@ -14,7 +14,7 @@ use Rattle.cpi_http.specs.RouteAsks.{ask_of_route}
 abbrev pub MessageAsks : Type 0
 MessageAsks = Result Ask ℕ
 
--- when a message comes, in seconds since 1970 UTC, by which clock its civil times are read, and the desk's key
+-- the moment of a message, in seconds since 1970 UTC, the clock by which its civil times are read, and the desk's key
 pub record Setting : Type 0 where
   pub now : ℕ
   pub zone : ZoneRule
@@ -25,17 +25,17 @@ setting now zone desk_key = record { now = now; zone = zone; desk_key = desk_key
 
 -- ---- after the head
 
--- what makes no record is refused
+-- arguments that make no record are refused
 abbrev pub or_refused : Option Ask → MessageAsks
 or_refused None = Err 400
 or_refused (Some ask) = Ok ask
 
--- a route with its caller, its path and its body
+-- what a route asks with its caller, its path and its body
 abbrev pub asked_by : ℕ → ZoneRule → Called → List ℕ → List ℕ → MessageAsks
 asked_by now zone (Ok called) path body = or_refused (ask_of_route zone now called.1 called.0 path body)
 asked_by now zone (Err status) path body = Err status
 
--- the bytes behind a head are its body, or the message is refused before its body is read
+-- the bytes after a head are its body, or the message is refused before its body is read
 pub data IsBody (now : ℕ) (zone : ZoneRule) (size : Result ℕ ℕ) (called : Called) (path taken : List ℕ)
     : MessageAsks → Type 0 where
   refused : (status : ℕ) → size ≡ Err status → taken ≡ [] → IsBody now zone size called path taken (Err status)
@@ -46,13 +46,13 @@ pub data IsBody (now : ℕ) (zone : ZoneRule) (size : Result ℕ ℕ) (called : 
 abbrev pub headers_of : RequestHead → List Header
 headers_of h = map name_and_value h.fields
 
--- the bytes behind the head h are its body
+-- the bytes after the head h are its body
 abbrev pub IsBodyAfter : Setting → RequestHead → List ℕ → MessageAsks → Type 0
 IsBodyAfter s h body m =
     IsBody s.now s.zone (framing_of (headers_of h)) (called_of s.desk_key (headers_of h) h.method h.target) h.target
     body m
 
--- The bytes that were taken are a message: a head and its body, or such that no head comes of them, which is refused.
+-- The bytes that were taken are a message: a head and its body, or bytes that no head begins with, which are refused.
 pub data IsMessage (s : Setting) (taken : List ℕ) : MessageAsks → Type 0 where
   malformed : NeverHasHead taken → IsMessage s taken (Err 400)
   headed : (h : RequestHead) (body : List ℕ) (m : MessageAsks) → ReadsHead taken h body → IsBodyAfter s h body m

@@ -23,13 +23,13 @@ use Rattle.cpi_http.specs.Bytes.{http_of}
 use Rattle.cpi_http.specs.Message.{MessageAsks}
 use Rattle.cpi_http.specs.Statuses.{status_of_reply}
 
--- what a response says, before it is put into bytes
+-- a response before it is put into bytes
 pub record Said : Type 0 where
   pub status : ℕ
   pub content : Content
   pub body : List ℕ
 
--- a reply line
+-- the response whose body is the line of a reply
 abbrev pub in_json : ℕ → List ℕ → Said
 in_json status line = record { status = status; content = content.Json; body = line }
 
@@ -37,28 +37,28 @@ abbrev pub content_of : Form → Content
 content_of form.Text = content.Text
 content_of form.Csv = content.Csv
 
--- a printed table, as it is
+-- the response whose body is a printed table
 abbrev pub as_printed : Form → List ℕ → Said
 as_printed f printed = record { status = 200; content = content_of f; body = printed }
 
--- the form of the table that is asked for
+-- the form of the table that a request asks for
 abbrev pub form_asked : Request → Option Form
 form_asked (request.Table month f edition) = Some f
 form_asked other = None
 
--- a table that was found is sent as it was printed, and every other reply as its line
+-- a table is sent as it was printed, and every other reply as its line
 abbrev pub said_of : Option Form → Reply → Said
 said_of (Some f) (reply.Table printed) = as_printed f printed
 said_of f reply = in_json (status_of_reply reply) (line_of_reply reply)
 
--- an import that was carried out has the status 200, whatever its rows were told
+-- an import that was carried out has the status 200, whatever the replies to its rows are
 abbrev pub said_to : Ask → Answer → Said
 said_to ask.Bad answered = in_json 400 (answer_line answered)
 said_to (ask.One now caller request) (answer.One reply) = said_of (form_asked request) reply
 said_to (ask.One now caller request) (answer.Rows replies) = in_json 200 (answer_line (answer.Rows replies))
 said_to (ask.Import now caller rows) answered = in_json 200 (answer_line answered)
 
--- a message that is refused is told so by its status
+-- a message that is refused has the status that refuses it
 abbrev pub response_to : MessageAsks → Answer → Said
 response_to (Ok ask) answered = said_to ask answered
 response_to (Err status) answered = in_json status (answer_line answered)
@@ -66,12 +66,12 @@ response_to (Err status) answered = in_json status (answer_line answered)
 abbrev pub body_bytes : Said → List ℕ
 body_bytes said = http_of said.status said.content said.body
 
--- the value that the program holds says this, and whether the office was unavailable
+-- the value of the program is this response, and states whether the office was unavailable
 abbrev pub SaysResponse : Said → Bool → Response → Type 0
 SaysResponse said failed r =
     (r.status ≡ said.status) × (r.content ≡ said.content) × (r.body.items ≡ said.body) × (r.failed ≡ failed)
 
--- what the office is asked: nothing by a message that is refused
+-- the request that the office gets: none from a message that is refused
 abbrev pub ask_in : MessageAsks → Ask
 ask_in (Ok ask) = ask
 ask_in (Err status) = ask.Bad

@@ -25,7 +25,7 @@ pub record RouteRow : Type 0 where
 abbrev row : List ℕ → List ℕ → List ℕ → RouteRow
 row method path word = record { method = method; path = path; word = word }
 
--- the table
+-- the table of routes
 abbrev pub row_of_route : Route → RouteRow
 row_of_route route.Items = row (codes "GET") (codes "/items") (codes "items")
 row_of_route route.Tables = row (codes "GET") (codes "/tables") (codes "tables")
@@ -43,7 +43,7 @@ method_of p = (row_of_route p).method
 abbrev pub word_of_route : Route → List ℕ
 word_of_route p = (row_of_route p).word
 
--- the routes, and one more
+-- the routes with one more
 abbrev pub with_route : Routes → Route → Routes
 with_route routes p = with_parsed (parse_route (row_of_route p).path) p routes
 

@@ -1,4 +1,4 @@
--- What one call of `serve_one` does.
+-- The effect of one call of `serve_one`.
 use Rattle.std.specs.Prelude.{◌≡◌, ◌⊎◌, ◌<◌, ℕ, Bool, List, length, take, Option, Result, Ok}
 use Rattle.std.specs.Io.KnownBytes.{Consumes, IsAtEnd, Keeps, Appends}
 use Rattle.cpi_codes.specs.Zone.{ZoneRule}
@@ -15,7 +15,7 @@ use Rattle.cpi_http.specs.Called.{Called}
 use Rattle.cpi_http.specs.Message.{MessageAsks, Setting, IsBody, IsMessage, IsPart}
 use Rattle.cpi_http.specs.Response.{ask_in, response_to, body_bytes}
 
--- what the bytes of a stream may be: a message, which asks for something or is refused, or a part of one
+-- the bytes of a stream may be a message, which asks for something or is refused, or a part of one
 pub record Framing : Type 1 where
   pub message : List ℕ → MessageAsks → Type 0
   pub part : List ℕ → Type 0
@@ -24,7 +24,7 @@ pub record Framing : Type 1 where
 abbrev pub messages : Setting → Framing
 messages s = record { message = IsMessage s; part = IsPart }
 
--- what follows a head: a body of this size, or none where the head is refused
+-- after a head comes a body of this size, or none if the head is refused
 abbrev pub bodies : ℕ → ZoneRule → Result ℕ ℕ → Called → List ℕ → Framing
 bodies now zone size called path = record {
   message = IsBody now zone size called path;
@@ -49,7 +49,7 @@ pub record ServedChange (B : Type 0) : Type 0 where
 abbrev pub served_change : {B : Type 0} → B → B → Option (List ℕ) → Option (List ℕ) → ServedChange B
 served_change before now written writing = record { before = before; now = now; written = written; writing = writing }
 
--- why a response wasn't written whole
+-- the reason why a response wasn't written whole
 abbrev pub SendFails : Option (List ℕ) → Option (List ℕ) → List ℕ → WireFault → Type 0
 SendFails old new bytes fault.Read = ⊥
 SendFails old new bytes fault.Write = (count : ℕ) × (count < length bytes) × Appends old new (take count bytes)
@@ -66,12 +66,12 @@ module _ {B : Type 0} (state : B → State Office) (f : Framing) (old new : Opti
     pub status_is : status ≡ (response_to asked answered).status
     pub failed_is : failed ≡ some_fails (all_replies answered)
 
-  -- a message was answered, or the stream ended within one: then nothing was done and nothing written
+  -- a message was answered, or the stream ended within one: then nothing was carried out and nothing written
   abbrev pub IsServed : Served → Type 0
   IsServed (served.Answered status failed) = IsAnswered status failed
   IsServed served.Cut = EndsWithin f old new × (c.now ≡ c.before) × Keeps c.written c.writing
 
-  -- a message was carried out, and of its response a part alone was written
+  -- a message was carried out, and only a part of its response was written
   pub record IsCutOff : Type 0 where
     pub asked : MessageAsks
     pub answered : Answer
@@ -81,8 +81,8 @@ module _ {B : Type 0} (state : B → State Office) (f : Framing) (old new : Opti
     pub short : count < length (body_bytes (response_to asked answered))
     pub written : Appends c.written c.writing (take count (body_bytes (response_to asked answered)))
 
-  -- the connection was given up: nothing was done; the message was carried out, but not answered whole; or memory was
-  -- refused, and the message was not begun, or some first commands of it were carried out
+  -- the connection was given up: nothing was carried out; or the message was, but not answered whole; or memory ran
+  -- out, and the message was not begun, or its first commands were carried out
   abbrev pub GaveUp : WireFault → Type 0
   GaveUp fault.Read = (c.now ≡ c.before) × Keeps c.written c.writing
   GaveUp fault.Write = IsCutOff

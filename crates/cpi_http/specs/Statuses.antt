@@ -5,7 +5,7 @@ use Rattle.cpi_office.specs.declared.refusal.Refusal.TheVariants as refusal
 use Rattle.cpi_office.specs.declared.reply.Reply.{Reply}
 use Rattle.cpi_office.specs.declared.reply.Reply.TheVariants as reply
 
--- a request that stands against what the office holds is a conflict
+-- a request that conflicts with what the office has stored has the status 409
 abbrev pub status_of_refusal : Refusal → ℕ
 status_of_refusal refusal.BadRequest = 400
 status_of_refusal refusal.UnknownKey = 401

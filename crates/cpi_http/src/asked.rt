@@ -1,4 +1,4 @@
-//! What a message asks.
+//! The request that a message asks for.
 ghost use Rattle.std.specs.Prelude.{◌≡◌, IfOk};
 ghost use Rattle.cpi_http.specs.Message.{asked_by};
 
@@ -10,7 +10,8 @@ use cpi_wire::Ask;
 use http::StatusCode;
 use std::alloc::{AllocError, Global};
 
-/// What a route with its caller, its path and its body asks, or the status that refuses the message.
+/// What a route asks with its caller, its path and its body; or the status that refuses the message: that of the head,
+/// or 400 if the arguments make no record.
 pub(crate) fn asked_by(
     alloc: Global,
     now: Moment,

@@ -9,7 +9,7 @@ use cpi_wire::WireFault;
 use std::alloc::Global;
 use std::io::Read;
 
-/// Fills the body, or answers false where the stream ended before.
+/// Fills the body and returns true, or returns false if the stream ends before the body does. The error is `Read`.
 pub fn read_body<R: Read>(
     reader: &mut R,
     calls_left: &mut u32,
@@ -29,7 +29,7 @@ pub fn read_body<R: Read>(
     Ok(true)
 }
 
-/// Reads a body of so many bytes, or none where the stream ended before.
+/// Reads a body of `n` bytes; none if the stream ends before. The errors are `Read` and `NoMemory`.
 pub fn receive_body<R: Read>(
     alloc: Global,
     reader: &mut R,

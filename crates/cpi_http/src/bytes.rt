@@ -1,11 +1,11 @@
-//! The bytes of a response.
+//! The bytes of a response (RFC 9112, section 4).
 ghost use Rattle.std.specs.Prelude.{◌≡◌, ◌++◌, IfOk, string_bytes};
 ghost use Rattle.cpi_http.specs.Bytes.{media_type, head_text, head_of, challenge, phrase};
 
 use http::StatusCode;
 use std::alloc::{AllocError, Global};
 
-/// What a body is.
+/// The format of a body.
 #[derive(Clone, Copy, PartialEq, Eq)]
 pub enum Content {
     Json,
@@ -14,7 +14,7 @@ pub enum Content {
 }
 
 impl Content {
-    /// The media type.
+    /// The media type (RFC 9110, section 8.3.1).
     pub fn media_type(self) -> &'static str
         ensures { result.now ≡ media_type self }
     {
@@ -26,6 +26,7 @@ impl Content {
     }
 }
 
+// The field that a response with the status 401 has to have (RFC 9110, section 11.6.1); empty for other statuses.
 fn challenge(status: StatusCode) -> &'static str
     ensures { result.now ≡ challenge status }
 {
@@ -36,12 +37,14 @@ fn challenge(status: StatusCode) -> &'static str
     }
 }
 
+// The reason phrase of a status; empty if the status has none.
 fn phrase(status: StatusCode) -> &'static str
     ensures { result.now ≡ phrase status }
 {
     status.canonical_reason().unwrap_or("")
 }
 
+// The status line, the fields and the empty line, from their parts. `more` is empty, or fields that end in CR LF.
 fn head_text(
     alloc: Global,
     code: u16,
@@ -57,7 +60,7 @@ fn head_text(
     )
 }
 
-// The status line, the fields and the empty line.
+// The status line, the fields and the empty line of a response. The size is that of the body, in bytes.
 fn head_of(
     alloc: Global,
     status: StatusCode,
@@ -76,7 +79,7 @@ fn head_of(
     )
 }
 
-/// The head of a response whose body has this size, and the first bytes of the body.
+/// The head of a response whose body has this size in bytes, and after it the first bytes of the body.
 pub(crate) fn front_of(
     alloc: Global,
     status: StatusCode,

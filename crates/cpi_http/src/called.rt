@@ -1,4 +1,4 @@
-//! The route that a head calls, and who calls it.
+//! The route of a request and its caller.
 ghost use Rattle.std.specs.Prelude.{◌≡◌, length, map, All, IsUtf8};
 ghost use Rattle.httparse.specs.Spans.{IsHeaderWithin, header_bytes};
 ghost use Rattle.cpi_http.specs.Called.{called_of};

@@ -9,7 +9,7 @@ use cpi_codes::Key;
 use cpi_office::Caller;
 use httparse::spans::HeaderSpan;
 
-// Whoever bears a key. Keys are compared as numbers.
+// The caller with a key. Keys are compared as numbers.
 fn caller_of_key(desk_key: Key, key: Key) -> Caller
     ensures { result ≡ caller_of_key desk_key key }
 {
@@ -20,7 +20,7 @@ fn caller_of_key(desk_key: Key, key: Key) -> Caller
     }
 }
 
-// The caller whose key the value tells.
+// The caller by the value of `Authorization`; none if the value is not the scheme `CPI-Key` and a key.
 fn caller_named(desk_key: Key, value: &[u8]) -> Option<Caller>
     ensures { result ≡ caller_named desk_key value.now }
 {
@@ -29,8 +29,8 @@ fn caller_named(desk_key: Key, value: &[u8]) -> Option<Caller>
     Some(caller_of_key(desk_key, key))
 }
 
-/// The caller of a message: the public without the field `Authorization`; none where it stands twice, or isn't
-/// `CPI-Key` in any case, one or more spaces and a key.
+/// The caller of a message by its field `Authorization` (RFC 9110, section 11.6.2): the public without that field; none
+/// if there are two, or if the value isn't `CPI-Key` in any case, one or more spaces and a key.
 pub(crate) fn caller_in_fields(desk_key: Key, buf: &[u8], fields: &[HeaderSpan]) -> Option<Caller>
     requires { All (IsHeaderWithin (length buf.now)) fields.now }
     ensures { let values = values_named (codes "authorization") (map (header_bytes buf.now) fields.now) in

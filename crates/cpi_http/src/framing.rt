@@ -9,7 +9,7 @@ use crate::limits::MOST_BODY_BYTES;
 use http::StatusCode;
 use httparse::spans::HeaderSpan;
 
-// The length that a value writes.
+// The length in bytes that a value states: one or more digits, up to `MOST_BODY_BYTES`.
 fn length_of_value(value: &[u8]) -> Result<usize, StatusCode>
     ensures { result ≡ length_of_value value.now }
 {
@@ -29,7 +29,7 @@ fn length_of_value(value: &[u8]) -> Result<usize, StatusCode>
     Ok(length)
 }
 
-// The length of the body that the fields announce.
+// The length of the body by the field `Content-Length`, in bytes: 0 without it, 400 if there are two.
 fn body_length(buf: &[u8], fields: &[HeaderSpan]) -> Result<usize, StatusCode>
     requires { All (IsHeaderWithin (length buf.now)) fields.now }
     ensures { result ≡ body_length (values_named (codes "content-length") (map (header_bytes buf.now) fields.now)) }
@@ -41,8 +41,8 @@ fn body_length(buf: &[u8], fields: &[HeaderSpan]) -> Result<usize, StatusCode>
     }
 }
 
-/// The length of the body, in bytes, or the status that refuses the message before its body is read: 501 where it is
-/// coded for its transfer, 400 where its length isn't one number, 413 where that is above 65,536.
+/// The length of the body, in bytes, or the status that refuses the message before its body is read: 501 if it has a
+/// transfer coding, 400 if its length isn't one number, 413 if its length is above `MOST_BODY_BYTES`.
 pub(crate) fn framing(buf: &[u8], fields: &[HeaderSpan]) -> Result<usize, StatusCode>
     requires { All (IsHeaderWithin (length buf.now)) fields.now }
     ensures { result ≡ framing_of (map (header_bytes buf.now) fields.now) }

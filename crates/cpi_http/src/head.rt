@@ -1,4 +1,4 @@
-//! Reading the head of a request.
+//! Reading the head of a request (RFC 9112, sections 2 to 5).
 ghost use Rattle.std.specs.Prelude.{◌≡◌, ◌≤◌, [], ◌∷◌, ◌++◌, length, OnOk, IfOk, IfErr};
 ghost use Rattle.std.specs.Io.KnownBytes.{Consumes};
 ghost use Rattle.cpi_http.specs.HeadEnd.{HeadEndIs, IsFaultOfReading};
@@ -11,7 +11,7 @@ use httparse::spans::{HeaderSpan, RequestSpans, parse_request};
 use std::alloc::AllocError;
 use std::io::Read;
 
-/// What the bytes of a stream began with.
+/// How reading a head ended.
 #[derive(Clone, Copy, PartialEq, Eq)]
 pub enum HeadEnd {
     /// A head within the limits, which ends where reading stopped.
@@ -22,6 +22,7 @@ pub enum HeadEnd {
     Cut,
 }
 
+// Adds one byte to the buffer.
 fn push_byte(buf: &mut Vec<u8>, byte: u8) -> Result<(), AllocError>
     ensures { OnOk result (buf.new.items ≡ buf.old.items ++ byte ∷ []) }
 {
@@ -29,7 +30,7 @@ fn push_byte(buf: &mut Vec<u8>, byte: u8) -> Result<(), AllocError>
     Ok(())
 }
 
-/// Reads the head of a request, and no byte after it.
+/// Reads the head of a request, and no byte after it. The errors are `Read` and `NoMemory`.
 pub fn read_head<R: Read>(
     reader: &mut R,
     calls_left: &mut u32,

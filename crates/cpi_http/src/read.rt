@@ -1,4 +1,4 @@
-//! Reading from a stream that may interrupt, within a number of calls.
+//! Reading from a stream that may be interrupted, in a limited number of calls.
 ghost use Rattle.std.specs.Prelude.{◌≡◌, ◌≤◌, ◌<◌, length, take, IfOk, IfErr, IfNone};
 ghost use Rattle.std.specs.Io.KnownBytes.{Consumes, IsAtEnd};
 ghost use Rattle.cpi_http.specs.Head.{byte_list};
@@ -6,7 +6,7 @@ ghost use Rattle.cpi_http.specs.Head.{byte_list};
 use cpi_wire::WireFault;
 use std::io::{ErrorKind, Read};
 
-/// Reads as `read` does, again where it was interrupted, while calls are left.
+/// Reads as `read` does, and again if it was interrupted. The error is `Read`: `read` failed, or no call is left.
 pub fn read_some<R: Read>(
     reader: &mut R,
     calls_left: &mut u32,
@@ -31,7 +31,7 @@ pub fn read_some<R: Read>(
     Err(WireFault::Read)
 }
 
-/// The next byte, or none at the end of the stream.
+/// The next byte; none at the end of the stream. The error is `Read`.
 pub fn read_byte<R: Read>(reader: &mut R, calls_left: &mut u32) -> Result<Option<u8>, WireFault>
     ensures bytes { IfOk result (λ b. Consumes (R.remaining reader.old) (R.remaining reader.new) (byte_list b)) }
     ensures end { IfOk result (λ b. IfNone b (IsAtEnd (R.remaining reader.new))) }

@@ -1,4 +1,4 @@
-//! Carrying out what a message asks, and its response.
+//! Carrying out the request of a message, and its response.
 ghost use Rattle.std.specs.Prelude.{◌≡◌, false, Some, Ok, IfOk, OnErr};
 ghost use Rattle.cpi_office.specs.Calls.{is_failure_of};
 ghost use Rattle.cpi_office.specs.declared.refusal.Refusal.TheVariants.{BadRequest};
@@ -23,11 +23,11 @@ pub(crate) struct Response {
     pub(crate) status: StatusCode,
     pub(crate) content: Content,
     pub(crate) body: Vec<u8>,
-    /// One of the replies is that the office is unavailable.
+    /// Whether one of the replies says that the office is unavailable.
     pub(crate) failed: bool,
 }
 
-// A reply as its line.
+// The response whose body is the line of a reply, in JSON.
 fn line_response(alloc: Global, status: StatusCode, reply: &Reply) -> Result<Response, AllocError>
     ensures { IfOk result (SaysResponse (in_json status (line_of_reply reply.now)) (is_failure_of reply.now)) }
 {
@@ -46,6 +46,7 @@ pub(crate) fn refusal(alloc: Global, status: StatusCode) -> Result<Response, All
     line_response(alloc, status, &Reply::Refused(Refusal::BadRequest))
 }
 
+// The format of a table in a form.
 fn content_of(form: Form) -> Content
     ensures { result ≡ content_of form }
 {
@@ -55,7 +56,7 @@ fn content_of(form: Form) -> Content
     }
 }
 
-// A printed table, as it is.
+// The response whose body is a printed table.
 fn table_response(alloc: Global, form: Form, printed: &PrintedTable) -> Result<Response, AllocError>
     ensures { IfOk result (SaysResponse (as_printed form printed.now) false) }
 {
@@ -67,7 +68,7 @@ fn table_response(alloc: Global, form: Form, printed: &PrintedTable) -> Result<R
     })
 }
 
-// The response to who asked for a table.
+// The response to a request for a table in a form: the table, or the line of the refusal.
 fn form_response(alloc: Global, form: Form, reply: &Reply) -> Result<Response, AllocError>
     ensures { IfOk result (SaysResponse (said_of (Some form) reply.now) (is_failure_of reply.now)) }
 {
@@ -77,7 +78,7 @@ fn form_response(alloc: Global, form: Form, reply: &Reply) -> Result<Response, A
     }
 }
 
-// A reply, as the request asks for it.
+// The response of a reply; the form is that of the table, if the request asks for one.
 fn reply_response(alloc: Global, form: Option<Form>, reply: &Reply) -> Result<Response, AllocError>
     ensures { IfOk result (SaysResponse (said_of form reply.now) (is_failure_of reply.now)) }
 {
@@ -87,7 +88,7 @@ fn reply_response(alloc: Global, form: Option<Form>, reply: &Reply) -> Result<Re
     }
 }
 
-// The form of the table that is asked for.
+// The form of the table that a request asks for; none for other requests.
 fn form_asked(request: &Request) -> Option<Form>
     ensures { result ≡ form_asked request.now }
 {
@@ -97,7 +98,7 @@ fn form_asked(request: &Request) -> Option<Form>
     }
 }
 
-/// Carries out what a message asks. Without memory it may have been begun.
+/// Carries out what a message asks. If memory runs out, the message may have been begun.
 pub(crate) fn respond<B: Book>(
     alloc: Global,
     office: &mut Office<B>,

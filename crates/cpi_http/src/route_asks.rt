@@ -1,4 +1,4 @@
-//! What a route asks.
+//! The request that a route asks for.
 ghost use Rattle.std.specs.Prelude.{◌≡◌, ◌++◌, ◌∷◌, [], map, drop, IfOk};
 ghost use Rattle.csv.specs.Records.{fields_of};
 ghost use Rattle.cpi_wire.specs.Record.{spelled_asks};
@@ -11,21 +11,22 @@ use cpi_wire::{Ask, asks_of, field_list, only_row};
 use csv::ByteRecord;
 use std::alloc::{AllocError, Global};
 
-// The parts of a path between its slashes.
+// The parts of a path between its slashes. Arguments go by their places, as in a record, but the parameters of the
+// router go by their names: so the path is split here.
 fn parts_of<'p>(alloc: Global, path: &'p [u8]) -> Result<Vec<&'p [u8]>, AllocError>
     ensures { IfOk result (λ parts. map (λ part. part.now) parts.items ≡ parts_of path.now) }
 {
-    path.split(|b| *b == 47).collect(alloc)
+    path.split(|b| *b == b'/').collect(alloc)
 }
 
-// The parts behind the first two.
+// The parts after the first two: the empty part before the first slash, and the name of the route.
 fn after_two<'a, 'p>(parts: &'a [&'p [u8]]) -> &'a [&'p [u8]]
     ensures { map (λ part. part.now) result.now ≡ drop 2 (map (λ part. part.now) parts.now) }
 {
     &parts[parts.len().min(2)..]
 }
 
-// The arguments of a path.
+// The arguments of a path, in their order.
 fn path_arguments<'p>(alloc: Global, path: &'p [u8]) -> Result<Vec<&'p [u8]>, AllocError>
     ensures { IfOk result (λ arguments. map (λ a. a.now) arguments.items ≡ path_arguments path.now) }
 {
@@ -33,7 +34,7 @@ fn path_arguments<'p>(alloc: Global, path: &'p [u8]) -> Result<Vec<&'p [u8]>, Al
     Vec::from_slice(alloc, after_two(&parts))
 }
 
-// The arguments of a path, and the fields of a row.
+// The arguments of a path, and after them the fields of a row.
 fn row_arguments<'a>(
     alloc: Global,
     path: &'a [u8],
@@ -48,7 +49,7 @@ fn row_arguments<'a>(
     Ok(arguments)
 }
 
-// What a route asks whose body is a row of fields.
+// What a route asks if its body is one row, whose fields are the last arguments; none if there is no row, or more.
 fn ask_by_row(
     alloc: Global,
     zone: &Zone,
@@ -67,7 +68,7 @@ fn ask_by_row(
     asks_of(alloc, zone, now, caller, word, &arguments)
 }
 
-// What a route asks whose body is one argument.
+// What a route asks if its body is its last argument.
 fn ask_by_body(
     alloc: Global,
     zone: &Zone,
@@ -85,7 +86,7 @@ fn ask_by_body(
     asks_of(alloc, zone, now, caller, word, &arguments)
 }
 
-// What a route asks whose body isn't used.
+// What a route asks if its body isn't used.
 fn ask_by_path(
     alloc: Global,
     zone: &Zone,
@@ -100,8 +101,8 @@ fn ask_by_path(
     asks_of(alloc, zone, now, caller, word, &arguments)
 }
 
-/// What a route asks at a moment, in seconds since 1970 UTC: what the record with its word and the same arguments asks;
-/// none where they make no record.
+/// What a route asks at a moment, in seconds since 1970 UTC: the same as the record with its word and its arguments;
+/// none if these make no record.
 pub(crate) fn ask_of_route(
     alloc: Global,
     zone: &Zone,

@@ -1,4 +1,4 @@
-//! The routes.
+//! The routes: a method and a path each.
 ghost use Rattle.std.specs.Prelude.{◌≡◌, IfOk, IsUtf8, Some, None, codes};
 ghost use Rattle.cpi_http.specs.Routes.{all_routes, method_of, word_of_route, route_of};
 
@@ -7,7 +7,7 @@ use matchit::{InsertError, Router};
 use std::alloc::Global;
 use std::str;
 
-/// What a method and a path ask for.
+/// A route: what a method and a path ask for.
 #[derive(Clone, Copy, PartialEq, Eq)]
 pub enum Route {
     Items,
@@ -22,7 +22,7 @@ pub enum Route {
 }
 
 impl Route {
-    /// The one method of the route.
+    /// The only method of the route.
     pub fn method(self) -> Method
         ensures { result ≡ method_of self }
     {
@@ -33,7 +33,7 @@ impl Route {
         }
     }
 
-    /// The word of the record that asks the same.
+    /// The word of the record that asks for the same.
     pub fn word(self) -> &'static [u8]
         ensures { result.now ≡ word_of_route self }
     {
@@ -50,7 +50,7 @@ impl Route {
     }
 }
 
-/// All routes.
+/// The router of all routes. The error is that memory ran out: no two routes conflict.
 pub(crate) fn all_routes(alloc: Global) -> Result<Router<Route>, InsertError>
     ensures { IfOk result (λ router. router ≡ all_routes) }
 {
@@ -67,7 +67,7 @@ pub(crate) fn all_routes(alloc: Global) -> Result<Router<Route>, InsertError>
     Ok(router)
 }
 
-/// The route of a method and a path, if there is one.
+/// The route of a method and a path; none if there is no such path, or if its method is another.
 pub(crate) fn route_of(router: &Router<Route>, method: &[u8], path: &[u8]) -> Option<Route>
     requires routes { router.now ≡ all_routes }
     requires text { IsUtf8 path.now }

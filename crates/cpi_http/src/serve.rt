@@ -1,4 +1,4 @@
-//! One message: read, carried out, answered.
+//! One HTTP message: it is read, carried out and answered (RFC 9112).
 ghost use Rattle.std.specs.Prelude.{◌≡◌, ◌++◌, false, List, ℕ, IfOk, IfErr, OnOk, OnErr};
 ghost use Rattle.std.specs.Io.KnownBytes.{Appends};
 ghost use Rattle.cpi_office.specs.declared.refusal.Refusal.TheVariants.{BadRequest};
@@ -28,12 +28,12 @@ use httparse::spans::EMPTY_HEADER_SPAN;
 use std::alloc::{AllocError, Global};
 use std::io::{Read, Write};
 
-/// What became of a connection's message.
+/// How the message of a connection ended.
 #[derive(Clone, Copy, PartialEq, Eq)]
 pub enum Served {
     /// The status that was written, and whether one of the replies is that the office was unavailable.
     Answered(StatusCode, bool),
-    /// The stream ended within the message. Nothing was done, and nothing written.
+    /// The stream ended within the message. Nothing was carried out, and nothing written.
     Cut,
 }
 
@@ -46,8 +46,8 @@ fn write_both<W: Write>(writer: &mut W, front: &[u8], rest: &[u8]) -> Result<(),
     write_whole(writer, rest)
 }
 
-// Writes a response: the head together with the first bytes of the body, and then the others from where they stand, so
-// that a long body isn't in memory twice.
+// Writes a response: first its head with the first bytes of its body, up to `MOST_BYTES_WITH_HEAD`, and then the others
+// from their place in memory, so that a long body isn't in memory twice.
 fn send<W: Write>(alloc: Global, writer: &mut W, response: &Response) -> Result<Served, WireFault>
     ensures ok { IfOk result (λ served. served ≡ Served.Answered response.now.status response.now.failed) }
     ensures whole { OnOk result (Appends (W.contents writer.old) (W.contents writer.new)
@@ -62,7 +62,7 @@ fn send<W: Write>(alloc: Global, writer: &mut W, response: &Response) -> Result<
     Ok(Served::Answered(response.status, response.failed))
 }
 
-// Refuses a message of which no request was made.
+// Refuses a message before a request was made of it.
 fn refuse<W: Write>(alloc: Global, writer: &mut W, status: StatusCode) -> Result<Served, WireFault>
     ensures ok { IfOk result (λ served. served ≡ Served.Answered status false) }
     ensures whole { OnOk result (Appends (W.contents writer.old) (W.contents writer.new)
@@ -73,7 +73,7 @@ fn refuse<W: Write>(alloc: Global, writer: &mut W, status: StatusCode) -> Result
     send(alloc, writer, &refusal(alloc, status)?)
 }
 
-// Carries out a whole message. Without memory it may have been begun.
+// Carries out a whole message. If memory runs out, the message may have been begun.
 fn carry_out<B: Book>(
     alloc: Global,
     now: Moment,
@@ -94,7 +94,8 @@ fn carry_out<B: Book>(
     }
 }
 
-// Reads the body after a head, carries out the message and answers it.
+// Reads the body after a head, carries out the message and answers it. The size is that of the body, in bytes, or the
+// status that refuses the message before its body is read.
 fn serve_body<R: Read, W: Write, B: Book>(
     alloc: Global,
     reader: &mut R,
@@ -132,10 +133,10 @@ fn serve_body<R: Read, W: Write, B: Book>(
 /// The message is judged in this order: whole (or `Cut`: nothing is done or written); its head, of at most 8,192 bytes
 /// and 64 fields (400); no transfer coding (501); its length, one number (400) up to 65,536 (413); its route (404); its
 /// caller (400); what it asks, which must make a record (400). Then the request is carried out. No byte after the
-/// message is read, and `read` is called at most 80,000 times.
+/// message is read, and `read` is called at most `MOST_CALLS` times.
 ///
-/// After `Read` nothing was done. After `Write` all commands of the message stand, and the same message again is
-/// answered anew. After `NoMemory` some first commands of it stand, or none.
+/// After `Read` nothing was carried out. After `Write` all commands of the message were carried out; the same message,
+/// sent again, is answered anew. After `NoMemory` the first commands of it were carried out, or none.
 pub fn serve_one<R: Read, W: Write, B: Book>(
     alloc: Global,
     reader: &mut R,

@@ -1,10 +1,11 @@
-//! The status of a reply.
+//! The status of a reply (RFC 9110, section 15).
 ghost use Rattle.std.specs.Prelude.{◌≡◌};
 ghost use Rattle.cpi_http.specs.Statuses.{status_of_reply, status_of_refusal};
 
 use cpi_office::{Refusal, Reply};
 use http::StatusCode;
 
+// The status of a refusal: 409 if the request conflicts with what the office has stored.
 fn status_of_refusal(refusal: &Refusal) -> StatusCode
     ensures { result ≡ status_of_refusal refusal.now }
 {
@@ -18,7 +19,7 @@ fn status_of_refusal(refusal: &Refusal) -> StatusCode
     }
 }
 
-/// The status of a reply: 200 where it is no refusal.
+/// The status of a reply: 200 if it is no refusal.
 pub(crate) fn status_of_reply(reply: &Reply) -> StatusCode
     ensures { result ≡ status_of_reply reply.now }
 {

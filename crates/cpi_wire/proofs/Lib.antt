@@ -2,7 +2,6 @@ pub mod Answered
 pub mod Asked
 pub mod Carried
 pub mod Coded
-pub mod Codes
 pub mod Counted
 pub mod Floats
 pub mod Importing

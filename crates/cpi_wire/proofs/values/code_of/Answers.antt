@@ -1,5 +1,5 @@
 use Rattle.std.proofs.Common.{◌∙◌}
-use Rattle.cpi_wire.proofs.Codes.{reads_code}
+use Rattle.cpi_codes.proofs.CodeOf.{reads_code}
 use Rattle.cpi_wire.proofs.values.code_of.Goals as goal
 
 pub returns : goal.returns
