@@ -16,6 +16,7 @@ use Rattle.cpi_codes.specs.CodeOrder.{code_cmp, is_same_code, is_code_elementary
 use Rattle.cpi_codes.specs.declared.codes.Code.{Code}
 use Rattle.cpi_rows.specs.Keyed.{row_at, IsInOrder}
 use Rattle.cpi_rows.proofs.Places.{row_found}
+use Rattle.cpi_plan.specs.declared.limits.TheConstants.{ALL_PARTS}
 use Rattle.cpi_plan.specs.declared.plan_rows.Title.{Title}
 use Rattle.cpi_plan.specs.declared.plan_rows.Weight.{Weight}
 use Rattle.cpi_plan.specs.declared.plan_rows.Node.{Node}
@@ -139,13 +140,13 @@ module _ (sums : BTreeMap Code ℕ) (weights : List Weight) (kept : (q : Code) �
   nodes_in_order ts h = in_order_map (filter (λ t. nat_lt 0 (sum_at sums t.code)) ts)
       (IsStrictlySortedBy-filter (λ a b. code_cmp a.code b.code) (λ t. nat_lt 0 (sum_at sums t.code)) ts h)
 
-  pub few : total_weight weights ≡ 1000000 → (q : Code) → sum_at sums q < 2 ^ 32
+  pub few : total_weight weights ≡ ALL_PARTS → (q : Code) → sum_at sums q < 2 ^ 32
   few whole q = omega (arith, kept q, under_total q weights, whole)
 
   pub is_plan : (year : ℕ) (titles : List Title) (places : List Place) (reference : Option ℕ) → (2000 ≤ year)
       × (year ≤ 2199) → IsInOrder code_cmp (λ t. t.code) titles → IsInOrder code_cmp (λ w. w.code) weights →
       IsInOrder nat_cmp (λ p. p.item) places
-      → are_all_elementary weights places ≡ true → total_weight weights ≡ 1000000 →
+      → are_all_elementary weights places ≡ true → total_weight weights ≡ ALL_PARTS →
       ((q : Code) → is_untitled titles weights q ≡ false) → has_unplaced_item weights places ≡ false →
       is_fit_reference year reference ≡ true
       → IsPlan (plan_with year weights places reference (nodes_with (sum_at sums) titles))

@@ -5,6 +5,7 @@ use Rattle.cpi_codes.specs.CodeOrder.{code_cmp}
 use Rattle.cpi_codes.specs.declared.codes.Code.{Code}
 use Rattle.cpi_codes.specs.contracts.codes.CodeOrd.TheImpl.Laws.{total-law}
 use Rattle.cpi_rows.specs.Keyed.{IsInOrder}
+use Rattle.cpi_plan.specs.declared.limits.TheConstants.{ALL_PARTS}
 use Rattle.cpi_plan.specs.Plan.{Body, Plan, are_all_elementary, has_zero_weight, total_weight, has_unknown_item}
 use Rattle.cpi_plan.specs.Plan.{has_unplaced_item}
 use Rattle.cpi_plan.specs.Plan.{has_fit_reference}
@@ -36,7 +37,7 @@ module _ (year : ℕ) (b : Body) (p : Plan) where
   pub planned_is : plan_or_fault year b ≡ Ok p → plan_from_body year b ≡ p
   planned_is e =
       from_titled (first_untitled b.titles b.weights)
-      (passed (not (total_weight b.weights == 1000000)) _ _ p
+      (passed (not (total_weight b.weights == ALL_PARTS)) _ _ p
       (passed (has_zero_weight b.weights) _ _ p
       (passed (not (are_all_elementary b.weights b.places)) _ _ p
       (passed (not (are_codes_once b.titles b.weights)) _ _ p e))))

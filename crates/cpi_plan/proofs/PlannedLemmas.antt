@@ -11,6 +11,7 @@ use Rattle.cpi_codes.specs.CodeOrder.{code_cmp, is_same_code}
 use Rattle.cpi_codes.specs.declared.codes.Code.{Code}
 use Rattle.cpi_codes.specs.contracts.codes.CodeOrd.TheImpl.Laws.{total-law}
 use Rattle.cpi_rows.specs.Keyed.{row_at}
+use Rattle.cpi_plan.specs.declared.limits.TheConstants.{ALL_PARTS}
 use Rattle.cpi_plan.specs.declared.plan_rows.Title.{Title}
 use Rattle.cpi_plan.specs.declared.plan_rows.Weight.{Weight}
 use Rattle.cpi_plan.specs.declared.plan_rows.Node.{Node}
@@ -53,14 +54,14 @@ codes_twice titles weights h = by (are_codes_once titles weights) refl
           (and_second (are_distinct (λ s t. is_same_code s.code t.code) titles) _ e),
     ))
 
-not_whole : (n : ℕ) → n ≢ 1000000 → (n == 1000000) ≡ false
-not_whole n h = by (n == 1000000) refl
+not_whole : (n : ℕ) → n ≢ ALL_PARTS → (n == ALL_PARTS) ≡ false
+not_whole n h = by (n == ALL_PARTS) refl
   where
-    by : (b : Bool) → (n == 1000000) ≡ b → b ≡ false
+    by : (b : Bool) → (n == ALL_PARTS) ≡ b → b ≡ false
     by false e = refl
-    by true e = let whole : n ≡ 1000000 = grind (arith, nat_tests) in absurd (h whole)
+    by true e = let whole : n ≡ ALL_PARTS = grind (arith, nat_tests) in absurd (h whole)
 
-is_whole : (n : ℕ) → n ≡ 1000000 → (n == 1000000) ≡ true
+is_whole : (n : ℕ) → n ≡ ALL_PARTS → (n == ALL_PARTS) ≡ true
 is_whole n h = rw h refl
 
 module _ (year : ℕ) (b : Body) where
@@ -69,7 +70,7 @@ module _ (year : ℕ) (b : Body) where
       (plan_if_titled year b (first_untitled b.titles b.weights))
 
   abbrev after_zero : Bool → Result Plan PlanFault
-  after_zero t = cond t (Err ZeroWeight) (after_sum (total_weight b.weights == 1000000))
+  after_zero t = cond t (Err ZeroWeight) (after_sum (total_weight b.weights == ALL_PARTS))
 
   abbrev after_kinds : Bool → Result Plan PlanFault
   after_kinds t = cond (not t) (Err NotElementary) (after_zero (has_zero_weight b.weights))
@@ -95,7 +96,7 @@ module _ (year : ℕ) (b : Body) where
   step2 : Passes2 b → plan_or_fault year b ≡ after_zero (has_zero_weight b.weights)
   step2 h = step1 h.0 ∙ ap after_kinds h.1
 
-  step3 : Passes3 b → plan_or_fault year b ≡ after_sum (total_weight b.weights == 1000000)
+  step3 : Passes3 b → plan_or_fault year b ≡ after_sum (total_weight b.weights == ALL_PARTS)
   step3 h = step2 h.0 ∙ ap after_zero h.1
 
   step4 : Passes4 b → plan_or_fault year b ≡ plan_if_titled year b (first_untitled b.titles b.weights)

@@ -15,6 +15,7 @@ use Rattle.cpi_codes.specs.contracts.codes.CodeOrd.TheImpl.Laws.{total-law}
 use Rattle.cpi_codes.proofs.CodePath.{at_or_below-parts}
 use Rattle.cpi_codes.proofs.CodeBelow.{fits}
 use Rattle.cpi_codes.proofs.CodeIs.{code}
+use Rattle.cpi_plan.specs.declared.limits.TheConstants.{ALL_PARTS}
 use Rattle.cpi_plan.specs.Sums.{weight_under, is_node}
 use Rattle.cpi_plan.specs.Plan.{Plan, IsPlan, total_weight}
 use Rattle.cpi_plan.specs.Stored.{is_weighed, is_complete, is_whole}
@@ -149,5 +150,5 @@ module _ (p : Plan) (v : IsPlan p) where
   -- a plan passes the tests
   pub plan_whole : is_whole p ≡ true
   plan_whole =
-      let whole : (total_weight p.weights == 1000000) ≡ true = rw v.whole refl in
+      let whole : (total_weight p.weights == ALL_PARTS) ≡ true = rw v.whole refl in
       rw (whole, v.positive, weighed, complete, v.placed, v.referred) refl

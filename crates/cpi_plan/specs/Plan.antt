@@ -8,6 +8,7 @@ use Rattle.std.specs.List.Sorted.{IsPermutation}
 use Rattle.cpi_codes.specs.CodeOrder.{code_cmp, is_same_code, is_code_elementary}
 use Rattle.cpi_codes.specs.Month.{year_of}
 use Rattle.cpi_codes.specs.declared.codes.Code.{Code}
+use Rattle.cpi_plan.specs.declared.limits.TheConstants.{ALL_PARTS}
 use Rattle.cpi_plan.specs.declared.items.Item.{Item}
 use Rattle.cpi_rows.specs.Keyed.{IsInOrder, row_at, row_by_number}
 use Rattle.cpi_plan.specs.Sums.{weight_under, is_node}
@@ -109,7 +110,7 @@ abbrev pub Passes3 : Body → Type 0
 Passes3 b = Passes2 b × (has_zero_weight b.weights ≡ false)
 
 abbrev pub Passes4 : Body → Type 0
-Passes4 b = Passes3 b × (total_weight b.weights ≡ 1000000)
+Passes4 b = Passes3 b × (total_weight b.weights ≡ ALL_PARTS)
 
 abbrev pub Passes5 : Body → Type 0
 Passes5 b = Passes4 b × ((code : Code) → is_untitled b.titles b.weights code ≡ false)
@@ -135,7 +136,7 @@ abbrev pub IsFirstFault : ℕ → PlanFault → Body → Type 0
 IsFirstFault year DuplicateCode b = CodesOnce b.titles b.weights → ⊥
 IsFirstFault year NotElementary b = CodesOnce b.titles b.weights × (are_all_elementary b.weights b.places ≡ false)
 IsFirstFault year ZeroWeight b = Passes2 b × (has_zero_weight b.weights ≡ true)
-IsFirstFault year (WeightSum found) b = Passes3 b × (found ≡ total_weight b.weights) × (found ≢ 1000000)
+IsFirstFault year (WeightSum found) b = Passes3 b × (found ≡ total_weight b.weights) × (found ≢ ALL_PARTS)
 IsFirstFault year (TitleMissing code) b = Passes4 b × IsFirstUntitled b.titles b.weights code
 IsFirstFault year UnknownItem b = Passes5 b × (has_unknown_item b.known b.places ≡ true)
 IsFirstFault year ItemTwice b = Passes6 b × (ItemsOnce b.places → ⊥)
@@ -173,7 +174,7 @@ pub record IsPlan (plan : Plan) : Type 0 where
   pub places_in_order : IsInOrder nat_cmp (λ p. p.item) plan.places
   pub elementary : list_all (λ w. is_code_elementary w.code) plan.weights ≡ true
   pub positive : has_zero_weight plan.weights ≡ false
-  pub whole : total_weight plan.weights ≡ 1000000
+  pub whole : total_weight plan.weights ≡ ALL_PARTS
   -- each node has its title and weight, and each row is a node
   pub complete : (code : Code) → is_node plan.weights code ≡ list_any (λ n. is_same_code n.code code) plan.nodes
   pub weighed : list_all (λ n. n.weight == weight_under n.code plan.weights) plan.nodes ≡ true

@@ -8,6 +8,7 @@ use Rattle.cpi_codes.specs.CodeOrder.{code_cmp, is_same_code}
 use Rattle.cpi_codes.specs.CodePath.{path}
 use Rattle.cpi_codes.specs.declared.codes.Code.{Code}
 use Rattle.cpi_rows.specs.Keyed.{with_row}
+use Rattle.cpi_plan.specs.declared.limits.TheConstants.{ALL_PARTS}
 use Rattle.cpi_plan.specs.Sums.{is_node}
 use Rattle.cpi_plan.specs.Plan.{Body, Plan, node_of_title, are_all_elementary, has_zero_weight, total_weight}
 use Rattle.cpi_plan.specs.Plan.{is_untitled, has_unknown_item}
@@ -87,5 +88,5 @@ plan_or_fault year b =
     if not (are_codes_once b.titles b.weights) then Err DuplicateCode else
     if not (are_all_elementary b.weights b.places) then Err NotElementary else
     if has_zero_weight b.weights then Err ZeroWeight else
-    if not (total_weight b.weights == 1000000) then Err (WeightSum (total_weight b.weights)) else
+    if not (total_weight b.weights == ALL_PARTS) then Err (WeightSum (total_weight b.weights)) else
     plan_if_titled year b (first_untitled b.titles b.weights)

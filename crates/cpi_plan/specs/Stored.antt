@@ -3,6 +3,7 @@ use Rattle.std.specs.Prelude.{ℕ, ◌==◌, Bool, ◌&&◌, not, List, map, fil
 use Rattle.std.specs.List.{list_any, list_all}
 use Rattle.cpi_codes.specs.CodeOrder.{is_same_code, is_code_elementary}
 use Rattle.cpi_codes.specs.CodePath.{path}
+use Rattle.cpi_plan.specs.declared.limits.TheConstants.{ALL_PARTS}
 use Rattle.cpi_plan.specs.Sums.{weight_under, is_node}
 use Rattle.cpi_plan.specs.Plan.{Plan, has_zero_weight, total_weight, has_unplaced_item, is_fit_reference}
 use Rattle.cpi_plan.specs.declared.plan_rows.Weight.{Weight}
@@ -35,6 +36,6 @@ is_complete p = list_all (λ w. list_all (λ c. list_any (λ n. is_same_code n.c
 
 -- whether the rows, each list in order, make a plan
 abbrev pub is_whole : Plan → Bool
-is_whole p = total_weight p.weights == 1000000 && not (has_zero_weight p.weights) && list_all
+is_whole p = total_weight p.weights == ALL_PARTS && not (has_zero_weight p.weights) && list_all
     (is_weighed p.weights) p.nodes
     && is_complete p && not (has_unplaced_item p.weights p.places) && is_fit_reference p.year p.reference

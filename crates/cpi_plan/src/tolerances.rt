@@ -2,16 +2,11 @@
 ghost use Rattle.std.specs.Prelude.{◌≡◌, ◌≤◌, SomeIff};
 ghost use Rattle.cpi_codes.specs.Number.{number_in};
 
+use crate::limits::{GREATEST_TOLERANCE, PER_MILLE};
 use cpi_codes::number_of;
 use std::marker::Model;
 
-const LOWEST_LOW: u64 = 1;
-
-const HIGHEST_LOW: u64 = 1000;
-
-const LOWEST_HIGH: u64 = 1000;
-
-const HIGHEST_HIGH: u64 = 10_000;
+const LOWEST: u64 = 1;
 
 /// The lower bound of a price, 1 to 1000 per mille of the last price.
 #[derive(Clone, Copy, PartialEq, Eq, PartialOrd, Ord)]
@@ -21,12 +16,13 @@ pub struct LowTolerance {
 
 impl Model for LowTolerance {
     ghost use Rattle.std.specs.Prelude.{ℕ, ◌≤◌};
+    ghost use Rattle.cpi_plan.specs.declared.limits.TheConstants.{PER_MILLE};
 
     ghost Value = { ℕ };
 
     ghost view = { λ x. x.per_mille };
 
-    ghost invariant = { λ x. (1 ≤ x.per_mille) × (x.per_mille ≤ 1000) };
+    ghost invariant = { λ x. (1 ≤ x.per_mille) × (x.per_mille ≤ PER_MILLE) };
 
     ghost inverse = { λ n. record { per_mille = n } };
 }
@@ -34,9 +30,9 @@ impl Model for LowTolerance {
 impl LowTolerance {
     /// The tolerance of so many per mille; none outside 1 to 1000.
     pub fn new(per_mille: u64) -> Option<LowTolerance>
-        ensures { SomeIff result ((1 ≤ per_mille) × (per_mille ≤ 1000)) per_mille }
+        ensures { SomeIff result ((1 ≤ per_mille) × (per_mille ≤ PER_MILLE)) per_mille }
     {
-        if per_mille < LOWEST_LOW || HIGHEST_LOW < per_mille {
+        if per_mille < LOWEST || PER_MILLE < per_mille {
             return None;
         }
         Some(LowTolerance {
@@ -46,15 +42,15 @@ impl LowTolerance {
 
     /// Reads a number from 1 to 1000, in its one spelling.
     pub fn parse(text: &[u8]) -> Option<LowTolerance>
-        ensures { result ≡ number_in 1 1000 text.now }
+        ensures { result ≡ number_in 1 PER_MILLE text.now }
     {
-        LowTolerance::new(number_of(text, LOWEST_LOW, HIGHEST_LOW)?)
+        LowTolerance::new(number_of(text, LOWEST, PER_MILLE)?)
     }
 
     /// The per mille of the last price, 1 to 1000.
     pub fn per_mille(self) -> u16
         ensures value { result ≡ self }
-        ensures range { (1 ≤ result) × (result ≤ 1000) }
+        ensures range { (1 ≤ result) × (result ≤ PER_MILLE) }
     {
         self.per_mille
     }
@@ -68,12 +64,13 @@ pub struct HighTolerance {
 
 impl Model for HighTolerance {
     ghost use Rattle.std.specs.Prelude.{ℕ, ◌≤◌};
+    ghost use Rattle.cpi_plan.specs.declared.limits.TheConstants.{GREATEST_TOLERANCE, PER_MILLE};
 
     ghost Value = { ℕ };
 
     ghost view = { λ x. x.per_mille };
 
-    ghost invariant = { λ x. (1000 ≤ x.per_mille) × (x.per_mille ≤ 10000) };
+    ghost invariant = { λ x. (PER_MILLE ≤ x.per_mille) × (x.per_mille ≤ GREATEST_TOLERANCE) };
 
     ghost inverse = { λ n. record { per_mille = n } };
 }
@@ -81,9 +78,9 @@ impl Model for HighTolerance {
 impl HighTolerance {
     /// The tolerance of so many per mille; none outside 1000 to 10000.
     pub fn new(per_mille: u64) -> Option<HighTolerance>
-        ensures { SomeIff result ((1000 ≤ per_mille) × (per_mille ≤ 10000)) per_mille }
+        ensures { SomeIff result ((PER_MILLE ≤ per_mille) × (per_mille ≤ GREATEST_TOLERANCE)) per_mille }
     {
-        if per_mille < LOWEST_HIGH || HIGHEST_HIGH < per_mille {
+        if per_mille < PER_MILLE || GREATEST_TOLERANCE < per_mille {
             return None;
         }
         Some(HighTolerance {
@@ -93,15 +90,15 @@ impl HighTolerance {
 
     /// Reads a number from 1000 to 10000, in its one spelling.
     pub fn parse(text: &[u8]) -> Option<HighTolerance>
-        ensures { result ≡ number_in 1000 10000 text.now }
+        ensures { result ≡ number_in PER_MILLE GREATEST_TOLERANCE text.now }
     {
-        HighTolerance::new(number_of(text, LOWEST_HIGH, HIGHEST_HIGH)?)
+        HighTolerance::new(number_of(text, PER_MILLE, GREATEST_TOLERANCE)?)
     }
 
     /// The per mille of the last price, 1000 to 10000.
     pub fn per_mille(self) -> u16
         ensures value { result ≡ self }
-        ensures range { (1000 ≤ result) × (result ≤ 10000) }
+        ensures range { (PER_MILLE ≤ result) × (result ≤ GREATEST_TOLERANCE) }
     {
         self.per_mille
     }

@@ -7,13 +7,12 @@ ghost use Rattle.cpi_plan.specs.Weighing.{IsWeighed};
 ghost use Rattle.cpi_plan.specs.declared.items.Item.{Item};
 
 use crate::checks::{are_elementary, first_untitled, has_zero, total, weight_sums};
+use crate::limits::ALL_PARTS;
 use crate::plan_faults::PlanFault;
 use crate::plan_rows::{Place, Title, Weight};
 use cpi_codes::Code;
 use std::alloc::Global;
 use std::collections::BTreeMap;
-
-const WHOLE: u128 = 1_000_000;
 
 // The sums of the weights, or the first fault of aggregates, weights and titles, whatever items are known.
 pub(crate) fn weighed(
@@ -34,7 +33,7 @@ pub(crate) fn weighed(
         return Err(PlanFault::ZeroWeight);
     }
     let found = total(weights);
-    if found != WHOLE {
+    if found != u128::from(ALL_PARTS) {
         return Err(PlanFault::WeightSum(found));
     }
     let sums = weight_sums(alloc, weights).map_err(|_| PlanFault::NoMemory)?;

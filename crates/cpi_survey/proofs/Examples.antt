@@ -3,6 +3,7 @@
 -- which prices lie outside the bounds round it, and what a work list tells.
 use Rattle.std.proofs.Common.{◌≡◌, ℕ, true, false, List, [], ◌∷◌, Some, None, Ok, Err, refl}
 use Rattle.std.specs.Prelude.{Result}
+use Rattle.cpi_survey.specs.declared.limits.TheConstants.{LAST_RECEIPT}
 use Rattle.cpi_survey.specs.declared.assignment.Assigned.{Assigned}
 use Rattle.cpi_survey.specs.declared.assignment.Assignment.{Assignment}
 use Rattle.cpi_survey.specs.declared.mark.Mark.{Mark}
@@ -77,13 +78,13 @@ other_after_the_window : sent 2500 1 312 220 (priced 1 312 210 1 ∷ []) ≡ Err
 other_after_the_window = refl
 
 -- the last receipt is 1,000,000; what stands is answered even then
-the_last_receipt : sent 1500 1 312 203 (priced 1 311 200 999999 ∷ []) ≡ Ok (Put (priced 1 312 203 1000000))
+the_last_receipt : sent 1500 1 312 203 (priced 1 311 200 999999 ∷ []) ≡ Ok (Put (priced 1 312 203 LAST_RECEIPT))
 the_last_receipt = refl
 
-no_more_receipts : sent 1500 1 312 204 (priced 1 312 203 1000000 ∷ []) ≡ Err ReceiptsUsedUp
+no_more_receipts : sent 1500 1 312 204 (priced 1 312 203 LAST_RECEIPT ∷ []) ≡ Err ReceiptsUsedUp
 no_more_receipts = refl
 
-again_without_receipts : sent 1500 1 312 203 (priced 1 312 203 1000000 ∷ []) ≡ Ok (Again 1000000)
+again_without_receipts : sent 1500 1 312 203 (priced 1 312 203 LAST_RECEIPT ∷ []) ≡ Ok (Again LAST_RECEIPT)
 again_without_receipts = refl
 
 -- a slot is looked for before its month, the calendar's row before the assignment's months, and these before the window
@@ -96,7 +97,7 @@ unknown_month_next = refl
 months_before_the_window : sent 999 1 324 201 [] ≡ Err NotActive
 months_before_the_window = refl
 
-window_before_the_receipts : sent 2000 1 312 201 (priced 1 311 200 1000000 ∷ []) ≡ Err Closed
+window_before_the_receipts : sent 2000 1 312 201 (priced 1 311 200 LAST_RECEIPT ∷ []) ≡ Err Closed
 window_before_the_receipts = refl
 
 -- three slots, by slot and then by month
@@ -197,7 +198,7 @@ price_without_last : marks (Price 100000000) [] ≡ Ok (Put (marked 312 (Price 1
 price_without_last = refl
 
 -- the price is looked at before the receipts
-price_before_the_receipts : marks (Price 699) (marked 311 (Price 1000) 1000000 ∷ []) ≡ Err
+price_before_the_receipts : marks (Price 699) (marked 311 (Price 1000) LAST_RECEIPT ∷ []) ≡ Err
     (OutOfTolerance 1000 700 1500)
 price_before_the_receipts = refl
 

@@ -3,6 +3,7 @@ use Rattle.std.specs.Prelude.{ℕ, ◌+◌, nat_lt, nat_le, not, ◌&&◌, Optio
 use Rattle.std.specs.Prelude.{if◌then◌else◌}
 use Rattle.cpi_plan.specs.declared.items.Item.{Item}
 use Rattle.cpi_plan.specs.Calendar.{CalendarPart}
+use Rattle.cpi_survey.specs.declared.limits.TheConstants.{LAST_RECEIPT}
 use Rattle.cpi_survey.specs.declared.assignment.Assignment.{Assignment}
 use Rattle.cpi_survey.specs.declared.assignment.Assigned.{Assigned}
 use Rattle.cpi_survey.specs.declared.decision.Decision.{Decision}
@@ -40,7 +41,7 @@ price_check entry item (Some last) = if entry.confirm then Ok tt else against_la
 -- the next receipt
 abbrev pub with_receipt : EntryRow → ℕ → Result Decision Refusal
 with_receipt entry greatest =
-    if nat_le 1000000 greatest then Err ReceiptsUsedUp
+    if nat_le LAST_RECEIPT greatest then Err ReceiptsUsedUp
     else Ok (Put (record { slot = entry.slot; month = entry.month; mark = entry.mark; receipt = greatest + 1 }))
 
 -- what the check refuses is refused, before the receipts
@@ -129,5 +130,5 @@ decision_in_order now entry public own =
     if nat_le row.closes now then Err Closed else
     if is_replacement entry.mark && is_none last then Err NoLastPrice else
     unless_outside entry (item_of a.assignment.item public) last (
-    if nat_le 1000000 (greatest_receipt own.quotes) then Err ReceiptsUsedUp else
+    if nat_le LAST_RECEIPT (greatest_receipt own.quotes) then Err ReceiptsUsedUp else
     Ok (Put (next_quote entry own))))))

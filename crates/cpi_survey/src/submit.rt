@@ -13,6 +13,7 @@ ghost use Rattle.cpi_survey.specs.Decision.{with_receipt};
 use crate::assignment::Assignment;
 use crate::decision::Decision;
 use crate::entry::Entry;
+use crate::limits::LAST_RECEIPT;
 use crate::mark::Mark;
 use crate::own::Own;
 use crate::public::Public;
@@ -21,9 +22,6 @@ use crate::refusal::Refusal;
 use crate::tolerance::{Verdict, check};
 use cpi_codes::{Moment, Price};
 use cpi_plan::{CalendarRow, Item};
-
-/// The greatest receipt that a collector can be given.
-const LAST_RECEIPT: u32 = 1_000_000;
 
 impl Own {
     /// Decides an entry at a moment, by the public part and the collector's own part alone. It changes nothing and

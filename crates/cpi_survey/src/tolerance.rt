@@ -3,10 +3,7 @@ ghost use Rattle.std.specs.Prelude.{◌≡◌};
 ghost use Rattle.cpi_survey.specs.Tolerance.{high_bound, low_bound, verdict};
 
 use cpi_codes::Price;
-use cpi_plan::Item;
-
-/// Tolerances are in per mille of the last price.
-const PER_MILLE: u64 = 1000;
+use cpi_plan::{Item, PER_MILLE};
 
 /// How a price lies to the bounds that an item sets round the last price.
 #[derive(Clone, Copy, PartialEq, Eq)]

@@ -1,4 +1,4 @@
-use Rattle.std.proofs.Common.{◌≡◌, ap, sym, ◌∙◌, ◌+◌, cond, arith, rules, ◌≤◌}
+use Rattle.std.proofs.Common.{◌≡◌, ap, sym, ◌∙◌, ◌+◌, cond, arith, rules, ◌≤◌, ◌^◌}
 use Rattle.cpi_codes.specs.CodeText.{is_code_at_or_below}
 use Rattle.cpi_codes.specs.declared.codes.Code.{Code}
 use Rattle.cpi_plan.specs.Sums.{sum_at}
@@ -13,7 +13,7 @@ loop-weight-preserved c =
     (is_code_at_or_below q weight.code) weight.parts 0 = λ q.
     c.in_ok-add_path.ensures q ∙ ap (λ n. sum_at c.loop-weight.sums q + cond (is_code_at_or_below q weight.code) n 0)
     amount in
-    let bound : weight.parts ≤ 4294967296 = search rules in
+    let bound : weight.parts ≤ 2 ^ 32 = search rules in
     record {
       so_far = λ q.
           step q
@@ -24,6 +24,6 @@ loop-weight-preserved c =
         arith,
         step q,
         c.loop-weight.invariant.fits q,
-        amount_fits (is_code_at_or_below q weight.code) weight.parts 4294967296 bound,
+        amount_fits (is_code_at_or_below q weight.code) weight.parts (2 ^ 32) bound,
       );
     }

@@ -1,6 +1,7 @@
 use Rattle.std.proofs.Common.{◌≡◌, sym, ◌∙◌, true, false, rules}
 use Rattle.std.proofs.lemmas.List.Sorted.{IsPermutation-refl}
 use Rattle.cpi_codes.specs.declared.codes.Code.{Code}
+use Rattle.cpi_plan.specs.declared.limits.TheConstants.{ALL_PARTS}
 use Rattle.cpi_plan.specs.Sums.{sum_at, weight_under}
 use Rattle.cpi_plan.specs.Steps.{IsFirstCode, is_without}
 use Rattle.cpi_plan.specs.Plan.{are_all_elementary, has_zero_weight, total_weight, is_untitled}
@@ -20,8 +21,8 @@ returns-then-has_zero c =
     (IsPermutation-refl c.args.weights.now) c.requires.titles_in_order c.requires.weights_in_order in
     λ year known references. ((once, search rules), search rules)
 
-pub returns-then-found-ne-WHOLE : goal.returns-then-found-ne-WHOLE
-returns-then-found-ne-WHOLE c =
+pub returns-then-found-from : goal.returns-then-found-from
+returns-then-found-from c =
     let once = codes_once _ _ _ _ (IsPermutation-refl c.args.titles.now)
     (IsPermutation-refl c.args.weights.now) c.requires.titles_in_order c.requires.weights_in_order in
     λ year known references. (((once, search rules), search rules), search rules, search rules)
@@ -35,7 +36,7 @@ returns-in-Some c =
     c.requires.weights_in_order in
     let elementary : are_all_elementary weights c.args.places.now ≡ true = search rules in
     let positive : has_zero_weight weights ≡ false = search rules in
-    let whole : total_weight weights ≡ 1000000 = search rules in
+    let whole : total_weight weights ≡ ALL_PARTS = search rules in
     let kept : (q : Code) → sum_at sums q ≡ weight_under q weights = search rules in
     let first : IsFirstCode (is_without sums titles) c.in-Some.code = search rules in
     λ year known references. (
@@ -52,7 +53,7 @@ returns c =
     c.requires.weights_in_order in
     let elementary : are_all_elementary weights c.args.places.now ≡ true = search rules in
     let positive : has_zero_weight weights ≡ false = search rules in
-    let whole : total_weight weights ≡ 1000000 = search rules in
+    let whole : total_weight weights ≡ ALL_PARTS = search rules in
     let kept : (q : Code) → sum_at sums q ≡ weight_under q weights = search rules in
     let none : (q : Code) → is_without sums titles q ≡ false = search rules in
     let titled : (q : Code) → is_untitled titles weights q ≡ false =
