@@ -8,13 +8,14 @@ use Rattle.cpi_codes.specs.declared.codes.Code.{Code}
 use Rattle.cpi_codes.specs.contracts.codes.CodeOrd.TheImpl.Laws.{total-law}
 use Rattle.cpi_codes.proofs.CodeIs.{same_code_is}
 use Rattle.cpi_codes.proofs.CodePath.{same_part, is_eq-parts}
+use Rattle.cpi_rows.proofs.Truth.{and_first, and_second, no_true_false, same_of_equal}
 use Rattle.cpi_plan.specs.declared.plan_faults.PlanFault.{PlanFault}
 use Rattle.cpi_plan.specs.declared.plan_faults.PlanFault.TheVariants.{DuplicateCode, NotElementary, ZeroWeight}
 use Rattle.cpi_plan.specs.declared.plan_faults.PlanFault.TheVariants.{WeightSum, TitleMissing, UnknownItem, ItemTwice}
 use Rattle.cpi_plan.specs.declared.plan_faults.PlanFault.TheVariants.{UnknownAggregate, Reference, NoMemory}
 use Rattle.cpi_plan.specs.Plan.{Body, IsFirstFault, CodesOnce, Passes2, Passes3, Passes4, Passes5, Passes6, Passes7}
 use Rattle.cpi_plan.specs.Plan.{Passes8}
-use Rattle.cpi_plan.proofs.UnderLemmas.{number_is, part_is, and_first, and_second}
+use Rattle.cpi_plan.proofs.UnderLemmas.{part_is}
 
 -- codes that compare equal are one code
 pub equal_is : (n q : Code) → is_same_code n q ≡ true → n ≡ q
@@ -23,7 +24,7 @@ equal_is n q h =
     let rest = and_second (q.division == n.division) _ parts in
     let third = and_second (same_part q.group n.group) _ rest in
     let fourth = and_second (same_part q.class n.class) _ third in
-    sym (same_code_is q n (number_is q.division n.division (and_first (q.division == n.division) _ parts))
+    sym (same_code_is q n (same_of_equal q.division n.division (and_first (q.division == n.division) _ parts))
     (part_is q.group n.group (and_first (same_part q.group n.group) _ rest))
     (part_is q.class n.class (and_first (same_part q.class n.class) _ third))
     (part_is q.subclass n.subclass (and_first (same_part q.subclass n.subclass) _ fourth))
@@ -36,33 +37,30 @@ level Less Less e f g = cc
 level Less Equal e f g = cc
 level Less Greater e f g = cc
 
-true_false : true ≡ false → ⊥
-true_false e = cc
-
 module _ (year : ℕ) (b : Body) where
   clash1 : IsFirstFault year DuplicateCode b → CodesOnce b.titles b.weights → ⊥
   clash1 h p = h p
 
   clash2 : IsFirstFault year NotElementary b → Passes2 b → ⊥
-  clash2 h p = true_false (sym p.1 ∙ h.1)
+  clash2 h p = no_true_false (sym p.1 ∙ h.1)
 
   clash3 : IsFirstFault year ZeroWeight b → Passes3 b → ⊥
-  clash3 h p = true_false (sym h.1 ∙ p.1)
+  clash3 h p = no_true_false (sym h.1 ∙ p.1)
 
   clash4 : (n : ℕ) → IsFirstFault year (WeightSum n) b → Passes4 b → ⊥
   clash4 n h p = h.2 (h.1 ∙ p.1)
 
   clash5 : (c : Code) → IsFirstFault year (TitleMissing c) b → Passes5 b → ⊥
-  clash5 c h p = true_false (sym h.1.0 ∙ p.1 c)
+  clash5 c h p = no_true_false (sym h.1.0 ∙ p.1 c)
 
   clash6 : IsFirstFault year UnknownItem b → Passes6 b → ⊥
-  clash6 h p = true_false (sym h.1 ∙ p.1)
+  clash6 h p = no_true_false (sym h.1 ∙ p.1)
 
   clash7 : IsFirstFault year ItemTwice b → Passes7 b → ⊥
   clash7 h p = h.1 p.1
 
   clash8 : IsFirstFault year UnknownAggregate b → Passes8 b → ⊥
-  clash8 h p = true_false (sym h.1 ∙ p.1)
+  clash8 h p = no_true_false (sym h.1 ∙ p.1)
 
   pub one_fault : (f g : PlanFault) → f ≢ NoMemory → g ≢ NoMemory → IsFirstFault year f b → IsFirstFault year g b →
       f ≡ g

@@ -15,6 +15,7 @@ use Rattle.std.proofs.lemmas.Map.Keys.{sorted_head}
 use Rattle.cpi_codes.specs.CodeOrder.{code_cmp, is_same_code}
 use Rattle.cpi_codes.specs.declared.codes.Code.{Code}
 use Rattle.cpi_codes.specs.contracts.codes.CodeOrd.TheImpl.Laws.{total-law}
+use Rattle.cpi_rows.proofs.Truth.{no_true_false}
 use Rattle.cpi_plan.specs.declared.plan_rows.Title.{Title}
 use Rattle.cpi_plan.specs.Sums.{sum_at}
 use Rattle.cpi_plan.specs.Steps.{is_without, IsFirstCode}
@@ -25,9 +26,6 @@ use Rattle.cpi_plan.proofs.UnderLemmas.{any_agree}
 abbrev pub Ahead : BTreeMap Code ℕ → List Title → List (Code × ℕ) → Type 0
 Ahead sums titles es = (q : Code) → is_without sums titles q ≡ true →
     unwrap_or (lookup (λ k. is_eq (code_cmp q k)) es) 0 ≡ sum_at sums q
-
-true_false : true ≡ false → ⊥
-true_false e = cc
 
 positive : (n : ℕ) (b : Bool) → (nat_lt 0 n && b) ≡ true → 0 < n
 positive n b h = grind (arith, nat_tests)
@@ -83,6 +81,6 @@ ahead_after sums titles k v es ahead here = λ q wanted. by q wanted (code_cmp q
     by : (q : Code) → is_without sums titles q ≡ true → (s : Ordering) → code_cmp q k ≡ s →
         unwrap_or (cond (is_eq s) (Some v) (lookup (λ y. is_eq (code_cmp q y)) es)) 0 ≡ sum_at sums q →
         unwrap_or (lookup (λ y. is_eq (code_cmp q y)) es) 0 ≡ sum_at sums q
-    by q wanted Equal p h = absurd (true_false (sym wanted ∙ same_without sums titles q k p ∙ here))
+    by q wanted Equal p h = absurd (no_true_false (sym wanted ∙ same_without sums titles q k p ∙ here))
     by q wanted Less p h = h
     by q wanted Greater p h = h

@@ -1,6 +1,6 @@
 -- The first untitled code is the least of those on the paths.
 use Rattle.std.proofs.Common.{◌≡◌, Bool, true, false, cond, List, [], ◌∷◌, filter, Option, Some, None, refl, sym, ap}
-use Rattle.std.proofs.Common.{◌∙◌, subst, ◌&&◌, ◌||◌}
+use Rattle.std.proofs.Common.{◌∙◌, subst, ◌||◌}
 use Rattle.std.specs.declared.cmp.Ordering.{Ordering}
 use Rattle.std.specs.declared.cmp.Ordering.TheVariants.{Less, Equal, Greater}
 use Rattle.std.specs.Ordering.{is_gt, ordering_reverse}
@@ -14,6 +14,7 @@ use Rattle.cpi_codes.specs.CodeText.{is_code_at_or_below}
 use Rattle.cpi_codes.specs.declared.codes.Code.{Code}
 use Rattle.cpi_codes.specs.contracts.codes.CodeOrd.TheImpl.Laws.{total-law}
 use Rattle.cpi_codes.proofs.CodesAbove.{in_path}
+use Rattle.cpi_rows.proofs.Truth.{and_first, or_of_first, or_of_second}
 use Rattle.cpi_plan.specs.declared.plan_rows.Title.{Title}
 use Rattle.cpi_plan.specs.declared.plan_rows.Weight.{Weight}
 use Rattle.cpi_plan.specs.Sums.{is_node}
@@ -116,14 +117,6 @@ module _ (p : Code → Bool) (k : Code) (f : IsFirstCode p k) (cs : List Code)
       by (Some m) e n = ap (λ c. Some c) (equal_is m k
           (level (code_cmp m k) (code_cmp k m) (total-law.antisymm m k) n (f.1 m (first_passes p cs m e))))
 
-or_true_left : (a b : Bool) → a ≡ true → (a || b) ≡ true
-or_true_left true b h = refl
-or_true_left false b h = cc
-
-or_true_right : (a b : Bool) → b ≡ true → (a || b) ≡ true
-or_true_right true b h = refl
-or_true_right false b h = h
-
 -- a node is on the path of a code with weight
 node_among : (k : Code) (ws : List Weight) → is_node ws k ≡ true →
     list_any (is_same_code k) (flat_map (λ w. path w.code) ws) ≡ true
@@ -135,17 +128,13 @@ node_among k (w ∷ ws) h = list_any-append (is_same_code k) (path w.code) (flat
         (is_node ws k ≡ true → list_any (is_same_code k) (flat_map (λ x. path x.code) ws) ≡ true) →
         (b || is_node ws k) ≡ true → (list_any (is_same_code k) (path w.code) || list_any (is_same_code k)
         (flat_map (λ x. path x.code) ws)) ≡ true
-    by true e rest h = or_true_left (list_any (is_same_code k) (path w.code)) _ (in_path k w.code e)
-    by false e rest h = or_true_right (list_any (is_same_code k) (path w.code)) _ (rest h)
-
-and_left : (a b : Bool) → (a && b) ≡ true → a ≡ true
-and_left true b h = refl
-and_left false b h = cc
+    by true e rest h = or_of_first (list_any (is_same_code k) (path w.code)) _ (in_path k w.code e)
+    by false e rest h = or_of_second (list_any (is_same_code k) (path w.code)) _ (rest h)
 
 pub first_untitled_is : (titles : List Title) (weights : List Weight) (k : Code) →
     IsFirstCode (is_untitled titles weights) k → first_untitled titles weights ≡ Some k
 first_untitled_is titles weights k f = first_is_least (is_untitled titles weights) k f
-    (flat_map (λ w. path w.code) weights) (node_among k weights (and_left (is_node weights k) _ f.0))
+    (flat_map (λ w. path w.code) weights) (node_among k weights (and_first (is_node weights k) _ f.0))
 
 pub none_untitled : (titles : List Title) (weights : List Weight) →
     ((k : Code) → is_untitled titles weights k ≡ false) → first_untitled titles weights ≡ None

@@ -16,6 +16,7 @@ use Rattle.cpi_codes.specs.CodeOrder.{code_cmp, is_same_code, is_code_elementary
 use Rattle.cpi_codes.specs.declared.codes.Code.{Code}
 use Rattle.cpi_rows.specs.Keyed.{row_at, IsInOrder}
 use Rattle.cpi_rows.proofs.Places.{row_found}
+use Rattle.cpi_rows.proofs.Truth.{and_first}
 use Rattle.cpi_plan.specs.declared.limits.TheConstants.{ALL_PARTS}
 use Rattle.cpi_plan.specs.declared.plan_rows.Title.{Title}
 use Rattle.cpi_plan.specs.declared.plan_rows.Weight.{Weight}
@@ -47,10 +48,6 @@ both_same false n = refl
 abbrev pub plan_with : ℕ → List Weight → List Place → Option ℕ → List Node → Plan
 plan_with year weights places reference nodes =
     record { year = year; nodes = nodes; weights = weights; places = places; reference = reference }
-
-and_left : (a b : Bool) → (a && b) ≡ true → a ≡ true
-and_left true b h = refl
-and_left false b h = cc
 
 module _ (sums : BTreeMap Code ℕ) (weights : List Weight) (kept : (q : Code) → sum_at sums q ≡ weight_under q weights)
     (positive : has_zero_weight weights ≡ false) where
@@ -155,7 +152,7 @@ module _ (sums : BTreeMap Code ℕ) (weights : List Weight) (kept : (q : Code) �
     nodes_in_order = nodes_in_order titles s;
     weights_in_order = t;
     places_in_order = u;
-    elementary = and_left (list_all (λ w. is_code_elementary w.code) weights)
+    elementary = and_first (list_all (λ w. is_code_elementary w.code) weights)
         (list_all (λ p. is_code_elementary p.aggregate) places) elementary;
     positive = positive;
     whole = whole;
@@ -169,16 +166,11 @@ module _ (sums : BTreeMap Code ℕ) (weights : List Weight) (kept : (q : Code) �
 pub fit_alone : (year : ℕ) (months : List ℕ) → has_fit_reference year months ≡ true →
     is_fit_reference year (reference_in months) ≡ true
 fit_alone year [] h = refl
-fit_alone year (month ∷ []) h = and_left (may_refer_to year month) true h
+fit_alone year (month ∷ []) h = and_first (may_refer_to year month) true h
 fit_alone year (month ∷ other ∷ months) h = cc
 
 -- ---- a look-up finds the same row after rows were put in order
 module _ {X K : Type 0} {R : K → K → Ordering} (o : IsTotalOrder R) (key : X → K) (k : K) where
-  eq_of : (s : Ordering) → is_eq s ≡ true → s ≡ Equal
-  eq_of Less h = cc
-  eq_of Equal h = refl
-  eq_of Greater h = cc
-
   contained : (xs : List X) (x : X) → row_at R key k xs ≡ Some x → Contains xs x × (R (key x) k ≡ Equal)
   contained [] x e = cc
   contained (y ∷ ys) x e = by (R (key y) k) refl e (λ t. contained ys x t)

@@ -11,6 +11,7 @@ use Rattle.cpi_codes.specs.CodeOrder.{code_cmp, is_same_code}
 use Rattle.cpi_codes.specs.declared.codes.Code.{Code}
 use Rattle.cpi_codes.specs.contracts.codes.CodeOrd.TheImpl.Laws.{total-law}
 use Rattle.cpi_rows.specs.Keyed.{row_at}
+use Rattle.cpi_rows.proofs.Truth.{and_first, and_second}
 use Rattle.cpi_plan.specs.declared.limits.TheConstants.{ALL_PARTS}
 use Rattle.cpi_plan.specs.declared.plan_rows.Title.{Title}
 use Rattle.cpi_plan.specs.declared.plan_rows.Weight.{Weight}
@@ -30,7 +31,7 @@ use Rattle.cpi_plan.specs.Planned.{rows_in_order}
 use Rattle.cpi_plan.specs.Planned.{plan_from_body, plan_if_titled, plan_or_fault}
 use Rattle.cpi_plan.proofs.InOrder.{distinct, from_distinct, not_distinct, is_in_order, row_in_order}
 use Rattle.cpi_plan.proofs.FirstUntitled.{first_untitled_is, none_untitled}
-use Rattle.cpi_plan.proofs.UnderLemmas.{same_node, and_first, and_second}
+use Rattle.cpi_plan.proofs.UnderLemmas.{same_node}
 use Rattle.cpi_plan.proofs.NodeLemmas.{row_moved}
 use Rattle.cpi_plan.proofs.SameLemmas.{same_rows}
 use Rattle.cpi_plan.proofs.BuiltLemmas.{plan_is}

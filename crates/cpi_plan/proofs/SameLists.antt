@@ -1,18 +1,16 @@
 -- Lists that are the same row by row.
 use Rattle.std.proofs.Common.{◌≡◌, ℕ, zero, suc, ◌<◌, Bool, true, false, List, [], ◌∷◌, length, get_or, refl, sym, ap}
-use Rattle.std.proofs.Common.{arith, ◌&&◌}
+use Rattle.std.proofs.Common.{arith}
 use Rattle.std.specs.Cmp.Lexicographic.{pointwise}
-
-and_false : (a b : Bool) → b ≡ false → (a && b) ≡ false
-and_false true b h = h
-and_false false b h = refl
+use Rattle.cpi_rows.proofs.Truth.{and_false_second}
 
 module _ {X : Type 0} (E : X → X → Bool) where
   pub other_length : (xs ys : List X) → (length xs ≡ length ys → ⊥) → pointwise E xs ys ≡ false
   other_length [] [] h = absurd (h refl)
   other_length [] (y ∷ ys) h = refl
   other_length (x ∷ xs) [] h = refl
-  other_length (x ∷ xs) (y ∷ ys) h = and_false (E x y) (pointwise E xs ys) (other_length xs ys (λ e. h (ap suc e)))
+  other_length (x ∷ xs) (y ∷ ys) h =
+      and_false_second (E x y) (pointwise E xs ys) (other_length xs ys (λ e. h (ap suc e)))
 
   pub differ_at : (xs ys : List X) (i : ℕ) (x y : X) → i < length xs → i < length ys → x ≡ get_or xs i x →
       y ≡ get_or ys i y → E x y ≡ false → pointwise E xs ys ≡ false
@@ -20,7 +18,7 @@ module _ {X : Type 0} (E : X → X → Bool) where
   differ_at (u ∷ us) [] i x y h k p q e = absurd (omega (arith, k))
   differ_at (u ∷ us) (v ∷ vs) zero x y h k p q e = rw (sym p, sym q, e) refl
   differ_at (u ∷ us) (v ∷ vs) (suc i) x y h k p q e =
-      and_false (E u v) (pointwise E us vs) (differ_at us vs i x y (omega (arith, h)) (omega (arith, k)) p q e)
+      and_false_second (E u v) (pointwise E us vs) (differ_at us vs i x y (omega (arith, h)) (omega (arith, k)) p q e)
 
   pub same_all : (xs ys : List X) → length xs ≡ length ys →
       ((k : ℕ) (d : X) → k < length xs → E (get_or xs k d) (get_or ys k d) ≡ true) → pointwise E xs ys ≡ true

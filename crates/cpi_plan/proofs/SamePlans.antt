@@ -9,19 +9,16 @@ use Rattle.cpi_codes.specs.CodeOrder.{is_same_code}
 use Rattle.cpi_codes.specs.Text.{same_text}
 use Rattle.cpi_codes.specs.declared.codes.Code.{Code}
 use Rattle.cpi_codes.specs.contracts.codes.CodeOrd.TheImpl.Laws.{total-law}
+use Rattle.cpi_rows.proofs.Truth.{and_first, and_second, and_true}
 use Rattle.cpi_plan.specs.declared.plan_rows.Node.{Node}
 use Rattle.cpi_plan.specs.declared.plan_rows.Weight.{Weight}
 use Rattle.cpi_plan.specs.declared.plan_rows.Place.{Place}
 use Rattle.cpi_plan.specs.Plan.{Plan}
 use Rattle.cpi_plan.specs.SamePlan.{same_node, same_weight, same_place, same_reference, same_plan}
-use Rattle.cpi_plan.proofs.UnderLemmas.{and_first, and_second}
 use Rattle.cpi_plan.proofs.FaultLemmas.{equal_is}
 
 code_decides : (c d : Code) → Decides (is_same_code c d) (c ≡ d)
 code_decides c d = (equal_is c d, λ e. subst (λ x. is_same_code c x ≡ true) e (ap is_eq (tied_itself total-law c)))
-
-all_true : (s t : Bool) → s ≡ true → t ≡ true → (s && t) ≡ true
-all_true s t e f = rw (e, f) refl
 
 node_decides : (a b : Node) → Decides (same_node a b) (a ≡ b)
 node_decides a b = (is, by)
@@ -38,8 +35,8 @@ node_decides a b = (is, by)
         λ n. record { code = code n; title = title n; weight = weight n }
 
     by : a ≡ b → same_node a b ≡ true
-    by e = all_true (is_same_code a.code b.code && same_text a.title b.title) (a.weight == b.weight)
-        (all_true (is_same_code a.code b.code) (same_text a.title b.title)
+    by e = and_true (is_same_code a.code b.code && same_text a.title b.title) (a.weight == b.weight)
+        (and_true (is_same_code a.code b.code) (same_text a.title b.title)
         ((code_decides a.code b.code).1 (ap (λ x. x.code) e))
         ((bytes_decides a.title b.title).1 (ap (λ x. x.title) e)))
         ((Decides-eqb a.weight b.weight).1 (ap (λ x. x.weight) e))
@@ -56,7 +53,7 @@ weight_decides a b = (is, by)
         λ n. record { code = code n; parts = parts n }
 
     by : a ≡ b → same_weight a b ≡ true
-    by e = all_true (is_same_code a.code b.code) (a.parts == b.parts)
+    by e = and_true (is_same_code a.code b.code) (a.parts == b.parts)
         ((code_decides a.code b.code).1 (ap (λ x. x.code) e))
         ((Decides-eqb a.parts b.parts).1 (ap (λ x. x.parts) e))
 
@@ -72,7 +69,7 @@ place_decides a b = (is, by)
         λ n. record { item = item n; aggregate = aggregate n }
 
     by : a ≡ b → same_place a b ≡ true
-    by e = all_true (a.item == b.item) (is_same_code a.aggregate b.aggregate)
+    by e = and_true (a.item == b.item) (is_same_code a.aggregate b.aggregate)
         ((Decides-eqb a.item b.item).1 (ap (λ x. x.item) e))
         ((code_decides a.aggregate b.aggregate).1 (ap (λ x. x.aggregate) e))
 
@@ -120,10 +117,10 @@ module _ (a b : Plan) where
 
   is_plan : a ≡ b → same_plan a b ≡ true
   is_plan e =
-      all_true (of_year && of_nodes && of_weights && of_places) of_reference
-      (all_true (of_year && of_nodes && of_weights) of_places
-      (all_true (of_year && of_nodes) of_weights
-      (all_true of_year of_nodes ((Decides-eqb a.year b.year).1 (ap (λ p. p.year) e))
+      and_true (of_year && of_nodes && of_weights && of_places) of_reference
+      (and_true (of_year && of_nodes && of_weights) of_places
+      (and_true (of_year && of_nodes) of_weights
+      (and_true of_year of_nodes ((Decides-eqb a.year b.year).1 (ap (λ p. p.year) e))
       ((pointwise_decides node_decides a.nodes b.nodes).1 (ap (λ p. p.nodes) e)))
       ((pointwise_decides weight_decides a.weights b.weights).1 (ap (λ p. p.weights) e)))
       ((pointwise_decides place_decides a.places b.places).1 (ap (λ p. p.places) e)))

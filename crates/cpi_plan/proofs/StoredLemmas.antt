@@ -15,12 +15,12 @@ use Rattle.cpi_codes.specs.contracts.codes.CodeOrd.TheImpl.Laws.{total-law}
 use Rattle.cpi_codes.proofs.CodePath.{at_or_below-parts}
 use Rattle.cpi_codes.proofs.CodeBelow.{fits}
 use Rattle.cpi_codes.proofs.CodeIs.{code}
+use Rattle.cpi_rows.proofs.Truth.{and_first, and_second, and_true, or_of_first, or_of_second, equal_itself}
 use Rattle.cpi_plan.specs.declared.limits.TheConstants.{ALL_PARTS}
 use Rattle.cpi_plan.specs.Sums.{weight_under, is_node}
 use Rattle.cpi_plan.specs.Plan.{Plan, IsPlan, total_weight}
 use Rattle.cpi_plan.specs.Stored.{is_weighed, is_complete, is_whole}
 use Rattle.cpi_plan.specs.declared.plan_rows.Weight.{Weight}
-use Rattle.cpi_plan.proofs.UnderLemmas.{and_first, and_second}
 
 pub same_itself : (c : Code) → is_same_code c c ≡ true
 same_itself c = ap is_eq (tied_itself total-law c)
@@ -29,12 +29,6 @@ fits_itself : (x : Option ℕ) → fits x x ≡ true
 fits_itself None = refl
 fits_itself (Some n) = grind (arith, nat_tests)
 
-all_true : (s t : Bool) → s ≡ true → t ≡ true → (s && t) ≡ true
-all_true s t e f = rw (e, f) refl
-
-division_same : (d : ℕ) → (d == d) ≡ true
-division_same d = grind (arith, nat_tests)
-
 fitting : (z e a b d f : Bool) → e ≡ true → a ≡ true → b ≡ true → d ≡ true → f ≡ true →
     (z || (e && (a && (b && (d && f))))) ≡ true
 fitting true e a b d f p q r s t = refl
@@ -42,7 +36,7 @@ fitting false e a b d f p q r s t = rw (p, q, r, s, t) refl
 
 -- a code is at or below itself
 pub below_itself : (c : Code) → is_code_at_or_below c c ≡ true
-below_itself c = at_or_below-parts c c ∙ fitting (c.division == 0) _ _ _ _ _ (division_same c.division)
+below_itself c = at_or_below-parts c c ∙ fitting (c.division == 0) _ _ _ _ _ (equal_itself c.division)
     (fits_itself c.group) (fits_itself c.class) (fits_itself c.subclass) (fits_itself c.aggregate)
 
 -- ---- completeness
@@ -66,7 +60,7 @@ module _ (p : Code → Bool) where
   with_all d g c s a h = if_all d g c s a (are_parts d g c s a) refl h
 
   both_all : (xs ys : List Code) → list_all p xs ≡ true → list_all p ys ≡ true → list_all p (xs ++ ys) ≡ true
-  both_all xs ys h k = list_all-append p xs ys ∙ all_true (list_all p xs) (list_all p ys) h k
+  both_all xs ys h k = list_all-append p xs ys ∙ and_true (list_all p xs) (list_all p ys) h k
 
 below_parts : (n c : Code) → (n.division == 0) ≡ true → is_code_at_or_below n c ≡ true
 below_parts n c e = at_or_below-parts n c ∙ (rw e refl)
@@ -81,49 +75,41 @@ path_all p c h =
     (both_all p (code_with c.division None None None None) _
     (with_all p c.division None None None None (λ v. h (code c.division None None None None v)
     (at_or_below-parts (code c.division None None None None v) c
-    ∙ fitting (c.division == 0) _ _ _ _ _ (division_same c.division) refl refl refl refl)))
+    ∙ fitting (c.division == 0) _ _ _ _ _ (equal_itself c.division) refl refl refl refl)))
     (both_all p (code_with c.division c.group None None None) _
     (with_all p c.division c.group None None None
     (λ v. h (code c.division c.group None None None v)
     (at_or_below-parts (code c.division c.group None None None v) c
-    ∙ fitting (c.division == 0) _ _ _ _ _ (division_same c.division) (fits_itself c.group) refl refl refl)))
+    ∙ fitting (c.division == 0) _ _ _ _ _ (equal_itself c.division) (fits_itself c.group) refl refl refl)))
     (both_all p (code_with c.division c.group c.class None None) _
     (with_all p c.division c.group c.class None None
     (λ v. h (code c.division c.group c.class None None v)
     (at_or_below-parts (code c.division c.group c.class None None v) c
-    ∙ fitting (c.division == 0) _ _ _ _ _ (division_same c.division) (fits_itself c.group)
+    ∙ fitting (c.division == 0) _ _ _ _ _ (equal_itself c.division) (fits_itself c.group)
     (fits_itself c.class) refl refl)))
     (both_all p (code_with c.division c.group c.class c.subclass None) (c ∷ [])
     (with_all p c.division c.group c.class c.subclass None
     (λ v. h (code c.division c.group c.class c.subclass None v)
     (at_or_below-parts (code c.division c.group c.class c.subclass None v) c
-    ∙ fitting (c.division == 0) _ _ _ _ _ (division_same c.division) (fits_itself c.group) (fits_itself c.class)
+    ∙ fitting (c.division == 0) _ _ _ _ _ (equal_itself c.division) (fits_itself c.group) (fits_itself c.class)
     (fits_itself c.subclass) refl)))
     (rw (h c (below_itself c)) refl)))))
 
 -- ---- a plan passes the tests
-pub or_left : (a b : Bool) → a ≡ true → (a || b) ≡ true
-or_left true b h = refl
-or_left false b h = cc
-
-pub or_right : (a b : Bool) → b ≡ true → (a || b) ≡ true
-or_right true b h = refl
-or_right false b h = h
-
 -- each row of a list is among the list's rows
 all_among : {X : Type 0} (E : X → X → Bool) → ((x : X) → E x x ≡ true) → (q : X → Bool) (xs : List X) →
     ((x : X) → list_any (λ y. E y x) xs ≡ true → q x ≡ true) → list_all q xs ≡ true
 all_among E same q [] h = refl
 all_among E same q (x ∷ xs) h =
-    rw (h x (or_left (E x x) (list_any (λ y. E y x) xs) (same x)))
-    (all_among E same q xs (λ y k. h y (or_right (E x y) (list_any (λ z. E z y) xs) k)))
+    rw (h x (or_of_first (E x x) (list_any (λ y. E y x) xs) (same x)))
+    (all_among E same q xs (λ y k. h y (or_of_second (E x y) (list_any (λ z. E z y) xs) k)))
 
 all_both : {X : Type 0} (p q : X → Bool) (xs : List X) → list_all p xs ≡ true → list_all q xs ≡ true →
     list_all (λ x. p x && q x) xs ≡ true
 all_both p q [] h k = refl
 all_both p q (x ∷ xs) h k =
-    all_true (p x && q x) (list_all (λ y. p y && q y) xs)
-    (all_true (p x) (q x) (and_first (p x) (list_all p xs) h) (and_first (q x) (list_all q xs) k))
+    and_true (p x && q x) (list_all (λ y. p y && q y) xs)
+    (and_true (p x) (q x) (and_first (p x) (list_all p xs) h) (and_first (q x) (list_all q xs) k))
     (all_both p q xs (and_second (p x) (list_all p xs) h) (and_second (q x) (list_all q xs) k))
 
 all_paths : (q : Code → Bool) (xs : List Weight) →
@@ -131,9 +117,9 @@ all_paths : (q : Code → Bool) (xs : List Weight) →
     list_all (λ w. list_all q (path w.code)) xs ≡ true
 all_paths q [] h = refl
 all_paths q (w ∷ xs) h =
-    rw (path_all q w.code (λ n below. h n (or_left (is_code_at_or_below n w.code)
+    rw (path_all q w.code (λ n below. h n (or_of_first (is_code_at_or_below n w.code)
     (list_any (λ v. is_code_at_or_below n v.code) xs) below)))
-    (all_paths q xs (λ n k. h n (or_right (is_code_at_or_below n w.code)
+    (all_paths q xs (λ n k. h n (or_of_second (is_code_at_or_below n w.code)
     (list_any (λ v. is_code_at_or_below n v.code) xs) k)))
 
 module _ (p : Plan) (v : IsPlan p) where

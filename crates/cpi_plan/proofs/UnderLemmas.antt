@@ -10,6 +10,8 @@ use Rattle.cpi_codes.specs.CodeOrder.{is_same_code}
 use Rattle.cpi_codes.specs.declared.codes.Code.{Code}
 use Rattle.cpi_codes.proofs.CodePath.{same_part, is_eq-parts, at_or_below-parts}
 use Rattle.cpi_codes.proofs.CodeBelow.{fits}
+use Rattle.cpi_rows.proofs.Truth.{or_false_first, or_false_second, same_of_equal}
+pub use Rattle.cpi_rows.proofs.Truth.{and_first, and_second, same_of_equal as number_is}
 use Rattle.cpi_plan.specs.declared.plan_rows.Weight.{Weight}
 use Rattle.cpi_plan.specs.Sums.{weight_under, is_node}
 use Rattle.cpi_plan.specs.Plan.{has_zero_weight, total_weight}
@@ -33,24 +35,11 @@ amount_fits true n m h = h
 amount_fits false n m h = omega arith
 
 -- ---- codes with the same parts
-pub and_first : (a b : Bool) → (a && b) ≡ true → a ≡ true
-and_first true b h = refl
-and_first false b h = cc
-
-pub and_second : (a b : Bool) → (a && b) ≡ true → b ≡ true
-and_second true b h = h
-and_second false b h = cc
-
 pub part_is : (x y : Option ℕ) → same_part x y ≡ true → x ≡ y
 part_is None None h = refl
 part_is None (Some e) h = cc
 part_is (Some d) None h = cc
-part_is (Some d) (Some e) h = ap (λ n. Some n) (number_is d e h) where
-  number_is : (d e : ℕ) → (d == e) ≡ true → d ≡ e
-  number_is d e h = grind (arith, nat_tests)
-
-pub number_is : (d e : ℕ) → (d == e) ≡ true → d ≡ e
-number_is d e h = grind (arith, nat_tests)
+part_is (Some d) (Some e) h = ap (λ n. Some n) (same_of_equal d e h)
 
 abbrev below_parts : Code → ℕ → Option ℕ → Option ℕ → Option ℕ → Option ℕ → Bool
 below_parts c d g k s a = (d == 0) || ((c.division == d)
@@ -69,7 +58,7 @@ same_below n q h c =
     let fourth = and_second (same_part q.class n.class) _ third in
     at_or_below-parts n c ∙ sym (below_parts_agree c n.division q.division n.group q.group n.class q.class n.subclass
     q.subclass n.aggregate q.aggregate
-    (number_is q.division n.division (and_first (q.division == n.division) _ parts))
+    (same_of_equal q.division n.division (and_first (q.division == n.division) _ parts))
     (part_is q.group n.group (and_first (same_part q.group n.group) _ rest))
     (part_is q.class n.class (and_first (same_part q.class n.class) _ third))
     (part_is q.subclass n.subclass (and_first (same_part q.subclass n.subclass) _ fourth))
@@ -109,18 +98,11 @@ pub weighs : (q : Code) (ws : List Weight) → has_zero_weight ws ≡ false → 
     × (is_node ws q ≡ true → 0 < weight_under q ws)
 weighs q [] z = (λ h. absurd (omega arith), λ h. cc)
 weighs q (x ∷ xs) z =
-    let rest = weighs q xs (or_second (x.parts == 0) (has_zero_weight xs) z) in
+    let rest = weighs q xs (or_false_second (x.parts == 0) (has_zero_weight xs) z) in
     let here = has_more (is_code_at_or_below q x.code) x.parts (weight_under q xs) (is_node xs q)
-    (or_first (x.parts == 0) (has_zero_weight xs) z) rest.0 rest.1 in
+    (or_false_first (x.parts == 0) (has_zero_weight xs) z) rest.0 rest.1 in
     let sum = under_cons q x xs (is_code_at_or_below q x.code) refl in
-    (λ h. here.0 (omega (arith, sum, h)), λ h. omega (arith, sum, here.1 h)) where
-      or_first : (a b : Bool) → (a || b) ≡ false → a ≡ false
-      or_first false b h = refl
-      or_first true b h = cc
-
-      or_second : (a b : Bool) → (a || b) ≡ false → b ≡ false
-      or_second false b h = h
-      or_second true b h = cc
+    (λ h. here.0 (omega (arith, sum, h)), λ h. omega (arith, sum, here.1 h))
 
 -- no code has more than all
 pub under_total : (q : Code) (ws : List Weight) → weight_under q ws ≤ total_weight ws

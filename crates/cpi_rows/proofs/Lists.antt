@@ -52,7 +52,3 @@ flat_map_passes f x (y ∷ xs) ys none = ap (λ vs. f y ++ vs) (flat_map_passes 
 pub of_result : {T E A B G : Type 0} (result : Result T E) → OnOk result A → OnErr result B → (A → G) → (B → G) → G
 of_result (Ok t) ok err f g = f ok
 of_result (Err e) ok err f g = g err
-
-pub on_ok_weaker : {T E : Type 0} (result : Result T E) (P Q : Type 0) → OnOk result P → (P → Q) → OnOk result Q
-on_ok_weaker (Ok t) P Q h f = f h
-on_ok_weaker (Err e) P Q h f = tt

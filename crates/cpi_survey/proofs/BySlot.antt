@@ -1,7 +1,7 @@
 -- Quotes slot by slot: what a slot has of all, what is put among its own, and a slot with none.
 use Rattle.std.proofs.Common.{◌≡◌, ◌≢◌, ℕ, zero, suc, ◌+◌, ◌<◌, Bool, true, false, List, [], ◌∷◌, ◌++◌, map, length}
 use Rattle.std.proofs.Common.{get_or, set, take, drop, Some, None, Option, Ok, Err, refl, sym, ap, ◌∙◌, arith, inl, inr}
-use Rattle.std.specs.Prelude.{if◌then◌else◌, filter, ◌==◌, ◌⊎◌, IsSome, OnErr, OnOk, Result}
+use Rattle.std.specs.Prelude.{if◌then◌else◌, filter, ◌==◌, ◌⊎◌, IsSome}
 use Rattle.std.specs.declared.cmp.Ordering.{Ordering}
 use Rattle.std.specs.declared.cmp.Ordering.TheVariants.{Less, Equal, Greater}
 use Rattle.std.specs.Ordering.{nat_cmp, is_lt, is_gt, is_eq, ordering_then}
@@ -16,6 +16,7 @@ use Rattle.cpi_rows.specs.Keyed.{with_row, row_at, row_by_number, IsInOrder, IsP
 use Rattle.cpi_rows.specs.Held.{held_cmp, held_key}
 use Rattle.cpi_rows.specs.Gathered.{rows_with_holders, rows_in}
 use Rattle.cpi_rows.proofs.Gathered.{held_gathered, put_gathered}
+use Rattle.cpi_rows.proofs.Lists.{all_put, flat_map_passes}
 use Rattle.cpi_rows.proofs.Places.{none_in_order, put_at_gap, put_at_row, put_in_order, row_found}
 use Rattle.cpi_survey.specs.declared.assignment.Assignment.{Assignment}
 use Rattle.cpi_survey.specs.declared.slot_quotes.SlotQuotes.{SlotQuotes}
@@ -190,20 +191,6 @@ all_at P [] i d lt all = absurd (omega arith)
 all_at P (x ∷ xs) zero d lt all = all.0
 all_at P (x ∷ xs) (suc i) d lt all = all_at P xs i d (omega arith) all.1
 
-all_filter : {X : Type 0} (P : X → Type 0) (p : X → Bool) (xs : List X) → AllByRecursion P xs →
-    AllByRecursion P (filter p xs)
-all_filter P p [] all = tt
-all_filter P p (x ∷ xs) all = by (p x) refl (all_filter P p xs all.1)
-  where
-    by : (s : Bool) → p x ≡ s → AllByRecursion P (filter p xs) → AllByRecursion P (filter p (x ∷ xs))
-    by true e rest = rw e (all.0, rest)
-    by false e rest = rw e rest
-
-all_joined : {X : Type 0} (P : X → Type 0) (xs : List X) (x : X) (ys : List X) → AllByRecursion P xs → P x →
-    AllByRecursion P ys → AllByRecursion P (xs ++ x ∷ ys)
-all_joined P [] x ys front here back = (here, back)
-all_joined P (y ∷ xs) x ys front here back = (front.0, all_joined P xs x ys front.1 here back)
-
 -- a slot at its place, and the slot after its quotes changed
 module _ (ss : List SlotQuotes) (kept : AreBySlot ss) (slot : ℕ) (i : ℕ)
     (place : IsPlace nat_cmp slot_of slot ss (Ok i)) (s : SlotQuotes) (stands : s ≡ get_or ss i s) where
@@ -266,23 +253,13 @@ module _ (ss : List SlotQuotes) (kept : AreBySlot ss) (slot : ℕ) (i : ℕ)
         slots_put order = record {
           order = slots_set;
           own = all_set AreOfSlot ss i after (record {
-            own = rw (e, same) (all_joined _ _ q _ (all_filter _ _ s.quotes.items standing.own) (its ∙ sym slot_is)
-                (all_filter _ _ s.quotes.items standing.own));
+            own = rw (e, same) (all_put (λ x. x.slot ≡ s.slot) quote_cmp quote_key q s.quotes.items
+                (its ∙ sym slot_is) standing.own);
             order = order;
           }) kept.own;
         }
 
--- what holds where the call succeeded and where it failed, holds
-pub either : {T E A B G : Type 0} (result : Result T E) → OnOk result A → OnErr result B → (A → G) → (B → G) → G
-either (Ok t) ok err f g = f ok
-either (Err e) ok err f g = g err
-
 -- ---- a slot with none
-
-passed_over : {X Y : Type 0} (f : X → List Y) (x : X) (xs ys : List X) → f x ≡ [] →
-    flat_map f (xs ++ x ∷ ys) ≡ flat_map f (xs ++ ys)
-passed_over f x [] ys none = ap (λ vs. vs ++ flat_map f ys) none
-passed_over f x (y ∷ xs) ys none = ap (λ vs. f y ++ vs) (passed_over f x xs ys none)
 
 all_insert : {X : Type 0} (P : X → Type 0) (x : X) (xs ys : List X) → P x → AllByRecursion P (xs ++ ys) →
     AllByRecursion P (xs ++ x ∷ ys)
@@ -291,7 +268,7 @@ all_insert P x (y ∷ xs) ys here all = (all.0, all_insert P x xs ys here all.1)
 
 module _ (ss : List SlotQuotes) (kept : AreBySlot ss) (i : ℕ) (s : SlotQuotes) (none : s.quotes.items ≡ []) where
   pub quotes_added : quotes_of_slots (insert ss i s) ≡ quotes_of_slots ss
-  quotes_added = passed_over own_quotes s (take i ss) (drop i ss) none ∙ ap quotes_of_slots (take-append-drop i ss)
+  quotes_added = flat_map_passes own_quotes s (take i ss) (drop i ss) none ∙ ap quotes_of_slots (take-append-drop i ss)
 
   pub slots_added : IsPlace nat_cmp slot_of s.slot ss (Err i) → AreBySlot (insert ss i s)
   slots_added place = record {

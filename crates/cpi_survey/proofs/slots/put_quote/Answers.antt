@@ -2,8 +2,9 @@ use Rattle.std.proofs.Common.{ap, refl, sym, ◌∙◌}
 use Rattle.std.proofs.lemmas.Bool.{false≢true}
 use Rattle.std.proofs.lemmas.Result.{on_ok_weaker, on_err_weaker}
 use Rattle.cpi_rows.specs.Keyed.{with_row}
+use Rattle.cpi_rows.proofs.Lists.{of_result}
 use Rattle.cpi_survey.specs.Quote.{QuoteRow, quote_cmp, quote_key}
-use Rattle.cpi_survey.proofs.BySlot.{either, quotes_put, quotes_same, row_standing, slot_known, slots_put, slots_same}
+use Rattle.cpi_survey.proofs.BySlot.{quotes_put, quotes_same, row_standing, slot_known, slots_put, slots_same}
 use Rattle.cpi_survey.proofs.slots.put_quote.Goals as goal
 
 pub returns-in_err-at-clause-replaced : goal.returns-in_err-at-clause-replaced
@@ -29,7 +30,7 @@ returns-clause-err c =
 
 pub returns-clause-slots : goal.returns-clause-slots
 returns-clause-slots c =
-    either c.put_row.result c.put_row.ensures.ok c.put_row.ensures.err
+    of_result c.put_row.result c.put_row.ensures.ok c.put_row.ensures.err
     (λ done. slots_put c.place_for.new.slots.items c.place_for.ensures.slots c.quote.inside.slot c.in_ok-at.at
     c.in_ok-at.ensures.place c.index_mut.result.now c.index_mut.ensures.value _ refl
     c.args.quote (ap (λ (q : QuoteRow). q.slot) (sym c.quote.view_is)) done c.put_row.ensures.order)

@@ -2,10 +2,11 @@ use Rattle.std.proofs.Common.{◌≡◌, ap, sym, ◌∙◌, rules, subst, Some,
 use Rattle.std.specs.Prelude.{is_some}
 use Rattle.cpi_codes.specs.CodeOrder.{code_cmp}
 use Rattle.cpi_rows.specs.Keyed.{row_at}
+use Rattle.cpi_rows.proofs.Truth.{same_of_equal}
 use Rattle.cpi_plan.specs.Plan.{IsPlan}
 use Rattle.cpi_plan.specs.Sums.{weight_under, is_node}
 use Rattle.cpi_plan.proofs.RowLemmas.{found, found_has}
-use Rattle.cpi_plan.proofs.UnderLemmas.{same_weight, number_is}
+use Rattle.cpi_plan.proofs.UnderLemmas.{same_weight}
 use Rattle.cpi_plan.proofs.plans.YearPlan.weight.Goals as goal
 
 pub returns-in_err-find_row : goal.returns-in_err-find_row
@@ -27,5 +28,6 @@ returns c =
     let has = found_has code_cmp (λ n. n.code) code (λ n. n.weight == weight_under n.code plan.weights) plan.nodes
     node some valid.weighed in (
       valid.complete code ∙ sym (found code_cmp (λ n. n.code) code plan.nodes) ∙ ap is_some some,
-      number_is node.weight (weight_under node.code plan.weights) has.1 ∙ same_weight node.code code has.0 plan.weights,
+      same_of_equal node.weight (weight_under node.code plan.weights) has.1
+          ∙ same_weight node.code code has.0 plan.weights,
     )
