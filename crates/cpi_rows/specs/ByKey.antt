@@ -4,6 +4,6 @@ use Rattle.std.specs.declared.cmp.Ordering.{Ordering}
 use Rattle.std.specs.declared.cmp.Ordering.TheVariants.{Equal}
 use Rattle.std.specs.List.{AllByRecursion}
 
--- each row stands under its own key
+-- each row is under its own key
 abbrev pub AreUnderKeys : {X K : Type 0} → (K → K → Ordering) → (X → K) → List (K × X) → Type 0
 AreUnderKeys cmp key entries = AllByRecursion (λ e. cmp e.0 (key e.1) ≡ Equal) entries

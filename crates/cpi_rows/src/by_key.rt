@@ -10,7 +10,7 @@ use std::collections::BTreeMap;
 use std::collections::btree_map::Values;
 use std::marker::Model;
 
-/// Rows in the order of their keys, one a key. Contracts see the rows alone.
+/// Rows in the order of their keys, one a key. Contracts see only the rows.
 ///
 /// For n rows a look-up and a put cost O(log n), in whatever order the rows come.
 #[derive(Drop)]
@@ -35,7 +35,7 @@ impl<T: Keyed> Model for RowsByKey<T> {
 }
 
 impl<T: Keyed> RowsByKey<T> {
-    /// No rows. Takes no memory until the first is put.
+    /// A map without rows. It takes no memory until the first row is put.
     pub fn new(alloc: Global) -> RowsByKey<T>
         ensures { result ≡ [] }
     {
@@ -44,7 +44,7 @@ impl<T: Keyed> RowsByKey<T> {
         }
     }
 
-    /// The row with the key, or `None` where no row has it.
+    /// The row with the key, or `None` if no row has it. O(log n) for n rows.
     pub fn find(&self, key: &T::Key) -> Option<&T>
         ensures { option_copied result ≡ row_at T.Key.cmp T.key key.now self.now }
     {
@@ -54,8 +54,8 @@ impl<T: Keyed> RowsByKey<T> {
         self.rows.get(key)
     }
 
-    // Whether the key is above those of all rows. It costs less than a search, which rows that come in rising order
-    // are so spared.
+    // Whether the key is above the keys of all rows. This test costs less than a search, and spares the search for rows
+    // that come in rising order.
     fn is_past_all(&self, key: &T::Key) -> bool
         ensures { IsTrue result → row_at T.Key.cmp T.key key.now self.now ≡ None }
     {
@@ -65,8 +65,8 @@ impl<T: Keyed> RowsByKey<T> {
         }
     }
 
-    /// Puts the row in its place, over the one with its key if there is one, which takes no memory and never fails.
-    /// Without memory for one more row the rows stay as they are.
+    /// Puts the row in its place. A row with its key is replaced, which takes no memory and never fails. An `Err` says
+    /// that there is no memory for one more row; the rows are as before then.
     pub fn put(&mut self, row: T) -> Result<(), AllocError>
     where
         T: Drop,
@@ -79,7 +79,7 @@ impl<T: Keyed> RowsByKey<T> {
         Ok(())
     }
 
-    /// The rows one after the other, in the order of their keys.
+    /// An iterator over the rows, in the order of their keys.
     pub fn iter(&self) -> Values<'_, T::Key, T>
         ensures rows { result ≡ self.now }
         ensures order { IsInOrder T.Key.cmp T.key self.now }

@@ -3,12 +3,12 @@ ghost use Rattle.std.specs.Prelude.{◌≡◌};
 
 /// A row that has a key.
 pub trait Keyed {
-    /// What rows are ordered by. No two rows of a list have one key.
+    /// The type of the key. Rows are in the order of their keys, and no two rows of a list have the same key.
     type Key: Ord + Drop;
 
     ghost key: { Self → Self.Key };
 
-    /// The row's key. A look-up asks for it O(log n) times, so it is to cost little.
+    /// The row's key. A look-up calls this O(log n) times, so it should cost little.
     fn key(&self) -> Self::Key
         ensures { result ≡ key self.now };
 }

@@ -22,7 +22,7 @@ pub fn puts_other<T: Keyed>()
         ≡ held_by holder rows }
 {}
 
-/// A law of holders in order: one holder's rows among everybody's are the rows that it holds.
+/// A law of holders in order: one holder's rows among those of all holders are the rows that it holds.
 pub fn gathered_rows<T: Keyed, G>()
     ensures { (number : G → ℕ) (rows : G → List T) (holders : List G) →
         IsInOrder nat_cmp number holders → (holder : ℕ) →
@@ -30,7 +30,7 @@ pub fn gathered_rows<T: Keyed, G>()
         ≡ rows_in rows (row_at nat_cmp number holder holders) }
 {}
 
-/// A law of holders in order: where a holder gains a row among its own, everybody's rows gain it
+/// A law of holders in order: if a holder gains a row among its own, the rows of all holders gain it
 /// under that holder.
 pub fn gathered_put<T: Keyed, G>()
     ensures { (number : G → ℕ) (rows : G → List T) (row : T) (after : G) →
@@ -43,7 +43,7 @@ pub fn gathered_put<T: Keyed, G>()
         (number (slice_index_or holders i d), row) (rows_with_holders number rows holders) }
 {}
 
-/// A law of rows in order: to put a row that stands already changes nothing.
+/// A law of rows in order: to put a row that is there already changes nothing.
 pub fn put_same<T: Keyed>()
     ensures { (rows : List T) → IsInOrder T.Key.cmp T.key rows → (row : T) →
         row_at T.Key.cmp T.key (T.key row) rows ≡ Some row → with_row T.Key.cmp T.key row rows ≡ rows }

@@ -4,7 +4,7 @@ ghost use Rattle.std.specs.Prelude.{◌≡◌, ◌↔◌, List, [], ◌∷◌, �
 use std::alloc::{AllocFailed, Global};
 use std::marker::Model;
 
-/// A list of rows, in the order in which they were pushed. Contracts see the rows alone.
+/// A list of rows, in the order in which they were pushed. Contracts see only the rows.
 #[derive(Debug, Drop)]
 pub struct Rows<T> {
     rows: Vec<T>,
@@ -17,7 +17,7 @@ impl<T> Model for Rows<T> {
 }
 
 impl<T> Rows<T> {
-    /// No rows. Takes no memory until the first is pushed.
+    /// A list without rows. It takes no memory until the first row is pushed.
     pub fn new(alloc: Global) -> Rows<T>
         ensures { result ≡ [] }
     {
@@ -26,22 +26,22 @@ impl<T> Rows<T> {
         }
     }
 
-    /// The rows of a vector, which is taken over as it is: nothing is copied, no memory is taken.
+    /// A list that takes over the vector: it copies nothing and takes no memory.
     pub fn of(rows: Vec<T>) -> Rows<T>
         ensures { result ≡ rows.items }
     {
         Rows { rows }
     }
 
-    /// The vector of the rows, given back as it is: nothing is copied, no memory is taken.
+    /// The vector of the rows. The call copies nothing and takes no memory.
     pub fn into_vec(self) -> Vec<T>
         ensures { result.items ≡ self }
     {
         self.rows
     }
 
-    /// Puts a row behind the others. Without memory the rows stay as they are, and the error gives
-    /// the row back.
+    /// Adds a row after the others. An `Err` says that memory was refused: the rows are as before then, and
+    /// the error contains the row.
     pub fn push(&mut self, row: T) -> Result<(), AllocFailed<T>>
         ensures ok { OnOk result (self.new ≡ self.old ++ row ∷ []) }
         ensures err { OnErr result (self.new ≡ self.old) }
@@ -57,7 +57,7 @@ impl<T> Rows<T> {
         &self.rows
     }
 
-    /// How many rows there are.
+    /// The number of rows.
     pub fn len(&self) -> usize
         ensures { result ≡ length self.now }
     {

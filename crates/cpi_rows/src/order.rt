@@ -1,4 +1,4 @@
-//! Whether rows are in order.
+//! The test of whether rows are in order.
 ghost use Rattle.std.specs.Prelude.{MatchBool};
 ghost use Rattle.cpi_rows.specs.Keyed.{IsInOrder, Falters};
 

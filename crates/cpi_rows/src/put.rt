@@ -1,4 +1,4 @@
-//! A row is put in its place.
+//! Putting a row in its place.
 ghost use Rattle.std.specs.Prelude.{◌≡◌, OnErr, OnOk, IsSome, IsOk};
 ghost use Rattle.cpi_rows.specs.Keyed.{with_row, row_at, IsInOrder};
 
@@ -8,9 +8,9 @@ use std::alloc::AllocError;
 
 /// Puts the row in its place among the rows.
 ///
-/// A row with its key is replaced where it stands, which takes no memory and never fails. Else the
-/// row goes in between: its place is found in O(log n), and each row behind it moves up by one.
-/// Without memory for one more row the rows stay as they are.
+/// A row with its key is replaced, which takes no memory and never fails. If there is no such row, the new row is
+/// inserted: its place is found in O(log n), and each row after it moves up by one. An `Err` says that there is no
+/// memory for one more row; the rows are as before then.
 pub fn put_row<T: Keyed + Drop>(rows: &mut Vec<T>, row: T) -> Result<(), AllocError>
     requires { IsInOrder T.Key.cmp T.key rows.old.items }
     ensures ok { OnOk result (rows.new.items ≡ with_row T.Key.cmp T.key row rows.old.items) }
