@@ -12,6 +12,6 @@ pub record CalendarPart : Type 0 where
 abbrev pub AreInTurn : ℕ → ℕ → ℕ → Type 0
 AreInTurn opens closes publishes = (opens < closes) × (closes ≤ publishes)
 
--- whether two rows have one content
+-- whether two rows have the same content
 abbrev pub same_calendar : CalendarPart → CalendarPart → Bool
 same_calendar a b = a.month == b.month && a.opens == b.opens && a.closes == b.closes && a.publishes == b.publishes

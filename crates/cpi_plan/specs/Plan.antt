@@ -1,4 +1,4 @@
--- A year's plan: what the desk sends for it, its faults, and the plan that is made of it.
+-- A year's plan: the rows that the desk sends for it, their faults, and the plan that is made of them.
 use Rattle.std.specs.Prelude.{ℕ, ◌≤◌, ◌≡◌, ◌==◌, ◌≢◌, ◌&&◌, ⊤, Bool, true, false, not, List, [], ◌∷◌, sum_by, nat_lt}
 use Rattle.std.specs.Prelude.{Result, MatchResult, Option, Some, None, option_map, is_none, if◌then◌else◌}
 use Rattle.std.specs.Option.{option_map_or}
@@ -22,7 +22,7 @@ use Rattle.cpi_plan.specs.declared.plan_faults.PlanFault.TheVariants.{DuplicateC
 use Rattle.cpi_plan.specs.declared.plan_faults.PlanFault.TheVariants.{WeightSum, TitleMissing, UnknownItem, ItemTwice}
 use Rattle.cpi_plan.specs.declared.plan_faults.PlanFault.TheVariants.{UnknownAggregate, Reference, NoMemory}
 
--- what the desk sends, in any order, with the items that are known; references are months
+-- the rows that the desk sends, in any order, with the items that are known; references are months
 pub record Body : Type 0 where
   pub known : List Item
   pub titles : List Title
@@ -102,7 +102,7 @@ abbrev pub reference_in : List ℕ → Option ℕ
 reference_in [] = None
 reference_in (month ∷ _) = Some month
 
--- ---- what stands once the first tests are passed
+-- ---- the tests that are passed, one more each time
 abbrev pub Passes2 : Body → Type 0
 Passes2 b = CodesOnce b.titles b.weights × (are_all_elementary b.weights b.places ≡ true)
 
@@ -131,7 +131,7 @@ Passes9 year b = Passes8 b × (has_fit_reference year b.references ≡ true)
 abbrev pub IsFirstUntitled : List Title → List Weight → Code → Type 0
 IsFirstUntitled titles weights code = IsFirstCode (is_untitled titles weights) code
 
--- the fault of a body sent for a year: the first that there is. Want of memory can come at any time.
+-- the fault of a body sent for a year: the first that there is. Memory can be refused at any time.
 abbrev pub IsFirstFault : ℕ → PlanFault → Body → Type 0
 IsFirstFault year DuplicateCode b = CodesOnce b.titles b.weights → ⊥
 IsFirstFault year NotElementary b = CodesOnce b.titles b.weights × (are_all_elementary b.weights b.places ≡ false)
@@ -181,7 +181,7 @@ pub record IsPlan (plan : Plan) : Type 0 where
   pub placed : has_unplaced_item plan.weights plan.places ≡ false
   pub referred : is_fit_reference plan.year plan.reference ≡ true
 
--- what is built of a body: a plan exactly where no test fails, else the first fault
+-- the plan that is built of a body if no test fails, or the first fault
 abbrev pub IsBuilt : ℕ → Body → Result Plan PlanFault → Type 0
 IsBuilt year b result = MatchResult result (λ plan. Passes9 year b × IsPlanOf year b plan)
     (λ fault. IsFirstFault year fault b)
@@ -190,7 +190,7 @@ IsBuilt year b result = MatchResult result (λ plan. Passes9 year b × IsPlanOf 
 abbrev pub IsOnePlan : ℕ → Body → Type 0
 IsOnePlan year b = (p q : Plan) → IsPlan p → IsPlan q → IsPlanOf year b p → IsPlanOf year b q → p ≡ q
 
--- two faults of one body are the same fault, want of memory aside
+-- two faults of one body are the same fault, refused memory aside
 abbrev pub IsOneFault : ℕ → Body → Type 0
 IsOneFault year b = (f g : PlanFault) → f ≢ NoMemory → g ≢ NoMemory → IsFirstFault year f b → IsFirstFault year g b →
     f ≡ g

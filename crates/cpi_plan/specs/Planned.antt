@@ -1,4 +1,4 @@
--- A year's plan as a function of what the desk sends: the plan, or the first fault.
+-- A year's plan as a function of the rows that the desk sends: the plan, or the first fault.
 use Rattle.std.specs.Prelude.{ℕ, ◌==◌, Bool, true, ◌&&◌, not, List, [], ◌∷◌, map, filter, Option, Some, None, Result}
 use Rattle.std.specs.Prelude.{Ok, Err, if◌then◌else◌}
 use Rattle.std.specs.declared.cmp.Ordering.{Ordering}
@@ -58,7 +58,7 @@ rows_in_order cmp key (x ∷ xs) = with_row cmp key x (rows_in_order cmp key xs)
 abbrev pub nodes_of : List Title → List Weight → List Node
 nodes_of titles weights = map (node_of_title weights) (filter (λ t. is_node weights t.code) titles)
 
--- the plan of what was sent: titles of codes that are no nodes are dropped
+-- the plan of the rows that were sent: titles of codes that are no nodes are dropped
 abbrev pub plan_from_body : ℕ → Body → Plan
 plan_from_body year b = record {
   year = year;
@@ -82,7 +82,7 @@ abbrev pub plan_if_titled : ℕ → Body → Option Code → Result Plan PlanFau
 plan_if_titled year b (Some code) = Err (TitleMissing code)
 plan_if_titled year b None = plan_if_placed year b
 
--- the plan, or the first fault of what was sent
+-- the plan, or the first fault of the rows that were sent
 abbrev pub plan_or_fault : ℕ → Body → Result Plan PlanFault
 plan_or_fault year b =
     if not (are_codes_once b.titles b.weights) then Err DuplicateCode else

@@ -1,4 +1,5 @@
--- Whether two plans are one: the titles of nodes and the reference month count, in what order rows were sent doesn't.
+-- Whether two plans are the same. The titles of nodes and the reference month count; the order in which rows were sent
+-- doesn't.
 use Rattle.std.specs.Prelude.{ℕ, Bool, true, false, ◌&&◌, ◌==◌, Option, Some, None}
 use Rattle.std.specs.Cmp.Lexicographic.{pointwise}
 use Rattle.cpi_codes.specs.CodeOrder.{is_same_code}

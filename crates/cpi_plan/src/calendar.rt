@@ -6,8 +6,8 @@ use cpi_codes::{Moment, Month};
 use cpi_rows::Keyed;
 use std::marker::Model;
 
-/// When a month opens for quotes, closes, and is published: it opens before it closes, and is published when it
-/// closes or later.
+/// The moments at which a month opens for quotes, closes, and is published. It opens before it closes, and is published
+/// when it closes or later.
 #[derive(Clone, Copy, PartialEq, Eq)]
 pub struct CalendarRow {
     month: Month,
@@ -29,7 +29,7 @@ impl Model for CalendarRow {
 }
 
 impl CalendarRow {
-    /// The row of a month; none unless `opens` comes before `closes`, and `publishes` not before `closes`.
+    /// The row of a month. It is `None` unless `opens` is before `closes`, and `publishes` is `closes` or later.
     pub fn new(
         month: Month,
         opens: Moment,
@@ -51,35 +51,35 @@ impl CalendarRow {
         }
     }
 
-    /// The month that the row is of.
+    /// The month of the row.
     pub fn month(&self) -> Month
         ensures { result ≡ self.now.month }
     {
         self.month
     }
 
-    /// From when on the month takes quotes.
+    /// The moment from which the month takes quotes.
     pub fn opens(&self) -> Moment
         ensures { result ≡ self.now.opens }
     {
         self.opens
     }
 
-    /// From when on the month takes no more quotes.
+    /// The moment from which the month takes no more quotes.
     pub fn closes(&self) -> Moment
         ensures { result ≡ self.now.closes }
     {
         self.closes
     }
 
-    /// From when on the month's table is public.
+    /// The moment from which the month's table is public.
     pub fn publishes(&self) -> Moment
         ensures { result ≡ self.now.publishes }
     {
         self.publishes
     }
 
-    /// Whether the two rows have one content.
+    /// Whether the two rows have the same content.
     pub fn is_same(&self, other: &CalendarRow) -> bool
         ensures { result ≡ same_calendar self.now other.now }
     {

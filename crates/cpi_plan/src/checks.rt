@@ -1,4 +1,4 @@
-//! The tests that a plan has to pass, and the nodes that are made of it.
+//! The tests that a plan has to pass, and its nodes.
 ghost use Rattle.std.specs.Prelude.{◌≡◌, ◌^◌, ◌<◌, not, ◌&&◌, nat_lt, IfOk, MatchOption, MatchResult, true, false};
 ghost use Rattle.std.specs.List.{list_all, list_any};
 ghost use Rattle.cpi_codes.specs.CodeOrder.{code_cmp, is_code_elementary, is_same_code};
@@ -21,30 +21,35 @@ use cpi_rows::{RowsByKey, find_row};
 use std::alloc::{AllocError, Global};
 use std::collections::BTreeMap;
 
+// Whether each weight is that of an elementary aggregate.
 fn are_weights_elementary(weights: &[Weight]) -> bool
     ensures { result ≡ list_all (λ w. is_code_elementary w.code) weights.now }
 {
     weights.iter().all(|weight| weight.code.is_elementary())
 }
 
+// Whether each item is placed in an elementary aggregate.
 fn are_places_elementary(places: &[Place]) -> bool
     ensures { result ≡ list_all (λ p. is_code_elementary p.aggregate) places.now }
 {
     places.iter().all(|place| place.aggregate.is_elementary())
 }
 
+// Whether all weights and places are those of elementary aggregates.
 pub(crate) fn are_elementary(weights: &[Weight], places: &[Place]) -> bool
     ensures { result ≡ are_all_elementary weights.now places.now }
 {
     are_weights_elementary(weights) && are_places_elementary(places)
 }
 
+// Whether some weight is 0 parts.
 pub(crate) fn has_zero(weights: &[Weight]) -> bool
     ensures { result ≡ has_zero_weight weights.now }
 {
     weights.iter().any(|weight| weight.parts == 0)
 }
 
+// The sum of the weights, in parts per million.
 pub(crate) fn total(weights: &[Weight]) -> u128
     ensures { result ≡ total_weight weights.now }
 {
@@ -55,7 +60,7 @@ pub(crate) fn total(weights: &[Weight]) -> u128
     sum
 }
 
-// The sum of the weights at and below each code.
+// The sums of the weights at and below each code, in parts per million. An `Err` says that memory was refused.
 pub(crate) fn weight_sums(
     alloc: Global,
     weights: &[Weight],
@@ -70,6 +75,7 @@ pub(crate) fn weight_sums(
     Ok(sums)
 }
 
+// Whether a code has a weight and no title.
 fn lacks_title(titles: &[Title], code: &Code, weight: u128) -> bool
     requires { IsInOrder code_cmp (λ t. t.code) titles.now }
     ensures { result ≡ (nat_lt 0 weight && not (list_any (λ t. is_same_code t.code code.now) titles.now)) }
@@ -77,7 +83,7 @@ fn lacks_title(titles: &[Title], code: &Code, weight: u128) -> bool
     weight > 0 && find_row(titles, code).is_none()
 }
 
-// The first code with a sum and without a title.
+// The first code, in the order of codes, that has a sum and no title.
 pub(crate) fn first_untitled(sums: &BTreeMap<Code, u128>, titles: &[Title]) -> Option<Code>
     requires { IsInOrder code_cmp (λ t. t.code) titles.now }
     ensures { MatchOption result
@@ -92,19 +98,21 @@ pub(crate) fn first_untitled(sums: &BTreeMap<Code, u128>, titles: &[Title]) -> O
     None
 }
 
+// Whether the place's item is unknown.
 fn is_unknown(known: &RowsByKey<Item>, place: &Place) -> bool
     ensures { result ≡ is_unknown_item known.now place.now }
 {
     known.find(&place.item).is_none()
 }
 
-// Whether some item isn't known.
+// Whether the item of some place is unknown.
 pub(crate) fn has_unknown(known: &RowsByKey<Item>, places: &[Place]) -> bool
     ensures { result ≡ has_unknown_item known.now places.now }
 {
     places.iter().any(|place| is_unknown(known, place))
 }
 
+// Whether the place's aggregate has no weight.
 fn is_unplaced(weights: &[Weight], place: &Place) -> bool
     requires { IsInOrder code_cmp (λ w. w.code) weights.now }
     ensures { result ≡ not (list_any (λ w. is_same_code w.code place.now.aggregate) weights.now) }
@@ -112,7 +120,7 @@ fn is_unplaced(weights: &[Weight], place: &Place) -> bool
     find_row(weights, &place.aggregate).is_none()
 }
 
-// Whether some item is placed at an aggregate without weight.
+// Whether some item is placed in an aggregate without weight.
 pub(crate) fn has_unplaced(weights: &[Weight], places: &[Place]) -> bool
     requires { IsInOrder code_cmp (λ w. w.code) weights.now }
     ensures { result ≡ has_unplaced_item weights.now places.now }
@@ -120,13 +128,14 @@ pub(crate) fn has_unplaced(weights: &[Weight], places: &[Place]) -> bool
     places.iter().any(|place| is_unplaced(weights, place))
 }
 
+// Whether the weights of a year's plan may be of the prices of the month: a month of an earlier year.
 fn may_refer(year: u16, month: Month) -> bool
     ensures { result ≡ may_refer_to year month }
 {
     month.year() < year
 }
 
-// The reference month, if one was sent; a fault where two were, or one that isn't before the year.
+// The price reference month, if one was sent. It is a fault to send two, or one that isn't before the year.
 pub(crate) fn one_reference(year: u16, references: &[Month]) -> Result<Option<Month>, PlanFault>
     ensures { MatchResult result
         (λ month. (has_fit_reference year references.now ≡ true) × (month ≡ reference_in references.now))
@@ -139,7 +148,8 @@ pub(crate) fn one_reference(year: u16, references: &[Month]) -> Result<Option<Mo
     }
 }
 
-// The titles of nodes, with their weights.
+// The nodes: the titles of codes with weight, each with its sum in parts per million. An `Err` says that memory was
+// refused.
 pub(crate) fn nodes_of(
     alloc: Global,
     titles: Vec<Title>,

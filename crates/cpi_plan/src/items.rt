@@ -1,4 +1,4 @@
-//! Items.
+//! Items of the survey.
 ghost use Rattle.std.specs.Prelude.{◌≡◌, IfOk};
 ghost use Rattle.cpi_plan.specs.Items.{same_item};
 
@@ -7,18 +7,24 @@ use cpi_codes::{ItemCode, Name};
 use cpi_rows::Keyed;
 use std::alloc::{AllocError, Global};
 
-/// An item that is priced: its text, the unit that is priced, and how far a price may lie from the last one.
+/// An item that is priced: its text, the unit that is priced, and how far a price may be from the last one before the
+/// collector has to confirm it.
 #[derive(Drop)]
 pub struct Item {
+    /// The code, by which the item is found.
     pub code: ItemCode,
+    /// The description that collectors see.
     pub text: Name,
+    /// The unit that is priced.
     pub unit: Name,
+    /// The lower bound of a price, in per mille of the last price.
     pub low: LowTolerance,
+    /// The upper bound of a price, in per mille of the last price.
     pub high: HighTolerance,
 }
 
 impl Item {
-    /// Whether the two items have one content.
+    /// Whether the two items have the same content.
     pub fn is_same(&self, other: &Item) -> bool
         ensures { result ≡ same_item self.now other.now }
     {
@@ -29,7 +35,7 @@ impl Item {
             && self.high == other.high
     }
 
-    /// The same item once more.
+    /// A copy of the item. An `Err` says that memory was refused.
     pub fn copy(&self, alloc: Global) -> Result<Item, AllocError>
         ensures { IfOk result (λ i. i ≡ self.now) }
     {

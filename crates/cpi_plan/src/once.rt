@@ -8,7 +8,7 @@ ghost use Rattle.cpi_rows.specs.Keyed.{IsInOrder};
 use cpi_rows::{Keyed, are_in_order};
 use std::alloc::AllocError;
 
-// Puts rows in the order of their keys, and says whether no key comes twice.
+// Puts rows in the order of their keys, and says whether no key comes twice. An `Err` says that memory was refused.
 pub(crate) fn put_in_order<T: Keyed + Drop>(rows: &mut Vec<T>) -> Result<bool, AllocError>
     ensures moved { IsPermutation rows.old.items rows.new.items }
     ensures order { IfOk result (λ b. MatchBool b

@@ -1,26 +1,27 @@
-//! Why what was sent is no plan.
+//! Faults of the rows that are sent for a plan.
 use cpi_codes::Code;
 
-/// Why what was sent is no plan. The first fault in this order is answered; want of memory can come at any time.
+/// The fault for which the rows that were sent make no plan: the first one in this order. Memory can be refused at any
+/// time.
 #[derive(Clone, Copy, Debug, PartialEq, Eq)]
 pub enum PlanFault {
-    /// A code comes twice among the titles, or twice among the weights.
+    /// Two titles have the same code, or two weights have.
     DuplicateCode,
-    /// A weight or an item's place at a code that is no elementary aggregate.
+    /// A weight or a place has a code that is no elementary aggregate.
     NotElementary,
-    /// A weight of 0.
+    /// A weight is 0.
     ZeroWeight,
-    /// The weights add up to this sum, which isn't 1,000,000.
+    /// The weights add up to this sum, which isn't `ALL_PARTS`.
     WeightSum(u128),
     /// The first code, in code order, that has weight at or below it and no title.
     TitleMissing(Code),
-    /// A place of an item that isn't known.
+    /// A place has an item that isn't known.
     UnknownItem,
-    /// An item comes twice.
+    /// Two places have the same item.
     ItemTwice,
-    /// An item is placed at an elementary aggregate without weight.
+    /// An item is placed in an elementary aggregate without weight.
     UnknownAggregate,
-    /// Two reference months, or one that isn't before the plan's year.
+    /// There are two price reference months, or one that isn't before the plan's year.
     Reference,
     /// Memory was refused.
     NoMemory,

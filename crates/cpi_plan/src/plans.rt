@@ -22,7 +22,9 @@ use cpi_rows::{Keyed, RowsByKey, find_row};
 use std::alloc::{AllocError, Global};
 use std::marker::Model;
 
-/// The plan of a year.
+/// The plan of a year: its nodes with titles and weights, the place of each item, and the month whose prices the
+/// weights are of. The Consumer Price Index Manual has the yearly change of weights in its chapters on updating weights
+/// and on linking.
 #[derive(Drop)]
 pub struct YearPlan {
     year: u16,
@@ -42,6 +44,8 @@ impl Model for YearPlan {
     ghost invariant = { λ p. IsPlan (plan_with p.year p.nodes.items p.weights.items p.places.items p.reference) };
 }
 
+// The plan of a year, or the first fault that remains once no code comes twice. Titles and weights are in the order of
+// codes.
 fn of_ordered(
     alloc: Global,
     year: u16,
@@ -78,7 +82,7 @@ fn of_ordered(
     })
 }
 
-// A copy of each node, in the same order.
+// A copy of each node, in the same order. An `Err` says that memory was refused.
 fn copy_nodes(alloc: Global, nodes: &[Node]) -> Result<Vec<Node>, AllocError>
     ensures { IfOk result (λ copies. copies.items ≡ nodes.now) }
 {
@@ -93,7 +97,7 @@ fn copy_nodes(alloc: Global, nodes: &[Node]) -> Result<Vec<Node>, AllocError>
     Ok(copies)
 }
 
-// Whether the two plans have one content.
+// Whether the two plans have the same content.
 fn is_alike(plan: &YearPlan, other: &YearPlan) -> bool
     ensures { result ≡ same_plan plan.now other.now }
 {
@@ -105,9 +109,9 @@ fn is_alike(plan: &YearPlan, other: &YearPlan) -> bool
 }
 
 impl YearPlan {
-    /// The plan of a year, 2000 to 2199, or the first fault of what was sent, over all of it. Rows may come in any
-    /// order; titles of codes that are no nodes are dropped. `known_items` are the items that are known, `references`
-    /// the price reference months that were sent, of which a plan has one or none. O(n log n) for n rows.
+    /// The plan of a year, 2000 to 2199, or the first fault of the rows that were sent. Rows may come in any order.
+    /// Titles of codes that are no nodes are dropped. `known_items` are the items that the office knows, and
+    /// `references` the price reference months that were sent; a plan has one or none. O(n log n) for n rows.
     pub fn build(
         alloc: Global,
         year: u16,
@@ -180,7 +184,7 @@ impl YearPlan {
         self.reference
     }
 
-    /// The plan once more.
+    /// A copy of the plan. An `Err` says that memory was refused.
     pub fn copy(&self, alloc: Global) -> Result<YearPlan, AllocError>
         ensures { IfOk result (λ p. p ≡ self.now) }
     {
@@ -196,8 +200,7 @@ impl YearPlan {
         })
     }
 
-    /// Whether the two plans are one: the year, the nodes with their titles, the weights, the places and the reference
-    /// month.
+    /// Whether the two plans have the same year, nodes with their titles, weights, places and reference month.
     pub fn is_same(&self, other: &YearPlan) -> bool
         ensures content { result ≡ same_plan self.now other.now }
         ensures same { IsTrue result ↔ (self.now ≡ other.now) }
@@ -205,14 +208,15 @@ impl YearPlan {
         is_alike(self, other)
     }
 
-    /// The sum of the weights of the aggregates that are the code or below it; none of a code that is no node.
+    /// The sum of the weights of the aggregates at and below the code, in parts per million. A code that is no node has
+    /// none.
     pub fn weight(&self, code: &Code) -> Option<u32>
         ensures { SomeIff result (IsTrue (is_node self.now.weights code.now)) (weight_under code.now self.now.weights) }
     {
         Some(find_row(&self.nodes, code)?.weight)
     }
 
-    /// The title of a node.
+    /// The title of a node. A code that is no node has none.
     pub fn title(&self, code: &Code) -> Option<&Name>
         ensures { option_copied result
             ≡ option_map (λ n. n.title) (row_at code_cmp (λ n. n.code) code.now self.now.nodes) }
@@ -220,7 +224,7 @@ impl YearPlan {
         Some(&find_row(&self.nodes, code)?.title)
     }
 
-    /// The aggregate of an item.
+    /// The elementary aggregate of an item, if the plan has a place for it.
     pub fn aggregate_of(&self, item: &ItemCode) -> Option<Code>
         ensures { result ≡ option_map (λ p. p.aggregate) (row_at nat_cmp (λ p. p.item) item.now self.now.places) }
     {
@@ -238,17 +242,17 @@ impl Keyed for YearPlan {
     }
 }
 
-/// A law: what is sent for a year makes one plan.
+/// A law: the rows that are sent for a year make no more than one plan.
 pub fn makes_one_plan()
     ensures { (year : ℕ) (b : Body) → IsOnePlan year b }
 {}
 
-/// A law: what is sent for a year has one first fault.
+/// A law: the rows that are sent for a year have no more than one first fault, refused memory aside.
 pub fn has_one_fault()
     ensures { (year : ℕ) (b : Body) → IsOneFault year b }
 {}
 
-/// A law: a plan that is made of what was sent has its nodes in the order of codes.
+/// A law: a plan that is made of the rows that were sent has its nodes in the order of codes.
 pub fn nodes_are_in_order()
     ensures { (year : ℕ) (b : Body) (plan : Plan) → plan_or_fault year b ≡ Ok plan →
         IsInOrder code_cmp (λ n. n.code) plan.nodes }

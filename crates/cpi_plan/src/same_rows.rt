@@ -9,7 +9,7 @@ use crate::plan_rows::{Node, Place, Weight};
 pub(crate) trait Alike {
     ghost alike: { Self → Self → Bool };
 
-    // Whether the two rows have one content.
+    // Whether the two rows have the same content.
     fn is_same(&self, other: &Self) -> bool
         ensures { result ≡ alike self.now other.now };
 }

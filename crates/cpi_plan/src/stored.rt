@@ -11,6 +11,7 @@ use cpi_codes::Month;
 use cpi_rows::RowsByKey;
 use std::alloc::{AllocError, Global};
 
+// The titles of the nodes. An `Err` says that memory was refused.
 fn titles_of(alloc: Global, nodes: &[Node]) -> Result<Vec<Title>, AllocError>
     ensures { IfOk result (λ ts. ts.items ≡ map (λ n. record { code = n.code; title = n.title }) nodes.now) }
 {
@@ -25,7 +26,7 @@ fn titles_of(alloc: Global, nodes: &[Node]) -> Result<Vec<Title>, AllocError>
     Ok(titles)
 }
 
-// The weights of the elementary nodes.
+// The weights of the elementary nodes. An `Err` says that memory was refused.
 fn weights_of(alloc: Global, nodes: &[Node]) -> Result<Vec<Weight>, AllocError>
     ensures { IfOk result (λ ws. ws.items ≡ weights_in nodes.now) }
 {
@@ -41,6 +42,7 @@ fn weights_of(alloc: Global, nodes: &[Node]) -> Result<Vec<Weight>, AllocError>
     Ok(weights)
 }
 
+// A copy of the places. An `Err` says that memory was refused.
 fn copies(alloc: Global, places: &[Place]) -> Result<Vec<Place>, AllocError>
     ensures { IfOk result (λ ps. ps.items ≡ places.now) }
 {
@@ -49,7 +51,7 @@ fn copies(alloc: Global, places: &[Place]) -> Result<Vec<Place>, AllocError>
     Ok(copies)
 }
 
-// The list of a reference month, if there is one.
+// The reference month as a list of one, or an empty list if there is none. An `Err` says that memory was refused.
 fn references_of(alloc: Global, reference: Option<Month>) -> Result<Vec<Month>, AllocError>
     ensures { IfOk result (λ ms. reference_in ms.items ≡ reference) }
 {
@@ -68,6 +70,7 @@ fn has_nodes(plan: &YearPlan, nodes: &[Node]) -> bool
     are_same(plan.nodes(), nodes)
 }
 
+// Whether the plan has these weights, each in its place.
 #[tactic(auto, using(crate::proofs::SamePlans::weights_are))]
 fn has_weights(plan: &YearPlan, weights: &[Weight]) -> bool
     ensures { IsTrue result → plan.now.weights ≡ weights.now }
@@ -75,6 +78,7 @@ fn has_weights(plan: &YearPlan, weights: &[Weight]) -> bool
     are_same(plan.weights(), weights)
 }
 
+// Whether the plan has these places, each in its place.
 #[tactic(auto, using(crate::proofs::SamePlans::places_are))]
 fn has_places(plan: &YearPlan, places: &[Place]) -> bool
     ensures { IsTrue result → plan.now.places ≡ places.now }
@@ -83,9 +87,9 @@ fn has_places(plan: &YearPlan, places: &[Place]) -> bool
 }
 
 impl YearPlan {
-    /// The plan of a year with these nodes, whose elementary ones are its weights, and these places, each in order, and
-    /// this reference month, if there is one; none where there is no such plan, or where memory was refused.
-    /// `known_items` are the items that are known. O(n log n) for n rows.
+    /// The plan of a year with these nodes, places and reference month; the weights are those of the elementary nodes.
+    /// It is `None` if the rows make no such plan, or aren't in order, or if memory was refused. `known_items` are the
+    /// items that the office knows. O(n log n) for n rows.
     pub fn from_rows(
         alloc: Global,
         year: u16,

@@ -9,7 +9,7 @@ use cpi_codes::Code;
 use std::alloc::AllocError;
 use std::collections::BTreeMap;
 
-// Adds an amount to a code's sum.
+// Adds an amount to a code's sum. An `Err` says that memory was refused.
 fn add(sums: &mut BTreeMap<Code, u128>, node: Code, amount: u128) -> Result<(), AllocError>
     requires { sum_at sums.old node + amount < 2 ^ 128 }
     ensures { OnOk result ((q : Code) →
@@ -20,8 +20,8 @@ fn add(sums: &mut BTreeMap<Code, u128>, node: Code, amount: u128) -> Result<(), 
     Ok(())
 }
 
-/// Adds an amount to an elementary aggregate's own sum and to those of all codes above it. Six look-ups; `Err` where
-/// memory was refused.
+/// Adds an amount to the sum of an elementary aggregate and to the sums of all codes above it, in six look-ups. An
+/// `Err` says that memory was refused; some of the sums may have grown then.
 pub fn add_path(sums: &mut BTreeMap<Code, u128>, code: Code, amount: u128) -> Result<(), AllocError>
     requires elementary { IsSome code.aggregate }
     requires fits { (q : Code) → sum_at sums.old q + 6 * amount < 2 ^ 128 }

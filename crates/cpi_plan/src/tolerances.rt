@@ -1,4 +1,4 @@
-//! How far a price may lie from the last one, in per mille of the last price.
+//! Tolerances: how far a price may be from the last one, in per mille of the last price.
 ghost use Rattle.std.specs.Prelude.{◌≡◌, ◌≤◌, SomeIff};
 ghost use Rattle.cpi_codes.specs.Number.{number_in};
 
@@ -6,6 +6,7 @@ use crate::limits::{GREATEST_TOLERANCE, PER_MILLE};
 use cpi_codes::number_of;
 use std::marker::Model;
 
+// The least lower tolerance: a lower one, 0, would bound nothing.
 const LOWEST: u64 = 1;
 
 /// The lower bound of a price, 1 to 1000 per mille of the last price.
@@ -28,7 +29,7 @@ impl Model for LowTolerance {
 }
 
 impl LowTolerance {
-    /// The tolerance of so many per mille; none outside 1 to 1000.
+    /// The tolerance of so many per mille, or `None` if it is outside 1 to 1000.
     pub fn new(per_mille: u64) -> Option<LowTolerance>
         ensures { SomeIff result ((1 ≤ per_mille) × (per_mille ≤ PER_MILLE)) per_mille }
     {
@@ -40,7 +41,7 @@ impl LowTolerance {
         })
     }
 
-    /// Reads a number from 1 to 1000, in its one spelling.
+    /// Reads a number from 1 to 1000 in its one spelling; any other text is `None`.
     pub fn parse(text: &[u8]) -> Option<LowTolerance>
         ensures { result ≡ number_in 1 PER_MILLE text.now }
     {
@@ -56,7 +57,7 @@ impl LowTolerance {
     }
 }
 
-/// The upper bound of a price, 1000 to 10000 per mille of the last price.
+/// The upper bound of a price, 1000 to 10,000 per mille of the last price.
 #[derive(Clone, Copy, PartialEq, Eq, PartialOrd, Ord)]
 pub struct HighTolerance {
     per_mille: u16,
@@ -76,7 +77,7 @@ impl Model for HighTolerance {
 }
 
 impl HighTolerance {
-    /// The tolerance of so many per mille; none outside 1000 to 10000.
+    /// The tolerance of so many per mille, or `None` if it is outside 1000 to 10,000.
     pub fn new(per_mille: u64) -> Option<HighTolerance>
         ensures { SomeIff result ((PER_MILLE ≤ per_mille) × (per_mille ≤ GREATEST_TOLERANCE)) per_mille }
     {
@@ -88,14 +89,14 @@ impl HighTolerance {
         })
     }
 
-    /// Reads a number from 1000 to 10000, in its one spelling.
+    /// Reads a number from 1000 to 10,000 in its one spelling; any other text is `None`.
     pub fn parse(text: &[u8]) -> Option<HighTolerance>
         ensures { result ≡ number_in PER_MILLE GREATEST_TOLERANCE text.now }
     {
         HighTolerance::new(number_of(text, PER_MILLE, GREATEST_TOLERANCE)?)
     }
 
-    /// The per mille of the last price, 1000 to 10000.
+    /// The per mille of the last price, 1000 to 10,000.
     pub fn per_mille(self) -> u16
         ensures value { result ≡ self }
         ensures range { (PER_MILLE ≤ result) × (result ≤ GREATEST_TOLERANCE) }

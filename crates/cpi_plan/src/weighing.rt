@@ -1,4 +1,4 @@
-//! The weights of a plan, tested and summed.
+//! The tests and the sums of a plan's weights.
 ghost use Rattle.std.specs.Prelude.{ℕ, List};
 ghost use Rattle.cpi_codes.specs.CodeOrder.{code_cmp};
 ghost use Rattle.cpi_rows.specs.Keyed.{IsInOrder};
@@ -14,7 +14,8 @@ use cpi_codes::Code;
 use std::alloc::Global;
 use std::collections::BTreeMap;
 
-// The sums of the weights, or the first fault of aggregates, weights and titles, whatever items are known.
+// The sums of the weights at and below each code, in parts per million, or the first fault of aggregates, weights and
+// titles.
 pub(crate) fn weighed(
     alloc: Global,
     titles: &[Title],
