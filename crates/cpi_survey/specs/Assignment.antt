@@ -1,4 +1,4 @@
--- When two assignments have one content, when one is active, and what becomes of one that ends sooner.
+-- Assignments: when two have one content, when one is active, and how one ends sooner.
 use Rattle.std.specs.Prelude.{ℕ, Bool, true, false, ◌&&◌, ◌==◌, nat_le, List, map, Option, Some, None, if◌then◌else◌}
 use Rattle.cpi_survey.specs.declared.assignment.Assignment.{Assignment}
 use Rattle.cpi_survey.specs.declared.assignment.Assigned.{Assigned}

@@ -27,7 +27,7 @@ abbrev pub by_verdict : ℕ → Verdict → Result (Unit {0}) Refusal
 by_verdict last Inside = Ok tt
 by_verdict last (Outside low high) = Err (OutOfTolerance last low high)
 
--- a price against the last one; where there is no price to check, or no such item, nothing is refused
+-- a price against the last one; if there is no price to check, or no such item, nothing is refused
 abbrev pub against_last : Option Item → ℕ → Option ℕ → Result (Unit {0}) Refusal
 against_last None last price = Ok tt
 against_last (Some item) last None = Ok tt
@@ -44,7 +44,7 @@ with_receipt entry greatest =
     if nat_le LAST_RECEIPT greatest then Err ReceiptsUsedUp
     else Ok (Put (record { slot = entry.slot; month = entry.month; mark = entry.mark; receipt = greatest + 1 }))
 
--- what the check refuses is refused, before the receipts
+-- a refusal by the check comes before one by the receipts
 abbrev pub once_checked : EntryRow → Result (Unit {0}) Refusal → ℕ → Result Decision Refusal
 once_checked entry (Ok _) greatest = with_receipt entry greatest
 once_checked entry (Err refusal) greatest = Err refusal
@@ -72,8 +72,7 @@ over_quote now entry row a None check greatest = in_month now entry row a check 
 over_quote now entry row a (Some quote) check greatest =
     if is_same_mark quote.mark entry.mark then Ok (Again quote.receipt) else in_month now entry row a check greatest
 
--- what speaks against the price of an entry: the item is that of the assignment, the last price that of the assignment
--- before the month
+-- the check of the price of an entry, with the assignment's item and its last price before the month
 abbrev pub check_of : EntryRow → PublicPart → OwnPart → Assignment → Result (Unit {0}) Refusal
 check_of entry public own a = price_check entry (item_of a.item public) (last_price a entry.month own.quotes)
 
@@ -88,12 +87,12 @@ abbrev pub entry_decision : ℕ → EntryRow → PublicPart → OwnPart → Resu
 entry_decision now entry public own = in_slot now entry public (assignment_of entry.slot own) own
 
 -- ---- the order, as a list
--- refused where there is none
+-- refused if there is none
 abbrev pub if_found : {X : Type 0} → Option X → Refusal → (X → Result Decision Refusal) → Result Decision Refusal
 if_found None refusal next = Err refusal
 if_found (Some x) refusal next = next x
 
--- the stored receipt, where the stored quote has the same mark with the same value
+-- the stored receipt, if the stored quote has the same mark with the same value
 abbrev pub unless_again : Option QuoteRow → EntryRow → Result Decision Refusal → Result Decision Refusal
 unless_again None entry next = next
 unless_again (Some quote) entry next = if is_same_mark quote.mark entry.mark then Ok (Again quote.receipt) else next
@@ -103,7 +102,7 @@ abbrev pub unless_refused : Result (Unit {0}) Refusal → Result Decision Refusa
 unless_refused (Ok _) next = next
 unless_refused (Err refusal) next = Err refusal
 
--- refused where the price lies outside the bounds round the last price, if there is one, and isn't confirmed
+-- refused if there is a last price, and the price lies outside the bounds round it and isn't confirmed
 abbrev pub unless_outside : EntryRow → Option Item → Option ℕ → Result Decision Refusal → Result Decision Refusal
 unless_outside entry item None next = next
 unless_outside entry item (Some last) next =
@@ -118,7 +117,7 @@ next_quote entry own = record {
   receipt = greatest_receipt own.quotes + 1;
 }
 
--- the first line that holds is the answer; where none does, the entry is stored with the next receipt
+-- the first line that holds is the answer; if none does, the entry is stored with the next receipt
 abbrev pub decision_in_order : ℕ → EntryRow → PublicPart → OwnPart → Result Decision Refusal
 decision_in_order now entry public own =
     if_found (assignment_of entry.slot own) UnknownSlot (λ a.

@@ -1,4 +1,4 @@
--- What a collector sends.
+-- Entries that collectors send.
 use Rattle.std.specs.Prelude.{ℕ, Bool}
 use Rattle.cpi_survey.specs.declared.mark.Mark.{Mark}
 

@@ -1,4 +1,4 @@
--- Marks: when two are the same, what price they tell, and which price is checked.
+-- Marks: when two are the same, the price that was observed, and the price that is checked.
 use Rattle.std.specs.Prelude.{ℕ, Bool, true, false, ◌==◌, Option, Some, None}
 use Rattle.cpi_survey.specs.declared.mark.Reason.{Reason}
 use Rattle.cpi_survey.specs.declared.mark.Reason.TheVariants.{Stock, Closed, Gone, Refused}

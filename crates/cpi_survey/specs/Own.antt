@@ -1,11 +1,11 @@
--- What a collector has in the office.
+-- A collector's own part of the office.
 use Rattle.std.specs.Prelude.{ℕ, List, Option}
 use Rattle.std.specs.Ordering.{nat_cmp}
 use Rattle.cpi_rows.specs.Keyed.{row_at}
 use Rattle.cpi_survey.specs.declared.assignment.Assigned.{Assigned}
 use Rattle.cpi_survey.specs.Quote.{QuoteRow, quote_cmp, quote_key}
 
--- what a collector has: assignments by slot, quotes by slot and month
+-- a collector's own part: assignments by slot, quotes by slot and month
 pub record OwnPart : Type 0 where
   pub assignments : List Assigned
   pub quotes : List QuoteRow

@@ -1,11 +1,11 @@
--- What everybody may see.
+-- The public part of the survey.
 use Rattle.std.specs.Prelude.{ℕ, List, Option}
 use Rattle.cpi_rows.specs.Keyed.{row_by_number}
 use Rattle.cpi_plan.specs.declared.items.Item.{Item}
 use Rattle.cpi_plan.specs.Plan.{Plan}
 use Rattle.cpi_plan.specs.Calendar.{CalendarPart}
 
--- the public specification: items by code, plans by year, calendar rows by month
+-- the public part: items by code, plans by year, calendar rows by month
 pub record PublicPart : Type 0 where
   pub items : List Item
   pub plans : List Plan

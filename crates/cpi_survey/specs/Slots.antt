@@ -14,7 +14,7 @@ quotes_of_slots slots = flat_map (λ s. s.quotes.items) slots
 abbrev pub is_in_slot : ℕ → QuoteRow → Bool
 is_in_slot slot q = q.slot == slot
 
--- one slot's quotes: each is of the slot, and they stand by month
+-- one slot's quotes: each is of the slot, and they are in the order of months
 pub record AreOfSlot (s : SlotQuotes) : Type 0 where
   pub own : AllByRecursion (λ q. q.slot ≡ s.slot) s.quotes.items
   pub order : IsInOrder quote_cmp quote_key s.quotes.items

@@ -1,4 +1,4 @@
--- How a price lies to the last one.
+-- The bounds round the last price, and whether a price is within them.
 use Rattle.std.specs.Prelude.{ℕ, ◌+◌, ◌*◌, ◌/◌, Bool, ◌&&◌, nat_le, if◌then◌else◌}
 use Rattle.cpi_plan.specs.declared.items.Item.{Item}
 use Rattle.cpi_survey.specs.declared.tolerance.Verdict.{Verdict}
@@ -16,7 +16,7 @@ high_bound item last = last * item.high / 1000
 abbrev pub is_inside : Item → ℕ → ℕ → Bool
 is_inside item last price = nat_le (low_bound item last) price && nat_le price (high_bound item last)
 
--- how a price lies to the bounds round the last one
+-- whether a price is within the bounds round the last one
 abbrev pub verdict : Item → ℕ → ℕ → Verdict
 verdict item last price =
     if is_inside item last price then Inside else Outside (low_bound item last) (high_bound item last)

@@ -1,4 +1,4 @@
--- The work list of a collector: what there is to be priced in a month.
+-- The work list of a collector: the items to price in a month.
 use Rattle.std.specs.Prelude.{ℕ, List, filter_map, Option, Some, None, option_map, Result, Ok, Err, if◌then◌else◌}
 use Rattle.cpi_plan.specs.declared.items.Item.{Item}
 use Rattle.cpi_plan.specs.Calendar.{CalendarPart}

@@ -5,7 +5,7 @@ ghost use Rattle.cpi_survey.specs.Assignment.{is_active, same_assignment};
 use cpi_codes::{ItemCode, Month, Name, OutletId, Price, Slot};
 use cpi_rows::Keyed;
 
-/// What a slot of a collector is for: an item to be priced in an outlet, from the first month to the last.
+/// The assignment of a slot to a collector: an item to price in an outlet, from the first month to the last.
 #[derive(Clone, Copy, PartialEq, Eq)]
 pub struct Assignment {
     /// The slot of the collector, by which the assignment is found.
@@ -18,8 +18,8 @@ pub struct Assignment {
     pub first_month: Month,
     /// The last month in which the slot is active.
     pub last_month: Month,
-    /// The last price that was handed over with the series, in minor units; none where the series is the slot's own,
-    /// or where there was none to hand over.
+    /// The last price that was handed over with the series, in minor units. It is `None` if the series is the slot's
+    /// own, or if there was no price to hand over.
     pub copied: Option<Price>,
 }
 
@@ -57,7 +57,7 @@ impl Keyed for Assignment {
 /// An assignment with its outlet's name, as its collector sees it.
 #[derive(Drop)]
 pub struct Assigned {
-    /// What the slot is for.
+    /// The assignment.
     pub assignment: Assignment,
     /// The name of the assignment's outlet.
     pub outlet_name: Name,

@@ -1,12 +1,12 @@
 //! Decisions on entries.
 use crate::quote::Quote;
 
-/// How an entry of a quote is decided, where it isn't refused.
+/// The decision on an entry of a quote that isn't refused.
 #[derive(Clone, Copy, PartialEq, Eq)]
 pub enum Decision {
-    /// The quote stands already with the same mark, and this is its receipt. Nothing is to be stored.
+    /// The collector sent the same mark before, and this is the receipt of the stored quote. Nothing is to be stored.
     Again(u32),
-    /// The quote is to be stored over that of its slot and month. Its receipt is one more than the collector's
+    /// The quote to store, in place of the one of its slot and month. Its receipt is one more than the collector's
     /// greatest.
     Put(Quote),
 }

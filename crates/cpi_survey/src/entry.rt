@@ -3,17 +3,17 @@ use crate::mark::Mark;
 use cpi_codes::{Month, Slot};
 use std::marker::Model;
 
-/// What a collector sends: what was found for a slot in a month, and whether an unlikely price was looked at once more.
+/// An entry that a collector sends: the mark for a slot in a month, and whether the collector checked an unlikely price
+/// again.
 #[derive(Clone, Copy, PartialEq, Eq)]
 pub struct Entry {
     /// The slot that was priced.
     pub slot: Slot,
     /// The month for which it was priced.
     pub month: Month,
-    /// What was found.
+    /// The price that the collector found, or the reason that there is none.
     pub mark: Mark,
-    /// Whether the collector confirms the price. It isn't stored, and entries that differ in it alone are the same
-    /// entry.
+    /// Whether the collector confirms the price. It isn't stored: entries that differ only in it are the same entry.
     pub confirm: bool,
 }
 

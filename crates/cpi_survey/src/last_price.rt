@@ -8,8 +8,9 @@ use crate::quote::Quote;
 use cpi_codes::{Month, Price, Slot};
 use cpi_rows::place_of;
 
-/// The price that was observed last in the slot before the month, among quotes by slot and month: back from the place
-/// of the slot and the month, over months without a price.
+/// The price that was observed last in the slot before the month, or `None` if there is none. The caller owes quotes in
+/// the order of slots and then of months. The search goes back from the place of the slot and the month, and passes
+/// over months without a price.
 pub fn observed_before(quotes: &[Quote], slot: Slot, month: Month) -> Option<Price>
     requires { IsInOrder quote_cmp quote_key quotes.now }
     ensures { result ≡ observed_before slot month quotes.now }

@@ -1,4 +1,4 @@
-//! What a collector found for a slot in a month.
+//! Marks: the price that a collector found for a slot in a month, or the reason that there is none.
 ghost use Rattle.std.specs.Prelude.{◌≡◌};
 ghost use Rattle.cpi_survey.specs.Mark.{checked_price, is_replacement, is_same_mark, observed_price};
 
@@ -17,12 +17,13 @@ pub enum Reason {
     Refused,
 }
 
-/// What a collector found for a slot in a month. Prices are in minor units.
+/// The price that a collector found for a slot in a month, or the reason that there is none. Prices are in minor units.
+/// The Consumer Price Index Manual has the cases in its chapters on missing prices and on quality change.
 #[derive(Clone, Copy, PartialEq, Eq)]
 pub enum Mark {
     /// The price of the item itself.
     Price(Price),
-    /// No price, and why.
+    /// No price, and the reason.
     Missing(Reason),
     /// The price of a replacement that can be compared with the item.
     Comparable(Price),
@@ -38,7 +39,7 @@ impl Mark {
         self == other
     }
 
-    /// The price that was observed, in minor units: of the item or of a replacement, none where it is missing.
+    /// The price that was observed, in minor units: that of the item or of a replacement. A missing price is `None`.
     pub fn observed_price(self) -> Option<Price>
         ensures { result ≡ observed_price self }
     {
@@ -48,7 +49,8 @@ impl Mark {
         }
     }
 
-    /// The price that is checked against the last one, in minor units: of the item or of a comparable replacement.
+    /// The price that is checked against the last one, in minor units: that of the item or of a comparable
+    /// replacement. A replacement that can't be compared, or a missing price, is `None`.
     pub fn checked_price(self) -> Option<Price>
         ensures { result ≡ checked_price self }
     {

@@ -1,4 +1,4 @@
-//! What a collector has.
+//! A collector's own part of the office.
 ghost use Rattle.std.specs.Prelude.{◌≡◌, ◌<◌, [], IfOk, OnOk, OnErr, IsSome, IsOk};
 ghost use Rattle.std.specs.Ordering.{nat_cmp};
 ghost use Rattle.std.specs.Option.{option_copied};
@@ -19,7 +19,7 @@ use cpi_rows::{find_row, place_of, put_row};
 use std::alloc::{AllocError, Global};
 use std::marker::Model;
 
-/// What a collector has in the office: the assignments by slot, and the stored quotes slot by slot and then by month.
+/// A collector's own part of the office: the assignments by slot, and the stored quotes by slot and then by month.
 #[derive(Drop)]
 pub struct Own {
     alloc: Global,
@@ -48,8 +48,8 @@ impl Model for Own {
 }
 
 impl Own {
-    /// The part of a collector who has nothing yet. It takes no memory until a row is put, and then takes it from
-    /// this allocator.
+    /// The part of a collector without assignments and quotes. It takes no memory until a row is put, and then takes it
+    /// from this allocator.
     pub fn new(alloc: Global) -> Own
         ensures { result ≡ record { assignments = []; quotes = [] } }
     {
@@ -62,8 +62,8 @@ impl Own {
     }
 
     /// A collector's part from its rows. The caller owes one assignment a slot, in the order of slots, one quote a
-    /// slot and month, in the order of slots and then of months, and the greatest receipt among the quotes, or 0
-    /// where there is none. For n quotes it takes O(n log n) steps.
+    /// slot and month, in the order of slots and then of months, and the greatest receipt among the quotes, or 0 if
+    /// there is none. For n quotes it takes O(n log n) steps. An `Err` says that memory was refused.
     pub fn from_parts(
         alloc: Global,
         assignments: Vec<Assigned>,
@@ -116,7 +116,8 @@ impl Own {
         put_row(&mut self.assignments, assigned)
     }
 
-    /// Gives the assignment of the slot another last month. It takes no memory; a slot that wasn't given stays so.
+    /// Gives the assignment of the slot another last month. It takes no memory. If the collector has no such slot,
+    /// nothing changes.
     pub fn end_assignment(&mut self, slot: Slot, last_month: Month)
         ensures { self.new ≡ record self.old { assignments = with_last_month slot last_month self.old.assignments } }
     {
@@ -146,9 +147,9 @@ impl Own {
         find_row(quotes_of(&self.slots, slot), &(slot, month))
     }
 
-    /// The last price of an assignment of the collector before the month, in minor units: the price that was observed
-    /// in the greatest earlier month of which the collector has a quote of the slot with a price, and without one the
-    /// price that was copied when the series was handed over.
+    /// The last price of an assignment of the collector before the month, in minor units. It is the price of the
+    /// slot's latest earlier quote that has one. If no earlier quote has one, it is the price that was copied when the
+    /// series was handed over.
     pub fn last_price(&self, assignment: &Assignment, month: Month) -> Option<Price>
         ensures { result ≡ last_price assignment.now month self.now.quotes }
     {
@@ -169,8 +170,8 @@ impl Own {
         }
     }
 
-    /// The quotes of the months from the first to the last, both included, by month and then by slot: none where the
-    /// first is after the last.
+    /// The quotes of the months from the first to the last, both included, by month and then by slot; none if the first
+    /// is after the last. An `Err` says that memory was refused.
     pub fn quotes(&self, alloc: Global, first: Month, last: Month) -> Result<Vec<Quote>, AllocError>
         ensures { IfOk result (λ found. found.items ≡ quotes_within first last self.now.quotes) }
     {
@@ -179,8 +180,8 @@ impl Own {
         Ok(found)
     }
 
-    /// The greatest receipt of the quotes, at most 1,000,000 where each has one of those that are given, or 0 where
-    /// there is no quote.
+    /// The greatest receipt of the quotes, or 0 if there is no quote. Receipts that `submit` gives are at most
+    /// `LAST_RECEIPT`.
     pub fn greatest_receipt(&self) -> u32
         ensures { result ≡ greatest_receipt self.now.quotes }
     {

@@ -1,4 +1,4 @@
-//! What everybody may see of the survey.
+//! The public part of the survey.
 ghost use Rattle.std.specs.Prelude.{◌≡◌, IfOk, [], OnOk, OnErr, IsSome, IsOk};
 ghost use Rattle.std.specs.Ordering.{nat_cmp};
 ghost use Rattle.std.specs.Option.{option_copied};
@@ -10,7 +10,8 @@ use cpi_rows::{RowsByKey, find_row, put_row};
 use std::alloc::{AllocError, Global};
 use std::marker::Model;
 
-/// What everybody may see of the survey: the items by code, the plans by year and the calendar rows by month.
+/// The public part of the survey, which everybody may see: the items by code, the plans by year and the calendar rows
+/// by month.
 #[derive(Drop)]
 pub struct Public {
     items: RowsByKey<Item>,
@@ -98,7 +99,7 @@ impl Public {
         &self.plans
     }
 
-    /// All items once more, in the order of their codes.
+    /// A copy of all items, in the order of their codes. An `Err` says that memory was refused.
     pub fn copy_items(&self, alloc: Global) -> Result<Vec<Item>, AllocError>
         ensures { IfOk result (λ items. items.items ≡ self.now.items) }
     {
@@ -142,7 +143,7 @@ impl Public {
     }
 }
 
-/// A copy of each item, in the same order.
+// A copy of each item, in the same order. An `Err` says that memory was refused.
 fn copy_items(alloc: Global, items: &RowsByKey<Item>) -> Result<Vec<Item>, AllocError>
     ensures { IfOk result (λ copies. copies.items ≡ items.now) }
 {

@@ -6,16 +6,16 @@ use cpi_codes::{Month, Slot};
 use cpi_rows::Keyed;
 use std::marker::Model;
 
-/// A stored quote: what a collector found for a slot in a month, with the receipt that was given for it.
+/// A stored quote: the mark of a slot in a month, with the receipt that was given for it.
 #[derive(Clone, Copy, PartialEq, Eq)]
 pub struct Quote {
     /// The slot that was priced.
     pub slot: Slot,
     /// The month for which it was priced.
     pub month: Month,
-    /// What was found.
+    /// The price that the collector found, or the reason that there is none.
     pub mark: Mark,
-    /// The number of the entry among all that were stored for the collector, 1 to 1,000,000.
+    /// The number of the entry among all that were stored for the collector, 1 to `LAST_RECEIPT`.
     pub receipt: u32,
 }
 
@@ -30,7 +30,7 @@ impl Model for Quote {
 }
 
 impl Quote {
-    /// The receipt, 1 to 1,000,000.
+    /// The receipt, 1 to `LAST_RECEIPT`.
     pub fn receipt(&self) -> u32
         ensures { result ≡ self.now.receipt }
     {

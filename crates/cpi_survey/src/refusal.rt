@@ -1,7 +1,7 @@
 //! Refusals of entries.
 use cpi_codes::Price;
 
-/// Why an entry of a quote is refused, in the order in which the reasons are looked at.
+/// The reason for which an entry of a quote is refused, in the order in which the reasons are checked.
 #[derive(Clone, Copy, Debug, PartialEq, Eq)]
 pub enum Refusal {
     /// The collector has no such slot.
@@ -26,6 +26,6 @@ pub enum Refusal {
         /// The greatest price that is taken unconfirmed.
         high: u64,
     },
-    /// The collector's greatest receipt is 1,000,000.
+    /// The collector's greatest receipt is `LAST_RECEIPT`: there is no next one.
     ReceiptsUsedUp,
 }

@@ -6,7 +6,9 @@ use cpi_rows::Keyed;
 /// The stored quotes of one slot, by month.
 #[derive(Drop)]
 pub struct SlotQuotes {
+    /// The slot.
     pub slot: Slot,
+    /// Its quotes, one a month, in the order of months.
     pub quotes: Vec<Quote>,
 }
 

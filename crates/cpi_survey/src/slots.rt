@@ -11,7 +11,8 @@ use cpi_codes::Slot;
 use cpi_rows::{find_row, place_of, put_row};
 use std::alloc::{AllocError, Global};
 
-/// Quotes slot by slot. The caller owes one quote a slot and month, in the order of slots and then of months.
+/// The quotes, grouped by slot. The caller owes one quote a slot and month, in the order of slots and then of months.
+/// An `Err` says that memory was refused.
 pub fn by_slot(alloc: Global, quotes: &[Quote]) -> Result<Vec<SlotQuotes>, AllocError>
     requires { IsInOrder quote_cmp quote_key quotes.now }
     ensures slots { IfOk result (λ slots. AreBySlot slots.items) }
@@ -24,7 +25,7 @@ pub fn by_slot(alloc: Global, quotes: &[Quote]) -> Result<Vec<SlotQuotes>, Alloc
     Ok(slots)
 }
 
-/// The quotes of a slot, by month: none where the slot has none.
+/// The quotes of a slot, by month; an empty slice if there are none.
 pub fn quotes_of(slots: &[SlotQuotes], slot: Slot) -> &[Quote]
     requires { AreBySlot slots.now }
     ensures quotes { result.now ≡ filter (is_in_slot slot) (quotes_of_slots slots.now) }
@@ -37,6 +38,7 @@ pub fn quotes_of(slots: &[SlotQuotes], slot: Slot) -> &[Quote]
 }
 
 /// Puts a quote in its place among those of its slot, over the one of its month if there is one, which takes no memory.
+/// An `Err` says that memory was refused; no quote has changed then.
 pub fn put_quote(alloc: Global, slots: &mut Vec<SlotQuotes>, quote: Quote) -> Result<(), AllocError>
     requires { AreBySlot slots.old.items }
     ensures ok { OnOk result (quotes_of_slots slots.new.items ≡ with_row quote_cmp quote_key quote
@@ -50,7 +52,8 @@ pub fn put_quote(alloc: Global, slots: &mut Vec<SlotQuotes>, quote: Quote) -> Re
     put_row(&mut slots[at].quotes, quote)
 }
 
-/// The place of a slot. One that has no quotes yet is put in its place with none.
+// The place of a slot. A slot that isn't there yet is put in its place, with no quotes. An `Err` says that memory was
+// refused.
 fn place_for(alloc: Global, slots: &mut Vec<SlotQuotes>, slot: Slot) -> Result<usize, AllocError>
     requires { AreBySlot slots.old.items }
     ensures place { IfOk result (λ at. IsPlace nat_cmp (λ s. s.slot) slot slots.new.items (Ok at)) }

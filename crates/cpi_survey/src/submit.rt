@@ -1,4 +1,4 @@
-//! How an entry of a quote is decided.
+//! Decisions on entries of quotes.
 ghost use Rattle.std.specs.Prelude.{◌≡◌};
 ghost use Rattle.std.specs.Option.{option_copied};
 ghost use Rattle.cpi_survey.specs.Quote.{greatest_receipt};
@@ -24,15 +24,15 @@ use cpi_codes::{Moment, Price};
 use cpi_plan::{CalendarRow, Item};
 
 impl Own {
-    /// Decides an entry at a moment, by the public part and the collector's own part alone. It changes nothing and
-    /// takes no memory.
+    /// Decides an entry at a moment, by nothing but the public part and the collector's own part. It changes nothing
+    /// and takes no memory.
     ///
-    /// A slot that the collector doesn't have is refused. Then an entry that equals the stored quote of its slot and
-    /// month, in the mark with its value, is answered with the stored receipt, at any moment. Any other entry is
-    /// refused where the calendar has no row of the month, where the month is outside the assignment, before the
-    /// window opens, from the moment at which it closes, where a replacement has no last price, where a price or a
-    /// comparable replacement's price that isn't confirmed lies outside the bounds round the last price, and where
-    /// all receipts are used up, in this order; else it is to be stored with the next receipt.
+    /// An entry of a slot that the collector doesn't have is refused. An entry with the mark of the stored quote of
+    /// its slot and month gets the stored receipt, at any moment. Any other entry is refused for the first of these
+    /// reasons: the calendar has no row of the month; the month is outside the assignment; the window isn't open yet;
+    /// it has closed; a replacement has no last price; a price, or that of a comparable replacement, isn't confirmed
+    /// and lies outside the bounds round the last price; all receipts are used up. If no reason holds, the entry is
+    /// to be stored with the next receipt.
     pub fn submit(&self, public: &Public, now: Moment, entry: Entry) -> Result<Decision, Refusal>
         ensures { result ≡ entry_decision now entry public.now self.now }
     {
@@ -42,7 +42,7 @@ impl Own {
         }
     }
 
-    /// Decides an entry of a known slot: one that equals the stored quote is answered with its receipt.
+    // Decides an entry of a known slot: one with the mark of the stored quote gets its receipt.
     fn over_quote(
         &self,
         public: &Public,
@@ -65,8 +65,8 @@ impl Own {
         }
     }
 
-    /// Decides an entry of a month with a calendar row: the months of the assignment, the window, the price, the
-    /// receipts.
+    // Decides an entry of a month with a calendar row. It checks the months of the assignment, the window, the price
+    // and the receipts, in this order.
     fn in_window(
         &self,
         public: &Public,
@@ -90,8 +90,8 @@ impl Own {
         }
     }
 
-    /// Checks the price of an entry against the last price of its assignment, which is looked up only where there is a
-    /// price.
+    // Checks the price of an entry against the last price of its assignment, which is searched for only if there is a
+    // price.
     fn check_price(
         &self,
         public: &Public,
@@ -111,8 +111,8 @@ impl Own {
     }
 }
 
-/// Checks the price of an entry: a replacement needs a last price, and a price that isn't confirmed is checked
-/// against the last one.
+// Checks the price of an entry: a replacement needs a last price, and a price that isn't confirmed is checked
+// against the last one.
 fn checked(entry: Entry, item: Option<&Item>, last: Option<Price>) -> Result<(), Refusal>
     ensures { result ≡ price_check entry (option_copied item.entry) last }
 {
@@ -124,7 +124,7 @@ fn checked(entry: Entry, item: Option<&Item>, last: Option<Price>) -> Result<(),
     }
 }
 
-/// Checks a price, if there is one to be checked, against the bounds that the item sets round the last price.
+// Checks a price, if there is one to be checked, against the bounds that the item sets round the last price.
 fn against_last(item: Option<&Item>, last: Price, price: Option<Price>) -> Result<(), Refusal>
     ensures { result ≡ against_last (option_copied item.entry) last price }
 {
@@ -137,7 +137,7 @@ fn against_last(item: Option<&Item>, last: Price, price: Option<Price>) -> Resul
     }
 }
 
-/// The quote of an entry with the next receipt, if there is one left.
+// The quote of an entry with the next receipt; a refusal if there is none left.
 fn with_receipt(entry: Entry, greatest: u32) -> Result<Decision, Refusal>
     ensures { result ≡ with_receipt entry greatest }
 {

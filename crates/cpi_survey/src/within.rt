@@ -8,7 +8,8 @@ use crate::slot_quotes::SlotQuotes;
 use cpi_codes::Month;
 use std::alloc::{AllocError, Global};
 
-/// The quotes of the months, slot by slot and then by month.
+/// The quotes of the months from the first to the last, by slot and then by month. An `Err` says that memory was
+/// refused.
 pub fn quotes_within(
     alloc: Global,
     first: Month,
@@ -24,7 +25,8 @@ pub fn quotes_within(
     Ok(found)
 }
 
-/// Puts the quotes of the months behind those that were found, in the order in which they stand.
+// Adds the quotes of the months after those already found, in the order of the slice. An `Err` says that memory was
+// refused; some of the quotes may have been added then.
 fn push_within(
     found: &mut Vec<Quote>,
     first: Month,

@@ -13,9 +13,10 @@ use cpi_rows::Rows;
 use std::alloc::{AllocError, Global};
 
 impl Own {
-    /// The work list of a month: one row for each assignment that is active in it, by slot, or the refusal
-    /// `UnknownMonth` where the calendar has no row of the month. An assignment whose item isn't in the public part
-    /// has no row. For n assignments, q quotes and i items it takes O(n log (q + i) + q) steps.
+    /// The work list of a month: one row for each assignment that is active in it, by slot. It is the refusal
+    /// `UnknownMonth` if the calendar has no row of the month. An assignment whose item isn't in the public part has no
+    /// row. For n assignments, q quotes and i items it takes O(n log (q + i) + q) steps. An `Err` says that memory was
+    /// refused.
     pub fn work(
         &self,
         alloc: Global,
@@ -33,7 +34,7 @@ impl Own {
         }
     }
 
-    /// The rows of the assignments that are active in the month, by slot.
+    // The rows of the assignments that are active in the month, by slot.
     fn work_rows(
         &self,
         alloc: Global,
@@ -51,7 +52,7 @@ impl Own {
         Ok(rows)
     }
 
-    /// The row of an assignment that is active in the month, if its item is known.
+    // The row of an assignment that is active in the month, if its item is known.
     fn row_of(
         &self,
         alloc: Global,
@@ -70,7 +71,7 @@ impl Own {
         }
     }
 
-    /// The row of an assignment and its item.
+    // The row of an assignment and its item.
     fn work_row(
         &self,
         alloc: Global,

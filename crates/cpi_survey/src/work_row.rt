@@ -3,7 +3,7 @@ use crate::quote::Quote;
 use cpi_codes::{ItemCode, Name, OutletId, Price, Slot};
 use std::marker::Model;
 
-/// A row of a work list: what is to be priced in a slot, and what is known of it.
+/// A row of a work list: the item to price in a slot, with its outlet, its last price and the stored quote.
 #[derive(Drop)]
 pub struct WorkRow {
     /// The slot.
