@@ -1,4 +1,4 @@
--- What is built of rows in order is built of the same rows in any order.
+-- A plan of rows in order is the plan of the same rows in any order.
 use Rattle.std.proofs.Common.{◌≡◌, ℕ, cond, List, Option, Some, None, Result, Ok, Err, refl, sym, ap, ◌∙◌, ◌&&◌, not}
 use Rattle.std.proofs.Common.{◌==◌}
 use Rattle.std.specs.Prelude.{option_map}

@@ -22,7 +22,7 @@ use Rattle.cpi_plan.specs.Steps.{is_without, IsFirstCode}
 use Rattle.cpi_plan.proofs.SumLemmas.{lookup_agree}
 use Rattle.cpi_plan.proofs.UnderLemmas.{any_agree}
 
--- what is asked for is still to come
+-- the codes without a title are still to come
 abbrev pub Ahead : BTreeMap Code ℕ → List Title → List (Code × ℕ) → Type 0
 Ahead sums titles es = (q : Code) → is_without sums titles q ≡ true →
     unwrap_or (lookup (λ k. is_eq (code_cmp q k)) es) 0 ≡ sum_at sums q

@@ -1,4 +1,4 @@
--- What is said of rows stays when they change places.
+-- Facts of rows that stay true when the rows change places.
 use Rattle.std.proofs.Common.{◌≡◌, ℕ, ◌+◌, Bool, true, false, cond, List, [], ◌∷◌, filter, sum_by, refl, sym, ap, ◌∙◌}
 use Rattle.std.proofs.Common.{arith, ◌&&◌, ◌||◌, not}
 use Rattle.std.specs.List.{list_any, list_all}

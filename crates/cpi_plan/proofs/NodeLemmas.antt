@@ -31,7 +31,7 @@ use Rattle.cpi_plan.proofs.UnderLemmas.{weighs, under_total}
 use Rattle.cpi_plan.proofs.RowLemmas.{found}
 use Rattle.cpi_plan.proofs.FirstLemmas.{same_sum}
 
--- ---- a sum is there where the code is a node
+-- ---- a code has a sum if and only if it is a node
 both : (n : ℕ) (b : Bool) → (0 < n → b ≡ true) → (b ≡ true → 0 < n) → nat_lt 0 n ≡ b
 both n true f g = let h : 0 < n = g refl in grind (arith, nat_tests)
 both n false f g = none n f where
@@ -162,7 +162,7 @@ module _ (sums : BTreeMap Code ℕ) (weights : List Weight) (kept : (q : Code) �
     referred = referred;
   }
 
--- ---- a reference month that was sent alone and may be referred to is fit
+-- ---- the only reference month that was sent is fit, if weights may refer to it
 pub fit_alone : (year : ℕ) (months : List ℕ) → has_fit_reference year months ≡ true →
     is_fit_reference year (reference_in months) ≡ true
 fit_alone year [] h = refl

@@ -1,4 +1,4 @@
--- What is planned is the plan of what was sent, so its nodes are in the order of codes.
+-- A plan by the definition is made of the rows that were sent, so its nodes are in the order of codes.
 use Rattle.std.proofs.Common.{◌≡◌, ℕ, Bool, true, false, Some, None, Option, Result, Ok, Err, subst}
 use Rattle.std.specs.Prelude.{◌==◌, not, if◌then◌else◌}
 use Rattle.cpi_codes.specs.CodeOrder.{code_cmp}

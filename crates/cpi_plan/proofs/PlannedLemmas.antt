@@ -1,4 +1,4 @@
--- What is built of a body is what is planned for it.
+-- The plan or the fault that is built of a body is the one that the definition gives.
 use Rattle.std.proofs.Common.{◌≡◌, ◌≢◌, ℕ, Bool, true, false, cond, List, [], ◌∷◌, map, filter, Option, Some, None}
 use Rattle.std.proofs.Common.{Result, Ok, Err, IfOk, refl, sym, ap, ◌∙◌, subst, arith, not, ◌==◌}
 use Rattle.std.proofs.lemmas.Bool.Decides.{nat_tests}
@@ -179,7 +179,7 @@ plan_planned year b plan v f =
     ∙ sym (row_in_order item-law (λ p. p.item) k b.places)))
     f.has_reference
 
--- what is built, unless memory was refused, is what is planned
+-- the result of building, unless memory was refused, is the one that the definition gives
 pub built_planned : (year : ℕ) (b : Body) (r : Result Plan PlanFault) → IsBuilt year b r →
     ((plan : Plan) → r ≡ Ok plan → IsPlan plan) → r ≢ Err NoMemory → r ≡ plan_or_fault year b
 built_planned year b (Ok plan) h v n = ap (λ p. Ok p) (plan_planned year b plan (v plan refl) h.1)

@@ -1,4 +1,4 @@
--- What a look-up says of the rows.
+-- Facts of rows that follow from a look-up.
 use Rattle.std.proofs.Common.{◌≡◌, Bool, true, false, cond, List, [], ◌∷◌, Option, Some, None, refl, sym, ap, ◌∙◌, ◌&&◌}
 use Rattle.std.proofs.Common.{not}
 use Rattle.std.specs.declared.cmp.Ordering.{Ordering}
@@ -22,7 +22,7 @@ module _ {X K : Type 0} (cmp : K → K → Ordering) (key : X → K) (k : K) whe
   by_test x xs true e h = rw e refl
   by_test x xs false e h = rw e h
 
-  -- a row is found where some row has the key
+  -- a row is found if and only if some row has the key
   pub found : (xs : List X) → is_some (row_at cmp key k xs) ≡ list_any (λ r. is_eq (cmp (key r) k)) xs
   found [] = refl
   found (x ∷ xs) = by_test x xs (is_eq (cmp (key x) k)) refl (found xs)

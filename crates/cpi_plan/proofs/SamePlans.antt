@@ -1,4 +1,4 @@
--- Plans are the same exactly where they are equal.
+-- Two plans are the same if and only if they are equal.
 use Rattle.std.proofs.Common.{◌≡◌, ℕ, Bool, true, List, Option, Some, None, refl, ap, subst, ◌&&◌, ◌==◌}
 use Rattle.std.specs.Bool.{Decides}
 use Rattle.std.specs.Cmp.Lexicographic.{pointwise, pointwise_decides, bytes_decides}
@@ -126,7 +126,7 @@ module _ (a b : Plan) where
       ((pointwise_decides place_decides a.places b.places).1 (ap (λ p. p.places) e)))
       ((reference_decides a.reference b.reference).1 (ap (λ p. p.reference) e))
 
--- two plans are the same exactly where they are one
+-- two plans are the same if and only if they are equal
 pub plan_decides : (a b : Plan) → Decides (same_plan a b) (a ≡ b)
 plan_decides a b = (plan_is a b, is_plan a b)
 

@@ -1,4 +1,4 @@
--- A plan is what is made of its nodes, its places and its reference month.
+-- A plan is made of its nodes, its places and its reference month.
 use Rattle.std.proofs.Common.{◌≡◌, ℕ, Bool, true, false, List, [], ◌∷◌, ◌++◌, Some, None, Option, refl, sym, ap, ◌∙◌}
 use Rattle.std.proofs.Common.{arith, ◌&&◌, ◌||◌, ◌==◌}
 use Rattle.std.proofs.lemmas.Bool.Decides.{nat_tests}

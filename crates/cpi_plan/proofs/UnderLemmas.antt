@@ -49,7 +49,7 @@ below_parts_agree : (c : Code) (d e : ℕ) (g h k l s t a b : Option ℕ) → e 
     below_parts c e h l t b ≡ below_parts c d g k s a
 below_parts_agree c d e g h k l s t a b p1 p2 p3 p4 p5 = rw (p1, p2, p3, p4, p5) refl
 
--- what is at or below a code is at or below one that compares equal
+-- a code at or below another is at or below each that compares equal to it
 pub same_below : (n q : Code) → is_same_code n q ≡ true → (c : Code) → is_code_at_or_below n c ≡ is_code_at_or_below q c
 same_below n q h c =
     let parts = sym (is_eq-parts n q) ∙ h in
@@ -82,7 +82,7 @@ pub same_node : (n q : Code) → is_same_code n q ≡ true → (ws : List Weight
 same_node n q h ws = any_agree (λ w. is_code_at_or_below n w.code) (λ w. is_code_at_or_below q w.code)
     (λ w. same_below n q h w.code) ws
 
--- ---- a code has a weight where it is a node, if no weight is 0
+-- ---- if no weight is 0, a code has a weight if and only if it is a node
 has_more : (b : Bool) (n s : ℕ) (any : Bool) → (n == 0) ≡ false → (0 < s → any ≡ true) → (any ≡ true → 0 < s) →
     (0 < cond b n 0 + s → (b || any) ≡ true) × ((b || any) ≡ true → 0 < cond b n 0 + s)
 has_more true n s any p f g = (λ h. refl, λ h. grind (arith, nat_tests))

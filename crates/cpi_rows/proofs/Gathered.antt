@@ -18,7 +18,7 @@ use Rattle.cpi_rows.specs.Gathered.{rows_with_holders, rows_in}
 use Rattle.cpi_rows.proofs.Held.{held_append}
 use Rattle.cpi_rows.proofs.Truth.{different}
 
--- a key below all the others stands in none of them
+-- a key below those of all rows is the key of none
 missing_above : {G : Type 0} (number : G → ℕ) (c : ℕ) (gs : List G) →
     AllByRecursion (λ g. nat_cmp c (number g) ≡ Less) gs → row_at nat_cmp number c gs ≡ None
 missing_above number c [] all = refl

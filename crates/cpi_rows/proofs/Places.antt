@@ -61,7 +61,7 @@ module _ {X K : Type 0} {R : K → K → Ordering} (o : IsTotalOrder R) (key : X
       ∙ Less-from_sorted c (x ∷ xs) 0 (suc i) d sorted (omega arith) in_range in
       rw less (row_found xs (sorted_tail c x xs sorted) k i d (omega arith) same)
 
-  -- where no row stands level with the key, none has it
+  -- if no row ties with the key, none has it
   pub row_missing : (rows : List X) (k : K) → ((j : ℕ) (d : X) → j < length rows →
       is_eq (R (key (get_or rows j d)) k) ≡ false) → row_at R key k rows ≡ None
   row_missing [] k none = refl
@@ -236,7 +236,7 @@ module _ {X K : Type 0} {R : K → K → Ordering} (o : IsTotalOrder R) (key : X
       let none : row_at R key (key x) ys ≡ None = past_none (key x) ys (past (key x) y ys Greater e refl all) in
       let wrong : None ≡ Some x = sym none ∙ (rw (ap is_eq e) at found) in cc
 
-  -- to put a row that stands already changes nothing
+  -- to put a row that is there already changes nothing
   pub put_same : (rows : List X) → IsInOrder R key rows → (x : X) → row_at R key (key x) rows ≡ Some x →
       with_row R key x rows ≡ rows
   put_same [] sorted x found = let wrong : None ≡ Some x = found in cc

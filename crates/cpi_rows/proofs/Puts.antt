@@ -106,7 +106,7 @@ module _ {X K : Type 0} {R : K → K → Ordering} (o : IsTotalOrder R) (key : X
     above_higher k r ys e all.1,
   )
 
-  -- a row that stands is put in place of itself
+  -- a row that is there already is put in place of itself
   pub put_standing : (row : X) (rows : List X) → IsInOrder R key rows → row_at R key (key row) rows ≡ Some row →
       with_row R key row rows ≡ rows
   put_standing row [] sorted there = let no : None ≡ Some row = there in cc

@@ -1,4 +1,4 @@
--- Quotes slot by slot: what a slot has of all, what is put among its own, and a slot with none.
+-- Quotes slot by slot: those of one slot among all, one that is put among its own, and a slot with none.
 use Rattle.std.proofs.Common.{◌≡◌, ◌≢◌, ℕ, zero, suc, ◌+◌, ◌<◌, Bool, true, false, List, [], ◌∷◌, ◌++◌, map, length}
 use Rattle.std.proofs.Common.{get_or, set, take, drop, Some, None, Option, Ok, Err, refl, sym, ap, ◌∙◌, arith, inl, inr}
 use Rattle.std.specs.Prelude.{if◌then◌else◌, filter, ◌==◌, ◌⊎◌, IsSome}
@@ -219,7 +219,7 @@ module _ (ss : List SlotQuotes) (kept : AreBySlot ss) (slot : ℕ) (i : ℕ)
         rw (put_at_row nat_cmp_total slot_of ss kept.order after i (place.0, λ d. rw (same ∙ slot_is) (place.1 d)))
         (put_in_order nat_cmp_total slot_of ss after kept.order)
 
-    -- where nothing changed
+    -- if nothing changed
     pub quotes_same : after.quotes.items ≡ s.quotes.items → quotes_of_slots (set ss i after) ≡ quotes_of_slots ss
     quotes_same e = set_same own_quotes ss i after s (e ∙ ap own_quotes stands)
       where

@@ -1,4 +1,4 @@
--- What becomes of assignments in order by slot when one of them ends sooner.
+-- Assignments in the order of slots, one of which ends sooner.
 use Rattle.std.proofs.Common.{◌≡◌, ◌≢◌, ℕ, zero, suc, ◌<◌, List, [], ◌∷◌, length, get_or, set, Ok, Err, refl, sym, ap}
 use Rattle.std.proofs.Common.{◌∙◌, arith, inl, inr}
 use Rattle.std.specs.Ordering.{nat_cmp}
@@ -25,7 +25,7 @@ module _ (slot last_month : ℕ) where
   stays : (a : Assigned) → slot_of a ≢ slot → a ≡ ended_one slot last_month a
   stays a other = rw (ne_eqb (slot_of a) slot other) refl
 
-  -- where no assignment is of the slot, none ends
+  -- if no assignment is of the slot, none ends
   none_ends : (rows : List Assigned) → ((j : ℕ) (d : Assigned) → j < length rows → slot_of (get_or rows j d) ≢ slot) →
       rows ≡ with_last_month slot last_month rows
   none_ends [] others = refl
@@ -34,7 +34,7 @@ module _ (slot last_month : ℕ) where
       let rest = none_ends rows (λ j d lt. others (suc j) d (omega arith)) in
       cc
 
-  -- where one alone is of the slot, that one ends
+  -- if only one is of the slot, that one ends
   one_ends : (rows : List Assigned) (i : ℕ) (a : Assigned) → i < length rows → a ≡ get_or rows i a → slot_of a ≡ slot →
       ((j : ℕ) (d : Assigned) → j ≢ i → j < length rows → slot_of (get_or rows j d) ≢ slot) →
       set rows i (assigned_until last_month a) ≡ with_last_month slot last_month rows
@@ -56,7 +56,7 @@ below_differs m n less = λ same. omega (arith, ranked m n Less (sym less), same
 above_differs : (m n : ℕ) → nat_cmp m n ≡ Greater → m ≢ n
 above_differs m n greater = λ same. omega (arith, ranked m n Greater (sym greater), same)
 
--- no slot stands at two places
+-- no slot is at two places
 pub slots_differ : (rows : List Assigned) → IsInOrder nat_cmp slot_of rows → (i j : ℕ) (d : Assigned) →
     i < length rows → j < length rows → j ≢ i → slot_of (get_or rows j d) ≢ slot_of (get_or rows i d)
 slots_differ rows sorted i j d i_in j_in other = elim (cases_lt i j) [
@@ -76,7 +76,7 @@ ended_at_row rows sorted slot last_month i a place is =
     one_ends slot last_month rows i a place.0 is (ap slot_of is ∙ at_place a)
     (λ j d other lt same. slots_differ rows sorted i j d place.0 lt other (same ∙ sym (at_place d)))
 
--- where the slot has no place, nothing ends
+-- if the slot has no place, nothing ends
 pub ended_at_gap : (rows : List Assigned) (slot last_month i : ℕ) → IsPlace nat_cmp slot_of slot rows (Err i) →
     rows ≡ with_last_month slot last_month rows
 ended_at_gap rows slot last_month i place = none_ends slot last_month rows (λ j d lt. elim (cases_lt j i) [

@@ -77,7 +77,7 @@ again_confirmed = refl
 other_after_the_window : sent 2500 1 312 220 (priced 1 312 210 1 ∷ []) ≡ Err Closed
 other_after_the_window = refl
 
--- the last receipt is 1,000,000; what stands is answered even then
+-- the last receipt is 1,000,000; an entry with the mark of a stored quote gets its receipt even then
 the_last_receipt : sent 1500 1 312 203 (priced 1 311 200 999999 ∷ []) ≡ Ok (Put (priced 1 312 203 LAST_RECEIPT))
 the_last_receipt = refl
 
@@ -105,7 +105,7 @@ abbrev quotes : List QuoteRow
 quotes = priced 1 310 100 1 ∷ priced 1 311 110 3 ∷ priced 1 312 120 6 ∷ priced 2 311 300 4 ∷ priced 3 310 500 2 ∷
     priced 3 312 510 5 ∷ []
 
--- the price observed last: of the greatest earlier month, of the slot alone
+-- the price observed last: that of the greatest earlier month, in this slot only
 last_of_the_month_before : observed_before 1 312 quotes ≡ Some 110
 last_of_the_month_before = refl
 
@@ -197,7 +197,7 @@ other_without_last = refl
 price_without_last : marks (Price 100000000) [] ≡ Ok (Put (marked 312 (Price 100000000) 1))
 price_without_last = refl
 
--- the price is looked at before the receipts
+-- the price is checked before the receipts
 price_before_the_receipts : marks (Price 699) (marked 311 (Price 1000) LAST_RECEIPT ∷ []) ≡ Err
     (OutOfTolerance 1000 700 1500)
 price_before_the_receipts = refl

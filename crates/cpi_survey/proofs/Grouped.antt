@@ -56,7 +56,7 @@ module _ {X : Type 0} (n : X → ℕ) where
   all_off a (x ∷ xs) all = rw (ne_eqb (n x) a (λ e. absurd (omega (arith, e, all.0))))
       (ap (λ ys. x ∷ ys) (all_off a xs all.1))
 
-  -- the rows of the least number stand first
+  -- the rows of the least number come first
   parted : (a : ℕ) (xs : List X) → Rises xs → AllByRecursion (λ x. a ≤ n x) xs → xs ≡ filter (is_at a) xs
       ++ filter (is_off a) xs
   parted a [] r low = refl

@@ -111,7 +111,7 @@ all_below k (q ∷ qs) = by (quote_cmp (quote_key q) k) refl (all_below k qs)
     by Equal e rest = rw (ap is_lt e) rest
     by Greater e rest = rw (ap is_lt e) rest
 
--- an earlier quote of the slot stands below the slot and the month
+-- an earlier quote of the slot is below the slot and the month
 earlier_below : (slot month : ℕ) (q : QuoteRow) → is_earlier slot month q ≡ true → (q.slot ≡ slot) × (q.month < month)
 earlier_below slot month q passes =
     let parts = and_parts (q.slot == slot) (nat_lt q.month month)

@@ -33,7 +33,7 @@ of_slot : (slot month : ℕ) (all : List QuoteRow) →
 of_slot slot month all = any-filter_same (stands_since slot month) (is_in_slot slot) true
     (λ q since. (and_parts (q.slot == slot) (nat_le month q.month) since).0) all
 
--- a quote of the slot counts by its month alone
+-- a quote of the slot counts only by its month
 own_since : (slot month : ℕ) (q : QuoteRow) → is_in_slot slot q ≡ true →
     stands_since slot month q ≡ nat_le month q.month
 own_since slot month q own = ap (λ same. same && nat_le month q.month) own
@@ -81,7 +81,7 @@ none_tells slot month (x ∷ qs) last =
     slice_get-get_or (x ∷ qs) (length (x ∷ qs) - 1) x (omega arith) in
     let wrong : None ≡ Some (get_or (x ∷ qs) (length (x ∷ qs) - 1) x) = sym last ∙ there in cc
 
--- the same of all quotes, where the slot's own are known
+-- the same of all quotes, if the slot's own are known
 pub since_last : (slot month : ℕ) (own all : List QuoteRow) (q : QuoteRow) → own ≡ filter (is_in_slot slot) all →
     IsInOrder quote_cmp quote_key own → slice_get own (length own - 1) ≡ Some q →
     nat_le month q.month ≡ has_quotes_since slot month all
