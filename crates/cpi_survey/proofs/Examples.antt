@@ -3,6 +3,7 @@
 -- which prices lie outside the bounds round it, and what a work list tells.
 use Rattle.std.proofs.Common.{◌≡◌, ℕ, true, false, List, [], ◌∷◌, Some, None, Ok, Err, refl}
 use Rattle.std.specs.Prelude.{Result}
+use Rattle.cpi_codes.specs.declared.limits.TheConstants.{GREATEST_PRICE}
 use Rattle.cpi_survey.specs.declared.limits.TheConstants.{LAST_RECEIPT}
 use Rattle.cpi_survey.specs.declared.assignment.Assigned.{Assigned}
 use Rattle.cpi_survey.specs.declared.assignment.Assignment.{Assignment}
@@ -194,7 +195,7 @@ comparable_without_last = refl
 other_without_last : confirms (Other 300) (marked 311 (Missing Stock) 1 ∷ []) ≡ Err NoLastPrice
 other_without_last = refl
 
-price_without_last : marks (Price 100000000) [] ≡ Ok (Put (marked 312 (Price 100000000) 1))
+price_without_last : marks (Price GREATEST_PRICE) [] ≡ Ok (Put (marked 312 (Price GREATEST_PRICE) 1))
 price_without_last = refl
 
 -- the price is checked before the receipts
