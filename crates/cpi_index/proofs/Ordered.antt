@@ -32,7 +32,7 @@ module _ (plan : Plan) (bases carried : List Carried) where
   pub indices_are : are_indices_in plan.weights (elementary_indices plan bases carried) ≡ true
   indices_are = one_each plan.weights
 
--- the means stand in the order of the nodes
+-- the means are in the order of the nodes
 module _ (plan : Plan) (indices : List NodeIndex) where
   means_above : (c : Code) (ns : List Node) → AllByRecursion (λ n. code_cmp c n.code ≡ Less) ns →
       AllByRecursion (λ x. code_cmp c x.code ≡ Less) (map (upper_row plan indices) ns)
@@ -45,7 +45,7 @@ module _ (plan : Plan) (indices : List NodeIndex) where
   means_rise [] h = tt
   means_rise (n ∷ ns) h = (means_above n.code ns h.0, means_rise ns h.1)
 
--- the levels stand in the order of the indices
+-- the levels are in the order of the indices
 module _ (december : List NodeLevel) where
   levels_above : (c : Code) (xs : List NodeIndex) → AllByRecursion (λ x. code_cmp c x.code ≡ Less) xs →
       AllByRecursion (λ l. code_cmp c l.code ≡ Less) (chained_levels december xs)
@@ -62,7 +62,7 @@ pub none_in_order : IsInOrder code_cmp (λ (l : NodeLevel). l.code) []
 unfolding IsStrictlySortedBy
 none_in_order = tt
 
--- all nodes are done where none is left
+-- all nodes are done when none is left
 pub means_done : (plan : Plan) → IsInOrder code_cmp (λ n. n.code) plan.nodes →
     (indices rows : List NodeIndex) (nodes : List Node) (i : ℕ) → nodes ≡ plan.nodes → length nodes ≤ i →
     rows ≡ map (upper_row plan indices) (take i nodes) → IsInOrder code_cmp (λ x. x.code) rows
@@ -70,7 +70,7 @@ means_done plan order indices rows nodes i is l e =
     subst (IsInOrder code_cmp (λ x. x.code)) (sym (e ∙ ap (map (upper_row plan indices)) (take_all i nodes l ∙ is)))
     (means_rise plan indices plan.nodes order)
 
--- a table that was chained stands in the order of its indices
+-- a table that was chained is in the order of its indices
 pub table_rises : (december : List NodeLevel) (within : List NodeIndex) (r : Result (Vec NodeLevel) IndexFault)
     (P : Type 0) (Q : IndexFault → Type 0) → MatchResult r (λ v. P × (v.items ≡ chained_levels december within)) Q →
     IsInOrder code_cmp (λ x. x.code) within → IfOk r (λ v. IsInOrder code_cmp (λ l. l.code) v.items)

@@ -1,4 +1,4 @@
--- Weights in use: they stand in the place of a plan's own, and each is within its limits.
+-- Weights in use: they replace a plan's own, and each is within its limits.
 use Rattle.std.proofs.Common.{◌≡◌, ℕ, zero, suc, ◌+◌, ◌*◌, ◌<◌, ◌≤◌, Bool, true, false, ◌&&◌, ◌||◌, cond, eqb}
 use Rattle.std.proofs.Common.{List, [], ◌∷◌, Option, Some, None, option_map, length, take, get_or, find, filter, map}
 use Rattle.std.proofs.Common.{refl, sym, ap, subst, ◌∙◌, arith, add-one}

@@ -1,4 +1,4 @@
--- One elementary aggregate at a time: its index, and what it lacks.
+-- One elementary aggregate at a time: its index, or its lack.
 use Rattle.std.specs.Prelude.{ℕ, Bool, not, List, Option, Some, None, sum_by, if◌then◌else◌}
 use Rattle.std.specs.List.{list_any}
 use Rattle.cpi_index.specs.Row.{Row}
@@ -22,7 +22,7 @@ group_index rows = dutot_index (ticks_now rows) (ticks_base rows)
 abbrev pub has_imputed : List Row → Bool
 has_imputed rows = list_any (λ c. c.imputed) (carried_rows rows)
 
--- what the aggregate lacks, if it has no index: the first that holds
+-- the lack of an aggregate without an index: the first that holds
 abbrev pub lack_of : Bool → List Row → Option GroupLack
 lack_of unchanged rows =
     if is_none_of rows then Some NoSample else

@@ -1,4 +1,4 @@
--- What is answered of lists that a call can't take: carried prices or quotes that aren't by series, indices that aren't
+-- The answer to lists that a call can't take: carried prices or quotes that aren't by series, indices that aren't
 -- the plan's, link levels that aren't in code order.
 use Rattle.std.specs.Prelude.{◌≡◌, true, List, Option, Some, option_map, find}
 use Rattle.cpi_codes.specs.declared.codes.Code.{Code}

@@ -31,7 +31,7 @@ kept_step ws i w done done' row h is pushed e before =
     ∙ ap (λ z. take i ws ++ z ∷ []) e
     ∙ sym (take_push ws i w h is)
 
--- moved weights stand in the place of the weights they are moved from
+-- moved weights have the codes of the weights that they are moved from, in their order
 are_of_rows : (rows : List WeightLevels) → are_weights_in (map (λ r. r.weight) rows) (moved_weights rows) ≡ true
 are_of_rows [] = refl
 are_of_rows (r ∷ rows) = rw (ap is_eq (tied_itself total-law r.weight.code)) (are_of_rows rows)

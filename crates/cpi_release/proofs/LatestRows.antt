@@ -18,7 +18,7 @@ module _ {X : Type 0} (month_of : X → ℕ) (month : ℕ) where
   abbrev own : X → Option X
   own x = cond (eqb (month_of x) month) (Some x) None
 
-  -- one more row behind the others
+  -- one more row after the others
   pub latest_behind : (xs : List X) (x : X) → latest_row month_of month (xs ++ x ∷ []) ≡ option_or (own x)
       (latest_row month_of month xs)
   latest_behind [] x = sym (or_none (own x))
@@ -46,7 +46,7 @@ module _ {X : Type 0} (month_of : X → ℕ) (month : ℕ) where
       by (inr other) = latest_behind xs x ∙ ap (λ b. option_or (cond b (Some x) None) (latest_row month_of month xs))
           other.0
 
-  -- what holds of all rows holds of the latest
+  -- a fact about all rows is one about the latest
   pub latest_all : (P : X → Type 0) (xs : List X) (x : X) → AllByRecursion P xs → latest_row month_of month xs
       ≡ Some x →
       P x × (month_of x ≡ month)

@@ -52,7 +52,7 @@ first_out p nodes all i n h is same passes before =
     ∙ ap (option_map (λ n. OutOfRange n.code)) (sym before ∙ ap (find p) (here nodes i n h is)
     ∙ ap (λ b. cond b (Some n) (find p (drop (i + 1) nodes))) passes)
 
--- what a node's row is made of, by the weights of a plan
+-- the parts of a node's row, by the weights of a plan
 module _ (plan : Plan) (releases : List Release) (month : ℕ) (rows : List Row) (pass : Pass)
     (s : IsSummed plan rows pass) (n : Node) (weight : ℕ) (w : weight ≡ weight_under n.code plan.weights) where
   pub limit_is : (sum : ℕ) → sum ≡ sum_at pass.sums n.code → 0 < weight → sum ≤ MOST_INDEX * weight →

@@ -1,4 +1,4 @@
--- Where no aggregate lacks anything, a pass's sums are those of the indices.
+-- If no aggregate lacks anything, a pass's sums are those of the indices.
 use Rattle.std.proofs.Common.{◌≡◌, ℕ, ◌+◌, ◌*◌, ◌≤◌, Bool, true, false, not, ◌&&◌, ◌||◌, cond, List, [], ◌∷◌, Some}
 use Rattle.std.proofs.Common.{None, refl, ap, ◌∙◌, arith, is_none, ltb}
 use Rattle.std.specs.Prelude.{filter, sum_by}

@@ -1,4 +1,4 @@
--- What a pass owes and shows, whatever it reads from.
+-- The duties and promises of a pass, whatever it reads from.
 use Rattle.std.specs.Prelude.{◌≡◌, ℕ, ◌<◌, Bool, true, false, List, Option, IsSome, length, slice_index_or}
 use Rattle.cpi_codes.specs.declared.codes.Code.{Code}
 use Rattle.cpi_plan.specs.Plan.{Plan}
@@ -21,14 +21,13 @@ pub record CanAsk (s : Sources) (month : ℕ) : Type 0 where
   pub after : IsAfterFrozen s month
   pub ordered : (code : Code) → are_by_series row_serial (group_of s month code) ≡ true
 
--- want of memory, or a read that failed
+-- lack of memory, or a read that failed
 abbrev pub IsReadFault : ℕ → ℕ → FreezeFault → Type 0
 IsReadFault old new Group = old < new
 IsReadFault old new (Index f) = f ≡ NoMemory
 
--- what the caller of a freeze owes: the plan of the year, and none at the first release alone; the quotes as they
--- stand;
--- and, where there is a plan, that the month before was frozen
+-- the caller of a freeze owes the plan of the year, and no plan only at the first release; the quotes as they are; and,
+-- if there is a plan, that the month before was frozen
 pub record MayFreeze (s : Sources) (plan : Option Plan) (x : Freeze) : Type 0 where
   pub plan_is : plan ≡ plan_in s.plans s.releases x.month
   pub quotes : s.quotes x.month ≡ x.frozen

@@ -1,4 +1,4 @@
--- What a month's samples are read from, and when samples that are kept are its own.
+-- The sources of a month's samples, and when samples that are kept are its own.
 use Rattle.std.specs.Prelude.{◌≡◌, ℕ, ◌≤◌, ⊤, true, List, Option, Some, None, option_map}
 use Rattle.cpi_codes.specs.Month.{year_of}
 use Rattle.cpi_rows.specs.Keyed.{row_by_number}
@@ -13,7 +13,7 @@ use Rattle.cpi_release.specs.Releasing.{AreInOrder}
 use Rattle.cpi_release.specs.GroupCalls.{Sources}
 use Rattle.cpi_release.specs.declared.release.Release.{Release}
 
--- what is read from, and how often a read failed
+-- the sources, and how often a read failed
 pub record CachedGroups : Type 0 where
   pub plans : List Plan
   pub releases : List Release

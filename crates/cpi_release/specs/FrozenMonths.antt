@@ -10,7 +10,7 @@ use Rattle.cpi_plan.specs.Plan.{Plan}
 use Rattle.cpi_release.specs.declared.release.Release.{Release}
 use Rattle.cpi_release.specs.declared.frozen_month.FrozenMonth.{FrozenMonth}
 
--- what releases and their tables are listed by: month, and then revision
+-- the key of releases and of their tables: month, and then revision
 abbrev pub ReleaseKey : Type 0
 ReleaseKey = ℕ × ℕ
 
@@ -47,8 +47,8 @@ last_frozen [] = None
 last_frozen (last ∷ []) = Some last
 last_frozen (_ ∷ later ∷ frozen) = last_frozen (later ∷ frozen)
 
--- ---- what may be frozen next
--- the last one again, or the month after it; a December where there is none
+-- ---- the months that may be frozen next
+-- the last one again, or the month after it; a December if there is none
 abbrev pub follows : ℕ → Option FrozenMonth → Bool
 follows month None = month % 12 == 11
 follows month (Some last) = last.month == month || month == last.month + 1
@@ -64,7 +64,7 @@ revision_after month (Some last) = if last.month == month then last.revision + 1
 abbrev pub revision_to_give : ℕ → List FrozenMonth → ℕ
 revision_to_give month frozen = revision_after month (last_frozen frozen)
 
--- ---- what may be frozen again
+-- ---- the month that may be frozen again
 -- the last one, with a table that is published later than that of its latest revision, of which it has fewer than nine
 abbrev pub is_month_reopened : ℕ → Option ℕ → Option FrozenMonth → Bool
 is_month_reopened month publishes None = false

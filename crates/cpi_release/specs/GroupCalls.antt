@@ -1,4 +1,4 @@
--- What groups are read from, and when they can be asked for.
+-- The sources of groups, and when they can be asked for.
 use Rattle.std.specs.Prelude.{◌≡◌, ℕ, ◌+◌, List, [], Some, None}
 use Rattle.cpi_codes.specs.Month.{year_of}
 use Rattle.cpi_codes.specs.declared.codes.Code.{Code}
@@ -10,7 +10,7 @@ use Rattle.cpi_index.specs.Month.{sample_rows}
 use Rattle.cpi_release.specs.Releases.{rows_of_bases, latest_release}
 use Rattle.cpi_release.specs.declared.release.Release.{Release}
 
--- what groups are read from: the plans by year, the releases by month, and the quotes of each month as they stand
+-- the sources of groups: the plans by year, the releases by month, and the quotes of each month as they are
 pub record Sources : Type 0 where
   pub plans : List Plan
   pub releases : List Release

@@ -40,7 +40,7 @@ is_imputed_under plan rows node =
     list_any (λ w. is_code_at_or_below node w.code && has_imputed (sample_rows plan w.code rows)) plan.weights
 
 -- ---- the table
--- a row from the node's weight and index, the levels before it, and whether something was imputed
+-- a row from the node's weight and index, the levels before it, and whether a price was imputed
 abbrev pub level_with : Node → ℕ → ℕ → ℕ → ℕ → Option ℕ → Bool → Level
 level_with n weight within link last year imputed = let level = chained_from link within in record {
   code = n.code;

@@ -1,4 +1,4 @@
--- Steps of a pass over a plan's aggregates: what each adds to the faults, the sums and the carried prices.
+-- Steps of a pass over a plan's aggregates: each adds to the faults, the sums and the carried prices.
 use Rattle.std.specs.Prelude.{◌≡◌, ℕ, ◌+◌, ◌*◌, Bool, true, false, List, ◌++◌, Option, Some, None, is_none}
 use Rattle.std.specs.Prelude.{filter, sum_by, if◌then◌else◌}
 use Rattle.std.specs.Option.{option_or}
@@ -18,15 +18,15 @@ use Rattle.cpi_release.specs.declared.faults.Faults.{Faults}
 use Rattle.cpi_release.specs.declared.pass.Pass.{Pass}
 
 -- ---- one aggregate
--- its index, or 0 where it lacks one
+-- its index, or 0 if it lacks one
 abbrev pub index_in : Bool → List Row → ℕ
 index_in unchanged rows = if is_none (lack_of unchanged rows) then group_index rows else 0
 
--- 1 where a price was imputed, else 0
+-- 1 if a price was imputed, else 0
 abbrev pub imputed_flag : Bool → List Row → ℕ
 imputed_flag unchanged rows = if is_none (lack_of unchanged rows) then (if has_imputed rows then 1 else 0) else 0
 
--- the faults with what one aggregate lacks: the first of each kind stays
+-- the faults with the lack of one aggregate: the first of each kind stays
 abbrev pub faults_with : Option GroupLack → Code → Faults → Faults
 faults_with None code f = f
 faults_with (Some NoSample) code f = record f { no_sample = option_or f.no_sample (Some code) }
@@ -34,7 +34,7 @@ faults_with (Some NoMatch) code f = record f { no_match = option_or f.no_match (
 faults_with (Some PriceOutOfRange) code f = record f { price = option_or f.price (Some code) }
 faults_with (Some IndexOutOfRange) code f = record f { index = option_or f.index (Some code) }
 
--- what one more aggregate does to a pass
+-- the effect of one more aggregate on a pass
 pub record IsPassingStep (unchanged : Bool) (rows : List Row) (w : Weight) (old new : Pass) : Type 0 where
   pub faults : new.faults ≡ faults_with (lack_of unchanged rows) w.code old.faults
   pub sums : (q : Code) →

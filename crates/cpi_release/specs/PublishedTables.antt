@@ -31,11 +31,11 @@ published_key t = (t.month, t.revision)
 abbrev pub published_until : ℕ → List Release → List PublishedTable
 published_until now releases = map published_table (filter (λ r. nat_le r.publishes now) releases)
 
--- what is told of a table without its rows
+-- a table without its rows
 abbrev pub frozen_month_of : PublishedTable → FrozenMonth
 frozen_month_of t = record { month = t.month; revision = t.revision; publishes = t.publishes }
 
--- ---- the table that is asked for: of a month in one revision, or, where none is named, in the latest
+-- ---- the table that is asked for: of a month in one revision, or, if none is named, in the latest
 abbrev pub is_asked : Option ℕ → ℕ → Bool
 is_asked None revision = true
 is_asked (Some asked) revision = revision == asked

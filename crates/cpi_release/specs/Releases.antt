@@ -1,4 +1,4 @@
--- Releases of earlier months, and what a month reads from them.
+-- Releases of earlier months, and the rows that a month reads from them.
 use Rattle.std.specs.Prelude.{ℕ, ◌*◌, ◌-◌, ◌/◌, ◌%◌, ◌==◌, Bool, List, [], Option, Some, option_map, option_and_then}
 use Rattle.std.specs.Prelude.{unwrap_or}
 use Rattle.std.specs.Prelude.{if◌then◌else◌}
@@ -30,7 +30,7 @@ is_january month = month % 12 == 0
 abbrev pub is_december : ℕ → Bool
 is_december month = month % 12 == 11
 
--- ---- what stands in the releases
+-- ---- the rows of the releases
 -- the latest release of a month, by which every earlier month is read
 abbrev pub latest_release : List Release → ℕ → Option Release
 latest_release releases month = latest_row (λ r. r.month) month releases

@@ -1,4 +1,4 @@
--- What a freeze releases, and which histories are sound.
+-- The release of a freeze, and the histories that are sound.
 use Rattle.std.specs.Prelude.{◌≡◌, ◌⊎◌, ℕ, ◌+◌, ◌<◌, ◌%◌, Bool, true, List, [], ◌∷◌, ◌++◌, length, map, fold, Contains}
 use Rattle.std.specs.Prelude.{Option, Some, None, IsSome, slice_index_or}
 use Rattle.std.specs.Option.{option_or}
@@ -19,7 +19,7 @@ use Rattle.cpi_release.specs.MonthTable.{table_of, table_fault}
 use Rattle.cpi_release.specs.declared.level.Level.{Level}
 use Rattle.cpi_release.specs.declared.release.Release.{Release}
 
--- what is frozen with a release
+-- the frozen part of a release
 pub record Freeze : Type 0 where
   pub month : ℕ
   pub revision : ℕ

@@ -1,4 +1,4 @@
--- What a pass's sums are, where no aggregate lacks anything, and what a table's fault may be.
+-- The sums of a pass when no aggregate lacks anything, and the possible faults of a table.
 use Rattle.std.specs.Prelude.{◌≡◌, ◌≢◌, ◌≤◌, ⊤, List, Option, Some, nat_lt}
 use Rattle.cpi_codes.specs.declared.codes.Code.{Code}
 use Rattle.cpi_plan.specs.Plan.{Plan}
@@ -17,7 +17,7 @@ pub record IsSummed (plan : Plan) (rows : List Row) (pass : Pass) : Type 0 where
   pub least : (q : Code) → weight_under q plan.weights ≤ sum_at pass.sums q
   pub flags : (q : Code) → nat_lt 0 (sum_at pass.imputed q) ≡ is_imputed_under plan rows q
 
--- the fault of the definitions, want of memory and failed reads aside
+-- the fault of the definitions, lack of memory and failed reads aside
 abbrev pub IsFreezeFault : Option IndexFault → FreezeFault → Type 0
 IsFreezeFault fault Group = ⊤
 IsFreezeFault fault (Index f) = f ≢ NoMemory → fault ≡ Some f
