@@ -13,7 +13,7 @@ use Rattle.cpi_release.specs.declared.level.Level.{Level}
 use Rattle.cpi_sql_rows.specs.Lists.{item_in, calendar_in, assignment_in_row, quote_in, node_in, header_in}
 use Rattle.cpi_sql_rows.specs.Lists.{frozen_in, carried_in_row, level_in_row}
 
--- ---- values. A row is its rowid, and then its columns; where the key is the rowid, its column is NULL
+-- ---- values. A row is its rowid, and then its columns; if the key is the rowid, its column is NULL
 
 -- a value that is this number
 abbrev pub cell : ℕ → Value
@@ -278,7 +278,7 @@ Weights =
 abbrev pub above_row : ℕ → Row
 above_row weight = worked_row (codes "01.1.1.2") weight Null 0
 
--- what stands in it
+-- the level in it
 abbrev pub above_with : ℕ → Level
 above_with weight = level_of flours weight None
 

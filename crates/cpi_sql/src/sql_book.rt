@@ -56,7 +56,7 @@ use std::marker::Model;
 /// that needs the survey reads it, and it is cached from then on. The headers of the releases are cached too, and the
 /// samples of the month that is being frozen. Of the lists of releases the cache has the few that were used or put
 /// last: tables, and the frozen quotes and carried prices that the next freeze begins with. Each write changes the
-/// caches or drops what is out of date.
+/// caches, or drops the parts that are out of date.
 #[derive(Drop)]
 pub struct SqlBook<S: Alter> {
     conn: Connection<S>,

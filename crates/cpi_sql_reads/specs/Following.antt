@@ -1,4 +1,4 @@
--- The cached survey follows what was stored.
+-- The cached survey follows each write.
 use Rattle.std.specs.Prelude.{◌≡◌, ℕ, Bool, IsSome, IsTrue, None}
 use Rattle.cpi_rows.specs.Held.{held_by}
 use Rattle.cpi_rows.specs.Keyed.{row_by_number}

@@ -1,4 +1,4 @@
-//! Reads of the tables of an office, and the caches of what was read.
+//! Reads of the tables of an office, and their caches.
 #![tactic(auto)]
 
 mod cached_list;
