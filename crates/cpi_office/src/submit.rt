@@ -19,9 +19,6 @@ use cpi_store::{Book, Registration, StoreFault};
 use cpi_survey::{Decision, Entry, Quote};
 
 /// Answers an entry of a collector at a moment, in seconds since 1970 UTC.
-///
-/// It states the change as a verdict, as the answers of all requests do; `submit` states it as the quote that is
-/// stored, which is what each arm of its body shows.
 pub fn enter<B: Book>(book: &mut B, now: Moment, registration: Registration, entry: Entry) -> Reply
     requires known { (B.state book.old).is_clean →
         IsSome (row_by_number (λ b. b.number) registration.number (B.state book.old).held.collectors) }
@@ -33,7 +30,8 @@ pub fn enter<B: Book>(book: &mut B, now: Moment, registration: Registration, ent
     submit(book, now, registration, entry)
 }
 
-// Decides an entry of a collector, and stores a new quote.
+// Decides an entry of a collector, and stores a new quote. `enter` says the same by a verdict; here the change is the
+// quote that is stored, which is how the arms are proved.
 fn submit<B: Book>(book: &mut B, now: Moment, registration: Registration, entry: Entry) -> Reply
     requires known { (B.state book.old).is_clean →
         IsSome (row_by_number (λ b. b.number) registration.number (B.state book.old).held.collectors) }
