@@ -19,7 +19,8 @@ use Rattle.cpi_office.specs.Answers.{answer}
 use Rattle.cpi_office.specs.ProjectedChanges.{sights_of, build}
 use Rattle.cpi_store.specs.Sound.{IsSound}
 use Rattle.std.proofs.lemmas.Bool.{false≢true}
-use Rattle.cpi_office.specs.NonInterference.{told_to, requests_without, passes_on, NonePassesOn, OthersDoNotMatter}
+use Rattle.cpi_office.specs.NonInterference.{collector_replies, requests_without, passes_on, NonePassesOn}
+use Rattle.cpi_office.specs.NonInterference.{OthersDoNotMatter}
 use Rattle.cpi_office.specs.declared.request.Ask.{Ask}
 use Rattle.cpi_office.specs.declared.caller.Caller.{Caller}
 use Rattle.cpi_office.specs.declared.caller.Caller.TheVariants as caller
@@ -146,7 +147,7 @@ module _ (key : ℕ) where
 
   abbrev Alike : List Ask → Type 0
   Alike asks = NonePassesOn asks → (o u : Office) → Agrees o u →
-      told_to key asks o ≡ told_to key (requests_without key asks) u
+      collector_replies key asks o ≡ collector_replies key (requests_without key asks) u
 
   step : (now : ℕ) (c : Caller) (r : Request) (asks : List Ask) → Alike asks →
       Alike (record { now = now; caller = c; request = r } ∷ asks)
@@ -175,10 +176,10 @@ module _ (key : ℕ) where
           ap (answer now (caller.Collector k) r) views
 
       by : ((eqb k key ≡ true) × (k ≡ key)) ⊎ ((eqb k key ≡ false) × (k ≢ key)) →
-          told_to key (a ∷ asks) o ≡ told_to key (requests_without key (a ∷ asks)) u
+          collector_replies key (a ∷ asks) o ≡ collector_replies key (requests_without key (a ∷ asks)) u
       by (inl same) =
           rw (same.0, same.0)
-          (ap (λ x. x ∷ told_to key asks (next a o)) (said same.1)
+          (ap (λ x. x ∷ collector_replies key asks (next a o)) (said same.1)
           ∙ ap (λ xs. reply_to now (caller.Collector k) r u ∷ xs) (rest none.1 _ _ (mine same.1)))
       by (inr apart) = rw apart.0 (rest none.1 _ _ (one_goes k apart.0 now r o u agrees))
 

@@ -9,7 +9,8 @@ use Rattle.cpi_release.specs.State.{State}
 use Rattle.cpi_office.specs.Calls.{ServesWhere, IsServed, is_failure_of}
 use Rattle.cpi_store.specs.Sound.{IsSound}
 use Rattle.cpi_office.specs.Served.{served_requests, all_served, all_told, NoneFails, IsRun}
-use Rattle.cpi_office.specs.NonInterference.{has_this_key, told_to, requests_without, NonePassesOn, OthersMayDiffer}
+use Rattle.cpi_office.specs.NonInterference.{has_this_key, collector_replies, requests_without, NonePassesOn}
+use Rattle.cpi_office.specs.NonInterference.{OthersMayDiffer}
 use Rattle.cpi_office.specs.NonInterferenceOfRuns.{replies_to, IsNonInterfering, IsWholeRun, RunsTellAlike}
 use Rattle.cpi_office.specs.declared.request.Ask.{Ask}
 use Rattle.cpi_office.specs.declared.reply.Reply.{Reply}
@@ -24,11 +25,11 @@ use Rattle.cpi_office.proofs.NonInterference.{others_do_not_matter}
 
 pub others_may_differ : OthersMayDiffer
 others_may_differ key asks others o s none none' same =
-    others_do_not_matter key asks o s none ∙ ap (λ xs. told_to key xs o) same
+    others_do_not_matter key asks o s none ∙ ap (λ xs. collector_replies key xs o) same
     ∙ sym (others_do_not_matter key others o s none')
 
 -- the replies of a run, beside its requests
-told_is : (key : ℕ) (asks : List Ask) (o : Office) → replies_to key asks (replies asks o) ≡ told_to key asks o
+told_is : (key : ℕ) (asks : List Ask) (o : Office) → replies_to key asks (replies asks o) ≡ collector_replies key asks o
 told_is key [] o = refl
 told_is key (a ∷ asks) o =
     ap (λ rs. (if has_this_key key a.caller then reply_to a.now a.caller a.request o ∷ [] else []) ++ rs)
@@ -65,20 +66,20 @@ all_are_told (r ∷ rs) none = rw none.0 (ap (λ xs. r ∷ xs) (all_are_told rs 
 
 module _ (old new : State Office) (asks : List Ask) (rs : List Reply) where
   whole_told : IsWholeRun old new asks rs → NonePassesOn asks → (key : ℕ) →
-      replies_to key asks rs ≡ told_to key (requests_without key asks) old.held
+      replies_to key asks rs ≡ collector_replies key (requests_without key asks) old.held
   whole_told whole none key =
       let served = all_are_served asks rs whole.each whole.served in
       let told = all_are_told rs whole.served in
       ap (λ xs. replies_to key xs rs) (sym served)
       ∙ ap (replies_to key (all_served asks rs)) (sym told)
       ∙ run_is_non_interfering old.held new.held asks rs whole.sound (whole.ran.run whole.clean whole.sound) none key
-      ∙ ap (λ xs. told_to key (requests_without key xs) old.held) served
+      ∙ ap (λ xs. collector_replies key (requests_without key xs) old.held) served
 
 pub runs_tell_alike : {B C : Type 0} (state : B → State Office) (state' : C → State Office) → RunsTellAlike state state'
 runs_tell_alike state state' key asks others rs ss old new old' new' whole whole' start none none' same =
     whole_told (state old) (state new) asks rs whole none key
-    ∙ ap (λ xs. told_to key xs (state old).held) same
-    ∙ ap (told_to key (requests_without key others)) start
+    ∙ ap (λ xs. collector_replies key xs (state old).held) same
+    ∙ ap (collector_replies key (requests_without key others)) start
     ∙ sym (whole_told (state' old') (state' new') others ss whole' none' key)
 
 -- a request that is served leaves a sound office sound

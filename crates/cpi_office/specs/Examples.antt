@@ -10,7 +10,7 @@ use Rattle.cpi_store.specs.Office.{Office, empty_office}
 use Rattle.cpi_store.specs.Series.{first_of_series}
 use Rattle.cpi_store.specs.declared.given.Given.{Given}
 use Rattle.cpi_office.specs.Runs.{replies}
-use Rattle.cpi_office.specs.NonInterference.{told_to}
+use Rattle.cpi_office.specs.NonInterference.{collector_replies}
 use Rattle.cpi_office.specs.Assigning.{assignment_sent}
 use Rattle.cpi_office.specs.declared.caller.Caller.TheVariants.{Public, Collector, Desk}
 use Rattle.cpi_office.specs.declared.request.Request.{Request}
@@ -137,7 +137,7 @@ TwoCollectors = Answers
 -- ten quotes of another collector change nothing of it
 abbrev pub TenOfAnother : Type 0
 TenOfAnother =
-    told_to key_a (setup ++ two_collectors ++ by_key 1500 key_a (quote 1 312 210)
+    collector_replies key_a (setup ++ two_collectors ++ by_key 1500 key_a (quote 1 312 210)
     ∷ by_key 1500 key_b (quote 1 312 301) ∷ by_key 1500 key_b (quote 1 312 302) ∷ by_key 1500 key_b (quote 1 312 303)
     ∷ by_key 1500 key_b (quote 1 312 304) ∷ by_key 1500 key_b (quote 1 312 305)
     ∷ by_key 1500 key_b (quote 1 312 306) ∷ by_key 1500 key_b (quote 1 312 307) ∷ by_key 1500 key_b (quote 1 312 308)

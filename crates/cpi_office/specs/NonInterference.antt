@@ -30,11 +30,11 @@ abbrev pub requests_without : ℕ → List Ask → List Ask
 requests_without key asks = filter (λ a. not (is_other key a.caller)) asks
 
 -- the replies of a run to the requests that come with the key, in order
-abbrev pub told_to : ℕ → List Ask → Office → List Reply
-told_to key [] o = []
-told_to key (a ∷ asks) o =
+abbrev pub collector_replies : ℕ → List Ask → Office → List Reply
+collector_replies key [] o = []
+collector_replies key (a ∷ asks) o =
     (if has_this_key key a.caller then reply_to a.now a.caller a.request o ∷ [] else [])
-    ++ told_to key asks (next a o)
+    ++ collector_replies key asks (next a o)
 
 -- a request that passes prices of one collector on to others: a freeze or a hand-over
 abbrev pub passes_on : Request → Bool
@@ -51,7 +51,7 @@ NonePassesOn asks = AllByRecursion (λ a. IsFalse (passes_on a.request)) asks
 abbrev pub OthersDoNotMatter : Type 0
 OthersDoNotMatter =
     (key : ℕ) (asks : List Ask) (o : Office) → IsSound o → NonePassesOn asks →
-    told_to key asks o ≡ told_to key (requests_without key asks) o
+    collector_replies key asks o ≡ collector_replies key (requests_without key asks) o
 
 -- The same of two lists: if neither a freeze nor a hand-over is among them, and they differ only in the requests of
 -- other collectors, then the replies to the collector are the same.
@@ -59,4 +59,4 @@ abbrev pub OthersMayDiffer : Type 0
 OthersMayDiffer =
     (key : ℕ) (asks others : List Ask) (o : Office) → IsSound o → NonePassesOn asks → NonePassesOn others →
     requests_without key asks ≡ requests_without key others →
-    told_to key asks o ≡ told_to key others o
+    collector_replies key asks o ≡ collector_replies key others o

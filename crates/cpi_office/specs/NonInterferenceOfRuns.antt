@@ -4,7 +4,7 @@ use Rattle.cpi_release.specs.State.{State}
 use Rattle.cpi_store.specs.Office.{Office}
 use Rattle.cpi_store.specs.Sound.{IsSound}
 use Rattle.cpi_office.specs.Served.{all_served, all_told, NoneFails, RunOverBook}
-use Rattle.cpi_office.specs.NonInterference.{has_this_key, told_to, requests_without, NonePassesOn}
+use Rattle.cpi_office.specs.NonInterference.{has_this_key, collector_replies, requests_without, NonePassesOn}
 use Rattle.cpi_office.specs.declared.request.Ask.{Ask}
 use Rattle.cpi_office.specs.declared.reply.Reply.{Reply}
 
@@ -20,7 +20,8 @@ replies_to key (a ∷ asks) (r ∷ rs) =
 abbrev pub IsNonInterfering : Office → List Ask → List Reply → Type 0
 IsNonInterfering o asks rs =
     NonePassesOn asks → (key : ℕ) →
-    replies_to key (all_served asks rs) (all_told rs) ≡ told_to key (requests_without key (all_served asks rs)) o
+    replies_to key (all_served asks rs) (all_told rs)
+    ≡ collector_replies key (requests_without key (all_served asks rs)) o
 
 -- a run from a sound office, with a reply to each request and none of them 90
 pub record IsWholeRun (old new : State Office) (asks : List Ask) (rs : List Reply) : Type 0 where

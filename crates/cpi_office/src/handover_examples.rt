@@ -2,8 +2,8 @@
 ghost use Rattle.cpi_office.specs.HandoverExamples.{HandedOver, CopiedOnce, HandedOn, HandoverRefusals, LaterQuotes};
 ghost use Rattle.cpi_office.specs.HandoverExamples.{CachedMonths, NotAssigned, StaysInSample, TwoYears};
 
-/// Small runs with series that are handed over, computed by the definitions: the views of both collectors, refusals, and
-/// the table of a month after it.
+/// Small runs with series that are handed over, computed by the definitions: the views of both collectors, refusals,
+/// and the table of a month after it.
 pub fn worked_handovers()
     ensures handed_over { HandedOver }
     ensures copied_once { CopiedOnce }
