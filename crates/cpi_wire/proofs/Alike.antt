@@ -1,4 +1,4 @@
--- What a caller is told of a record hangs on what the caller sees alone.
+-- The answer to a record of a caller depends only on what that caller sees.
 use mathlib.Core.Bool.{true≢false}
 use Rattle.std.proofs.Common.{◌≡◌, ◌≢◌, ◌∙◌, sym, ap, ap₂, refl, subst, ℕ, List, [], ◌∷◌, ◌++◌, IsFalse, Option, Some}
 use Rattle.std.proofs.Common.{None, ◌⊎◌, inl, inr}
@@ -65,7 +65,7 @@ module _ (t : ℕ) (k : Caller) (other : k ≢ Desk) (o u : Office) (same : view
 -- ---- one request over a book
 
 module _ {B : Type 0} (state : B → State Office) where
-  -- where it isn't told that the office is unavailable, it is served
+  -- a request whose reply doesn't say that the office is unavailable is served
   pub is-served : (t : ℕ) (k : Caller) (r : Request) (p q : B) (reply : Reply)
       → ServesWhere (state p) (state q) (IsSound (state p).held) reply (reply_to t k r (state p).held)
       (after_one t k r (state p).held)

@@ -1,4 +1,4 @@
--- One record more is answered, and what stands when a replay is given up.
+-- One record more is answered, and the effect of a replay that is given up.
 use Rattle.std.proofs.Common.{◌≡◌, ◌≢◌, ◌∙◌, sym, ap, refl, ◌<◌, ◌≤◌, ℕ, List, [], ◌∷◌, ◌++◌, length, map, take, Option}
 use Rattle.std.proofs.Common.{Some, None, IfSome, arith, append_assoc, append-nil, length-append}
 use Rattle.std.proofs.lemmas.List.{map-append}
@@ -33,7 +33,7 @@ more-written replies reply old mid new written line =
     rw (map-append answer_line replies (reply ∷ []), concat-more)
     (Appends-trans old mid new (concat (map answer_line replies)) (answer_line reply) written line)
 
--- whole lines are what a fault leaves, unless it is one of the writer
+-- all lines are whole after a fault, unless it is one of the writer
 pub whole-written : (e : WireFault) (replies : List Answer) (old new : Option (List ℕ)) → e ≢ fault.Write →
     LinesAreWritten replies old new → LinesAreWrittenUntil e replies old new
 whole-written fault.Read replies old new other written = written
@@ -93,7 +93,7 @@ module _ {B : Type 0} (zone : ZoneRule) (state : B → State Office) where
     written = whole-written e replies was is other written;
   }
 
-  -- given up in a record, for want of memory
+  -- given up in a record, for lack of memory
   pub gave-up-in : (input : Option (List ℕ)) (old mid new : B) (was is : Option (List ℕ))
       (rows : List Record) (replies : List Answer) (row : Record)
       → length rows < MOST_RECORDS → IfSome input (AreFirst (rows ++ row ∷ []))

@@ -7,7 +7,7 @@ use Rattle.cpi_wire.specs.Arguments.{Text}
 use Rattle.cpi_wire.specs.Values.{spelled_elementary_code}
 use Rattle.cpi_wire.specs.Words.{elementary_codes}
 
--- codes that were found, and others behind them
+-- codes that were found, and others after them
 abbrev pub behind : List Code → Option (List Code) → Option (List Code)
 behind found None = None
 behind found (Some more) = Some (found ++ more)

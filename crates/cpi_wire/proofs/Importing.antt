@@ -139,7 +139,7 @@ module _ {B : Type 0} (state : B → State Office) (now : ℕ) (caller : Caller)
   pub rows-none : (old : B) (rows : List (Option Request)) → FirstRowsAnswer state now caller old rows old
   rows-none old rows = record { front = []; rest = rows; replies = []; split = refl; answers = refl }
 
-  -- where memory is refused
+  -- memory ran out
   pub rows-until : (old new : B) (rows rest : List (Option Request)) (is_first failed : Bool) (line : List ℕ)
       → RowsSoFar old rows rest is_first failed line new → FirstRowsAnswer state now caller old rows new
   rows-until old new rows rest is_first failed line so_far = record {

@@ -109,7 +109,7 @@ own-fit key (k ∷ ks) (a ∷ ans) h = by (is_own key k) (own-fit key ks ans h.1
     by true rest = (h.0, rest)
     by false rest = rest
 
--- ---- the replies that stand beside the collector's requests are those to the collector's records
+-- ---- the replies to the collector's requests are those to the collector's records
 
 module _ (key : ℕ) (t : ℕ) (c : Caller) (more : List Asking) (rest : List Reply) where
   rows-own : has_this_key key c ≡ true → (rows : List (Option Request)) (rs : List Reply) → Fit rows rs

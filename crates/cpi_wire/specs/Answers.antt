@@ -1,4 +1,4 @@
--- What a record is answered, and what it does.
+-- The answer to a record, and its effect.
 use Rattle.std.specs.Prelude.{◌≡◌, ℕ, Bool, List, [], ◌∷◌, ◌++◌, Option, Some, None}
 use Rattle.std.specs.List.{list_any}
 use Rattle.cpi_release.specs.State.{State}
@@ -17,8 +17,7 @@ use Rattle.cpi_wire.specs.declared.asks.Ask.{Ask}
 use Rattle.cpi_wire.specs.declared.asks.Ask.TheVariants as ask
 use Rattle.cpi_wire.specs.Rows.{answer_line}
 
--- each in turn, with what came of it in its place: none is left out, none comes twice, and one begins where the last
--- ended
+-- each in turn, with its result: none is left out, none comes twice, and each begins where the last one ended
 abbrev pub InTurn : {B X Y : Type 0} → (B → X → Y → B → Type 0) → B → List X → List Y → B → Type 0
 InTurn step old [] [] new = new ≡ old
 InTurn step old [] (y ∷ ys) new = ⊥
@@ -31,7 +30,7 @@ some_fails replies = list_any is_failure_of replies
 
 -- over a book of this state
 module _ {B : Type 0} (state : B → State Office) where
-  -- what is of no form is told so and changes nothing
+  -- a record of no form is a bad request and changes nothing
   abbrev pub IsBad : B → Reply → B → Type 0
   IsBad old reply new = (reply ≡ Refused BadRequest) × (new ≡ old)
 
@@ -46,7 +45,7 @@ module _ {B : Type 0} (state : B → State Office) where
   RowAnswers now caller old None reply new = IsBad old reply new
   RowAnswers now caller old (Some request) reply new = IsServed now caller old request reply new
 
-  -- all rows in turn, whatever the rows before were told
+  -- all rows in turn, whatever the replies to the rows before are
   abbrev pub RowsAnswer : ℕ → Caller → B → List (Option Request) → List Reply → B → Type 0
   RowsAnswer now caller old rows replies new = InTurn (RowAnswers now caller) old rows replies new
 
@@ -65,7 +64,7 @@ module _ {B : Type 0} (state : B → State Office) where
     pub answers : Answers old asked answered new
     pub line_is : line ≡ answer_line answered
 
-  -- some first rows were carried out, each answered in turn, and no other
+  -- the first rows were carried out, each answered in turn, and no others
   pub record FirstRowsAnswer (now : ℕ) (caller : Caller) (old : B) (rows : List (Option Request))
       (new : B) : Type 0 where
     pub front : List (Option Request)
@@ -74,7 +73,7 @@ module _ {B : Type 0} (state : B → State Office) where
     pub split : rows ≡ front ++ rest
     pub answers : RowsAnswer now caller old front replies new
 
-  -- a record was begun: some first rows of an import were carried out; a lone request was carried out or wasn't
+  -- a record was begun: the first rows of an import were carried out, or none; one request was carried out, or wasn't
   abbrev pub Begins : B → Ask → B → Type 0
   Begins old ask.Bad new = new ≡ old
   Begins old (ask.One now caller request) new = FirstRowsAnswer now caller old (Some request ∷ []) new

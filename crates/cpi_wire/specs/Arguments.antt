@@ -1,4 +1,4 @@
--- So many arguments, and no more.
+-- Lists of a fixed number of arguments.
 use Rattle.std.specs.Prelude.{ℕ, Bool, true, false, List, [], ◌∷◌, Option, Some, None, if◌then◌else◌, bytes_eq, codes}
 
 -- a field of a record, as its bytes
@@ -21,7 +21,7 @@ unfoldable pub exactly_four : List Text → Option (Text × Text × Text × Text
 exactly_four (a ∷ b ∷ c ∷ d ∷ []) = Some (a, b, c, d)
 exactly_four _ = None
 
--- the word that may stand behind an entry
+-- the word that may follow an entry
 abbrev pub is_confirm : Text → Bool
 is_confirm text = bytes_eq text (codes "confirm")
 
@@ -31,7 +31,7 @@ exactly_four_and_confirm (a ∷ b ∷ c ∷ d ∷ []) = Some (a, b, c, d, false)
 exactly_four_and_confirm (a ∷ b ∷ c ∷ d ∷ e ∷ []) = if is_confirm e then Some (a, b, c, d, true) else None
 exactly_four_and_confirm _ = None
 
--- two, and a third one where it is there
+-- two, and a third one if there is one
 unfoldable pub exactly_two_or_three : List Text → Option (Text × Text × Option Text)
 exactly_two_or_three (a ∷ b ∷ []) = Some (a, b, None)
 exactly_two_or_three (a ∷ b ∷ c ∷ []) = Some (a, b, Some c)

@@ -1,4 +1,4 @@
--- The bodies of plans with a reference month, and what is told of its faults, computed.
+-- The bodies of plans with a reference month, and the replies to its faults, computed.
 use Rattle.std.specs.Prelude.{◌≡◌, ℕ, List, [], ◌∷◌, ◌++◌, Some, None, codes, refl}
 use Rattle.cpi_codes.specs.declared.codes.Code.{Code}
 use Rattle.cpi_plan.specs.declared.plan_bodies.PlanBody.{PlanBody}
@@ -22,7 +22,7 @@ packed_rice =
     record { division = 1; group = Some 1; class = Some 1; subclass = Some 1; aggregate = Some 1; valid = refl }
 
 -- ---- bodies
--- reference months alone; December 2025 is month 311
+-- only reference months; December 2025 is month 311
 abbrev pub references : List ℕ → PlanBody
 references months = record { titles = []; weights = []; places = []; references = months }
 

@@ -1,4 +1,4 @@
--- What is told of a fault.
+-- The text of a fault.
 use Rattle.std.specs.Prelude.{ℕ, List, codes}
 use Rattle.cpi_wire.specs.declared.fault.WireFault.{WireFault}
 use Rattle.cpi_wire.specs.declared.fault.WireFault.TheVariants.{Read, Write, NoMemory}

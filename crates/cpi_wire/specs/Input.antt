@@ -17,7 +17,7 @@ records_of input = records default_config (strip_bom input)
 abbrev pub AreFirst : List Record → List ℕ → Type 0
 AreFirst rows input = (more : List Record) × (records_of input ≡ rows ++ more)
 
--- what was read of the input has given these records, and no part of another
+-- the bytes that were read of the input are these records, and no part of another
 abbrev pub HasGiven : {R : Type 0} → (R → Option (List ℕ)) → List ℕ → List Record → Reader R → Type 0
 HasGiven rem input rows s = (rest : List ℕ) × (source_of rem s ≡ Some rest)
     × Reached default_config st.StartRecord (strip_bom input) rows s.state rest
@@ -30,7 +30,7 @@ pub record IsAt {R : Type 0} (rem : R → Option (List ℕ)) (input : Option (Li
   pub config : s.config ≡ default_config
   pub reached : IfSome input (λ xs. HasGiven rem xs rows s)
 
--- the reader gave one record more, or had given all of them
+-- the reader gave one record more, or had given all records
 abbrev pub TakesRecord : {R : Type 0} (rem : R → Option (List ℕ)) (old new : Reader R) (row : Record) (found : Bool)
     → Type 0
 TakesRecord rem old new row true =

@@ -43,7 +43,7 @@ quote_data q =
     list (int q.slot ∷ text_value (month_text q.month) ∷ text_value (name_of_mark q.mark) ∷ value_of_mark q.mark ∷ int
     q.receipt ∷ [])
 
--- the text that writes an item code: its bytes, which are its digits in base 256, without the zeros that fill them up
+-- the text of an item code: its bytes, which are its digits in base 256, without the zeros that fill them up
 abbrev pub item_text : ℕ → List ℕ
 item_text code = filter is_no_zero (digits_of 256 code)
 
@@ -95,7 +95,7 @@ frozen_month_data f = list (text_value (month_text f.month) ∷ int f.revision �
 abbrev pub tables_data : List FrozenMonth → Data
 tables_data months = object_of_one (codes "tables") (list (map frozen_month_data months))
 
--- the printed bytes as one text
+-- a printed table, as one text
 abbrev pub table_data : List ℕ → Data
 table_data printed = object_of_one (codes "table") (text_value printed)
 
@@ -109,6 +109,6 @@ data_of (reply.Tables months) = tables_data months
 data_of (reply.Table printed) = table_data printed
 data_of (reply.Refused why) = refusal_data why
 
--- without spaces
+-- the line of a reply: JSON without spaces
 abbrev pub line_of_reply : Reply → List ℕ
 line_of_reply r = compact_text (data_of r) ++ 10 ∷ []

@@ -1,4 +1,4 @@
--- What the lines to a caller hang on.
+-- What the lines to a caller depend on.
 use Rattle.std.specs.Prelude.{◌≡◌, ◌≢◌, ⊤, ℕ, Bool, false, not, List, [], ◌∷◌, ◌++◌, map, filter, if◌then◌else◌}
 use Rattle.cpi_codes.specs.Zone.{ZoneRule}
 use Rattle.cpi_release.specs.State.{State}
@@ -29,7 +29,7 @@ IsFrom k ask.Bad = ⊤
 IsFrom k (ask.One t c r) = c ≡ k
 IsFrom k (ask.Import t c rows) = c ≡ k
 
--- the moment of a record; what is told of one of no form hangs on none
+-- the moment of a record; the answer to one of no form depends on no moment
 abbrev pub moment_of : Ask → ℕ
 moment_of ask.Bad = 0
 moment_of (ask.One t c r) = t
@@ -40,8 +40,8 @@ all_replies (answer.One reply) = reply ∷ []
 all_replies (answer.Rows replies) = replies
 
 module _ {B : Type 0} (state : B → State Office) where
-  -- From a sound office some records were answered, and then one of the caller, over a store that was clean then, and
-  -- without a reply that the office is unavailable.
+  -- The answer to the last record: from a sound office some records were answered, and then this one of the caller. The
+  -- store was clean then, and no reply to it says that the office is unavailable.
   pub record IsLastAnswer (zone : ZoneRule) (k : Caller) (start : B) (row : Record) (answered : Answer) : Type 0 where
     pub rows : List Record
     pub replies : List Answer
@@ -54,16 +54,16 @@ module _ {B : Type 0} (state : B → State Office) where
     pub caller : IsFrom k (ask_of zone row)
     pub served : NoneFails (all_replies answered)
 
-  -- what the caller has seen since the start of what was accepted before that record
+  -- what the caller has seen since the start, of the changes accepted before that record
   abbrev pub seen_before : (zone : ZoneRule) (k : Caller) (start : B) (row : Record) (answered : Answer)
       → IsLastAnswer zone k start row answered → List Sight
   seen_before zone k start row answered is =
       let served = all_served (requests_of_records zone is.rows) (replies_of zone is.rows is.replies) in
       sights_of k (moment_of (ask_of zone row)) (trace served (state start).held)
 
--- Two replays under one zone, over books of any two kinds: where they show a collector, or the public, the same at the
--- moment of a record, at the start and of what was accepted since, the same record of that caller is told in the same
--- bytes, whatever all others sent. The tables published by that moment are among what is shown.
+-- Two replays under one zone, over books of any two kinds: if they show a collector, or the public, the same at the
+-- moment of a record, at the start and of the changes accepted since, then the answer to the same record of that caller
+-- is the same bytes, whatever all others sent. They show the tables published by that moment.
 abbrev pub LinesAreAlike : {B C : Type 0} → (B → State Office) → (C → State Office) → Type 0
 LinesAreAlike {B} {C} state state' =
     (zone : ZoneRule) (k : Caller) (row : Record) (answered answered' : Answer) (start : B) (start' : C)
@@ -111,7 +111,7 @@ module _ {B : Type 0} (state : B → State Office) where
     pub served : NoneFails (replies_of zone rows answers)
 
 -- Two replays under one zone without a freeze or a hand-over, over books of any two kinds that hold the same lists:
--- where their records differ in those of other collectors alone, the lines to a collector are the same, byte for byte.
+-- if their records differ only in those of other collectors, the lines to a collector are the same, byte for byte.
 abbrev pub ReplaysAnswerAlike : {B C : Type 0} → (B → State Office) → (C → State Office) → Type 0
 ReplaysAnswerAlike {B} {C} state state' =
     (zone : ZoneRule) (key : ℕ) (old new : B) (old' new' : C)

@@ -1,4 +1,4 @@
--- The row of a text that has one row.
+-- The only row of a text.
 use Rattle.std.specs.Prelude.{List, [], ◌∷◌, Option, Some, None}
 use Rattle.cpi_wire.specs.Arguments.{Text}
 use Rattle.cpi_wire.specs.Input.{Record, records_of}

@@ -42,7 +42,7 @@ references_of (row.Weight w ∷ rows) = references_of rows
 references_of (row.Place p ∷ rows) = references_of rows
 references_of (row.Reference m ∷ rows) = m ∷ references_of rows
 
--- what the rows say, each kind in the order in which it stands
+-- the body that has these rows, each kind in the order of the rows
 abbrev pub body_of_rows : List PlanRow → PlanBody
 body_of_rows rows = record {
   titles = titles_of rows;
@@ -51,7 +51,7 @@ body_of_rows rows = record {
   references = references_of rows;
 }
 
--- all rows, where each is of a form
+-- all rows, if each is of a form
 abbrev pub plan_rows : List Record → Option (List PlanRow)
 plan_rows [] = Some []
 plan_rows (fields ∷ more) = do
@@ -59,7 +59,7 @@ plan_rows (fields ∷ more) = do
   rows ← plan_rows more
   Some (first ∷ rows)
 
--- a record is a row more of the body, or of no form
+-- a record is one more row of the body, or of no form
 abbrev pub AddsRow : PlanBody → PlanBody → Record → Bool → Type 0
 AddsRow old new fields true =
     (row : PlanRow) × (spelled_plan_row fields ≡ Some row)

@@ -38,7 +38,7 @@ spelled_parts zone m k word arguments = do
   c ← spelled_caller k
   spelled_asks zone t c word arguments
 
--- what a record asks, where civil times are those of the clock
+-- what a record asks, with civil times by the clock of the zone
 unfoldable pub ask_of : ZoneRule → List Text → Ask
 ask_of zone (m ∷ k ∷ word ∷ arguments) = unwrap_or (spelled_parts zone m k word arguments) ask.Bad
 ask_of zone _ = ask.Bad

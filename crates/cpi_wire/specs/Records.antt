@@ -1,4 +1,4 @@
--- What the records of an input do, one after the other, and what is written of it.
+-- The effect of the records of an input, one after the other, and the lines that are written.
 use Rattle.std.specs.Prelude.{◌≡◌, ◌≤◌, ◌<◌, ℕ, List, [], ◌∷◌, ◌++◌, length, map, take}
 use Rattle.std.specs.Prelude.{Option, Some, None, IfSome, option_to_list}
 use Rattle.std.specs.List.{concat}
@@ -19,7 +19,7 @@ use Rattle.cpi_wire.specs.Rows.{answer_line}
 abbrev pub LinesAreWritten : List Answer → Option (List ℕ) → Option (List ℕ) → Type 0
 LinesAreWritten replies old new = Appends old new (concat (map answer_line replies))
 
--- of the last line a part alone was written
+-- only a part of the last line was written
 pub record LineIsCutOff (replies : List Answer) (old new : Option (List ℕ)) : Type 0 where
   pub front : List Answer
   pub last : Answer
@@ -28,7 +28,7 @@ pub record LineIsCutOff (replies : List Answer) (old new : Option (List ℕ)) : 
   pub short : count < length (answer_line last)
   pub written : Appends old new (concat (map answer_line front) ++ take count (answer_line last))
 
--- what a fault leaves of the lines: after one of the writer all but the last stand whole, and else all of them
+-- the lines after a fault: after one of the writer all but the last are whole, and otherwise all of them
 abbrev pub LinesAreWrittenUntil : WireFault → List Answer → Option (List ℕ) → Option (List ℕ) → Type 0
 LinesAreWrittenUntil fault.Read replies old new = LinesAreWritten replies old new
 LinesAreWrittenUntil fault.Write replies old new = LineIsCutOff replies old new
@@ -50,15 +50,15 @@ module _ {B : Type 0} (zone : ZoneRule) (state : B → State Office) where
     pub answers : AnswersAll old rows replies new
     pub written : LinesAreWritten replies was is
 
-  -- what a fault leaves of one record more: without memory it may have been begun, and else there is none
+  -- one record more after a fault: if memory ran out, it may have been begun, and otherwise there is none
   abbrev pub BegunUntil : WireFault → B → Option Record → B → Type 0
   BegunUntil fault.Read old next new = (next ≡ None) × (new ≡ old)
   BegunUntil fault.Write old next new = (next ≡ None) × (new ≡ old)
   BegunUntil fault.NoMemory old None new = new ≡ old
   BegunUntil fault.NoMemory old (Some row) new = Begins state old (ask_of zone row) new
 
-  -- The first records of the input were answered, and no other was carried out, but for one that was begun where memory
-  -- was refused: of it no line is written.
+  -- The first records of the input were answered, and no other was carried out. If memory ran out, one more may have
+  -- been begun: no line of it is written.
   pub record GaveUp (input : Option (List ℕ)) (old new : B) (was is : Option (List ℕ)) (e : WireFault) : Type 0 where
     pub rows : List Record
     pub replies : List Answer

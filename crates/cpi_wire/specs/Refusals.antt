@@ -1,4 +1,4 @@
--- What is told of a refusal.
+-- The JSON value of a refusal.
 use Rattle.std.specs.Prelude.{ℕ, codes, nat_le, if◌then◌else◌}
 use Rattle.serde_json.specs.Data.{Data, object, no_members, member}
 use Rattle.cpi_codes.specs.CodeText.{code_text}
@@ -36,7 +36,7 @@ sum_in_refusal found = if nat_le found most_u64 then found else most_u64
 abbrev pub fault_by_number : ℕ → ℕ → Data
 fault_by_number fault why = object (member (codes "fault") (int fault) (member (codes "refused") (int why) no_members))
 
--- and with the code where it lies
+-- and with the code that has it
 abbrev pub numbered_at : Code → ℕ → ℕ → Data
 numbered_at code fault why =
     object (member (codes "code") (text_value (code_text code))
@@ -50,7 +50,7 @@ plan_fault_data (plan.WeightSum found) =
 plan_fault_data (plan.TitleMissing code) = numbered_at code 5 44
 plan_fault_data fault = fault_by_number (number_of_plan_fault fault) 44
 
--- what a month's index lacks, with the code where it lacks it
+-- a fault of the index of a month, with the code that has it
 abbrev pub index_fault_data : IndexFault → Data
 index_fault_data (index.NoSample code) = numbered_at code 1 49
 index_fault_data (index.NoMatch code) = numbered_at code 2 49
@@ -58,8 +58,8 @@ index_fault_data (index.OutOfRange code) = numbered_at code 3 49
 index_fault_data index.NoMemory = fault_by_number 4 49
 index_fault_data (index.NoReference code) = numbered_at code 5 49
 
--- a refusal is told by its number; a price outside its bounds also with these and the last price, and a fault of a plan
--- or of an index by what it is
+-- a refusal has its number; a price out of tolerance has also the last price and the bounds, and a fault of a plan or
+-- of an index has also that fault
 abbrev pub refusal_data : Refusal → Data
 refusal_data (refusal.OutOfTolerance last low high) =
     object (member (codes "high") (int high) (member (codes "last") (int last)

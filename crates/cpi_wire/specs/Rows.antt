@@ -1,4 +1,4 @@
--- The line of what a record is answered: one JSON text, and a line feed.
+-- The line of the answer to a record: one JSON text, and a line feed.
 use Rattle.std.specs.Prelude.{ℕ, List, [], ◌∷◌, ◌++◌, Bool, not, map, codes}
 use Rattle.serde_json.specs.Data.{Data}
 use Rattle.serde_json.specs.Written.{comma_if, compact_text}
@@ -12,11 +12,11 @@ use Rattle.cpi_wire.specs.Line.{data_of, line_of_reply}
 abbrev pub rows_data : List Reply → Data
 rows_data replies = object_of_one (codes "rows") (list (map data_of replies))
 
--- without spaces
+-- the line of these replies: JSON without spaces
 abbrev pub rows_line : List Reply → List ℕ
 rows_line replies = compact_text (rows_data replies) ++ 10 ∷ []
 
--- what a reply adds to that line: its text, after a comma where it isn't the first
+-- what a reply adds to that line: its text, after a comma if it isn't the first
 abbrev pub added_text : Bool → Reply → List ℕ
 added_text is_first reply = comma_if (not is_first) ++ compact_text (data_of reply)
 

@@ -1,4 +1,4 @@
--- The line of a table: the printed table that the index gives over what was frozen.
+-- The line of a table: the printed table that the index gives over the frozen quotes and weights.
 use Rattle.std.specs.Prelude.{◌≡◌, ℕ, List, Option}
 use Rattle.cpi_codes.specs.Zone.{ZoneRule}
 use Rattle.cpi_release.specs.State.{State}
@@ -20,7 +20,7 @@ use Rattle.cpi_wire.specs.declared.asks.Ask.TheVariants as ask
 
 -- From a sound office some records were answered, and then one that asks for a table: its line is that of the printed
 -- table that the index gives over the quotes and weights frozen by then, in the revision that is named, or else in the
--- latest that is published; where there is none, that of the refusal.
+-- latest that is published; if there is none, that of the refusal.
 abbrev pub TableLinesAreComputed : {B : Type 0} → (B → State Office) → Type 0
 TableLinesAreComputed {B} state =
     (zone : ZoneRule) (k : Caller) (row : Record) (answered : Answer) (start : B)
@@ -28,7 +28,7 @@ TableLinesAreComputed {B} state =
     ask_of zone row ≡ ask.One now k (Table month form revision) → IsKnown k (state is.mid).held →
     answer_line answered ≡ line_of_reply (computed_reply now month form revision (state is.mid).held)
 
--- All replies of a replay to requests for tables, the rows of its imports among them, are so.
+-- All replies of a replay to requests for tables, including rows of imports, are so.
 abbrev pub ReplaysReportTables : {B : Type 0} → (B → State Office) → Type 0
 ReplaysReportTables {B} state =
     (zone : ZoneRule) (old new : B) (rows : List Record) (answers : List Answer) →

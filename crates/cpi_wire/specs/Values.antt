@@ -24,7 +24,7 @@ use Rattle.cpi_wire.specs.Arguments.{Text}
 abbrev pub moment : Text → Option ℕ
 moment text = number_in 0 LAST_MOMENT text
 
--- a value, or another where there is none
+-- a value, or another if there is none
 abbrev pub or_else : {A : Type 0} → Option A → Option A → Option A
 or_else None other = other
 or_else (Some x) other = Some x
@@ -78,7 +78,7 @@ spelled_form text =
 abbrev pub revision : Text → Option ℕ
 revision text = number_in 1 9 text
 
--- the edition of a table: that of a revision, or the latest, which has none, where no field names one
+-- the edition of a table: that of a revision, or the latest one if no field names a revision
 abbrev pub edition : Option Text → Option (Option ℕ)
 edition None = Some None
 edition (Some text) = revision text >>= λ r. Some (Some r)

@@ -139,7 +139,7 @@ plan_request arguments = do
 abbrev pub tables_request : List Text → Option Request
 tables_request arguments = none arguments >>= λ _. Some request.Tables
 
--- a month, a form, and a revision where it isn't the latest that is asked for
+-- a month, a form, and a revision if it isn't the latest one
 abbrev pub table_request : List Text → Option Request
 table_request arguments = do
   a ← exactly_two_or_three arguments
@@ -148,7 +148,7 @@ table_request arguments = do
   e ← edition a.2
   Some (request.Table m f e)
 
--- the elementary aggregates that the fields write, in the same order
+-- the elementary aggregates that the fields name, in the same order
 abbrev pub elementary_codes : List Text → Option (List Code)
 elementary_codes [] = Some []
 elementary_codes (text ∷ texts) = do
@@ -164,7 +164,7 @@ freeze_request (first ∷ more) = do
   carry ← elementary_codes more
   Some (request.Freeze m carry)
 
--- the request of a word with its arguments, where civil times are those of the clock
+-- the request of a word with its arguments, with civil times by the clock of the zone
 abbrev pub spelled_request : ZoneRule → Word → List Text → Option Request
 spelled_request zone word.Items arguments = items_request arguments
 spelled_request zone word.Quotes arguments = quotes_request arguments

@@ -1,4 +1,4 @@
-//! Carrying out what a record asks, and the line of what it is answered.
+//! Carrying out the request of a record, and the line of its answer.
 ghost use Rattle.std.specs.Prelude.{◌≡◌, ◌++◌, List, IfOk, OnOk, OnErr};
 ghost use Rattle.cpi_office.specs.Calls.{is_failure_of};
 ghost use Rattle.cpi_office.specs.declared.reply.Reply.{Reply};
@@ -14,12 +14,12 @@ use cpi_office::{Caller, Office, Refusal, Reply, Request};
 use cpi_store::Book;
 use std::alloc::{AllocError, Global};
 
-/// What the rows of an import are told.
+/// The answer to an import.
 #[derive(Drop)]
 pub struct ImportAnswer {
-    /// The line of their replies.
+    /// The line of the replies to its rows.
     pub line: Vec<u8>,
-    /// One of the replies is that the office is unavailable.
+    /// Whether one of the replies says that the office is unavailable.
     pub failed: bool,
 }
 
@@ -30,7 +30,7 @@ pub fn is_failure(reply: &Reply) -> bool
     matches!(reply, Reply::Refused(Refusal::Unavailable))
 }
 
-// Carries out one row of an import.
+// Carries out one row of an import; a row of no form is a bad request.
 fn answer_request<B: Book>(
     office: &mut Office<B>,
     now: Moment,
@@ -45,7 +45,7 @@ fn answer_request<B: Book>(
     }
 }
 
-// Carries out one row of an import, adds its reply to the line, and tells whether the office was unavailable.
+// Carries out one row of an import, adds its reply to the line, and returns whether the office was unavailable.
 fn answer_import_row<B: Book>(
     alloc: Global,
     office: &mut Office<B>,
@@ -64,8 +64,8 @@ fn answer_import_row<B: Book>(
     Ok(is_failure(&reply))
 }
 
-/// Carries out the rows of an import in their order, and writes each reply into the line before the next row is
-/// carried out. Without memory some first rows were carried out, and no other.
+/// Carries out the rows of an import in their order, and writes each reply into the line before the next row is carried
+/// out. If memory runs out, the first rows were carried out, up to some row, and no others.
 pub fn answer_rows<B: Book>(
     alloc: Global,
     office: &mut Office<B>,
@@ -90,7 +90,8 @@ pub fn answer_rows<B: Book>(
     Ok(ImportAnswer { line, failed })
 }
 
-/// Carries out what a record asks, and gives the line of its answer. Without memory the record may have been begun.
+/// Carries out what a record asks, and returns the line of its answer. If memory runs out, the record may have been
+/// begun.
 pub(crate) fn answer_line<B: Book>(
     alloc: Global,
     office: &mut Office<B>,

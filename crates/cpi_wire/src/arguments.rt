@@ -1,16 +1,18 @@
-//! So many arguments, and no more.
+//! Lists of a fixed number of arguments. Each function returns the arguments; none if there are fewer or more.
 ghost use Rattle.std.specs.Prelude.{◌≡◌, map, option_map};
 ghost use Rattle.cpi_wire.specs.Arguments.{none, exactly_one, exactly_two};
 ghost use Rattle.cpi_wire.specs.Arguments.{exactly_two_or_three, exactly_four};
 ghost use Rattle.cpi_wire.specs.Arguments.{exactly_four_and_confirm, is_confirm};
 ghost use Rattle.cpi_wire.specs.Arguments.{exactly_five, exactly_six};
 
+/// No argument.
 pub(crate) fn no_more(arguments: &[&[u8]]) -> Option<()>
     ensures { result ≡ none (map (λ a. a.now) arguments.now) }
 {
     if arguments.len() == 0 { Some(()) } else { None }
 }
 
+/// One argument.
 pub(crate) fn one<'a>(arguments: &[&'a [u8]]) -> Option<&'a [u8]>
     ensures { option_map (λ a. a.now) result ≡ exactly_one (map (λ a. a.now) arguments.now) }
 {
@@ -21,6 +23,7 @@ pub(crate) fn one<'a>(arguments: &[&'a [u8]]) -> Option<&'a [u8]>
     }
 }
 
+/// Two arguments.
 pub(crate) fn two<'a>(arguments: &[&'a [u8]]) -> Option<(&'a [u8], &'a [u8])>
     ensures { option_map (λ a. (a.0.now, a.1.now)) result ≡ exactly_two (map (λ a. a.now) arguments.now) }
 {
@@ -31,7 +34,7 @@ pub(crate) fn two<'a>(arguments: &[&'a [u8]]) -> Option<(&'a [u8], &'a [u8])>
     }
 }
 
-/// Two arguments, and a third one where it is there.
+/// Two arguments, and a third one if there is one.
 pub(crate) fn two_or_three<'a>(
     arguments: &[&'a [u8]],
 ) -> Option<(&'a [u8], &'a [u8], Option<&'a [u8]>)>
@@ -48,6 +51,7 @@ pub(crate) fn two_or_three<'a>(
     }
 }
 
+/// Four arguments.
 pub(crate) fn four<'a>(arguments: &[&'a [u8]]) -> Option<(&'a [u8], &'a [u8], &'a [u8], &'a [u8])>
     ensures { option_map (λ a. (a.0.now, a.1.now, a.2.now, a.3.now)) result
         ≡ exactly_four (map (λ a. a.now) arguments.now) }
@@ -59,6 +63,7 @@ pub(crate) fn four<'a>(arguments: &[&'a [u8]]) -> Option<(&'a [u8], &'a [u8], &'
     }
 }
 
+// Whether an argument confirms an entry.
 fn is_confirm(text: &[u8]) -> bool
     ensures { result ≡ is_confirm text.now }
 {
@@ -88,6 +93,7 @@ pub(crate) fn four_and_confirm<'a>(
     }
 }
 
+/// Five arguments.
 pub(crate) fn five<'a>(
     arguments: &[&'a [u8]],
 ) -> Option<(&'a [u8], &'a [u8], &'a [u8], &'a [u8], &'a [u8])>
@@ -107,6 +113,7 @@ pub(crate) fn five<'a>(
     }
 }
 
+/// Six arguments.
 pub(crate) fn six<'a>(
     arguments: &[&'a [u8]],
 ) -> Option<(&'a [u8], &'a [u8], &'a [u8], &'a [u8], &'a [u8], &'a [u8])>

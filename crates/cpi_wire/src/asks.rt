@@ -1,4 +1,4 @@
-//! What a record asks.
+//! The request of a record.
 use crate::requests::ImportRows;
 use cpi_codes::Moment;
 use cpi_office::{Caller, Request};
@@ -8,8 +8,8 @@ use cpi_office::{Caller, Request};
 pub enum Ask {
     /// The record is none of the forms, or outside the limits.
     Bad,
-    /// A request, with when it comes and who makes it.
+    /// A request, with its moment and its caller.
     One(Moment, Caller, Request),
-    /// The rows of an import, with when they come and who makes them.
+    /// The rows of an import, with their moment and their caller.
     Import(Moment, Caller, ImportRows),
 }

@@ -1,7 +1,7 @@
-//! Examples of bodies of plans.
+//! Examples of the bodies of plans.
 ghost use Rattle.cpi_wire.specs.Examples.{AnyOrder, TwoReferences, NoReferences, ReferenceFaults};
 
-/// The bodies of plans with a reference month, computed by the definitions, and what is told of its faults.
+/// The bodies of plans with a reference month, and the replies to its faults, computed by the definitions.
 pub fn worked_bodies()
     ensures any_order { AnyOrder }
     ensures two_references { TwoReferences }

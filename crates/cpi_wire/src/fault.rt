@@ -1,15 +1,15 @@
-//! Why an input was given up.
+//! The reason why an input was given up.
 use std::alloc::{AllocError, AllocFailed};
 use std::fmt;
 
-/// Why an input was given up. The requests that were carried out until then stand.
+/// The reason why an input was given up. The requests that were carried out until then aren't undone.
 #[derive(Clone, Copy, Debug, PartialEq, Eq)]
 pub enum WireFault {
     /// The input couldn't be read, or has more records than one replay takes.
     Read,
     /// A line couldn't be written whole.
     Write,
-    /// Memory was refused.
+    /// Memory ran out.
     NoMemory,
 }
 

@@ -5,7 +5,7 @@ ghost use Rattle.csv.specs.Records.{fields_of};
 use csv::ByteRecord;
 use std::alloc::{AllocError, Global};
 
-/// The fields of a record, side by side.
+/// The fields of a record, in their order.
 pub fn field_list(alloc: Global, row: &ByteRecord) -> Result<Vec<&[u8]>, AllocError>
     ensures { IfOk result (λ v. map (λ f. f.now) v.items ≡ fields_of row.now) }
 {

@@ -1,4 +1,4 @@
-//! The rows of an import's body.
+//! The rows of the body of an import.
 ghost use Rattle.std.specs.Prelude.{◌≡◌, map, IfOk};
 ghost use Rattle.csv.specs.Records.{fields_of};
 ghost use Rattle.cpi_wire.specs.Import.{row_asks, rows_of_body};
@@ -13,7 +13,7 @@ use cpi_office::Request;
 use csv::ByteRecord;
 use std::alloc::{AllocError, Global};
 
-// The request of a row: its word and its arguments.
+// The request of a row, which is a word and its arguments; none if it is of no form, or outside the limits.
 fn row_request(alloc: Global, zone: &Zone, fields: &[&[u8]]) -> Result<Option<Request>, AllocError>
     ensures { IfOk result (λ r. r ≡ row_asks zone.now (map (λ f. f.now) fields.now)) }
 {
@@ -23,7 +23,7 @@ fn row_request(alloc: Global, zone: &Zone, fields: &[&[u8]]) -> Result<Option<Re
     }
 }
 
-// The request that a record asks.
+// The request of a record that is a row.
 fn record_request(
     alloc: Global,
     zone: &Zone,
@@ -35,10 +35,10 @@ fn record_request(
     row_request(alloc, zone, &fields)
 }
 
-/// The rows of an import's body, which is CSV without a header row: a byte order mark at its start and empty lines
-/// are skipped. Each row is a word and its arguments, with civil times by the clock of the zone; one that is of no
-/// form, or outside the limits, is kept as none, and so is an import inside the import. A body of more than 20,000
-/// rows gives none at all.
+/// The rows of the body of an import, which is CSV without a header row (RFC 4180): a byte order mark at its start and
+/// empty lines are skipped. Each row is a word and its arguments, with civil times by the clock of the zone. A row that
+/// is of no form, or outside the limits, is kept as none, and so is an import inside the import. There are no rows at
+/// all if the body has more than `MOST_ROWS`.
 pub fn import_rows(
     alloc: Global,
     zone: &Zone,

@@ -1,4 +1,4 @@
-//! The records of an input, one after the other.
+//! The records of an input, one after the other (RFC 4180).
 ghost use Rattle.std.specs.Prelude.{◌≡◌, ◌≢◌, [], IfOk, IfErr};
 ghost use Rattle.csv.specs.Records.{fields_of};
 ghost use Rattle.cpi_wire.specs.Input.{IsAt, TakesRecord};
@@ -18,7 +18,7 @@ pub(crate) fn record_reader<R: Read>(alloc: Global, input: R) -> Reader<R>
         .from_reader(alloc, input)
 }
 
-// What an error of the reader is to the replay.
+// The fault that an error of the reader is for a replay.
 fn fault_of(error: &Error) -> WireFault
     ensures { result ≢ WireFault.Write }
 {
@@ -28,7 +28,8 @@ fn fault_of(error: &Error) -> WireFault
     }
 }
 
-/// Takes the next record of an input, if there is one more.
+/// Takes the next record of an input into `row`, and returns whether there was one. The errors are `Read` and
+/// `NoMemory`.
 pub(crate) fn next_record<R: Read>(
     reader: &mut Reader<R>,
     row: &mut ByteRecord,
@@ -42,7 +43,8 @@ pub(crate) fn next_record<R: Read>(
     }
 }
 
-/// Takes the next row of a text, which is in memory, so that nothing else can be refused.
+/// Takes the next row of a text into `row`, and returns whether there was one. The text is in memory, so the only error
+/// is that memory ran out.
 pub(crate) fn next_row<R: Read>(
     reader: &mut Reader<R>,
     row: &mut ByteRecord,

@@ -1,4 +1,4 @@
-//! From a reply to its line.
+//! The line of a reply: JSON (RFC 8259) and a line feed.
 ghost use Rattle.std.specs.Prelude.{◌≡◌, ◌++◌, map, IfOk, OnOk, option_map};
 ghost use Rattle.std.specs.Option.{option_copied};
 ghost use Rattle.std.specs.String.{string_bytes};
@@ -19,6 +19,7 @@ use cpi_survey::{Mark, Quote, Reason, WorkRow};
 use serde_json::{Value, json};
 use std::alloc::{AllocError, Global};
 
+// The word of a reason.
 fn reason_text(reason: Reason) -> &'static str
     ensures { result.now ≡ reason_name reason }
 {
@@ -30,6 +31,7 @@ fn reason_text(reason: Reason) -> &'static str
     }
 }
 
+// The word of a mark.
 fn mark_name(mark: Mark) -> &'static str
     ensures { result.now ≡ name_of_mark mark }
 {
@@ -41,7 +43,7 @@ fn mark_name(mark: Mark) -> &'static str
     }
 }
 
-// The price of a mark, or the reason why there is none.
+// The price of a mark, in minor units, or the reason why there is none.
 fn mark_value(alloc: Global, mark: Mark) -> Result<Value, AllocError>
     ensures { IfOk result (λ v. view v ≡ value_of_mark mark) }
 {
@@ -53,6 +55,7 @@ fn mark_value(alloc: Global, mark: Mark) -> Result<Value, AllocError>
     }
 }
 
+// A quote: its slot, month, mark, value and receipt.
 fn quote_value(alloc: Global, quote: &Quote) -> Result<Value, AllocError>
     ensures { IfOk result (λ v. view v ≡ quote_data quote.now) }
 {
@@ -71,6 +74,7 @@ fn code_text(alloc: Global, code: ItemCode) -> Result<String, AllocError>
     code.text(alloc)
 }
 
+// An item: its code, text, unit and tolerances, in per mille of the last price.
 fn item_value(alloc: Global, item: &Item) -> Result<Value, AllocError>
     ensures { IfOk result (λ v. view v ≡ item_data item.now) }
 {
@@ -80,6 +84,7 @@ fn item_value(alloc: Global, item: &Item) -> Result<Value, AllocError>
     json!(in alloc; [code, item.text.as_str(), item.unit.as_str(), low, high])
 }
 
+// The last price of a series, in minor units, if there is one.
 fn last_value(alloc: Global, last: Option<Price>) -> Result<Value, AllocError>
     ensures { IfOk result (λ v. view v ≡ price_data last) }
 {
@@ -139,6 +144,7 @@ fn add_prices(alloc: Global, fields: &mut Vec<Value>, row: &WorkRow) -> Result<(
     Ok(())
 }
 
+// A row of the work of a month.
 fn work_row_value(alloc: Global, row: &WorkRow) -> Result<Value, AllocError>
     ensures { IfOk result (λ v. view v ≡ work_row_data row.now) }
 {
@@ -149,6 +155,7 @@ fn work_row_value(alloc: Global, row: &WorkRow) -> Result<Value, AllocError>
     Ok(Value::Array(fields))
 }
 
+// The work of a month.
 fn work_value(alloc: Global, rows: &[WorkRow]) -> Result<Value, AllocError>
     ensures { IfOk result (λ v. view v ≡ work_data rows.now) }
 {
@@ -159,6 +166,7 @@ fn work_value(alloc: Global, rows: &[WorkRow]) -> Result<Value, AllocError>
     json!(in alloc; {"work": values})
 }
 
+// A list of quotes.
 fn quotes_value(alloc: Global, quotes: &[Quote]) -> Result<Value, AllocError>
     ensures { IfOk result (λ v. view v ≡ quotes_data quotes.now) }
 {
@@ -169,6 +177,7 @@ fn quotes_value(alloc: Global, quotes: &[Quote]) -> Result<Value, AllocError>
     json!(in alloc; {"quotes": rows})
 }
 
+// A list of items.
 fn items_value(alloc: Global, items: &[Item]) -> Result<Value, AllocError>
     ensures { IfOk result (λ v. view v ≡ items_data items.now) }
 {
@@ -179,7 +188,7 @@ fn items_value(alloc: Global, items: &[Item]) -> Result<Value, AllocError>
     json!(in alloc; {"items": rows})
 }
 
-// The month of a table, its revision, and the moment at which it is published.
+// The month of a table, its revision, and the moment at which it is published, in seconds since 1970 UTC.
 fn frozen_month_value(alloc: Global, frozen_month: &FrozenMonth) -> Result<Value, AllocError>
     ensures { IfOk result (λ v. view v ≡ frozen_month_data frozen_month.now) }
 {
@@ -188,6 +197,7 @@ fn frozen_month_value(alloc: Global, frozen_month: &FrozenMonth) -> Result<Value
     json!(in alloc; [month, revision, frozen_month.publishes.seconds()])
 }
 
+// A list of tables.
 fn tables_value(alloc: Global, frozen_months: &[FrozenMonth]) -> Result<Value, AllocError>
     ensures { IfOk result (λ v. view v ≡ tables_data frozen_months.now) }
 {
@@ -198,13 +208,14 @@ fn tables_value(alloc: Global, frozen_months: &[FrozenMonth]) -> Result<Value, A
     json!(in alloc; {"tables": rows})
 }
 
-// The printed bytes as one text.
+// A printed table, as one text.
 fn table_value(alloc: Global, printed: &PrintedTable) -> Result<Value, AllocError>
     ensures { IfOk result (λ v. view v ≡ table_data printed.now) }
 {
     json!(in alloc; {"table": printed.as_str()})
 }
 
+// The JSON value of a reply.
 fn reply_value(alloc: Global, reply: &Reply) -> Result<Value, AllocError>
     ensures { IfOk result (λ v. view v ≡ data_of reply.now) }
 {

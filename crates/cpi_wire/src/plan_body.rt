@@ -13,7 +13,7 @@ use cpi_rows::Rows;
 use csv::ByteRecord;
 use std::alloc::{AllocError, Global};
 
-// Puts a row behind those of its kind.
+// Adds a row after those of its kind.
 fn add(body: &mut PlanBody, row: PlanRow) -> Result<(), AllocError>
     ensures { OnOk result ((rows : List Row) →
         body.old ≡ body_of_rows rows → body.new ≡ body_of_rows (rows ++ row ∷ [])) }
@@ -27,7 +27,7 @@ fn add(body: &mut PlanBody, row: PlanRow) -> Result<(), AllocError>
     Ok(())
 }
 
-// Puts the row of a record behind those of its kind, if the record is of a form.
+// Adds the row of a record after those of its kind, and returns whether the record is of a form.
 fn add_record(alloc: Global, body: &mut PlanBody, row: &ByteRecord) -> Result<bool, AllocError>
     ensures { IfOk result (λ added. AddsRow body.old body.new (fields_of row.now) added) }
 {
@@ -39,8 +39,8 @@ fn add_record(alloc: Global, body: &mut PlanBody, row: &ByteRecord) -> Result<bo
     Ok(true)
 }
 
-/// The body of a plan, which is CSV without a header row: a byte order mark at its start and empty lines are skipped.
-/// None where a row is of no form, or where there are more than 20,000.
+/// The body of a plan, which is CSV without a header row (RFC 4180): a byte order mark at its start and empty lines are
+/// skipped. None if a row is of no form, or if there are more than `MOST_ROWS`.
 pub(crate) fn plan_body(alloc: Global, text: &[u8]) -> Result<Option<PlanBody>, AllocError>
     ensures { IfOk result (λ body. body ≡ body_of text.now) }
 {

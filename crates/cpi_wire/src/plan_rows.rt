@@ -1,4 +1,4 @@
-//! The rows of a plan's body.
+//! The rows of the body of a plan.
 ghost use Rattle.std.specs.Prelude.{◌≡◌, map, IfOk};
 ghost use Rattle.cpi_wire.specs.PlanRows.{title_row, weight_row, place_row, spelled_reference_row};
 ghost use Rattle.cpi_wire.specs.PlanRows.{spelled_month_row, spelled_code_row};
@@ -10,7 +10,7 @@ use cpi_codes::{ItemCode, Month};
 use cpi_plan::{Place, Title, Weight};
 use std::alloc::{AllocError, Global};
 
-/// A row of a plan's body.
+/// A row of the body of a plan.
 #[derive(Drop)]
 pub(crate) enum PlanRow {
     Title(Title),
@@ -19,6 +19,7 @@ pub(crate) enum PlanRow {
     Reference(Month),
 }
 
+// The title of a code.
 fn title_of(alloc: Global, code: &[u8], title: &[u8]) -> Result<Option<PlanRow>, AllocError>
     ensures { IfOk result (λ row. row ≡ title_row code.now title.now) }
 {
@@ -31,6 +32,7 @@ fn title_of(alloc: Global, code: &[u8], title: &[u8]) -> Result<Option<PlanRow>,
     Ok(Some(PlanRow::Title(Title { code, title })))
 }
 
+// The weight of a code, in parts per million.
 fn weight_row_of(code: &[u8], parts: &[u8]) -> Option<PlanRow>
     ensures { result ≡ weight_row code.now parts.now }
 {
@@ -39,6 +41,7 @@ fn weight_row_of(code: &[u8], parts: &[u8]) -> Option<PlanRow>
     Some(PlanRow::Weight(Weight { code, parts }))
 }
 
+// The aggregate of an item.
 fn place_of(item: &[u8], code: &[u8]) -> Option<PlanRow>
     ensures { result ≡ place_row item.now code.now }
 {
@@ -47,6 +50,7 @@ fn place_of(item: &[u8], code: &[u8]) -> Option<PlanRow>
     Some(PlanRow::Place(Place { item, aggregate }))
 }
 
+// A month that the weights refer to.
 fn reference_of(month: &[u8]) -> Option<PlanRow>
     ensures { result ≡ spelled_reference_row month.now }
 {
@@ -85,8 +89,9 @@ fn code_row(
     }
 }
 
-/// The row that the fields write: `T`, a code and its title; `W`, a code and its weight up to 1,000,000; `I`, an item
-/// and the code where it is placed; or `R` and a month that the weights refer to. None where they are of no such form.
+/// The row of some fields: `T`, a code and its title; `W`, a code and its weight, in parts per million, up to
+/// `ALL_PARTS`; `I`, an item and the code of its aggregate; or `R` and a month that the weights refer to (the CPI
+/// Manual's weight reference period). None if they are of no such form.
 pub(crate) fn plan_row(alloc: Global, fields: &[&[u8]]) -> Result<Option<PlanRow>, AllocError>
     ensures { IfOk result (λ row. row ≡ spelled_plan_row (map (λ f. f.now) fields.now)) }
 {

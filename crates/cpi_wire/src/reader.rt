@@ -1,10 +1,10 @@
-//! A reader that answers so many calls.
+//! A reader of a limited number of calls.
 ghost use Rattle.std.specs.Prelude.{◌≡◌};
 
 use std::io;
 use std::io::Read;
 
-/// A reader that answers an error once so many calls of `read` were made, so that no input is read for ever.
+/// A reader that returns an error once a number of calls of `read` were made, so that reading ends on every input.
 #[derive(Drop)]
 pub(crate) struct CallCountingReader<R> {
     inner: R,
@@ -12,6 +12,7 @@ pub(crate) struct CallCountingReader<R> {
 }
 
 impl<R: Read> CallCountingReader<R> {
+    /// A reader over `inner` with this number of calls.
     pub(crate) fn new(inner: R, calls: u32) -> CallCountingReader<R>
         ensures inner { result.inner ≡ inner }
         ensures calls { result.calls_left ≡ calls }

@@ -1,4 +1,4 @@
-//! From the fields of a record to what it asks.
+//! From the fields of a record to its request.
 ghost use Rattle.std.specs.Prelude.{◌≡◌, map, IfOk};
 ghost use Rattle.cpi_wire.specs.Record.{spelled_caller, spelled_import};
 ghost use Rattle.cpi_wire.specs.Record.{spelled_asks, spelled_parts, ask_of};
@@ -12,6 +12,7 @@ use cpi_codes::{Key, Moment, Zone};
 use cpi_office::Caller;
 use std::alloc::{AllocError, Global};
 
+// The caller that a field names: the public, the desk, or a collector by a key.
 fn caller_of(text: &[u8]) -> Option<Caller>
     ensures { result ≡ spelled_caller text.now }
 {
@@ -24,7 +25,7 @@ fn caller_of(text: &[u8]) -> Option<Caller>
     }
 }
 
-// The rows of an import, which has one argument.
+// The rows of an import, which has one argument: its body.
 fn import_of(
     alloc: Global,
     zone: &Zone,
@@ -38,8 +39,8 @@ fn import_of(
     }
 }
 
-/// What a word with its arguments asks at a moment, in seconds since 1970 UTC; none where they are of no form, or
-/// outside the limits. Civil times are read by the clock of the zone.
+/// What a word with its arguments asks at a moment, in seconds since 1970 UTC; none if they are of no form, or outside
+/// the limits. Civil times are read by the clock of the zone.
 pub fn asks_of(
     alloc: Global,
     zone: &Zone,
@@ -62,7 +63,7 @@ pub fn asks_of(
     Ok(Some(Ask::One(now, caller, request)))
 }
 
-// The first three fields of a record, and its arguments.
+// What the first three fields of a record and its arguments ask; none if they are of no form, or outside the limits.
 fn parts_of(
     alloc: Global,
     zone: &Zone,
@@ -85,7 +86,7 @@ fn parts_of(
 
 /// What the fields of a record ask: a moment in seconds since 1970 UTC, a caller (`public`, `desk` or a key), a word
 /// and its arguments; those of an import are one body of rows. Civil times are read by the clock of the zone.
-/// Whatever isn't of these forms, or outside the limits, is `Bad`.
+/// A record that is of none of these forms, or outside the limits, is `Bad`.
 pub fn request_of_record(alloc: Global, zone: &Zone, fields: &[&[u8]]) -> Result<Ask, AllocError>
     ensures { IfOk result (λ a. a ≡ ask_of zone.now (map (λ f. f.now) fields.now)) }
 {

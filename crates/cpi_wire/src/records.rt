@@ -21,8 +21,8 @@ use csv::{ByteRecord, Reader};
 use std::alloc::{AllocError, Global};
 use std::io::{Read, Write};
 
-// Carries out what the fields of the record ask, and gives the line of its answer. Without memory the record may have
-// been begun.
+// Carries out what the fields of the record ask, and returns the line of its answer. If memory runs out, the record may
+// have been begun.
 fn answer_row<B: Book>(
     alloc: Global,
     zone: &Zone,
@@ -38,7 +38,7 @@ fn answer_row<B: Book>(
     answer_line(alloc, office, ask)
 }
 
-// Answers the records that the reader has yet to give, one after the other.
+// Answers the records that the reader has left, one after the other.
 fn answer_records<R: Read, W: Write, B: Book>(
     alloc: Global,
     records: &mut Reader<R>,
@@ -69,8 +69,8 @@ fn answer_records<R: Read, W: Write, B: Book>(
 
 /// Reads records from the reader, carries each out on the office in turn, and writes the line of its reply whole,
 /// before the next record is carried out. Civil times are read by the clock of the zone. The rows of an import are
-/// carried out in turn too, and their replies stand in the one line of the import; without memory some first rows of it
-/// were carried out, and no line is written. Of one input 1,000,000 records are taken; one more ends it with `Read`.
+/// carried out in turn too, and their replies are in the line of the import; if memory runs out, the first rows of it
+/// were carried out, and no line is written. A replay takes `MOST_RECORDS` records; one more ends it with `Read`.
 pub fn replay<R: Read + Drop, W: Write, B: Book>(
     alloc: Global,
     reader: R,

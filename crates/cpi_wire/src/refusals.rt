@@ -1,4 +1,4 @@
-//! What is told of a refusal.
+//! The JSON value of a refusal.
 ghost use Rattle.std.specs.Prelude.{◌≡◌, IfOk};
 ghost use Rattle.serde_json.specs.View.{view};
 ghost use Rattle.cpi_wire.specs.Refusals.{number_of_plan_fault, sum_in_refusal};
@@ -29,7 +29,7 @@ fn plan_fault_number(fault: PlanFault) -> u8
     }
 }
 
-// A sum of weights, as far as 64 bits tell it.
+// A sum of weights, in parts per million, capped at the greatest number of 64 bits.
 fn capped_sum(found: u128) -> u64
     ensures { result ≡ sum_in_refusal found }
 {
@@ -40,7 +40,7 @@ fn capped_sum(found: u128) -> u64
     }
 }
 
-// The number of a fault with the code where it lies.
+// The number of a fault, with the code that has it.
 fn located_value(alloc: Global, code: Code, fault: u8, refused: u8) -> Result<Value, AllocError>
     ensures { IfOk result (λ v. view v ≡ numbered_at code fault refused) }
 {
@@ -48,6 +48,7 @@ fn located_value(alloc: Global, code: Code, fault: u8, refused: u8) -> Result<Va
     json!(in alloc; {"code": text, "fault": fault, "refused": refused})
 }
 
+// A fault of a plan: a wrong sum with that sum, a missing title with its code.
 fn plan_fault_value(alloc: Global, fault: PlanFault) -> Result<Value, AllocError>
     ensures { IfOk result (λ v. view v ≡ plan_fault_data fault) }
 {
@@ -60,7 +61,7 @@ fn plan_fault_value(alloc: Global, fault: PlanFault) -> Result<Value, AllocError
     }
 }
 
-// What a month's index lacks, with the code where it lacks it.
+// A fault of the index of a month, with the code that has it.
 fn index_fault_value(alloc: Global, fault: IndexFault) -> Result<Value, AllocError>
     ensures { IfOk result (λ v. view v ≡ index_fault_data fault) }
 {
@@ -73,7 +74,8 @@ fn index_fault_value(alloc: Global, fault: IndexFault) -> Result<Value, AllocErr
     }
 }
 
-/// What is told of a refusal.
+/// The JSON value of a refusal: its number; for a price out of tolerance also the last price and the bounds, in minor
+/// units; for a fault of a plan or of an index also that fault.
 pub(crate) fn refusal_value(alloc: Global, refusal: &Refusal) -> Result<Value, AllocError>
     ensures { IfOk result (λ v. view v ≡ refusal_data refusal.now) }
 {

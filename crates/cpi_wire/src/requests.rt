@@ -5,7 +5,7 @@ ghost use Rattle.cpi_office.specs.declared.request.Request.{Request};
 use cpi_office::Request;
 use std::marker::Model;
 
-/// The rows of an import in their order, each a request, or none where it is of no form or outside the limits.
+/// The rows of an import in their order: each is a request, or none if it is of no form or outside the limits.
 #[derive(Drop)]
 pub struct ImportRows {
     pub(crate) rows: Vec<Option<Request>>,

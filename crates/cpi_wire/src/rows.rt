@@ -13,7 +13,7 @@ pub(crate) fn begin_rows(alloc: Global) -> Result<Vec<u8>, AllocError>
     Vec::from_slice(alloc, b"{\"rows\":[".as_slice())
 }
 
-/// Adds a reply as its own line would tell it, with a comma before it where it isn't the first.
+/// Adds the JSON text of a reply, with a comma before it if it isn't the first.
 pub(crate) fn add_reply(
     alloc: Global,
     line: &mut Vec<u8>,

@@ -12,7 +12,7 @@ use cpi_release::Form;
 use cpi_survey::{Mark, Reason};
 use std::alloc::{AllocError, Global};
 
-/// A moment as a number, or as the civil text that a clock of the zone shows then.
+/// A moment: a number of seconds since 1970 UTC, or the civil time that a clock of the zone shows then.
 pub(crate) fn time_of(zone: &Zone, text: &[u8]) -> Option<Moment>
     ensures { result ≡ spelled_time zone.now text.now }
 {
@@ -22,21 +22,21 @@ pub(crate) fn time_of(zone: &Zone, text: &[u8]) -> Option<Moment>
     }
 }
 
-/// A month as `YYYY-MM`.
+/// A month, as `YYYY-MM`.
 pub(crate) fn month_of(text: &[u8]) -> Option<Month>
     ensures { result ≡ spelled_month text.now }
 {
     Month::parse(text).ok()
 }
 
-/// The code of the classification that the field writes.
+/// A code of the classification.
 pub(crate) fn code_of(text: &[u8]) -> Option<Code>
     ensures { result ≡ spelled_code text.now }
 {
     Code::parse(text).ok()
 }
 
-/// The code of the elementary aggregate that the field writes.
+/// The code of an elementary aggregate.
 pub(crate) fn elementary_code_of(text: &[u8]) -> Option<Code>
     ensures { result ≡ spelled_elementary_code text.now }
 {
@@ -61,14 +61,14 @@ pub(crate) fn form_of(text: &[u8]) -> Option<Form>
     }
 }
 
-/// A weight in parts per million, up to 1,000,000.
+/// A weight in parts per million, up to `ALL_PARTS`.
 pub(crate) fn weight_of(text: &[u8]) -> Option<u32>
     ensures { result ≡ spelled_weight text.now }
 {
     Some(number_of(text, 0, ALL_PARTS)? as u32)
 }
 
-/// A name, title, unit or text; none where it isn't one.
+/// A name, title, unit or text; none if it isn't one.
 pub(crate) fn name_of(alloc: Global, text: &[u8]) -> Result<Option<Name>, AllocError>
     ensures { IfOk result (λ n. n ≡ spelled_name text.now) }
 {
@@ -79,6 +79,7 @@ pub(crate) fn name_of(alloc: Global, text: &[u8]) -> Result<Option<Name>, AllocE
     }
 }
 
+// The reason why there is no price.
 fn reason_of(text: &[u8]) -> Option<Reason>
     ensures { result ≡ spelled_reason text.now }
 {
@@ -95,7 +96,7 @@ fn reason_of(text: &[u8]) -> Option<Reason>
     }
 }
 
-/// A price, a reason why there is none, or the price of a replacement.
+/// A mark: a price in minor units, a reason why there is none, or the price of a replacement.
 pub(crate) fn mark_of(mark: &[u8], value: &[u8]) -> Option<Mark>
     ensures { result ≡ spelled_mark mark.now value.now }
 {

@@ -39,6 +39,7 @@ pub(crate) enum Word {
     Unknown,
 }
 
+/// The word that a field has, in lower case; `Unknown` for other fields.
 pub(crate) fn word_of(text: &[u8]) -> Word
     ensures { result ≡ spelled_word text.now }
 {
@@ -75,6 +76,7 @@ pub(crate) fn word_of(text: &[u8]) -> Word
     }
 }
 
+// `items`: no argument.
 fn items_of(arguments: &[&[u8]]) -> Option<Request>
     ensures { result ≡ items_request (map (λ a. a.now) arguments.now) }
 {
@@ -82,6 +84,7 @@ fn items_of(arguments: &[&[u8]]) -> Option<Request>
     Some(Request::Items)
 }
 
+// `quotes`: the first month and the last one.
 fn quotes_of(arguments: &[&[u8]]) -> Option<Request>
     ensures { result ≡ quotes_request (map (λ a. a.now) arguments.now) }
 {
@@ -91,6 +94,7 @@ fn quotes_of(arguments: &[&[u8]]) -> Option<Request>
     Some(Request::Quotes(first, last))
 }
 
+// `work`: a month.
 fn work_of(arguments: &[&[u8]]) -> Option<Request>
     ensures { result ≡ work_request (map (λ a. a.now) arguments.now) }
 {
@@ -99,6 +103,7 @@ fn work_of(arguments: &[&[u8]]) -> Option<Request>
     Some(Request::Work(month))
 }
 
+// `quote`: a slot, a month, a mark and its value; and `confirm`, if the collector confirms the price.
 fn quote_of(arguments: &[&[u8]]) -> Option<Request>
     ensures { result ≡ quote_request (map (λ a. a.now) arguments.now) }
 {
@@ -114,6 +119,7 @@ fn quote_of(arguments: &[&[u8]]) -> Option<Request>
     }))
 }
 
+// `collector`: a number and a key.
 fn collector_of(arguments: &[&[u8]]) -> Option<Request>
     ensures { result ≡ collector_request (map (λ a. a.now) arguments.now) }
 {
@@ -123,6 +129,7 @@ fn collector_of(arguments: &[&[u8]]) -> Option<Request>
     Some(Request::Register(Registration { number, key }))
 }
 
+// `calendar`: a month, and the moments at which it opens, closes and is published.
 fn calendar_of(zone: &Zone, arguments: &[&[u8]]) -> Option<Request>
     ensures { result ≡ calendar_request zone.now (map (λ a. a.now) arguments.now) }
 {
@@ -135,6 +142,7 @@ fn calendar_of(zone: &Zone, arguments: &[&[u8]]) -> Option<Request>
     Some(Request::PutCalendar(row))
 }
 
+// `assign`: a collector, a slot, an outlet, an item, the first month and the last one, which isn't before the first.
 fn assign_of(arguments: &[&[u8]]) -> Option<Request>
     ensures { result ≡ assign_request (map (λ a. a.now) arguments.now) }
 {
@@ -158,6 +166,7 @@ fn assign_of(arguments: &[&[u8]]) -> Option<Request>
     Some(Request::Assign(collector, new_assignment))
 }
 
+// `handover`: a collector and a slot, the next collector and the new slot, and the month from which it holds.
 fn hand_over_of(arguments: &[&[u8]]) -> Option<Request>
     ensures { result ≡ hand_over_request (map (λ a. a.now) arguments.now) }
 {
@@ -176,6 +185,7 @@ fn hand_over_of(arguments: &[&[u8]]) -> Option<Request>
     }))
 }
 
+// `outlet`: a number and a name.
 fn outlet_of(alloc: Global, arguments: &[&[u8]]) -> Result<Option<Request>, AllocError>
     ensures { IfOk result (λ r. r ≡ outlet_request (map (λ a. a.now) arguments.now)) }
 {
@@ -191,6 +201,7 @@ fn outlet_of(alloc: Global, arguments: &[&[u8]]) -> Result<Option<Request>, Allo
     Ok(Some(Request::PutOutlet(Outlet { number, name })))
 }
 
+// `item`: a code, a text, a unit and two tolerances, in per mille of the last price.
 fn item_of(alloc: Global, arguments: &[&[u8]]) -> Result<Option<Request>, AllocError>
     ensures { IfOk result (λ r. r ≡ item_request (map (λ a. a.now) arguments.now)) }
 {
@@ -221,6 +232,7 @@ fn item_of(alloc: Global, arguments: &[&[u8]]) -> Result<Option<Request>, AllocE
     })))
 }
 
+// `plan`: a year and the body of the plan.
 fn plan_of(alloc: Global, arguments: &[&[u8]]) -> Result<Option<Request>, AllocError>
     ensures { IfOk result (λ r. r ≡ plan_request (map (λ a. a.now) arguments.now)) }
 {
@@ -236,6 +248,7 @@ fn plan_of(alloc: Global, arguments: &[&[u8]]) -> Result<Option<Request>, AllocE
     Ok(Some(Request::PutPlan(year, body)))
 }
 
+// `tables`: no argument.
 fn tables_of(arguments: &[&[u8]]) -> Option<Request>
     ensures { result ≡ tables_request (map (λ a. a.now) arguments.now) }
 {
@@ -243,6 +256,7 @@ fn tables_of(arguments: &[&[u8]]) -> Option<Request>
     Some(Request::Tables)
 }
 
+// `table`: a month, a form, and a revision if it isn't the latest one.
 fn table_of(arguments: &[&[u8]]) -> Option<Request>
     ensures { result ≡ table_request (map (λ a. a.now) arguments.now) }
 {
@@ -256,7 +270,7 @@ fn table_of(arguments: &[&[u8]]) -> Option<Request>
     Some(Request::Table(month, form, edition))
 }
 
-// The elementary aggregates that the fields write, in the same order.
+// The elementary aggregates that the fields name, in the same order; none if a field names none.
 fn elementary_codes_of(alloc: Global, texts: &[&[u8]]) -> Result<Option<Rows<Code>>, AllocError>
     ensures { IfOk result (λ r. r ≡ elementary_codes (map (λ t. t.now) texts.now)) }
 {
@@ -270,6 +284,7 @@ fn elementary_codes_of(alloc: Global, texts: &[&[u8]]) -> Result<Option<Rows<Cod
     Ok(Some(Rows::of(found)))
 }
 
+// `freeze`: a month, and the elementary aggregates whose prices may be carried.
 fn freeze_of(alloc: Global, arguments: &[&[u8]]) -> Result<Option<Request>, AllocError>
     ensures { IfOk result (λ r. r ≡ freeze_request (map (λ a. a.now) arguments.now)) }
 {
@@ -285,7 +300,7 @@ fn freeze_of(alloc: Global, arguments: &[&[u8]]) -> Result<Option<Request>, Allo
     Ok(Some(Request::Freeze(month, carry)))
 }
 
-/// The request of a word with its arguments, if they are of its form and within the limits.
+/// The request of a word with its arguments; none if they aren't of its form, or not within the limits.
 pub(crate) fn request_of(
     alloc: Global,
     zone: &Zone,
