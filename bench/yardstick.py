@@ -9,8 +9,8 @@ price) and quotes, with the checks of an office that a valid input meets.
 
     yardstick.py --freezes FILE < RECORDS
 
-The words freeze and tables alone, over an office of docs/FORMATS.md that stands in the file. A month is computed from
-the rows that a freeze reads, and its release is one durable commit.
+The words freeze and tables alone, over an office of docs/data/FORMATS.md that stands in the file. A month is computed
+from the rows that a freeze reads, and its release is one durable commit.
 """
 
 import csv
@@ -126,8 +126,8 @@ class Fault(Exception):
 
 
 class Releases:
-    """The freezes of an office whose tables stand in a file, by the rules of docs/OFFICE.md: of each month the first
-    revision alone."""
+    """The freezes of an office whose tables stand in a file, by the rules of docs/office/OFFICE.md: of each month the
+    first revision alone."""
 
     def __init__(self, file):
         self.db = sqlite3.connect(file, isolation_level=None)

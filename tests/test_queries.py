@@ -1,5 +1,5 @@
 #!/usr/bin/env python3
-"""Asks the queries of docs/QUERIES.md of an office in a file; each has to give the rows that are written below.
+"""Asks the queries of docs/data/QUERIES.md of an office in a file; each has to give the rows that are written below.
 
 The office has three months frozen, and a series that is handed over. A check is a query.
 """
@@ -47,9 +47,9 @@ ROWS: list[Rows] = [
 
 def queries() -> list[str]:
     """All of the document; there are as many as rows are known."""
-    found = re.findall(r"```sql\n(.*?)```", content(TOP, "docs/QUERIES.md").decode(), re.S)
+    found = re.findall(r"```sql\n(.*?)```", content(TOP, "docs/data/QUERIES.md").decode(), re.S)
     if len(found) != len(ROWS):
-        raise ValueError(f"docs/QUERIES.md has {len(found)} queries, and not {len(ROWS)}")
+        raise ValueError(f"docs/data/QUERIES.md has {len(found)} queries, and not {len(ROWS)}")
     return found
 
 

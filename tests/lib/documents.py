@@ -34,7 +34,7 @@ INDENTED = re.compile(r"(?<=\n\n)(?: {4}.*\n)+")
 QUOTED = re.compile(r"`([^`]+)`")
 MOST_OF_PARAGRAPH, MOST_OF_CELL = 600, 160
 # (of FORMATS the cells are what is printed, column by column)
-WIDE_TABLES = {"docs/FORMATS.md"}
+WIDE_TABLES = {"docs/data/FORMATS.md"}
 
 
 def prose(text: str) -> str:
@@ -89,12 +89,12 @@ def readme_faults(text: str) -> Iterator[str]:
 # ---- the length
 
 MOST_WORDS, MOST_OF_ALL = 5000, 63800
-"""Words as `wc -w` counts them: of a document, and of docs/*.md together."""
+"""Words as `wc -w` counts them: of a document, and of the English pages of docs/ together."""
 
-LONG = {"docs/DESK.md"}
+LONG = {"docs/office/DESK.md"}
 """Documents that may be longer."""
 
-SHORT = {"docs/THEOREM.md": 1500}
+SHORT = {"docs/code/THEOREM.md": 1500}
 """Documents with a bound of their own: two pages of paper."""
 
 
@@ -104,9 +104,14 @@ def length_faults(name: str, text: str) -> Iterator[str]:
         yield f"{count} words, over {most}"
 
 
+def pages() -> list[Path]:
+    """The English pages of docs/: docs/README.md, and those in the folder of each reader."""
+    return sorted([*(ROOT / "docs").glob("*.md"), *(ROOT / "docs").glob("*/*.md")])
+
+
 def all_words() -> str | None:
-    """What is wrong with the length of docs/*.md together, if it is."""
-    count = sum(len(it.read_text(encoding="utf-8").split()) for it in (ROOT / "docs").glob("*.md"))
+    """What is wrong with the length of the English pages of docs/ together, if it is."""
+    count = sum(len(it.read_text(encoding="utf-8").split()) for it in pages())
     return f"{count} words, over {MOST_OF_ALL}" if count > MOST_OF_ALL else None
 
 
@@ -290,7 +295,7 @@ def name_faults(text: str, code: Code) -> Iterator[str]:
 
 def promise_faults(text: str) -> Iterator[str]:
     items = (part for _, part in paragraphs(text) if part.lstrip().startswith("- "))
-    yield from (f"no heading of PROOF carries: {seen(it)[:60]}.." for it in items if "](PROOF.md#" not in it)
+    yield from (f"no heading of PROOF carries: {seen(it)[:60]}.." for it in items if "](../code/PROOF.md#" not in it)
 
 
 def script_faults(folder: Path, text: str) -> Iterator[str]:
@@ -317,7 +322,7 @@ def running_faults(text: str) -> Iterator[str]:
     made = (ROOT / "dist/MADE").read_text(encoding="utf-8") if (ROOT / "dist/MADE").exists() else ""
     needed = re.findall(r"^machine: (\S+)$|\b(GLIBC_[\d.]+)", made, re.M)
     yield from (f"no word of {it}, which dist/MADE names" for pair in needed for it in pair if it and it not in text)
-    formats = (ROOT / "docs/FORMATS.md").read_text(encoding="utf-8")
+    formats = (ROOT / "docs/data/FORMATS.md").read_text(encoding="utf-8")
     row = re.search(r"^\| 1 \| .*$", formats.partition("\n## The program\n")[2], re.M)
     told = re.findall(r"`cpi: [^`]*`", row[0] if row else "")
     yield from (f"no word of {it}, which FORMATS has" for it in told or ["the lines of faults"] if it not in text)
@@ -338,14 +343,14 @@ def record_faults(text: str) -> Iterator[str]:
     yield from (f"two decisions have the number {it}" for it in sorted({it for it in every if every.count(it) > 1}))
 
 
-NAMED = {"README.md", *(f"docs/{it}.md" for it in ("PROOF", "THEOREM", "AUDIT", "ARCHITECTURE", "CHANGING"))}
-CLAIMING = {"README.md", "docs/PROOF.md", "docs/THEOREM.md", "docs/AUDIT.md"}
+CLAIMING = {"README.md", "docs/code/PROOF.md", "docs/code/THEOREM.md", "docs/data/AUDIT.md"}
+NAMED = {*CLAIMING, "docs/code/ARCHITECTURE.md", "docs/code/CHANGING.md"}
 ALONE = {
-    "docs/DECISIONS.md": record_faults,
-    "docs/FORMATS.md": example_faults,
-    "docs/PROMISE.md": promise_faults,
-    "docs/RUNNING.md": running_faults,
-    "docs/THEOREM.md": theorem_faults,
+    "docs/code/DECISIONS.md": record_faults,
+    "docs/data/FORMATS.md": example_faults,
+    "docs/office/PROMISE.md": promise_faults,
+    "docs/office/RUNNING.md": running_faults,
+    "docs/code/THEOREM.md": theorem_faults,
 }
 
 

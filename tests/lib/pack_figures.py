@@ -1,8 +1,9 @@
 """Every figure of a pack of `cpi-tools publish` once more, from the tables that were computed from prices.
 
-The formulas are those of docs/DATA.md (*What is computed*) and docs/METHOD.md (*Special aggregates and regions*),
-in fractions, rounded once. It has nothing in common with `cpi_tools`. An item is the code of a node, or the id of a set
-of elementary aggregates. Levels and indices are in points, changes in percent, contributions in percentage points.
+The formulas are those of docs/data/DATA.md (*What is computed*) and docs/data/METHOD.md (*Special aggregates and
+regions*), in fractions, rounded once. It has nothing in common with `cpi_tools`. An item is the code of a node, or the
+id of a set of elementary aggregates. Levels and indices are in points, changes in percent, contributions in percentage
+points.
 """
 
 from __future__ import annotations

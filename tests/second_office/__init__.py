@@ -1,1 +1,1 @@
-"""A second office by the rules of docs/OFFICE.md and docs/FORMATS.md: slow and plain, to compare `cpi` with."""
+"""The second office, by docs/office/OFFICE.md and docs/data/FORMATS.md: slow and plain, to compare `cpi` with."""

@@ -12,10 +12,11 @@ from conftest import ROOT
 from lib import guides
 
 NAMES = guides.translations()
+ENGLISH, FRENCH = "docs/office/PHONE.md", "docs/office/fr/PHONE.md"
 
 
 def test_each_language_has_both_guides() -> None:
-    assert NAMES == [f"docs/{code}/{name}.md" for code in ("ar", "es", "fr") for name in ("COLLECTING", "PHONE")]
+    assert NAMES == [f"docs/office/{code}/{name}.md" for code in ("ar", "es", "fr") for name in ("COLLECTING", "PHONE")]
 
 
 @pytest.mark.parametrize("name", NAMES)
@@ -34,8 +35,8 @@ REVIEWED = {
 @pytest.mark.parametrize("name", NAMES)
 def test_a_guide_says_what_it_follows_and_how_to_send_corrections(name: str) -> None:
     head = (ROOT / name).read_text(encoding="utf-8").split("\n\n")[1]
-    _, code, guide = name.split("/")
-    assert REVIEWED[code] in head and "(../../CONTRIBUTING.md)" in head
+    *_, code, guide = name.split("/")
+    assert REVIEWED[code] in head and "(../../../CONTRIBUTING.md)" in head
     assert f"[{guide[:-3]}](../{guide})" in head and "1.1" in head
 
 
@@ -57,7 +58,7 @@ def copied(tmp_path: Path, monkeypatch: pytest.MonkeyPatch) -> Path:
     for name in ("docs", "po"):
         shutil.copytree(ROOT / name, tmp_path / name)
     monkeypatch.setattr(guides, "ROOT", tmp_path)
-    monkeypatch.setattr(guides, "DOCS", tmp_path / "docs")
+    monkeypatch.setattr(guides, "DOCS", tmp_path / "docs/office")
     return tmp_path
 
 
@@ -67,19 +68,19 @@ def spoiled(root: Path, name: str, old: str, new: str) -> list[str]:
     text = path.read_text(encoding="utf-8")
     assert old in text
     path.write_text(text.replace(old, new), encoding="utf-8")
-    return [*guides.guide_faults("docs/fr/PHONE.md")]
+    return [*guides.guide_faults(FRENCH)]
 
 
 @pytest.mark.parametrize(
     ("name", "old", "new", "said"),
     [
-        ("docs/PHONE.md", "You sign in once", "You sign in twice", "the part \"The collectors' page\" of PHONE.md has changed"),
-        ("docs/PHONE.md", "## The website\n", "## The website\n\n## Another part\n", "it follows 5 parts of PHONE.md, which has 6"),
-        ("docs/fr/PHONE.md", "*Actualiser*", "*Mettre à jour*", "no word of the button 'Update', which the page calls 'Actualiser'"),
-        ("docs/fr/PHONE.md", "*Suivant*", "*Prochain*", "'Prochain' is no button of the page"),
-        ("docs/fr/PHONE.md", "| À vérifier |", "| À revoir |", "no word of the state 'Look again'"),
-        ("docs/fr/PHONE.md", "    ops/try\n", "    ops/try --db\n", "its commands aren't those of PHONE.md"),
-        ("docs/fr/PHONE.md", "<!-- follows PHONE.md", "<!-- as PHONE.md", "its head doesn't say which guide it follows"),
+        (ENGLISH, "You sign in once", "You sign in twice", "the part \"The collectors' page\" of PHONE.md has changed"),
+        (ENGLISH, "## The website\n", "## The website\n\n## Another part\n", "it follows 5 parts of PHONE.md, which has 6"),
+        (FRENCH, "*Actualiser*", "*Mettre à jour*", "no word of the button 'Update', which the page calls 'Actualiser'"),
+        (FRENCH, "*Suivant*", "*Prochain*", "'Prochain' is no button of the page"),
+        (FRENCH, "| À vérifier |", "| À revoir |", "no word of the state 'Look again'"),
+        (FRENCH, "    ops/try\n", "    ops/try --db\n", "its commands aren't those of PHONE.md"),
+        (FRENCH, "<!-- follows PHONE.md", "<!-- as PHONE.md", "its head doesn't say which guide it follows"),
     ],
 )  # fmt: skip
 def test_what_is_wrong_with_a_guide_is_said(copied: Path, name: str, old: str, new: str, said: str) -> None:
@@ -87,10 +88,10 @@ def test_what_is_wrong_with_a_guide_is_said(copied: Path, name: str, old: str, n
 
 
 def test_the_sums_are_written_by_the_script(copied: Path) -> None:
-    assert len(spoiled(copied, "docs/PHONE.md", "You sign in once", "You sign in one time")) == 1
+    assert len(spoiled(copied, ENGLISH, "You sign in once", "You sign in one time")) == 1
     script = copied / "tests/lib/guides.py"
     script.parent.mkdir(parents=True)
     shutil.copy(ROOT / "tests/lib/guides.py", script)
-    ran = subprocess.run([script, "docs/fr/PHONE.md"], capture_output=True, text=True, check=False)
+    ran = subprocess.run([script, FRENCH], capture_output=True, text=True, check=False)
     assert (ran.returncode, ran.stderr) == (0, "")
-    assert [*guides.guide_faults("docs/fr/PHONE.md")] == []
+    assert [*guides.guide_faults(FRENCH)] == []

@@ -139,7 +139,8 @@ def test_whole_folders_are_in_it(members: dict[str, tarfile.TarInfo]) -> None:
     wanted = {f"usr/share/cpi/{name}" for name in listed.stdout.decode().split("\0") if name}
     assert "usr/share/cpi/tools/cpi_tools/backup.py" in wanted
     assert wanted - set(members) == set()
-    assert {f"usr/share/doc/cpi/docs/{path.name}" for path in (ROOT / "docs").glob("*.md")} - set(members) == set()
+    pages = {f"usr/share/doc/cpi/{path.relative_to(ROOT)}" for path in (ROOT / "docs").rglob("*.md")}
+    assert pages - set(members) == set()
     assert [name for name in members if "__pycache__" in name or name.endswith((".pyc", ".db"))] == []
 
 

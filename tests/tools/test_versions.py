@@ -106,7 +106,7 @@ def test_only_the_first_part_is_unreleased(top: Path) -> None:
 
 def test_what_is_built_or_left_there_is_no_change(top: Path) -> None:
     for name in ("crates/low/out/cpi", "tools/cpi_tools/__pycache__/any.pyc", "tools/build/lib/any.py", "ops/office.db",
-                 "tools/cpi_tools.egg-info/PKG-INFO", "web/.any", "docs/RUNNING.md", "CHANGELOG.md.orig"):  # fmt: skip
+                 "tools/cpi_tools.egg-info/PKG-INFO", "web/.any", "docs/README.md", "CHANGELOG.md.orig"):  # fmt: skip
         (top / name).parent.mkdir(parents=True, exist_ok=True)
         (top / name).write_text("left")
     assert fault(top) is None

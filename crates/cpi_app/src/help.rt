@@ -12,7 +12,7 @@ Exit status:
 
 pub const REPLAY: &str = "\
 Reads:     records from standard input, in CSV: a moment, who asks, a word and its arguments, as
-           docs/FORMATS.md lists them; with --db also the file of the office
+           docs/data/FORMATS.md lists them; with --db also the file of the office
 Writes:    one line for each record to standard output, for a refusal too; with --db each change
            to the file, before its line
 Example:   cpi replay --db office.db < records.csv > replies.txt
@@ -24,7 +24,7 @@ Exit status:
   2        the words are refused, and nothing was done; standard error says why";
 
 pub const SERVE: &str = "\
-Reads:     HTTP requests at http://127.0.0.1:PORT, whose routes docs/FORMATS.md lists; the file of
+Reads:     HTTP requests at http://127.0.0.1:PORT, whose routes docs/data/FORMATS.md lists; the file of
            the office
 Writes:    each change to the file, and then the response of its request; one line to standard
            output as soon as it listens; lines to standard error when a request is refused by 90 and
