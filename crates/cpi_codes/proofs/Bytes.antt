@@ -12,9 +12,10 @@ use Rattle.std.specs.Char.{is_ascii}
 use Rattle.std.proofs.lemmas.Bool.{cases_lt}
 use Rattle.std.proofs.lemmas.Bool.Decides.{nat_tests}
 use Rattle.std.proofs.lemmas.List.{get_or_past, take_all, get_or-set_same, get_or-set_other}
+use Rattle.cpi_rows.proofs.Truth.{and_both}
 use Rattle.cpi_codes.specs.ItemCode.{is_character_of_item, is_text_of_item, item_code_of, item_number, with_zero_bytes}
 use Rattle.cpi_codes.specs.ItemCode.{is_no_zero}
-use Rattle.cpi_codes.proofs.Choices.{both, all-three, chosen}
+use Rattle.cpi_codes.proofs.Choices.{all-three, chosen}
 use Rattle.cpi_codes.proofs.Digits.{passes-at}
 
 pub code-of-text : (text : List ℕ) → is_text_of_item text ≡ true → item_code_of text ≡ Some (item_number text)
@@ -111,7 +112,7 @@ ascii-text : (text : List ℕ) (k : ℕ) → list_all is_character_of_item text 
     list_all is_ascii (text ++ replicate k 0) ≡ true
 ascii-text [] k h = ascii-zeros k
 ascii-text (c ∷ cs) k h =
-    let parts = both (is_character_of_item c) (list_all is_character_of_item cs) h in
+    let parts = and_both (is_character_of_item c) (list_all is_character_of_item cs) h in
     let range = character-range c parts.0 in
     let small : is_ascii c ≡ true = grind (arith, nat_tests) in
     rw small (ascii-text cs k parts.1)
@@ -127,7 +128,7 @@ kept-text : (text : List ℕ) (k : ℕ) → list_all is_character_of_item text �
     filter is_no_zero (text ++ replicate k 0) ≡ text
 kept-text [] k h = no-zeros k
 kept-text (c ∷ cs) k h =
-    let parts = both (is_character_of_item c) (list_all is_character_of_item cs) h in
+    let parts = and_both (is_character_of_item c) (list_all is_character_of_item cs) h in
     let range = character-range c parts.0 in
     let stays : is_no_zero c ≡ true = grind (arith, nat_tests) in
     rw stays (ap (λ (t : List ℕ). c ∷ t) (kept-text cs k parts.1))

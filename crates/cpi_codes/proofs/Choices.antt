@@ -1,10 +1,6 @@
 -- What tests that hold together say of each, and what a choice by a test made.
 use Rattle.std.proofs.Common.{◌≡◌, ℕ, refl, Bool, true, false, ◌&&◌, cond, Some, None}
 
-pub both : (a b : Bool) → (a && b) ≡ true → (a ≡ true) × (b ≡ true)
-both true b h = (refl, h)
-both false b h = absurd cc
-
 pub all-three : (a b c : Bool) → (a && b && c) ≡ true → (a ≡ true) × (b ≡ true) × (c ≡ true)
 all-three true true true h = (refl, refl, refl)
 all-three true true false h = absurd cc

@@ -6,6 +6,7 @@ use Rattle.std.specs.Ordering.{nat_cmp, ordering_then}
 use Rattle.std.specs.Option.{option_cmp}
 use Rattle.std.specs.Cmp.Lexicographic.{slice_cmp}
 use Rattle.std.proofs.lemmas.Bool.Decides.{nat_tests}
+use Rattle.cpi_rows.proofs.Truth.{then_first, then_second, equal_of_order}
 use Rattle.cpi_codes.specs.CodeParts.{are_parts}
 use Rattle.cpi_codes.specs.CodeText.{code_text}
 use Rattle.cpi_codes.specs.CodeSpelling.{spelling, is_numbered, is_nested, IsSpelled}
@@ -14,24 +15,11 @@ use Rattle.cpi_codes.specs.declared.spelling.Parts.{Parts}
 use Rattle.cpi_codes.proofs.CodeBytes.{parts-cmp, absent_below, empty_under}
 use Rattle.cpi_codes.proofs.CodeIs.{same_code_is}
 
-then_first : (o r : Ordering) → ordering_then o r ≡ Equal → o ≡ Equal
-then_first Less r e = e
-then_first Equal r e = refl
-then_first Greater r e = e
-
-then_second : (o r : Ordering) → ordering_then o r ≡ Equal → r ≡ Equal
-then_second Less r e = cc
-then_second Equal r e = e
-then_second Greater r e = cc
-
-number_same : (m n : ℕ) → nat_cmp m n ≡ Equal → m ≡ n
-number_same m n e = grind (arith, nat_tests)
-
 pub part_same : (x y : Option ℕ) → option_cmp nat_cmp x y ≡ Equal → x ≡ y
 part_same None None e = refl
 part_same None (Some n) e = cc
 part_same (Some m) None e = cc
-part_same (Some m) (Some n) e = ap (λ k. Some k) (number_same m n e)
+part_same (Some m) (Some n) e = ap (λ k. Some k) (equal_of_order m n e)
 
 same_bytes : (xs : List ℕ) → slice_cmp nat_cmp xs xs ≡ Equal
 same_bytes [] = refl
@@ -68,7 +56,7 @@ same_parts p c h e =
     let rest = then_second (nat_cmp p.division c.division) _ equal in
     let third = then_second (option_cmp nat_cmp p.group c.group) _ rest in
     let fourth = then_second (option_cmp nat_cmp p.class c.class) _ third in (
-      number_same p.division c.division (then_first (nat_cmp p.division c.division) _ equal),
+      equal_of_order p.division c.division (then_first (nat_cmp p.division c.division) _ equal),
       part_same p.group c.group (then_first (option_cmp nat_cmp p.group c.group) _ rest),
       part_same p.class c.class (then_first (option_cmp nat_cmp p.class c.class) _ third),
       part_same p.subclass c.subclass (then_first (option_cmp nat_cmp p.subclass c.subclass) _ fourth),

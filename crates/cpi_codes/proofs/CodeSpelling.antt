@@ -7,7 +7,7 @@ use Rattle.cpi_codes.specs.CodeParts.{dot_and_digit, dash_and_number}
 use Rattle.cpi_codes.specs.CodeSpelling.{spelling, is_numbered, is_nested, IsSpelled}
 use Rattle.cpi_codes.specs.declared.spelling.Parts.{Parts}
 
-same_digits : (m n : ℕ) → 48 + m / 10 ≡ 48 + n / 10 → 48 + m % 10 ≡ 48 + n % 10 → m ≡ n
+pub same_digits : (m n : ℕ) → 48 + m / 10 ≡ 48 + n / 10 → 48 + m % 10 ≡ 48 + n % 10 → m ≡ n
 same_digits m n h k = omega arith
 
 -- a text with parts after its division has a group, and one without has none

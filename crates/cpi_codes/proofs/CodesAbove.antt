@@ -6,6 +6,7 @@ use Rattle.std.specs.List.{list_any}
 use Rattle.std.proofs.lemmas.List.Folds.{list_any-append}
 use Rattle.std.proofs.lemmas.Bool.Decides.{nat_tests}
 use Rattle.std.proofs.lemmas.Cmp.{tied_itself}
+use Rattle.cpi_rows.proofs.Truth.{or_of_first, or_of_second, and_first, and_second}
 use Rattle.cpi_codes.specs.CodeParts.{are_parts}
 use Rattle.cpi_codes.specs.CodePath.{code_if, code_with, path}
 use Rattle.cpi_codes.specs.CodeOrder.{is_same_code}
@@ -17,20 +18,12 @@ use Rattle.cpi_codes.proofs.CodeBelow.{fits}
 use Rattle.cpi_codes.proofs.CodePath.{at_or_below-parts, no_group}
 use Rattle.cpi_codes.proofs.CodeIs.{same_code_is}
 
-itself : (k : Code) → is_same_code k k ≡ true
-itself k = ap is_eq (tied_itself total-law k)
-
-or_left : (a b : Bool) → a ≡ true → (a || b) ≡ true
-or_left true b h = refl
-or_left false b h = cc
-
-or_right : (a b : Bool) → b ≡ true → (a || b) ≡ true
-or_right true b h = refl
-or_right false b h = h
+pub same_code_itself : (k : Code) → is_same_code k k ≡ true
+same_code_itself k = ap is_eq (tied_itself total-law k)
 
 made_if : (k : Code) (b : Bool) (e : are_parts k.division k.group k.class k.subclass k.aggregate ≡ b) →
     list_any (is_same_code k) (code_if k.division k.group k.class k.subclass k.aggregate b e) ≡ true
-made_if k true e = or_left _ false (itself k)
+made_if k true e = or_of_first _ false (same_code_itself k)
 made_if k false e = absurd (clash (sym k.valid ∙ e)) where
   clash : true ≡ false → ⊥
   clash e = cc
@@ -48,23 +41,15 @@ made k d g c s a p q r x y =
 
 in_first : (k : Code) (xs ys : List Code) → list_any (is_same_code k) xs ≡ true → list_any (is_same_code k)
     (xs ++ ys) ≡ true
-in_first k xs ys h = list_any-append (is_same_code k) xs ys ∙ or_left _ _ h
+in_first k xs ys h = list_any-append (is_same_code k) xs ys ∙ or_of_first _ _ h
 
 in_rest : (k : Code) (xs ys : List Code) → list_any (is_same_code k) ys ≡ true → list_any (is_same_code k)
     (xs ++ ys) ≡ true
-in_rest k xs ys h = list_any-append (is_same_code k) xs ys ∙ or_right _ _ h
+in_rest k xs ys h = list_any-append (is_same_code k) xs ys ∙ or_of_second _ _ h
 
 fits_is : (x : ℕ) (y : Option ℕ) → fits (Some x) y ≡ true → Some x ≡ y
 fits_is x None h = cc
 fits_is x (Some y) h = let same : x ≡ y = grind (arith, nat_tests) in ap (λ n. Some n) same
-
-first : (a b : Bool) → (a && b) ≡ true → a ≡ true
-first true b h = refl
-first false b h = cc
-
-second : (a b : Bool) → (a && b) ≡ true → b ≡ true
-second true b h = h
-second false b h = cc
 
 number : (m n : ℕ) → (m == n) ≡ true → n ≡ m
 number m n h = grind (arith, nat_tests)
@@ -93,15 +78,15 @@ module _ (k c : Code) (d : k.division ≡ c.division) where
   by_aggregate (Some x) g h s e f =
       let same : k ≡ c = same_code_is k c d g h s (e ∙ fits_is x c.aggregate f) in
       in_rest k (code_with c.division c.group c.class c.subclass None) (c ∷ [])
-      (or_left (is_same_code k c) false (subst (λ z. is_same_code k z ≡ true) same (itself k)))
+      (or_of_first (is_same_code k c) false (subst (λ z. is_same_code k z ≡ true) same (same_code_itself k)))
 
   by_subclass : (s : Option ℕ) → k.group ≡ c.group → k.class ≡ c.class → k.subclass ≡ s →
       (fits s c.subclass && fits k.aggregate c.aggregate) ≡ true → list_any (is_same_code k) (from_class c) ≡ true
   by_subclass None g h e f = in_first k (code_with c.division c.group c.class None None) (from_subclass c)
       (made k c.division c.group c.class None None d g h e (below.2 e))
   by_subclass (Some x) g h e f = in_rest k (code_with c.division c.group c.class None None) (from_subclass c)
-      (by_aggregate k.aggregate g h (e ∙ fits_is x c.subclass (first _ _ f)) refl
-      (second (fits (Some x) c.subclass) _ f))
+      (by_aggregate k.aggregate g h (e ∙ fits_is x c.subclass (and_first _ _ f)) refl
+      (and_second (fits (Some x) c.subclass) _ f))
 
   by_class : (h : Option ℕ) → k.group ≡ c.group → k.class ≡ h →
       (fits h c.class && (fits k.subclass c.subclass && fits k.aggregate c.aggregate)) ≡ true →
@@ -109,7 +94,7 @@ module _ (k c : Code) (d : k.division ≡ c.division) where
   by_class None g e f = in_first k (code_with c.division c.group None None None) (from_class c)
       (made k c.division c.group None None None d g e (below.1 e) (below.2 (below.1 e)))
   by_class (Some x) g e f = in_rest k (code_with c.division c.group None None None) (from_class c)
-      (by_subclass k.subclass g (e ∙ fits_is x c.class (first _ _ f)) refl (second (fits (Some x) c.class) _ f))
+      (by_subclass k.subclass g (e ∙ fits_is x c.class (and_first _ _ f)) refl (and_second (fits (Some x) c.class) _ f))
 
   by_group : (g : Option ℕ) → k.group ≡ g → (fits g c.group
       && (fits k.class c.class && (fits k.subclass c.subclass && fits k.aggregate c.aggregate))) ≡ true →
@@ -117,7 +102,7 @@ module _ (k c : Code) (d : k.division ≡ c.division) where
   by_group None e f = in_first k (code_with c.division None None None None) (from_group c)
       (made k c.division None None None None d e (below.0 e) (below.1 (below.0 e)) (below.2 (below.1 (below.0 e))))
   by_group (Some x) e f = in_rest k (code_with c.division None None None None) (from_group c)
-      (by_class k.class (e ∙ fits_is x c.group (first _ _ f)) refl (second (fits (Some x) c.group) _ f))
+      (by_class k.class (e ∙ fits_is x c.group (and_first _ _ f)) refl (and_second (fits (Some x) c.group) _ f))
 
 is_zero : (n : ℕ) → (n == 0) ≡ true → n ≡ 0
 is_zero n h = grind (arith, nat_tests)
@@ -136,4 +121,4 @@ in_path k c h = by (k.division == 0) refl (sym (at_or_below-parts k c) ∙ h)
         in_first k (code_with 0 None None None None) (from_division c)
         (made k 0 None None None None none g (under.0 g) (under.1 (under.0 g)) (under.2 (under.1 (under.0 g))))
     by false e f = in_rest k (code_with 0 None None None None) (from_division c)
-        (by_group k c (number c.division k.division (first _ _ f)) k.group refl (second (c.division == k.division) _ f))
+        (by_group k c (number c.division k.division (and_first _ _ f)) k.group refl (and_second (c.division == k.division) _ f))

@@ -12,9 +12,9 @@ use Rattle.std.specs.Ordering.{nat_cmp, ordering_then, is_eq}
 use Rattle.std.specs.Cmp.{nat_cmp_is}
 use Rattle.std.specs.Cmp.Lexicographic.{slice_cmp}
 use Rattle.std.proofs.lemmas.Bool.{cases_order}
+use Rattle.cpi_rows.proofs.Truth.{and_both, less_of_lt}
 use Rattle.cpi_codes.specs.ItemCode.{is_character_of_item, item_code_of}
 use Rattle.cpi_codes.proofs.Bytes.{text-of-code, text-parts, character-range}
-use Rattle.cpi_codes.proofs.Choices.{both}
 
 -- the first of the bytes counts most
 after-head : (n : ℕ) (xs : List ℕ) → number_from_digits_after 256 n xs ≡ n * 256 ^ length xs +
@@ -73,7 +73,7 @@ unfolding weighed
 weighed-lt zero text h = lit< tt
 weighed-lt (suc k) [] h = positive (suc k)
 weighed-lt (suc k) (x ∷ xs) h =
-    let parts = both (is_character_of_item x) (list_all is_character_of_item xs) h in
+    let parts = and_both (is_character_of_item x) (list_all is_character_of_item xs) h in
     let rest = weighed-lt k xs parts.1 in
     let range = character-range x parts.0 in
     let power = pow-succ' 256 k in
@@ -81,9 +81,6 @@ weighed-lt (suc k) (x ∷ xs) h =
     let most = mul-le-mul_right (256 ^ k) within in
     let one = suc-mul x (256 ^ k) in
     omega arith
-
-less : (a b : ℕ) → a < b → nat_cmp a b ≡ Less
-less a b h = sym (nat_cmp_is a b Less h)
 
 equal : (a b : ℕ) → a ≡ b → nat_cmp a b ≡ Equal
 equal a b h = sym (nat_cmp_is a b Equal h)
@@ -103,7 +100,7 @@ same-first : (p x u v : ℕ) → nat_cmp (x * p + u) (x * p + v) ≡ nat_cmp u v
 same-first p x u v = elim (cases_order u v) [
   | inl same ↦ equal (x * p + u) (x * p + v) (omega arith) ∙ sym (equal u v same)
   | inr differ ↦ elim differ [
-    | inl below ↦ less (x * p + u) (x * p + v) (omega arith) ∙ sym (less u v below)
+    | inl below ↦ less_of_lt (x * p + u) (x * p + v) (omega arith) ∙ sym (less_of_lt u v below)
     | inr above ↦ greater (x * p + u) (x * p + v) (omega arith) ∙ sym (greater u v above)
   ]
 ]
@@ -113,7 +110,7 @@ by-digits : (p x y u v : ℕ) → u < p → v < p → nat_cmp (x * p + u) (y * p
 by-digits p x y u v small tiny = elim (cases_order x y) [
   | inl same ↦ rw (equal x y same) (rw same (same-first p y u v))
   | inr differ ↦ elim differ [
-    | inl below ↦ rw (less x y below) (less (x * p + u) (y * p + v) (more-first p x y u v small below))
+    | inl below ↦ rw (less_of_lt x y below) (less_of_lt (x * p + u) (y * p + v) (more-first p x y u v small below))
     | inr above ↦ rw (greater x y above) (greater (x * p + u) (y * p + v) (more-first p y x v u tiny above))
   ]
 ]
@@ -127,15 +124,15 @@ weighed-order zero (x ∷ xs) b la lb ca cb = absurd (omega arith)
 weighed-order zero [] (y ∷ ys) la lb ca cb = absurd (omega arith)
 weighed-order (suc k) [] [] la lb ca cb = refl
 weighed-order (suc k) [] (y ∷ ys) la lb ca cb =
-    let parts = both (is_character_of_item y) (list_all is_character_of_item ys) cb in
+    let parts = and_both (is_character_of_item y) (list_all is_character_of_item ys) cb in
     let range = character-range y parts.0 in
     let low : suc 0 ≤ y = omega arith in
     let most = mul-le-mul_right (256 ^ k) low in
     let one = suc-mul 0 (256 ^ k) in
     let some = positive k in
-    less 0 (y * 256 ^ k + weighed k ys) (omega arith)
+    less_of_lt 0 (y * 256 ^ k + weighed k ys) (omega arith)
 weighed-order (suc k) (x ∷ xs) [] la lb ca cb =
-    let parts = both (is_character_of_item x) (list_all is_character_of_item xs) ca in
+    let parts = and_both (is_character_of_item x) (list_all is_character_of_item xs) ca in
     let range = character-range x parts.0 in
     let low : suc 0 ≤ x = omega arith in
     let most = mul-le-mul_right (256 ^ k) low in
@@ -143,8 +140,8 @@ weighed-order (suc k) (x ∷ xs) [] la lb ca cb =
     let some = positive k in
     greater (x * 256 ^ k + weighed k xs) 0 (omega arith)
 weighed-order (suc k) (x ∷ xs) (y ∷ ys) la lb ca cb =
-    let pa = both (is_character_of_item x) (list_all is_character_of_item xs) ca in
-    let pb = both (is_character_of_item y) (list_all is_character_of_item ys) cb in
+    let pa = and_both (is_character_of_item x) (list_all is_character_of_item xs) ca in
+    let pb = and_both (is_character_of_item y) (list_all is_character_of_item ys) cb in
     by-digits (256 ^ k) x y (weighed k xs) (weighed k ys) (weighed-lt k xs pa.1) (weighed-lt k ys pb.1)
     ∙ ap (ordering_then (nat_cmp x y)) (weighed-order k xs ys (omega arith) (omega arith) pa.1 pb.1)
 

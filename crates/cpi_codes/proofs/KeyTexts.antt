@@ -5,8 +5,9 @@ use Rattle.std.proofs.lemmas.Bool.Decides.{nat_tests}
 use Rattle.std.specs.List.{list_all}
 use Rattle.std.specs.Char.{digit_value}
 use Rattle.std.specs.Str.Parse.{digits_value, digits_value_after}
+use Rattle.cpi_rows.proofs.Truth.{and_both}
 use Rattle.cpi_codes.specs.Key.{is_digit_of_key, key_of}
-use Rattle.cpi_codes.proofs.Choices.{both, chosen}
+use Rattle.cpi_codes.proofs.Choices.{chosen}
 
 digit-lt : (c : ℕ) → is_digit_of_key c ≡ true → digit_value c < 16
 digit-lt c h = grind (arith, nat_tests)
@@ -21,8 +22,8 @@ same-digits m n [] [] p q l e = (e, refl)
 same-digits m n [] (y ∷ ys) p q l e = absurd (omega arith)
 same-digits m n (x ∷ xs) [] p q l e = absurd (omega arith)
 same-digits m n (x ∷ xs) (y ∷ ys) p q l e =
-    let px = both (is_digit_of_key x) (list_all is_digit_of_key xs) p in
-    let qy = both (is_digit_of_key y) (list_all is_digit_of_key ys) q in
+    let px = and_both (is_digit_of_key x) (list_all is_digit_of_key xs) p in
+    let qy = and_both (is_digit_of_key y) (list_all is_digit_of_key ys) q in
     let len : length xs ≡ length ys = omega arith in
     let rest = same-digits (m * 16 + digit_value x) (n * 16 + digit_value y) xs ys px.1 qy.1 len e in
     let dx = digit-lt x px.0 in
@@ -37,8 +38,8 @@ pub one-spelling : (key : ℕ) (a b : List ℕ) → key_of a ≡ Some key → ke
 one-spelling key a b p q =
     let ra = chosen (length a == 32 && list_all is_digit_of_key a) (digits_value 16 a) key p in
     let rb = chosen (length b == 32 && list_all is_digit_of_key b) (digits_value 16 b) key q in
-    let ta = both (length a == 32) (list_all is_digit_of_key a) ra.0 in
-    let tb = both (length b == 32) (list_all is_digit_of_key b) rb.0 in
+    let ta = and_both (length a == 32) (list_all is_digit_of_key a) ra.0 in
+    let tb = and_both (length b == 32) (list_all is_digit_of_key b) rb.0 in
     let la : length a ≡ 32 = grind (arith, nat_tests, ta.0) in
     let lb : length b ≡ 32 = grind (arith, nat_tests, tb.0) in
     (same-digits 0 0 a b ta.1 tb.1 (omega arith) (sym ra.1 ∙ rb.1)).1

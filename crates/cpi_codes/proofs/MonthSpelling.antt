@@ -8,11 +8,11 @@ use Rattle.std.specs.Fmt.{decimal}
 use Rattle.std.specs.List.{list_all}
 use Rattle.std.specs.Char.{is_ascii_digit, digit_value}
 use Rattle.std.specs.Str.Parse.{digits_value}
+use Rattle.cpi_rows.proofs.Truth.{and_both}
 use Rattle.cpi_codes.specs.declared.months.MonthFault.{MonthFault}
 use Rattle.cpi_codes.specs.declared.months.MonthFault.TheVariants.{Shape, Range}
 use Rattle.cpi_codes.specs.Month.{below_hundred, year_of, month_of_year, month_text, month_in, month_of, is_in_calendar}
 use Rattle.cpi_codes.specs.Month.{has_month_shape, months_since_2000}
-use Rattle.cpi_codes.proofs.Choices.{both}
 use Rattle.cpi_codes.proofs.Digits.{digit-range}
 use Rattle.cpi_codes.proofs.NumberTexts.{model, all-same}
 
@@ -96,8 +96,8 @@ one-spelling month (a ∷ b ∷ c ∷ d ∷ s ∷ e ∷ f ∷ []) h =
     let shape = four (length text == 7) (list_all is_ascii_digit (take 4 text)) (slice_index text 4 == 45)
     (list_all is_ascii_digit (drop 5 text)) read.0 in
     let dash : s ≡ 45 = grind (arith, nat_tests, shape.2) in
-    let digits = both (is_ascii_digit e) (is_ascii_digit f && true) shape.3 in
-    let last = both (is_ascii_digit f) true digits.1 in
+    let digits = and_both (is_ascii_digit e) (is_ascii_digit f && true) shape.3 in
+    let last = and_both (is_ascii_digit f) true digits.1 in
     let is = found year number month read.1 in
     let front = printed-year a b c d shape.1 is.0 is.1 in
     let back = two-printed e f digits.0 last.0 in

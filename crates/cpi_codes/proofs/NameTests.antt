@@ -3,11 +3,8 @@ use Rattle.std.proofs.Common.{◌≡◌, sym, refl, List, ℕ, Bool, true, false
 use Rattle.std.proofs.Common.{IsUtf8}
 use Rattle.std.specs.Str.{is_utf8}
 use Rattle.std.proofs.lemmas.Str.{is_utf8-from_IsUtf8, IsUtf8-from_is_utf8}
+use Rattle.cpi_rows.proofs.Truth.{and_false_second}
 use Rattle.cpi_codes.specs.Name.{is_text_of_name}
-
-last-false : (a b : Bool) → b ≡ false → (a && b) ≡ false
-last-false true b h = h
-last-false false b h = refl
 
 not-utf8 : (b : Bool) (text : List ℕ) → is_utf8 text ≡ b → ¬ (IsUtf8 text) → b ≡ false
 not-utf8 true text e h = absurd (h (IsUtf8-from_is_utf8 text e))
@@ -15,7 +12,7 @@ not-utf8 false text e h = refl
 
 pub not-name : (text : List ℕ) → ¬ (IsUtf8 text) → is_text_of_name text ≡ false
 unfolding is_text_of_name
-not-name text h = last-false _ (is_utf8 text) (not-utf8 (is_utf8 text) text refl h)
+not-name text h = and_false_second _ (is_utf8 text) (not-utf8 (is_utf8 text) text refl h)
 
 -- a conversion that succeeds just where the bytes are UTF-8 tells whether they are
 pub ok-is-utf8 : {T E : Type 0} (r : Result T E) (text : List ℕ) (P : T → Type 0) (Q : E → Type 0) →

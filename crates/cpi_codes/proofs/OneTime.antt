@@ -1,25 +1,23 @@
 -- A text is one time of the calendar at most.
 use Rattle.std.proofs.Common.{◌≡◌, ◌+◌, ◌/◌, ◌%◌, ℕ, ◌∙◌, sym, ap, arith, get_or, pos, refl}
+use Rattle.cpi_codes.proofs.CodeSpelling.{same_digits}
 use Rattle.jiff.proofs.Family.{same_date, same_time}
 use Rattle.jiff_core.proofs.DateLemmas.{epoch_day_same}
 use Rattle.jiff_core.specs.Time.{time_nanos}
 use Rattle.cpi_codes.specs.Civil.{civil_text}
 use Rattle.cpi_codes.specs.Civil.{OneTime}
 
-same_number : (m n : ℕ) → 48 + m / 10 ≡ 48 + n / 10 → 48 + m % 10 ≡ 48 + n % 10 → m ≡ n
-same_number m n tens ones = omega arith
-
 pub one_time : OneTime
 one_time text y z a b p q =
     let same = sym p.spelled ∙ q.spelled in
     let at : (k : ℕ) → get_or (civil_text y a.date.month a.date.day a.time.hour a.time.minute) k 0 ≡ get_or
     (civil_text z b.date.month b.date.day b.time.hour b.time.minute) k 0 = λ k. ap (λ l. get_or l k 0) same in
-    let month = same_number a.date.month b.date.month (at 5) (at 6) in
-    let day = same_number a.date.day b.date.day (at 8) (at 9) in
-    let hour = same_number a.time.hour b.time.hour (at 11) (at 12) in
-    let minute = same_number a.time.minute b.time.minute (at 14) (at 15) in
-    let century = same_number (y / 100) (z / 100) (at 0) (at 1) in
-    let in_century = same_number (y % 100) (z % 100) (at 2) (at 3) in
+    let month = same_digits a.date.month b.date.month (at 5) (at 6) in
+    let day = same_digits a.date.day b.date.day (at 8) (at 9) in
+    let hour = same_digits a.time.hour b.time.hour (at 11) (at 12) in
+    let minute = same_digits a.time.minute b.time.minute (at 14) (at 15) in
+    let century = same_digits (y / 100) (z / 100) (at 0) (at 1) in
+    let in_century = same_digits (y % 100) (z % 100) (at 2) (at 3) in
     let year : y ≡ z = omega arith in
     let year_same : a.date.year ≡ b.date.year = p.year_is ∙ ap (λ n. pos n) year ∙ sym q.year_is in
     let date = same_date a.date b.date (epoch_day_same a.date b.date year_same month day) in

@@ -6,6 +6,7 @@ use Rattle.std.specs.Option.{option_or}
 use Rattle.std.specs.List.{AllByRecursion}
 use Rattle.std.proofs.lemmas.Bool.{eqb-true}
 use Rattle.std.proofs.lemmas.Bool.Decides.{eqb_tells}
+use Rattle.cpi_rows.proofs.Truth.{equal_itself}
 use Rattle.cpi_release.specs.Latest.{latest_row}
 use Rattle.cpi_release.specs.PublishedTables.{PublishedTable, asked_table, is_asked, printed_bytes}
 use Rattle.cpi_release.specs.declared.form.Form.{Form}
@@ -90,8 +91,6 @@ all_asked : (tables : List PublishedTable) → filter (λ t. is_asked None t.rev
 all_asked [] = refl
 all_asked (t ∷ tables) = ap (λ ts. t ∷ ts) (all_asked tables)
 
-same_revision : (r : ℕ) → (r == r) ≡ true
-same_revision r = by (eqb_tells r r)
   where
     by : ((eqb r r ≡ true) × (r ≡ r)) ⊎ ((eqb r r ≡ false) × (r ≢ r)) → (r == r) ≡ true
     by (inl same) = same.0
@@ -103,7 +102,7 @@ module _ (month : ℕ) (tables : List PublishedTable) where
       asked_table month (Some t.revision) tables ≡ Some t
   latest_named t e =
       latest_passes (λ (x : PublishedTable). x.month) month (λ x. is_asked (Some t.revision) x.revision) tables t
-      (sym (ap (latest_row (λ (x : PublishedTable). x.month) month) (all_asked tables)) ∙ e) (same_revision t.revision)
+      (sym (ap (latest_row (λ (x : PublishedTable). x.month) month) (all_asked tables)) ∙ e) (equal_itself t.revision)
 
   -- a table that is asked for by its revision is printed with it
   pub named_bytes : (form : Form) (revision : ℕ) →

@@ -16,14 +16,12 @@ use Rattle.cpi_codes.proofs.CodePath.{at_or_below-parts}
 use Rattle.cpi_codes.proofs.CodeBelow.{fits}
 use Rattle.cpi_codes.proofs.CodeIs.{code}
 use Rattle.cpi_rows.proofs.Truth.{and_first, and_second, and_true, or_of_first, or_of_second, equal_itself}
+use Rattle.cpi_codes.proofs.CodesAbove.{same_code_itself}
 use Rattle.cpi_plan.specs.declared.limits.TheConstants.{ALL_PARTS}
 use Rattle.cpi_plan.specs.Sums.{weight_under, is_node}
 use Rattle.cpi_plan.specs.Plan.{Plan, IsPlan, total_weight}
 use Rattle.cpi_plan.specs.Stored.{is_weighed, is_complete, is_whole}
 use Rattle.cpi_plan.specs.declared.plan_rows.Weight.{Weight}
-
-pub same_itself : (c : Code) → is_same_code c c ≡ true
-same_itself c = ap is_eq (tied_itself total-law c)
 
 fits_itself : (x : Option ℕ) → fits x x ≡ true
 fits_itself None = refl
@@ -126,7 +124,7 @@ module _ (p : Plan) (v : IsPlan p) where
   weighed : list_all (is_weighed p.weights) p.nodes ≡ true
   weighed =
       all_both (λ n. is_node p.weights n.code) (λ n. n.weight == weight_under n.code p.weights) p.nodes
-      (all_among (λ m n. is_same_code m.code n.code) (λ n. same_itself n.code) (λ n. is_node p.weights n.code) p.nodes
+      (all_among (λ m n. is_same_code m.code n.code) (λ n. same_code_itself n.code) (λ n. is_node p.weights n.code) p.nodes
       (λ n h. v.complete n.code ∙ h))
       v.weighed
 

@@ -31,7 +31,8 @@ use Rattle.cpi_plan.specs.declared.plan_rows.Node.{Node}
 use Rattle.cpi_plan.specs.declared.plan_rows.Place.{Place}
 use Rattle.cpi_plan.proofs.FaultLemmas.{equal_is}
 use Rattle.cpi_plan.proofs.UnderLemmas.{number_is, and_first, and_second, under_cons}
-use Rattle.cpi_plan.proofs.StoredLemmas.{below_itself, same_itself}
+use Rattle.cpi_plan.proofs.StoredLemmas.{below_itself}
+use Rattle.cpi_codes.proofs.CodesAbove.{same_code_itself}
 use Rattle.cpi_sql_rows.specs.Lists.{years, if_whole, plan_at, plans_in, nodes_in, places_in, node_in, place_in_row}
 use Rattle.cpi_sql_rows.specs.Lists.{reference_of, reference_month_in_row, references_for, references_in}
 use Rattle.cpi_sql_rows.specs.declared.reference_months.ReferenceMonth.{ReferenceMonth}
@@ -167,7 +168,7 @@ module _ (p : Plan) (v : IsPlan p) where
       (λ w h.
       let it = weights_has p.nodes w h in
       let node : is_node p.weights it.0.code ≡ true = v.complete it.0.code
-      ∙ some_from (λ (m : Node). is_same_code m.code it.0.code) p.nodes it.0 it.1 (same_itself it.0.code) in
+      ∙ some_from (λ (m : Node). is_same_code m.code it.0.code) p.nodes it.0 it.1 (same_code_itself it.0.code) in
       let u = some_has (λ (w : Weight). is_code_at_or_below it.0.code w.code) p.weights node in
       subst (Has p.weights) (sym (it.3
       ∙ same_weight it.0 u.0 it.1 u.1 it.2 (below_elementary it.0.code u.0.code it.2 u.2))) u.1)
