@@ -158,6 +158,11 @@ reference_years = second (λ s. AsksYears s (codes "SELECT rowid, year FROM plan
 pub schema_after : (Fits : Schema → Type 0) (a b : State) → IsKept a b → Fits a.now.schema → Fits b.now.schema
 schema_after Fits a b k has = subst (λ (d : Database). Fits d.schema) (sym k.now) has
 
+-- what follows from the fact about an answer holds if the call answers
+pub on_ok_implies : {A E : Type 0} (r : Result A E) (P Q : Type 0) → OnOk r P → (P → Q) → OnOk r Q
+on_ok_implies (Ok a) P Q h f = f h
+on_ok_implies (Err e) P Q h f = tt
+
 pub on_any : {A E : Type 0} (r : Result A E) (P : Type 0) → P → OnOk r P
 on_any (Ok a) P h = h
 on_any (Err e) P h = tt

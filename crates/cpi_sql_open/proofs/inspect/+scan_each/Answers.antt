@@ -1,6 +1,6 @@
 use Rattle.std.proofs.Common.{[], get_or, arith, subst}
 use Rattle.sqlite.specs.Held.{state}
-use Rattle.cpi_rows.proofs.Lists.{on_ok_weaker}
+use Rattle.cpi_sql_rows.proofs.FoundTables.{on_ok_implies}
 use Rattle.cpi_sql_rows.specs.Finding.{AsksRowids}
 use Rattle.cpi_sql_rows.specs.Shelf.{HasRowids}
 use Rattle.cpi_sql_open.proofs.Looks.{Rise, all_known, each_asked, first_asked, overlay_none, scanned}
@@ -19,13 +19,13 @@ returns-clause-look g t c = each_asked AsksRowids 0 c.args.texts.now c.in-len1-u
 pub returns-clause-rise : goal.returns-clause-rise
 returns-clause-rise g t c =
     let old = state g.S.Store c.args.conn.now in
-    on_ok_weaker c.scan_each.result _ _ c.scan_each.ensures.rise (all_known AsksRowids 0 c.args.texts.now
+    on_ok_implies c.scan_each.result _ _ c.scan_each.ensures.rise (all_known AsksRowids 0 c.args.texts.now
     c.in-len1-up.len_at_least old (state g.S.Store c.scan.new.conn)
     (scanned (get_or c.args.texts.now 0 blank).now _ _ c.scan.ensures.asked)
     (state g.S.Store c.scan_each.new.conn) c.scan_each.ensures.look Rise
     (λ clean tree asks. subst HasRowids (overlay_none old.now.trees tree) (c.in_ok-scan.ensures.rise clean tree asks)))
 
 pub returns-clause-stays : goal.returns-clause-stays
-returns-clause-stays g t c = on_ok_weaker c.scan_each.result _ _ c.scan_each.ensures.stays
+returns-clause-stays g t c = on_ok_implies c.scan_each.result _ _ c.scan_each.ensures.stays
     (λ stays disk was. stays disk
     (c.in_ok-scan.ensures.open (omega (arith, (c.scan_each.ensures.look []).crash.clean))))
