@@ -18,7 +18,7 @@ use Rattle.cpi_store.specs.Office.{Office}
 use Rattle.cpi_store.specs.FrozenLists.{HasFrozenList}
 use Rattle.cpi_store.specs.Released.{AreReleased}
 
--- whoever has a number is the only one to bear that key
+-- the key of each registration finds that registration: no two share a key
 abbrev pub BearOwnKeys : List Registration → Type 0
 BearOwnKeys registrations =
     (number : ℕ) (b : Registration) → row_by_number (λ b. b.number) number registrations ≡ Some b → registration_of
