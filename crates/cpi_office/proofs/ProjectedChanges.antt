@@ -21,7 +21,7 @@ use Rattle.cpi_office.specs.ProjectedChanges.{Sight, IsAssigned, HasEnded, sight
 use Rattle.cpi_office.specs.ProjectedChanges.{is_registration_of}
 use Rattle.cpi_office.specs.ProjectedChanges.{with_assigned}
 use Rattle.cpi_office.specs.ProjectedChanges.{with_end, with_quote}
-use Rattle.cpi_store.specs.Sound.{IsSound, HasItsRows, BearOwnKeys}
+use Rattle.cpi_store.specs.Sound.{IsSound, HasItsRows, HaveOwnKeys}
 use Rattle.cpi_plan.specs.declared.items.Item.{Item}
 use Rattle.cpi_plan.specs.Plan.{Plan}
 use Rattle.cpi_plan.specs.Calendar.{CalendarPart}
@@ -72,7 +72,7 @@ shows_calendar Desk t o r = refl
 
 -- a row of a collector who is found by number: what the registration of a key sees of it
 module _ (key t : ℕ) (o : Office) (sorted : IsInOrder nat_cmp (λ b. b.number) o.collectors)
-    (keys : BearOwnKeys o.collectors) (b : Registration)
+    (keys : HaveOwnKeys o.collectors) (b : Registration)
     (found : row_by_number (λ b. b.number) b.number o.collectors ≡ Some b) where
   registered : b.key ≡ key → registration_of key o.collectors ≡ Some b
   registered same = ap (λ k. registration_of k o.collectors) (sym same) ∙ keys b.number b found

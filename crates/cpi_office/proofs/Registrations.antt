@@ -12,7 +12,7 @@ use Rattle.cpi_rows.specs.Keyed.{IsInOrder, row_by_number, put_by}
 use Rattle.cpi_rows.specs.Held.{held_by}
 use Rattle.cpi_store.specs.Registration.{registration_of}
 use Rattle.cpi_store.specs.Outlet.{with_name}
-use Rattle.cpi_store.specs.Sound.{BearOwnKeys, HasItsAssignment}
+use Rattle.cpi_store.specs.Sound.{HaveOwnKeys, HasItsAssignment}
 use Rattle.cpi_store.specs.declared.registration.Registration.{Registration}
 use Rattle.cpi_store.specs.declared.outlet.Outlet.{Outlet}
 use Rattle.cpi_store.specs.declared.given.Given.{Given}
@@ -77,7 +77,7 @@ module _ (b : Registration) (bs : List Registration) (sorted : IsInOrder nat_cmp
   registration-put_other key e = registration_passed key b _ _ e ∙ ap (registration_of key) all_others
 
   -- each collector still has a key that no other has
-  pub keys-put : BearOwnKeys bs → registration_of b.key bs ≡ None → BearOwnKeys (put_by (λ b. b.number) b bs)
+  pub keys-put : HaveOwnKeys bs → registration_of b.key bs ≡ None → HaveOwnKeys (put_by (λ b. b.number) b bs)
   keys-put keys free n x found = by (eqb_tells b.number n)
     where
       other : (eqb b.key x.key ≡ true) × (b.key ≡ x.key) ⊎ (eqb b.key x.key ≡ false) × (b.key ≢ x.key) →

@@ -19,8 +19,8 @@ use Rattle.cpi_store.specs.FrozenLists.{HasFrozenList}
 use Rattle.cpi_store.specs.Released.{AreReleased}
 
 -- the key of each registration finds that registration: no two share a key
-abbrev pub BearOwnKeys : List Registration → Type 0
-BearOwnKeys registrations =
+abbrev pub HaveOwnKeys : List Registration → Type 0
+HaveOwnKeys registrations =
     (number : ℕ) (b : Registration) → row_by_number (λ b. b.number) number registrations ≡ Some b → registration_of
     b.key registrations ≡ Some b
 
@@ -77,7 +77,7 @@ pub record IsSound (o : Office) : Type 0 where
   pub assignments : IsInOrder (held_cmp nat_cmp) (held_key (λ g. g.assignment.slot)) o.assignments
   pub quotes : IsInOrder (held_cmp quote_cmp) (held_key quote_key) o.quotes
   pub releases : IsInOrder release_cmp release_key o.releases
-  pub keys : BearOwnKeys o.collectors
+  pub keys : HaveOwnKeys o.collectors
   -- each assignment has its collector, outlet and item, each quote its assignment, in whose months it is
   pub assigned : AllByRecursion (HasItsRows o) o.assignments
   pub quoted : AllByRecursion (HasItsAssignment o.assignments) o.quotes
