@@ -23,7 +23,7 @@ module _ (month revision : ℕ) (tables : List PublishedTable) where
   named = asked_table month (Some revision) tables
 
   -- the latest table, by its revision
-  pub revision_published : Some revision ≡ option_map (λ (t : PublishedTable). t.revision) (asked_table month None tables)
+  pub latest_revision : Some revision ≡ option_map (λ (t : PublishedTable). t.revision) (asked_table month None tables)
       → named ≡ asked_table month None tables
   latest_revision e = by (asked_table month None tables) refl e
     where
