@@ -221,8 +221,8 @@ module _ (trees : Trees) where
 
   pub table_is : (month revision until : ℕ)
       → option_map (λ (t : PublishedTable). t.levels) (table_until month (Some revision) until (releases_in trees))
-      ≡ (if is_header_there month revision until headers then Some (levels_at (releases_in trees) (month, revision))
-      else None)
+      ≡ (if is_header_there month revision until headers
+      then Some (levels_at (releases_in trees) (month, revision)) else None)
   table_is month revision until =
       ap (option_map (λ (t : PublishedTable). t.levels)) (table_made month (Some revision) until)
       ∙ by (latest_header month (asked_headers (Some revision) until headers)) refl

@@ -10,8 +10,8 @@ use Rattle.cpi_store.specs.declared.given.Given.{Given}
 use Rattle.cpi_sql_rows.proofs.Inserting.{none_apart}
 use Rattle.cpi_sql_rows.proofs.Lists.{has_held, held_tied}
 
-pub slot_apart : (c s : ℕ) (rows : List (ℕ × Given)) → row_by_number (λ (g : Given). g.assignment.slot) s
-    (held_by c rows) ≡ None
+pub slot_apart : (c s : ℕ) (rows : List (ℕ × Given))
+    → row_by_number (λ (g : Given). g.assignment.slot) s (held_by c rows) ≡ None
     → (y : ℕ × Given) → Has rows y
     → held_cmp nat_cmp (held_key (λ (g : Given). g.assignment.slot) y) (c, s) ≢ Equal
 slot_apart c s rows none y h e =

@@ -35,8 +35,8 @@ module _ (change : Change) (old new : State) (has : HasTables old) (schema : new
   pub tables_written : (tables : List OfficeTable) → written_by change ≡ map tree_of tables
       → SameBut (map tree_of tables) old.now.trees new.now.trees
       → AllByRecursion (λ t. Written t (old.now.trees (tree_of t)) (new.now.trees (tree_of t))) tables
-      → office_in (beside (map tree_of tables) old.now.trees new.now.trees) ≡ office_with change
-      (office_in old.now.trees)
+      → office_in (beside (map tree_of tables) old.now.trees new.now.trees)
+      ≡ office_with change (office_in old.now.trees)
       → IsDone change old new
   tables_written tables writes others written office =
       table_written tables change old new writes schema alone all others written
@@ -50,8 +50,8 @@ module _ (change : Change) (old new : State) (has : HasTables old) (schema : new
       → PutsRow o key entry x (old.now.trees (tree_of t)) (new.now.trees (tree_of t))
       → (Writes R key entry (old.now.trees (tree_of t)) (new.now.trees (tree_of t))
       → Written t (old.now.trees (tree_of t)) (new.now.trees (tree_of t)))
-      → (rows_in_key_order R key entry (new.now.trees (tree_of t)) ≡ with_row R key x
-      (rows_in_key_order R key entry (old.now.trees (tree_of t)))
+      → (rows_in_key_order R key entry (new.now.trees (tree_of t))
+      ≡ with_row R key x (rows_in_key_order R key entry (old.now.trees (tree_of t)))
       → office_in (beside (tree_of t ∷ []) old.now.trees new.now.trees) ≡ office_with change (office_in old.now.trees))
       → IsDone change old new
   row_done t writes others o key entry x keyed puts written office =

@@ -204,8 +204,8 @@ module _ {X : Type 0} (it : Table) (entry : Row → Option (ℕ × X)) (GoesBy :
 
     -- where the statement was run
     rows_added : (text : List ℕ) (values : Row) (old new : State) → Makes text (Insert at (Values terms (suc width)))
-        → IsTrue old.in_transaction → RanStatement text values old new → AddsColumns it entry GoesBy count
-        values old new
+        → IsTrue old.in_transaction → RanStatement text values old new
+        → AddsColumns it entry GoesBy count values old new
     rows_added text values old new is inside run xs counted p =
         let gives = gives_rows values xs p counted in
         let from = Values terms (suc width) in

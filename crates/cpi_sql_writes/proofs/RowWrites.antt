@@ -63,8 +63,8 @@ item_row c t u l h db = Int (next_rowid (db 4)) ∷ item_columns c t u l h
 module _ {A E : Type 0} (old new : State) (result : Result A E) where
   pub collector_written : (b : Registration) (n : ℕ) (k : List ℕ) → registration_from (Int (pos n)) (Text k) ≡ Some b
       → RunsAlone put_collector_text (Int (pos n) ∷ Text k ∷ []) old new result
-      → Written (Registers b) (λ o. row_by_number (λ (b : Registration). b.number) b.number o.collectors ≡ None) old
-      new result
+      → Written (Registers b) (λ o. row_by_number (λ (b : Registration). b.number) b.number o.collectors ≡ None)
+      old new result
   unfolding releases_in
   collector_written b n k is =
       let key : Registration → ℕ = λ b. b.number in

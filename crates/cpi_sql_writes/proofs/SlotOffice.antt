@@ -79,8 +79,8 @@ module _ (n : ℕ) (g : Given) (c : GivenColumns) (is : given_of c ≡ Some (n, 
 
   -- the row of a slot that is free
   pub added_puts : (old : Trees) (after : Database) → IsNumberFree n g.assignment.slot (assignments_in (old 22))
-      → Added c old after → IsKeyed (held_cmp nat_cmp) slot_key assignment_in_row (old 22) → Puts (old 22)
-      (after.trees 22)
+      → Added c old after → IsKeyed (held_cmp nat_cmp) slot_key assignment_in_row (old 22)
+      → Puts (old 22) (after.trees 22)
   added_puts old after free added keyed =
       inserted (held_total nat_cmp_total) slot_key assignment_in_row (n, g) (old 22) (after.trees 22)
       (Int (next_rowid (old 22)) ∷ columns_of c) is added.rows added.kept keyed
@@ -107,8 +107,8 @@ module _ {A E : Type 0} (c : GivenColumns) (old new : State) (result : Result A 
       → Changes table_of_assignments_2.tree (PutsGiven n g) old new)
   given_adds ran = within_as old new result (RanStatement put_assignment_text (columns_of c))
       (λ old new. (n : ℕ) (g : Given)
-      → given_of c ≡ Some (n, g) → IsNumberFree n g.assignment.slot
-      (assignments_in (old.now.trees table_of_assignments_2.tree))
+      → given_of c ≡ Some (n, g)
+      → IsNumberFree n g.assignment.slot (assignments_in (old.now.trees table_of_assignments_2.tree))
       → Changes table_of_assignments_2.tree (PutsGiven n g) old new) ran
       (λ inside run n g is free ready. made_step 22 put_assignment_text (columns_of c) (Added c) (row_made c)
       (PutsGiven n g) old new (λ ids made. record {
