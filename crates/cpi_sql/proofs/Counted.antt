@@ -15,7 +15,7 @@ module _ {T E F : Type 0} {before after : ℕ} where
   on_err (Ok x) counted p = absurd (let no = counted.answered in cc)
   on_err (Err e) counted p = p
 
-  -- a fact about what was found is one about the answer
+  -- a fact that holds if something was found holds if it is the answer
   pub answers : (P : Type 0) (found : Result T E) (result : Result T F) → IsCounted found result before after
       → OnOk found P → OnOk result P
   answers P (Ok x) result counted p = rw counted.answered p

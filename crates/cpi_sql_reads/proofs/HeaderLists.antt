@@ -1,4 +1,4 @@
--- The headers tell what the releases do.
+-- The headers show the same as the releases.
 use Rattle.std.proofs.Common.{◌≡◌, ◌≢◌, inl, inr, ℕ, ◌==◌, Bool, true, false, List, [], ◌∷◌, map, ◌++◌, Some, None}
 use Rattle.std.proofs.Common.{Option, IsTrue, refl, sym, ap, subst, ◌∙◌}
 use Rattle.std.specs.Prelude.{IfSome, IsSome, filter, nat_le, option_map, if◌then◌else◌}
@@ -45,7 +45,7 @@ use Rattle.cpi_sql_reads.specs.Headers.{months_until}
 use Rattle.cpi_sql_reads.specs.Headers.{latest_revision}
 use Rattle.cpi_sql_reads.specs.ReleaseLists.{AreListsOf, IsListOfRelease, IsLatest, IsListOf, ReleaseList, list_key}
 
--- what a release says beside its lists
+-- the header of a release: all but its lists
 abbrev pub header_of : Release → Header
 header_of r = record {
   month = r.month;
@@ -55,7 +55,7 @@ header_of r = record {
   carry = r.carry;
 }
 
--- what stands in the table of a release; nothing where there is no such release
+-- the rows of a release's table; none if there is no such release
 abbrev levels_at : List Release → ReleaseKey → List Level
 levels_at releases key = option_map_or (λ r. r.levels) (row_at release_cmp release_key key releases) []
 

@@ -1,4 +1,4 @@
--- The latest row of a month is the first from behind.
+-- The latest row of a month is the first one from the end.
 use Rattle.std.proofs.Common.{◌≡◌, ◌&&◌, ◌==◌, ℕ, Bool, true, false, List, [], ◌∷◌, Option, Some, None, reverse, refl}
 use Rattle.std.proofs.Common.{ap, ◌∙◌}
 use Rattle.std.specs.List.{find}

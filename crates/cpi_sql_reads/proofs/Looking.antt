@@ -58,7 +58,7 @@ module _ {a b c : State} (one : Looked a b (StaysOpen a b)) where
   pub looks_done : {A E : Type 0} (r : Result A E) → Looked b c (StaysOpen b c) → Looks a c r
   looks_done r two = looks_more r a c (looks_both two)
 
-  -- what the second tells is told of the rows before the first, which are the same
+  -- a fact from the second look is one about the rows before the first, which are the same
   pub later : {N : Type 0} (P : Trees → Type 0) → Looked b c N
       → (IsCleanBook c → HasTables b → P b.now.trees) → IsCleanBook c → HasTables a → P a.now.trees
   later P two told clean has =

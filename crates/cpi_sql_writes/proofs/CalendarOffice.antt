@@ -40,7 +40,7 @@ month_in r x e =
 abbrev pub day_key : CalendarPart → ℕ
 day_key x = x.month
 
--- the month of a calendar row is told by its rowid
+-- the rowid of a calendar row shows its month
 abbrev day_tells : Tells nat_cmp day_key calendar_in calendar_places
 day_tells = record {
   told = λ r x e.

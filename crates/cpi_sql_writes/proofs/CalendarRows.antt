@@ -21,7 +21,7 @@ calendar_places = 0 ∷ []
 abbrev pub day_columns : ℕ → ℕ → ℕ → ℕ → Row
 day_columns m o c p = Int (pos m) ∷ Int (pos o) ∷ Int (pos c) ∷ Int (pos p) ∷ []
 
--- what a row has behind its rowid: NULL for the month, and the three times
+-- the columns of a row after its rowid: NULL for the month, and the three moments
 abbrev pub day_behind : ℕ → ℕ → ℕ → Row
 day_behind o c p = Null ∷ Int (pos o) ∷ Int (pos c) ∷ Int (pos p) ∷ []
 

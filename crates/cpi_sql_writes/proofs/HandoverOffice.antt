@@ -38,7 +38,7 @@ slot_of g = g.assignment.slot
 abbrev key : ℕ × Given → ℕ × ℕ
 key = held_key slot_of
 
--- ---- what ends is put over what stands
+-- ---- the row that ends is put in place of the former one
 
 -- a row of the slot ends, and every other row stays
 row_ends_or_stays : (n slot last : ℕ) (r : ℕ × Given)

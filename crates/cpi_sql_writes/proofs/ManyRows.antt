@@ -1,4 +1,4 @@
--- An INSERT of rows whose columns stand one behind the other among its parameters.
+-- An INSERT of rows whose columns are one after the other among its parameters.
 use mathlib.Core.Bool.{true≢false}
 use Rattle.std.proofs.Common.{◌≡◌, inl, inr, ℕ, zero, suc, ◌+◌, ◌*◌, ◌/◌, List, [], ◌∷◌, ◌++◌, length, map, take}
 use Rattle.std.proofs.Common.{drop, get_or, slice_get, Some, Option, Result, refl, sym, ap, ap₂, subst, subst₂, ◌∙◌}
@@ -105,7 +105,7 @@ module _ {X : Type 0} (it : Table) (entry : Row → Option (ℕ × X)) (GoesBy :
       ∙ rows_read xs (front ++ p.0) p.1 (from + width) p.3 counted in
       ap₂ (λ (r : Row) (rs : List Row). (Null ∷ r) ∷ rs) read later
 
-  -- the columns of more rows behind them
+  -- the columns of more rows after them
   pub columns_then : (xs ys : List X) (values more : Row) → AreColumnsOf it entry GoesBy xs values
       → AreColumnsOf it entry GoesBy ys more → AreColumnsOf it entry GoesBy (xs ++ ys) (values ++ more)
   columns_then [] ys values more p q = subst (λ v. AreColumnsOf it entry GoesBy ys (v ++ more)) (sym p) q
@@ -117,7 +117,7 @@ module _ {X : Type 0} (it : Table) (entry : Row → Option (ℕ × X)) (GoesBy :
     ap (λ v. v ++ more) p.4 ∙ append_assoc p.0 p.1 more,
   )
 
-  -- columns that were put behind the others, unless memory was refused
+  -- columns that were added at the end, unless memory was refused
   pub columns_put : {A B D E : Type 0} (x : X) (old added new : List ValueRef) (made : Result A D) (result : Result B E)
       → new ≡ (if is_ok made then old ++ added else old) → is_ok result ≡ is_ok made
       → AreColumns it entry GoesBy x (bound added)

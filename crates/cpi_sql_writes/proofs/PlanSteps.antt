@@ -90,7 +90,7 @@ module _ {A E : Type 0} (old new : State) (result : Result A E) (year : ℕ) whe
 pub year_read : (year : ℕ) → 2000 ≤ year → year ≤ 2199 → IsYearNumber year year
 year_read year low high = rw (le-leb 2000 year low, le-leb year 2199 high) refl
 
--- what a row stands for, beside the year that is in one of its columns
+-- the value that a row stands for, with the year that is in one of its columns
 abbrev beside_year : {X : Type 0} → ℕ → (Row → Option X) → Row → Option (ℕ × X)
 beside_year place from r =
     and_then (number_within 2000 2199 (column r place)) (λ y. and_then (from r) (λ x. Some (y, x)))

@@ -64,7 +64,7 @@ module _ (r : Release) (fits : FitsTables r) (m v : ℕ) (is : month_at m ≡ So
   range : (1 ≤ r.revision) × (r.revision ≤ 9)
   range = header_range one.rows.row (header_of r) one.rows.is
 
-  -- each list takes the place of what stood for the release
+  -- each list replaces the release's former rows
   frozen_put : ReplacesList frozen_after m r.revision r.frozen (a.now.trees 28) (e.now.trees 28)
   frozen_put =
       rw (← at_revision, ← at_frozen, four.others 28 refl, three.others 28 refl, ← one.others 28 refl) two.rows
@@ -96,7 +96,7 @@ module _ (r : Release) (fits : FitsTables r) (m v : ℕ) (is : month_at m ≡ So
   level_rows = release_replaced level_after m r.month r.revision is range.0 range.1 total-law (λ (l : Level). l.code)
       r.levels _ _ has.releases.levels fits.levels levels_put
 
-  -- no header that stands is the release's
+  -- no header in the table is the release's
   headers_apart : (h : Header) → Has (headers_in (a.now.trees 26)) h
       → release_cmp (header_key h) (r.month, r.revision) ≢ Equal
   unfolding releases_in
@@ -118,7 +118,7 @@ module _ (r : Release) (fits : FitsTables r) (m v : ℕ) (is : month_at m ≡ So
   header_put = rw headers_same (inserted release_total header_key header_in (header_of r) (a.now.trees 26)
       (b.now.trees 26) one.rows.row one.rows.is one.rows.rows one.rows.kept has.releases.releases headers_apart)
 
-  -- what is read of the release is what was written, and of the others what was
+  -- the release is read as it was written, and the others as before
   made_here : from_tables e.now.trees (header_of r) ≡ r
   made_here = rw (frozen_rows.here, carried_rows.here, level_rows.here) refl
 

@@ -1,4 +1,4 @@
--- The rows of a release dropped, and rows added one by one, replace them.
+-- The rows of a release are dropped and others added one by one, which replaces them.
 use Rattle.std.proofs.Common.{◌≡◌, ◌≤◌, ℕ, List, Some, Option, refl}
 use Rattle.std.proofs.lemmas.Bool.{le-leb}
 use Rattle.std.specs.declared.cmp.Ordering.{Ordering}

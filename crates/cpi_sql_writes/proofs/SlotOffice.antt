@@ -71,7 +71,7 @@ module _ (n : ℕ) (g : Given) (c : GivenColumns) (is : given_of c ≡ Some (n, 
     (row keyed).takes,
   )
 
-  -- the row over the one that stands
+  -- the row in place of the slot's former one
   over_puts : (old new : List Row) → PutsOver slot_places Null (columns_of c) old new → Puts old new
   over_puts =
       puts_row slot_places Null (columns_of c) (held_total nat_cmp_total) slot_key assignment_in_row slot_tells (n, g)

@@ -64,7 +64,7 @@ module _ (c s o : ℕ) (i : List ℕ) (f l n t : ℕ) (k : Value) (fits : cast I
     stays = λ id r is hit. refl;
   }
 
-  -- the row over the one that stands
+  -- the row in place of the slot's former one
   pub given_replaced : IsChange replace_given_text all
       (λ db after. HasRowids (db 22) → IsPutOver slot_places Null all 22 db after)
   given_replaced = puts_over table_of_assignments_2 13 slot_places Null all all update_given.filter

@@ -1,4 +1,4 @@
--- A plan is what is made of its nodes, places and reference month, and rows that are put for it put it among the plans.
+-- A plan is made of its nodes, places and reference month. Rows that are put for a plan put it among the plans.
 use Rattle.std.proofs.Common.{◌≡◌, ◌≢◌, inl, inr, ℕ, ◌+◌, Bool, true, false, List, [], ◌∷◌}
 use Rattle.std.proofs.Common.{Some, None, Option, refl, sym, ap, subst, ◌∙◌, arith, ◌&&◌, ◌||◌, ◌==◌}
 use Rattle.std.specs.Prelude.{filter, is_some, if◌then◌else◌}
@@ -182,7 +182,7 @@ module _ (p : Plan) (v : IsPlan p) where
       let mine : is_code_elementary n.0.code ≡ true = ap is_code_elementary same ∙ elementary in
       subst (Has (weights_in p.nodes)) (same_weight n.0 w n.1 h mine same) (has_weights p.nodes n.0 n.1 mine))
 
-  -- so the plan is what is made of its nodes and places
+  -- so the plan is made of its nodes and places
   pub plan_again : p ≡ plan_from p.year p.nodes p.places p.reference
   plan_again = λ i. record {
     year = p.year;

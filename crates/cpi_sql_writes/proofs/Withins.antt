@@ -18,7 +18,7 @@ on_given (Err e) P Q f = tt
 pub clean_before : {P : Type 0} (a b : State) → Inside a b P → HasCleanDisk b → HasCleanDisk a
 clean_before a b p clean = omega (arith, p.survives.clean)
 
--- the same call, told otherwise
+-- the same call, stated in another way
 pub within_as : {A E : Type 0} (a b : State) (r : Result A E) (P Q : State → State → Type 0) → Within a b r P
     → (IsTrue a.in_transaction → P a b → Q a b) → Within a b r Q
 within_as a b r P Q p f = record {
@@ -27,7 +27,7 @@ within_as a b r P Q p f = record {
   survives = p.survives;
 }
 
--- one after the other; what both have done is told by `f`
+-- one after the other; `f` states what both have done
 pub inside_then : {P Q R : Type 0} (a b c : State) → Inside a b P → Inside b c Q
     → (HasCleanDisk b → HasCleanDisk c → IsTrue a.in_transaction → R) → Inside a c R
 inside_then a b c p q f = record {
