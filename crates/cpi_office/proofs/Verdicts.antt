@@ -5,6 +5,7 @@ use Rattle.std.specs.Prelude.{IsSome, nat_lt, nat_le, is_none, option_map, not, 
 use Rattle.std.specs.Ordering.{nat_cmp}
 use Rattle.std.proofs.lemmas.Bool.{false≢true, leb-true, ltb-true, eqb-true}
 use Rattle.std.proofs.lemmas.Map.Lookups.{exact_pairs, exact_unsigned}
+use Rattle.cpi_rows.proofs.Truth.{and_both, not_false}
 use Rattle.cpi_rows.specs.Keyed.{row_by_number, row_at}
 use Rattle.cpi_rows.specs.Held.{held_by}
 use Rattle.cpi_rows.proofs.Found.{row_key, at_key, at-map}
@@ -131,21 +132,13 @@ module _ (o : Office) where
   planned_fair (Err fault) nodes = tt
   planned_fair (Ok p) nodes = plan_fair p (row_by_number (λ y. y.year) p.year o.plans) (nodes p refl) refl
 
-  registered_fair : (b : Registration) (w v : Option Registration) → row_by_number (λ b. b.number) b.number
-      o.collectors ≡ w →
-      registration_of b.key o.collectors ≡ v → Fair (registration_verdict b w v)
+  registered_fair : (b : Registration) (w v : Option Registration) →
+      row_by_number (λ b. b.number) b.number o.collectors ≡ w → registration_of b.key o.collectors ≡ v →
+      Fair (registration_verdict b w v)
   registered_fair b None None e f = (e, f)
   registered_fair b None (Some other) e f = tt
   registered_fair b (Some old) v e f = if_holds Fair (same_registration old b) _ _
       (λ same. e ∙ ap Some (registration_equal old b same)) (λ other. tt)
-
-  both : (a b : Bool) → (a && b) ≡ true → (a ≡ true) × (b ≡ true)
-  both true b e = (refl, e)
-  both false b e = absurd (false≢true e)
-
-  passes : (w : Bool) → not w ≡ false → w ≡ true
-  passes true e = refl
-  passes false e = absurd (false≢true (sym e))
 
   abbrev in_slot_of : ℕ → ℕ → Option Given
   in_slot_of n slot = row_by_number (λ (g : Given). g.assignment.slot) slot (held_by n o.assignments)
@@ -210,9 +203,9 @@ module _ (o : Office) where
 
   well_made : (n : ℕ) (p : NewAssignment) → may_be_assigned n p ≡ true → IsWellMade (n, assignment_sent p)
   well_made n p e =
-      let last = both (nat_le p.first_month p.last_month && nat_le 1 n && nat_le 1 p.slot) (nat_le p.slot 400) e in
-      let slot = both (nat_le p.first_month p.last_month && nat_le 1 n) (nat_le 1 p.slot) last.0 in
-      let number = both (nat_le p.first_month p.last_month) (nat_le 1 n) slot.0 in
+      let last = and_both (nat_le p.first_month p.last_month && nat_le 1 n && nat_le 1 p.slot) (nat_le p.slot 400) e in
+      let slot = and_both (nat_le p.first_month p.last_month && nat_le 1 n) (nat_le 1 p.slot) last.0 in
+      let number = and_both (nat_le p.first_month p.last_month) (nat_le 1 n) slot.0 in
       record {
         months = leb-true p.first_month p.last_month number.0;
         collector = leb-true 1 n number.1;
@@ -252,10 +245,10 @@ module _ (o : Office) where
             IsHandover o.assignments o.quotes (handover_of h b c former
             (taken_on h former.assignment (held_by b.number o.quotes)) o)
         over within unquoted =
-            let months = both (nat_lt former.assignment.first_month h.month)
-            (nat_le h.month former.assignment.last_month) (passes (is_handed_within h former.assignment) within) in
-            let last = both (nat_le 1 h.to && nat_le 1 h.new_slot) (nat_le h.new_slot 400) takeable in
-            let first = both (nat_le 1 h.to) (nat_le 1 h.new_slot) last.0 in
+            let months = and_both (nat_lt former.assignment.first_month h.month)
+            (nat_le h.month former.assignment.last_month) (not_false (is_handed_within h former.assignment) within) in
+            let last = and_both (nat_le 1 h.to && nat_le 1 h.new_slot) (nat_le h.new_slot 400) takeable in
+            let first = and_both (nat_le 1 h.to) (nat_le 1 h.new_slot) last.0 in
             record {
               former = former;
               found = former_found;
@@ -280,9 +273,9 @@ module _ (o : Office) where
 
         stands : stands_over h former new ≡ true → Fair (Stands (HandsOver (handover_of h b c former new.assignment o)))
         stands e =
-            let last = both (same_series new.series former.series && new.assignment.first_month == h.month)
+            let last = and_both (same_series new.series former.series && new.assignment.first_month == h.month)
             (former.assignment.last_month + 1 == h.month) e in
-            let first = both (same_series new.series former.series) (new.assignment.first_month == h.month) last.0 in
+            let first = and_both (same_series new.series former.series) (new.assignment.first_month == h.month) last.0 in
             let next : former.assignment.last_month + 1 ≡ h.month =
             eqb-true (former.assignment.last_month + 1) h.month last.1 in
             let month : former.assignment.last_month ≡ h.month - 1 = omega (arith, next) in
@@ -364,7 +357,7 @@ module _ (o : Office) where
         (frozen_months o.releases)) _ _ (λ e. tt) (λ e.
         if_holds Fairly (not (is_next_month month (frozen_months o.releases))) _ _ (λ f. tt) (λ f.
         row_fair month (row_by_number (λ r. r.month) month o.calendar) refl
-        (passes (is_next_month month (frozen_months o.releases)) f)))
+        (not_false (is_next_month month (frozen_months o.releases)) f)))
 
   -- ---- an entry
 
