@@ -275,7 +275,8 @@ module _ (o : Office) where
         stands e =
             let last = and_both (same_series new.series former.series && new.assignment.first_month == h.month)
             (former.assignment.last_month + 1 == h.month) e in
-            let first = and_both (same_series new.series former.series) (new.assignment.first_month == h.month) last.0 in
+            let first = and_both (same_series new.series former.series) (new.assignment.first_month == h.month)
+            last.0 in
             let next : former.assignment.last_month + 1 ≡ h.month =
             eqb-true (former.assignment.last_month + 1) h.month last.1 in
             let month : former.assignment.last_month ≡ h.month - 1 = omega (arith, next) in
