@@ -1,4 +1,4 @@
--- What becomes of an assignment that the desk sends.
+-- The verdict on an assignment that the desk sends.
 use Rattle.std.specs.Prelude.{ℕ, nat_le, ◌&&◌, Bool, Option, Some, None, if◌then◌else◌, is_none}
 use Rattle.cpi_rows.specs.Keyed.{row_by_number}
 use Rattle.cpi_rows.specs.Held.{held_by}
@@ -20,7 +20,7 @@ use Rattle.cpi_office.specs.declared.request.NewAssignment.{NewAssignment}
 use Rattle.cpi_office.specs.declared.standing.Standing.{Standing}
 use Rattle.cpi_office.specs.declared.standing.Standing.TheVariants.{Free, Same, Other}
 
--- the assignment that is made of what is sent: no price is copied
+-- the assignment of a request: no price is copied, since the series is new
 abbrev pub assignment_sent : NewAssignment → Assignment
 assignment_sent sent = record {
   slot = sent.slot;
@@ -40,6 +40,7 @@ abbrev pub may_be_assigned : ℕ → NewAssignment → Bool
 may_be_assigned collector sent =
     nat_le sent.first_month sent.last_month && nat_le 1 collector && nat_le 1 sent.slot && nat_le sent.slot 400
 
+-- the next verdict, if the assignment is within the limits; else refusal 10
 abbrev pub if_assignable : ℕ → NewAssignment → Verdict → Verdict
 if_assignable collector sent next = if may_be_assigned collector sent then next else Refuses BadRequest
 
@@ -60,13 +61,13 @@ abbrev pub standing_for : Assigned → Option Registration → Verdict
 standing_for a None = Refuses Taken
 standing_for a (Some b) = Stands (Assigns b a)
 
--- judged by the item, the outlet and the collector that were found, and by what stands in the slot
+-- the verdict by the item, the outlet and the collector that were found, and by the slot: free, the same or another
 abbrev pub assignment_verdict : Assigned → Option Item → Option Outlet → Option Registration → Standing → Verdict
 assignment_verdict a item outlet registration Free = item_judged a item outlet registration
 assignment_verdict a item outlet registration Same = standing_for a registration
 assignment_verdict a item outlet registration Other = Refuses Taken
 
--- the same in an office, where this stands in the slot
+-- the same in an office, for this state of the slot
 abbrev pub assigned_over : Standing → ℕ → Assignment → Office → Verdict
 assigned_over stands collector a o =
     assignment_verdict (with_name o.outlets a) (row_by_number (λ i. i.code) a.item o.items)
@@ -80,6 +81,6 @@ slot_given collector a o =
     (standing same_given (first_of_series collector a)
     (row_by_number (λ g. g.assignment.slot) a.slot (held_by collector o.assignments))) collector a o
 
--- what becomes of an assignment that is sent
+-- the verdict on an assignment that is sent
 abbrev pub assigned_in : ℕ → NewAssignment → Office → Verdict
 assigned_in collector sent o = if_assignable collector sent (slot_given collector (assignment_sent sent) o)

@@ -1,4 +1,4 @@
--- What a call of the office does over a book.
+-- The contract of a call of the office over a book: its reply, its change, and the offices that a crash may leave.
 use Rattle.std.specs.Prelude.{◌≡◌, ◌⊎◌, ◌≤◌, Bool, true, false, IsTrue, IsFalse}
 use Rattle.cpi_release.specs.State.{State, StaysClean}
 use Rattle.cpi_store.specs.Office.{Office}
@@ -15,22 +15,22 @@ abbrev pub is_unavailable : Refusal → Bool
 is_unavailable Unavailable = true
 is_unavailable _ = false
 
--- the reply says that the office is unavailable
+-- the reply is refusal 90: the office is unavailable
 abbrev pub is_failure_of : Reply → Bool
 is_failure_of (say.Refused f) = is_unavailable f
 is_failure_of _ = false
 
--- the reply is the one that is wanted, and the office is so; or the call was unavailable, and nothing has changed
+-- the reply is the wanted one, and the change is made; or the reply is refusal 90, and nothing has changed
 abbrev pub IsServed : Reply → Reply → Office → Office → Office → Type 0
 IsServed reply wanted old new after =
     ((reply ≡ wanted) × (new ≡ after)) ⊎ ((reply ≡ say.Refused Unavailable) × (new ≡ old))
 
 module _ (old new : State Office) where
-  -- a crash leaves the office as it stands now; or nothing was changed, and it leaves what it could leave before
+  -- a crash leaves the office as it is now; or nothing was changed, and a crash leaves what it could leave before
   abbrev pub Lasts : Type 0
   Lasts = (o : Office) → new.may_leave o → (o ≡ new.held) ⊎ ((new.held ≡ old.held) × old.may_leave o)
 
-  -- what was answered endures: the store is as clean as before, and a crash leaves what the call made
+  -- an answered call lasts: the store is as clean as before, and a crash leaves the change
   pub record Endures (reply : Reply) : Type 0 where
     pub was_kept : new.is_kept → old.is_kept
     pub stays : IsFalse (is_failure_of reply) → StaysClean old new
@@ -40,7 +40,7 @@ module _ (old new : State Office) where
   abbrev pub Crashes : Office → Type 0
   Crashes after = old.is_clean → new.is_kept → (o : Office) → new.may_leave o → old.may_leave o ⊎ (o ≡ after)
 
-  -- the call gives the reply and leaves the office so, or it is unavailable and changes nothing
+  -- the call gives the wanted reply and makes the change, or it gives refusal 90 and changes nothing
   pub record Serves (reply wanted : Reply) (after : Office) : Type 0 where
     pub was_clean : new.is_clean → old.is_clean
     pub served : new.is_clean → IsServed reply wanted old.held new.held after

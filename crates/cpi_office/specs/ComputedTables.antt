@@ -1,4 +1,4 @@
--- What a request for a table is answered: the printed table that the index gives over what was frozen.
+-- The answer to a request for a table: the printed table that the index gives over the frozen quotes and weights.
 use Rattle.std.specs.Prelude.{◌≡◌, ⊤, ℕ, IsFalse, IsSome, List, Option, Some, map, slice_get}
 use Rattle.cpi_release.specs.declared.form.Form.{Form}
 use Rattle.cpi_release.specs.Releasing.{all_released, freeze_of}
@@ -16,13 +16,12 @@ use Rattle.cpi_office.specs.declared.reply.Reply.{Reply}
 use Rattle.cpi_office.specs.declared.request.Ask.{Ask}
 use Rattle.cpi_office.specs.declared.request.Request.TheVariants.{Table}
 
--- the tables that the index gives over the quotes and weights that were frozen, month by month, of which the moment of
--- publishing has come
+-- the tables that the index gives over the frozen quotes and weights, month by month, whose publishing moment has come
 abbrev pub computed_tables : ℕ → Office → List PublishedTable
 computed_tables now o = published_until now (all_released o.plans (map freeze_of o.releases))
 
--- Of these the one of the month, printed: in the revision that is named, or else in the latest of them. Where there is
--- none it is refused.
+-- Of these the month's table, printed, in the revision that is named or else in the latest one. If there is none, the
+-- answer is refusal 30.
 abbrev pub computed_reply : ℕ → ℕ → Form → Option ℕ → Office → Reply
 computed_reply now month form revision o =
     reply_with_table form month (asked_table month revision (computed_tables now o))
@@ -43,8 +42,7 @@ TellsTable a o reply =
 abbrev pub TablesAreTold : Type 0
 TablesAreTold = (a : Ask) (o : Office) → IsSound o → TellsTable a o (reply_to a.now a.caller a.request o)
 
--- Each reply of a run to a request for a table, but for those that say that the office is unavailable, is the one from
--- the office as the requests before it left it.
+-- Each reply but 90 of a run to a request for a table is the one from the office after the requests before it.
 abbrev pub TellTables : Office → List Ask → List Reply → Type 0
 TellTables o asks rs =
     (place : ℕ) (a : Ask) (r : Reply) →

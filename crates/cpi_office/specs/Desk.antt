@@ -1,4 +1,4 @@
--- What each command of the desk does: refused, standing already, or a row that is put.
+-- The verdict on each command of the desk: it is refused, it changes nothing, or it puts a row.
 use Rattle.std.specs.Prelude.{ℕ, Option, Some, None, if◌then◌else◌}
 use Rattle.cpi_rows.specs.Keyed.{row_by_number}
 use Rattle.cpi_plan.specs.declared.items.Item.{Item}
@@ -30,7 +30,7 @@ registration_verdict b None None = Makes (Registers b)
 registration_verdict b None (Some other) = Refuses Taken
 registration_verdict b (Some old) registration = if same_registration old b then Stands (Registers b) else Refuses Taken
 
--- What becomes of a command; None of a request that is none.
+-- The verdict on a command of the desk; None for any other request.
 abbrev pub command_verdict : ℕ → Request → Office → Option Verdict
 command_verdict now (request.PutItem i) o = Some (item_put i (row_by_number (λ i. i.code) i.code o.items))
 command_verdict now (request.PutPlan year body) o = Some (planned_in year body o)

@@ -1,4 +1,4 @@
--- What becomes of an entry of a collector.
+-- The verdict on an entry of a collector.
 use Rattle.std.specs.Prelude.{ℕ, Option, Some, None, Result, Ok, Err}
 use Rattle.cpi_survey.specs.Quote.{QuoteRow}
 use Rattle.cpi_survey.specs.Entry.{EntryRow}
@@ -18,7 +18,7 @@ use Rattle.cpi_office.specs.Verdicts.{Verdict, Refuses, Stands, Makes}
 abbrev pub quote_of_entry : EntryRow → ℕ → QuoteRow
 quote_of_entry entry receipt = record { slot = entry.slot; month = entry.month; mark = entry.mark; receipt = receipt }
 
--- what becomes of an entry, decided for this collector
+-- the verdict on an entry of this collector, by its decision
 abbrev pub decision_verdict : Registration → EntryRow → Result Decision EntryRefusal → Verdict
 decision_verdict b entry (Err f) = Refuses (of_survey f)
 decision_verdict b entry (Ok (Again receipt)) = Stands (Quotes b (quote_of_entry entry receipt))
@@ -30,7 +30,7 @@ entry_verdict key now entry v (Some own) =
     let registration : Registration = record { number = own.number; key = key } in
     Some (decision_verdict registration entry (entry_decision now entry v.public own.part))
 
--- a collector changes something by an entry alone
+-- a collector can change something only by an entry
 abbrev pub of_collector : ℕ → ℕ → Request → View → Option Verdict
 of_collector key now (request.Submit entry) v = entry_verdict key now entry v v.own
 of_collector key now _ v = None

@@ -1,5 +1,5 @@
--- How a freeze is judged, from what was looked up: the months that were frozen, the calendar row, the plan of the year;
--- and the release that is made of a month that may be frozen.
+-- The verdict on a freeze, by the frozen months, the calendar row and the plan of the year, and the release of a month
+-- that may be frozen (CPI Manual, chapter 9).
 use Rattle.std.specs.Prelude.{◌≡◌, ◌≢◌, ⊤, ℕ, Bool, false, not, is_some, nat_lt, List}
 use Rattle.std.specs.Prelude.{Option, Some, None, option_map, Result, Ok, Err}
 use Rattle.std.specs.Prelude.{if◌then◌else◌}
@@ -25,7 +25,8 @@ use Rattle.cpi_office.specs.declared.refusal.Refusal.TheVariants.{UnknownMonth, 
 use Rattle.cpi_office.specs.declared.refusal.Refusal.TheVariants.{FreezeTooEarly, NoPlan, Index, MonthFrozen}
 use Rattle.cpi_office.specs.Verdicts.{Verdict, Refuses, Makes}
 
--- ---- what is refused, in order
+-- ---- the refusals, in order
+-- the code has weight in the plan
 abbrev pub may_be_weighed : Option Plan → Code → Bool
 may_be_weighed None code = false
 may_be_weighed (Some p) code = is_some (row_at code_cmp (λ w. w.code) code p.weights)
@@ -59,7 +60,7 @@ abbrev pub freeze_judged_in : ℕ → ℕ → List Code → Office → Result Ca
 freeze_judged_in now month carry o =
     freeze_judged now month carry (frozen_months o.releases) (row_by_number (λ r. r.month) month o.calendar) o.plans
 
--- ---- what the index makes of what is frozen
+-- ---- the release that the index gives
 abbrev pub unless_fault : Option IndexFault → Release → Result Release IndexFault
 unless_fault None r = Ok r
 unless_fault (Some fault) r = Err fault
@@ -67,19 +68,19 @@ unless_fault (Some fault) r = Err fault
 abbrev pub made_release : Option Plan → List Release → Freeze → Result Release IndexFault
 made_release plan releases what = unless_fault (fault_of plan releases what) (release_of_month plan releases what)
 
--- what is made is the release or the fault that is wanted, want of memory and failed reads aside
+-- the result is the wanted release or fault, unless memory was lacking or a read failed
 abbrev pub IsMade : Result Release IndexFault → Result Release FreezeFault → Type 0
 IsMade wanted (Ok release) = wanted ≡ Ok release
 IsMade wanted (Err fault.Group) = ⊤
 IsMade wanted (Err (fault.Index f)) = f ≢ NoMemory → wanted ≡ Err f
 
--- how it is told that a month has no release
+-- the refusal for a month whose release can't be computed
 abbrev pub fault_refusal : FreezeFault → Refusal
 fault_refusal fault.Group = Unavailable
 fault_refusal (fault.Index NoMemory) = Unavailable
 fault_refusal (fault.Index f) = Index f
 
--- what is frozen of the row's month, in the revision that follows: its stored quotes as they are now
+-- the freeze of the row's month, in the revision that follows, with its stored quotes as they are now
 abbrev pub frozen_with : ℕ → CalendarPart → List Code → Office → Freeze
 frozen_with now row carry o = record {
   month = row.month;

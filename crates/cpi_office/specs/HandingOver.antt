@@ -1,4 +1,4 @@
--- What becomes of a hand-over that the desk sends.
+-- The verdict on a hand-over that the desk sends.
 use Rattle.std.specs.Prelude.{◌≡◌, ℕ, ◌+◌, ◌-◌, ◌&&◌, ◌==◌, nat_lt, nat_le, not, Bool, false, List, Option, Some, None}
 use Rattle.std.specs.Prelude.{Result, Ok, Err, if◌then◌else◌}
 use Rattle.cpi_rows.specs.Keyed.{row_by_number}
@@ -29,7 +29,7 @@ taken_on h former quotes = record former {
   copied = last_price former h.month quotes;
 }
 
--- what a hand-over does: the former slot ends with the month before, and the new one has this assignment
+-- the change by a hand-over: the former slot ends with the month before, and the new one has this assignment
 abbrev pub handover_of : HandOver → Registration → Registration → Given → Assignment → Office → SeriesMove
 handover_of h b c former a o = record {
   former = b;
@@ -38,14 +38,14 @@ handover_of h b c former a o = record {
   assigned = with_name o.outlets a;
 }
 
--- ---- what is there
+-- ---- the rows that a hand-over needs
 
 -- both collectors are registered, with these keys
 pub record AreRegistered (former taker : Registration) (o : Office) : Type 0 where
   pub former_is : row_by_number (λ b. b.number) former.number o.collectors ≡ Some former
   pub taker_is : row_by_number (λ b. b.number) taker.number o.collectors ≡ Some taker
 
--- both collectors, and what the former one's slot was given
+-- both collectors, and the assignment of the former one's slot
 pub record AreThere (h : HandOver) (former taker : Registration) (given : Given) (o : Office) : Type 0 where
   pub registered : AreRegistered former taker o
   pub stands : row_by_number (λ g. g.assignment.slot) h.slot (held_by former.number o.assignments) ≡ Some given
@@ -54,7 +54,7 @@ pub record AreThere (h : HandOver) (former taker : Registration) (given : Given)
 abbrev pub IsSlotFree : HandOver → Registration → Office → Type 0
 IsSlotFree h taker o = row_by_number (λ g. g.assignment.slot) h.new_slot (held_by taker.number o.assignments) ≡ None
 
--- ---- a new slot that stands
+-- ---- a new slot that isn't free
 
 -- it took this series over in this month
 abbrev pub stands_over : HandOver → Given → Given → Bool
@@ -76,7 +76,7 @@ abbrev pub is_not_after : ℕ → Option FrozenMonth → Bool
 is_not_after month None = false
 is_not_after month (Some last) = nat_le month last.month
 
--- the new assignment, by the months, by what was frozen, and by the quotes that stand
+-- the new assignment, by the assignment's months, the frozen months and the slot's quotes
 abbrev pub judged_over :
     HandOver → Assignment → List FrozenMonth → List QuoteRow → Result Assignment Refusal
 judged_over h former frozen quotes =
@@ -115,7 +115,7 @@ is_takeable h = nat_le 1 h.to && nat_le 1 h.new_slot && nat_le h.new_slot 400
 abbrev pub if_takeable : HandOver → Verdict → Verdict
 if_takeable h next = if is_takeable h then next else Refuses BadRequest
 
--- what becomes of a hand-over
+-- the verdict on a hand-over
 abbrev pub handed_over : HandOver → Office → Verdict
 handed_over h o =
     if_takeable h

@@ -1,4 +1,4 @@
--- A decision that stores a quote gives it a receipt above the greatest, in a slot that the collector has.
+-- A decision that stores a quote gives it a receipt above the collector's greatest one, in a slot of the collector.
 use Rattle.std.specs.Prelude.{◌<◌, Result, Ok, IsSome, ⊤}
 use Rattle.cpi_rows.specs.Keyed.{row_by_number}
 use Rattle.cpi_survey.specs.Own.{OwnPart}

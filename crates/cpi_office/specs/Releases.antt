@@ -1,4 +1,4 @@
--- Releases over whole runs: what was frozen stays as it was.
+-- Releases over whole runs: a release never changes.
 use Rattle.std.specs.Prelude.{◌≡◌, List, Some}
 use Rattle.cpi_rows.specs.Keyed.{row_at}
 use Rattle.cpi_release.specs.FrozenMonths.{ReleaseKey, release_cmp, release_key}
@@ -8,13 +8,13 @@ use Rattle.cpi_store.specs.Sound.{IsSound}
 use Rattle.cpi_office.specs.Runs.{after}
 use Rattle.cpi_office.specs.declared.request.Ask.{Ask}
 
--- each release of the office before stands in the office afterwards: its quotes, its carry list and its table
+-- each release of the office before is in the office afterwards, with its quotes, its carry list and its table
 abbrev pub KeepsReleases : Office → Office → Type 0
 KeepsReleases before afterwards =
     (key : ReleaseKey) (r : Release) →
     row_at release_cmp release_key key before.releases ≡ Some r →
     row_at release_cmp release_key key afterwards.releases ≡ Some r
 
--- A release stays as it was frozen.
+-- whatever is asked, a release stays as it was frozen
 abbrev pub ReleasesStay : Type 0
 ReleasesStay = (asks : List Ask) (o : Office) → IsSound o → KeepsReleases o (after asks o)

@@ -1,5 +1,5 @@
--- What becomes of a plan or a calendar row: each stands in place of the one before it, until its year or month is
--- frozen; a row that reopens the last frozen month stands in place of the one by which it was frozen.
+-- The verdict on a plan or a calendar row: each replaces the one before it, until its year or month is frozen. A row
+-- that reopens the last frozen month replaces the one by which it was frozen.
 use Rattle.std.specs.Prelude.{ℕ, Bool, List, Option, Some, Result, Ok, Err, if◌then◌else◌}
 use Rattle.cpi_rows.specs.Keyed.{row_by_number}
 use Rattle.cpi_plan.specs.declared.items.Item.{Item}
@@ -22,7 +22,7 @@ use Rattle.cpi_office.specs.declared.standing.Standing.TheVariants.{Free, Same, 
 abbrev pub unless_frozen : Bool → Refusal → Change → Verdict
 unless_frozen frozen f c = if frozen then Refuses f else Makes c
 
--- what stands already stands; else a row is put unless it stays frozen
+-- the same row changes nothing; any other is put, unless its month or year stays frozen
 abbrev pub replacement_verdict : Bool → Refusal → Change → Standing → Verdict
 replacement_verdict frozen f c Free = unless_frozen frozen f c
 replacement_verdict frozen f c Same = Stands c
@@ -33,7 +33,7 @@ calendar_put frozen row old =
     replacement_verdict (keeps_frozen row.month (Some row.publishes) frozen) MonthFrozen (PutsCalendar row)
     (standing same_calendar row old)
 
--- what is sent for a year, among the items that are known
+-- the plan that is sent for a year, with the known items
 abbrev pub sent_body : List Item → PlanBody → Body
 sent_body known body = record {
   known = known;
@@ -43,7 +43,7 @@ sent_body known body = record {
   references = body.references;
 }
 
--- a plan against the one that stands for its year, or the fault of what was sent
+-- a plan against the year's plan, or the fault of the plan that was sent
 abbrev pub plan_standing : List Plan → Result Plan Fault → Result (Plan × Standing) Fault
 plan_standing plans (Err fault) = Err fault
 plan_standing plans (Ok plan) = Ok (plan, standing same_plan plan (row_by_number (λ y. y.year) plan.year plans))

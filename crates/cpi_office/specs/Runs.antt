@@ -1,4 +1,4 @@
--- Runs of requests: what each is answered, and what it does to the office.
+-- Runs of requests: the reply to each, and the office after it.
 use Rattle.std.specs.Prelude.{[], ℕ, List, ◌∷◌, ◌++◌, Option, Some, None}
 use Rattle.cpi_store.specs.Office.{Office, Change}
 use Rattle.cpi_office.specs.Projections.{view}
@@ -12,12 +12,13 @@ use Rattle.cpi_office.specs.Desk.{command_verdict}
 use Rattle.cpi_office.specs.Entries.{of_collector}
 use Rattle.cpi_office.specs.Answers.{answer}
 
--- what becomes of a request; None of one that changes nothing
+-- the verdict on a request; None for one that changes nothing
 abbrev pub request_verdict : ℕ → Caller → Request → Office → Option Verdict
 request_verdict now caller.Public r o = None
 request_verdict now caller.Desk r o = command_verdict now r o
 request_verdict now (caller.Collector key) r o = of_collector key now r (view (caller.Collector key) now o)
 
+-- the reply to the desk: by the verdict, if the request is a command
 abbrev pub desk_reply : Reply → Option Verdict → Reply
 desk_reply told None = told
 desk_reply told (Some v) = verdict_reply v
@@ -43,12 +44,12 @@ abbrev pub after : List Ask → Office → Office
 after [] o = o
 after (a ∷ asks) o = after asks (next a o)
 
--- what was accepted, in order
+-- the accepted changes of a run, in order
 abbrev pub trace : List Ask → Office → List Change
 trace [] o = []
 trace (a ∷ asks) o = accepted_changes (request_verdict a.now a.caller a.request o) ++ trace asks (next a o)
 
--- what was changed, in order
+-- the changes that a run made, in order
 abbrev pub changes : List Ask → Office → List Change
 changes [] o = []
 changes (a ∷ asks) o = new_changes (request_verdict a.now a.caller a.request o) ++ changes asks (next a o)

@@ -1,4 +1,4 @@
--- A row that is sent, against the one that stands in its place.
+-- A row that is sent, against the row in its place.
 use Rattle.std.specs.Prelude.{Bool, Option, Some, None, if◌then◌else◌}
 use Rattle.cpi_store.specs.Office.{Change}
 use Rattle.cpi_office.specs.declared.refusal.Refusal.TheVariants.{Taken}

@@ -1,11 +1,11 @@
--- What becomes of a command or an entry: a verdict, with its reply and what it changes.
+-- Verdicts on commands and entries: each has a reply, and changes at most one thing.
 use Rattle.std.specs.Prelude.{[], List, ◌∷◌, Option, Some, None}
 use Rattle.cpi_office.specs.declared.refusal.Refusal.{Refusal}
 use Rattle.cpi_store.specs.Office.{Office, Change, office_with}
 use Rattle.cpi_office.specs.declared.reply.Reply.{Reply}
 use Rattle.cpi_office.specs.declared.reply.Reply.TheVariants as reply
 
--- What becomes of a command or an entry. What stands already is accepted, and changes nothing.
+-- The verdict on a command or an entry. A row that is there already is accepted, and changes nothing.
 pub data Verdict : Type 0 where
   Refuses : Refusal → Verdict
   Stands : Change → Verdict
@@ -25,14 +25,14 @@ abbrev pub after_verdict : Option Verdict → Office → Office
 after_verdict None o = o
 after_verdict (Some v) o = with_verdict v o
 
--- what was accepted, with the row that it puts
+-- the accepted change, with its row
 abbrev pub accepted_changes : Option Verdict → List Change
 accepted_changes None = []
 accepted_changes (Some (Refuses f)) = []
 accepted_changes (Some (Stands c)) = c ∷ []
 accepted_changes (Some (Makes c)) = c ∷ []
 
--- what was changed: what is accepted, but what stood already
+-- the change that was made: an accepted one whose row wasn't there already
 abbrev pub new_changes : Option Verdict → List Change
 new_changes None = []
 new_changes (Some (Refuses f)) = []
