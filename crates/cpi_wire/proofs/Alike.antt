@@ -38,22 +38,22 @@ use Rattle.cpi_wire.proofs.Runs.{records_are_a_run}
 
 module _ (t : ℕ) (k : Caller) (other : k ≢ Desk) (o u : Office) (same : view k t o ≡ view k t u) where
   reply-alike : (r : Request) → reply_to t k r o ≡ reply_to t k r u
-  reply-alike r = by k other same
+  reply-alike r = case-by-case k other same
     where
-      by : (c : Caller) → c ≢ Desk → view c t o ≡ view c t u → reply_to t c r o ≡ reply_to t c r u
-      by Public h e = ap (answer_from t Public r) e
-      by (Collector key) h e = ap (answer_from t (Collector key) r) e
-      by Desk h e = absurd (h refl)
+      case-by-case : (c : Caller) → c ≢ Desk → view c t o ≡ view c t u → reply_to t c r o ≡ reply_to t c r u
+      case-by-case Public h e = ap (answer_from t Public r) e
+      case-by-case (Collector key) h e = ap (answer_from t (Collector key) r) e
+      case-by-case Desk h e = absurd (h refl)
 
   accepted-alike : (r : Request)
       → accepted_changes (request_verdict t k r o) ≡ accepted_changes (request_verdict t k r u)
-  accepted-alike r = by k other same
+  accepted-alike r = case-by-case k other same
     where
-      by : (c : Caller) → c ≢ Desk → view c t o ≡ view c t u
+      case-by-case : (c : Caller) → c ≢ Desk → view c t o ≡ view c t u
           → accepted_changes (request_verdict t c r o) ≡ accepted_changes (request_verdict t c r u)
-      by Public h e = refl
-      by (Collector key) h e = ap (λ v. accepted_changes (of_collector key t r v)) e
-      by Desk h e = absurd (h refl)
+      case-by-case Public h e = refl
+      case-by-case (Collector key) h e = ap (λ v. accepted_changes (of_collector key t r v)) e
+      case-by-case Desk h e = absurd (h refl)
 
   view-alike : (r : Request) → IsSound o → IsSound u → view k t (after_one t k r o) ≡ view k t (after_one t k r u)
   view-alike r s z =
@@ -71,13 +71,13 @@ module _ {B : Type 0} (state : B → State Office) where
       (after_one t k r (state p).held)
       → (state q).is_clean → IsSound (state p).held → IsFalse (is_failure_of reply)
       → (reply ≡ reply_to t k r (state p).held) × ((state q).held ≡ after_one t k r (state p).held)
-  is-served t k r p q reply serves clean sound fair = by (serves.served clean sound)
+  is-served t k r p q reply serves clean sound fair = case-by-case (serves.served clean sound)
     where
-      by : ((reply ≡ reply_to t k r (state p).held) × ((state q).held ≡ after_one t k r (state p).held))
+      case-by-case : ((reply ≡ reply_to t k r (state p).held) × ((state q).held ≡ after_one t k r (state p).held))
           ⊎ ((reply ≡ Refused Unavailable) × ((state q).held ≡ (state p).held))
           → (reply ≡ reply_to t k r (state p).held) × ((state q).held ≡ after_one t k r (state p).held)
-      by (inl h) = h
-      by (inr h) = absurd (true≢false (sym (ap is_failure_of h.0) ∙ fair))
+      case-by-case (inl h) = h
+      case-by-case (inr h) = absurd (true≢false (sym (ap is_failure_of h.0) ∙ fair))
 
   rows-clean : (t : ℕ) (k : Caller) (p q : B) (rows : List (Option Request)) (rs : List Reply) →
       RowsAnswer state t k p rows rs q → (state q).is_clean → (state p).is_clean
@@ -147,24 +147,24 @@ module _ {B C : Type 0} (state : B → State Office) (state' : C → State Offic
       → (state p').is_clean → (state' q').is_clean → IsSound (state p).held → IsSound (state' q).held
       → view k (moment_of asked) (state p).held ≡ view k (moment_of asked) (state' q).held
       → NoneFails (all_replies answered) → NoneFails (all_replies answered') → answered ≡ answered'
-  record-alike ask.Bad p p' q q' (answer.One r) (answer.One x) by a b c d s z e f g = ap answer.One (a.0 ∙ sym b.0)
-  record-alike ask.Bad p p' q q' (answer.One r) (answer.Rows ss) by a b c d s z e f g = absurd b
-  record-alike ask.Bad p p' q q' (answer.Rows rs) answered' by a b c d s z e f g = absurd a
-  record-alike (ask.One t j row) p p' q q' (answer.One r) (answer.One x) by a b c d s z e f g =
-      let mine = subst (λ i. ServesWhere (state p) (state p') (IsSound (state p).held) r
-      (reply_to t i row (state p).held) (after_one t i row (state p).held)) by a in
-      let yours = subst (λ i. ServesWhere (state' q) (state' q') (IsSound (state' q).held) x
-      (reply_to t i row (state' q).held) (after_one t i row (state' q).held)) by b in
-      ap answer.One ((is-served state t k row p p' r mine c s f.0).0
+  record-alike ask.Bad p p' q q' (answer.One r) (answer.One x) from a b c d s z e f g = ap answer.One (a.0 ∙ sym b.0)
+  record-alike ask.Bad p p' q q' (answer.One r) (answer.Rows ss) from a b c d s z e f g = absurd b
+  record-alike ask.Bad p p' q q' (answer.Rows rs) answered' from a b c d s z e f g = absurd a
+  record-alike (ask.One t j row) p p' q q' (answer.One r) (answer.One x) from a b c d s z e f g =
+      let served = subst (λ i. ServesWhere (state p) (state p') (IsSound (state p).held) r
+      (reply_to t i row (state p).held) (after_one t i row (state p).held)) from a in
+      let served' = subst (λ i. ServesWhere (state' q) (state' q') (IsSound (state' q).held) x
+      (reply_to t i row (state' q).held) (after_one t i row (state' q).held)) from b in
+      ap answer.One ((is-served state t k row p p' r served c s f.0).0
       ∙ reply-alike t k other (state p).held (state' q).held e row
-      ∙ sym (is-served state' t k row q q' x yours d z g.0).0)
-  record-alike (ask.One t j row) p p' q q' (answer.One r) (answer.Rows ss) by a b c d s z e f g = absurd b
-  record-alike (ask.One t j row) p p' q q' (answer.Rows rs) answered' by a b c d s z e f g = absurd a
-  record-alike (ask.Import t j rows) p p' q q' (answer.Rows rs) (answer.Rows ss) by a b c d s z e f g =
-      ap answer.Rows (rows-alike t p p' q q' rows rs ss (subst (λ i. RowsAnswer state t i p rows rs p') by a)
-      (subst (λ i. RowsAnswer state' t i q rows ss q') by b) c d s z e f g)
-  record-alike (ask.Import t j rows) p p' q q' (answer.Rows rs) (answer.One x) by a b c d s z e f g = absurd b
-  record-alike (ask.Import t j rows) p p' q q' (answer.One r) answered' by a b c d s z e f g = absurd a
+      ∙ sym (is-served state' t k row q q' x served' d z g.0).0)
+  record-alike (ask.One t j row) p p' q q' (answer.One r) (answer.Rows ss) from a b c d s z e f g = absurd b
+  record-alike (ask.One t j row) p p' q q' (answer.Rows rs) answered' from a b c d s z e f g = absurd a
+  record-alike (ask.Import t j rows) p p' q q' (answer.Rows rs) (answer.Rows ss) from a b c d s z e f g =
+      ap answer.Rows (rows-alike t p p' q q' rows rs ss (subst (λ i. RowsAnswer state t i p rows rs p') from a)
+      (subst (λ i. RowsAnswer state' t i q rows ss q') from b) c d s z e f g)
+  record-alike (ask.Import t j rows) p p' q q' (answer.Rows rs) (answer.One x) from a b c d s z e f g = absurd b
+  record-alike (ask.Import t j rows) p p' q q' (answer.One r) answered' from a b c d s z e f g = absurd a
 
 pub lines_are_alike : {B C : Type 0} (state : B → State Office) (state' : C → State Office)
     → LinesAreAlike state state'

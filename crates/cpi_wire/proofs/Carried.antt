@@ -20,15 +20,15 @@ pub behind-all : (found : List Code) → behind found (Some []) ≡ Some found
 behind-all found = ap (λ codes. Some codes) (append-nil found)
 
 -- one code more
-pub behind-more : (found : List Code) (text : Text) (code : Code) (texts : List Text) → spelled_elementary_code text ≡
-    Some code
+pub behind-more : (found : List Code) (text : Text) (code : Code) (texts : List Text)
+    → spelled_elementary_code text ≡ Some code
     → behind found (elementary_codes (text ∷ texts)) ≡ behind (found ++ code ∷ []) (elementary_codes texts)
-behind-more found text code texts e = rw e (by (elementary_codes texts))
+behind-more found text code texts e = rw e (case-by-case (elementary_codes texts))
   where
-    by : (more : Option (List Code)) → behind found (more >>= λ codes. Some (code ∷ codes)) ≡ behind
-        (found ++ code ∷ []) more
-    by None = refl
-    by (Some codes) = ap (λ all. Some all) (sym (append_assoc found (code ∷ []) codes))
+    case-by-case : (more : Option (List Code)) → behind found (more >>= λ codes. Some (code ∷ codes))
+        ≡ behind (found ++ code ∷ []) more
+    case-by-case None = refl
+    case-by-case (Some codes) = ap (λ all. Some all) (sym (append_assoc found (code ∷ []) codes))
 
 -- a text that writes none
 pub behind-bad : (found : List Code) (text : Text) (texts : List Text) → spelled_elementary_code text ≡ None

@@ -55,8 +55,8 @@ AllFit (k ∷ ks) [] = ⊥
 AllFit (k ∷ ks) (a ∷ ans) = FitsAnswer k a × AllFit ks ans
 
 module _ {B : Type 0} (state : B → State Office) where
-  rows-fit : (t : ℕ) (c : Caller) (p q : B) (rows : List (Option Request)) (rs : List Reply) →
-      RowsAnswer state t c p rows rs q → Fit rows rs
+  rows-fit : (t : ℕ) (c : Caller) (p q : B) (rows : List (Option Request)) (rs : List Reply)
+      → RowsAnswer state t c p rows rs q → Fit rows rs
   rows-fit t c p q [] [] a = tt
   rows-fit t c p q [] (r ∷ rs) a = absurd a
   rows-fit t c p q (row ∷ rows) [] a = absurd a
@@ -102,19 +102,20 @@ own-fit : (key : ℕ) (ks : List Ask) (ans : List Answer) → AllFit ks ans → 
 own-fit key [] [] h = tt
 own-fit key [] (a ∷ ans) h = absurd h
 own-fit key (k ∷ ks) [] h = absurd h
-own-fit key (k ∷ ks) (a ∷ ans) h = by (is_own key k) (own-fit key ks ans h.1)
+own-fit key (k ∷ ks) (a ∷ ans) h = case-by-case (is_own key k) (own-fit key ks ans h.1)
   where
-    by : (mine : Bool) → AllFit (own_asks key ks) (own key ks ans) →
-        AllFit (if mine then k ∷ own_asks key ks else own_asks key ks) ((if mine then a ∷ [] else []) ++ own key ks ans)
-    by true rest = (h.0, rest)
-    by false rest = rest
+    case-by-case : (is_its : Bool) → AllFit (own_asks key ks) (own key ks ans) →
+        AllFit (if is_its then k ∷ own_asks key ks else own_asks key ks)
+        ((if is_its then a ∷ [] else []) ++ own key ks ans)
+    case-by-case true rest = (h.0, rest)
+    case-by-case false rest = rest
 
 -- ---- the replies to the collector's requests are those to the collector's records
 
 module _ (key : ℕ) (t : ℕ) (c : Caller) (more : List Asking) (rest : List Reply) where
   rows-own : has_this_key key c ≡ true → (rows : List (Option Request)) (rs : List Reply) → Fit rows rs
-      → replies_to key (rows_asked t c rows ++ more) (rows_replied rows rs ++ rest) ≡ rows_replied rows rs
-      ++ replies_to key more rest
+      → replies_to key (rows_asked t c rows ++ more) (rows_replied rows rs ++ rest)
+      ≡ rows_replied rows rs ++ replies_to key more rest
   rows-own e [] [] h = refl
   rows-own e [] (r ∷ rs) h = absurd h
   rows-own e (row ∷ rows) [] h = absurd h
@@ -131,8 +132,8 @@ module _ (key : ℕ) (t : ℕ) (c : Caller) (more : List Asking) (rest : List Re
 
 record-own : (key : ℕ) (k : Ask) (a : Answer) (more : List Asking) (rest : List Reply) → FitsAnswer k a →
     is_own key k ≡ true
-    → replies_to key (requests_of_record k ++ more) (replies_of_record k a ++ rest) ≡ replies_of_record k a ++
-    replies_to key more rest
+    → replies_to key (requests_of_record k ++ more) (replies_of_record k a ++ rest)
+    ≡ replies_of_record k a ++ replies_to key more rest
 record-own key ask.Bad a more rest h e = absurd (true≢false (sym e))
 record-own key (ask.One t c q) (answer.One r) more rest h e = rw e refl
 record-own key (ask.One t c q) (answer.Rows rs) more rest h e = absurd h
@@ -154,17 +155,17 @@ replies-own : (key : ℕ) (ks : List Ask) (ans : List Answer) → AllFit ks ans 
 replies-own key [] [] h = refl
 replies-own key [] (a ∷ ans) h = absurd h
 replies-own key (k ∷ ks) [] h = absurd h
-replies-own key (k ∷ ks) (a ∷ ans) h = by (is_own key k) refl (replies-own key ks ans h.1)
+replies-own key (k ∷ ks) (a ∷ ans) h = case-by-case (is_own key k) refl (replies-own key ks ans h.1)
   where
-    by : (mine : Bool) → is_own key k ≡ mine
+    case-by-case : (is_its : Bool) → is_own key k ≡ is_its
         → replies_to key (requests_of_asks ks) (replies_of_asks ks ans)
         ≡ replies_of_asks (own_asks key ks) (own key ks ans)
         → replies_to key (requests_of_record k ++ requests_of_asks ks) (replies_of_record k a ++ replies_of_asks ks ans)
-        ≡ replies_of_asks (if mine then k ∷ own_asks key ks else own_asks key ks)
-        ((if mine then a ∷ [] else []) ++ own key ks ans)
-    by true e rest = record-own key k a (requests_of_asks ks) (replies_of_asks ks ans) h.0 e
+        ≡ replies_of_asks (if is_its then k ∷ own_asks key ks else own_asks key ks)
+        ((if is_its then a ∷ [] else []) ++ own key ks ans)
+    case-by-case true e rest = record-own key k a (requests_of_asks ks) (replies_of_asks ks ans) h.0 e
         ∙ ap (λ (z : List Reply). replies_of_record k a ++ z) rest
-    by false e rest = record-not key k a (requests_of_asks ks) (replies_of_asks ks ans) h.0 e ∙ rest
+    case-by-case false e rest = record-not key k a (requests_of_asks ks) (replies_of_asks ks ans) h.0 e ∙ rest
 
 -- ---- the replies have one reading: equal replies are of equal answers
 
@@ -174,8 +175,8 @@ heads a b xs ys e = cc
 tails : (a b : Reply) (xs ys : List Reply) → (a ∷ xs) ≡ (b ∷ ys) → xs ≡ ys
 tails a b xs ys e = cc
 
-rows-same : (rows : List (Option Request)) (rs ss x y : List Reply) → Fit rows rs → Fit rows ss → rows_replied rows rs
-    ++ x ≡ rows_replied rows ss ++ y → (rs ≡ ss) × (x ≡ y)
+rows-same : (rows : List (Option Request)) (rs ss x y : List Reply) → Fit rows rs → Fit rows ss
+    → rows_replied rows rs ++ x ≡ rows_replied rows ss ++ y → (rs ≡ ss) × (x ≡ y)
 rows-same [] [] [] x y f g e = (refl, e)
 rows-same [] (r ∷ rs) ss x y f g e = absurd f
 rows-same [] [] (s ∷ ss) x y f g e = absurd g
@@ -186,16 +187,16 @@ rows-same (None ∷ rows) (r ∷ rs) (s ∷ ss) x y f g e =
 rows-same (Some q ∷ rows) (r ∷ rs) (s ∷ ss) x y f g e =
     let rest = rows-same rows rs ss x y f g (tails r s _ _ e) in (ap₂ (λ z zs. z ∷ zs) (heads r s _ _ e) rest.0, rest.1)
 
-record-same : (k : Ask) (a b : Answer) (x y : List Reply) → FitsAnswer k a → FitsAnswer k b → replies_of_record k a
-    ++ x ≡ replies_of_record k b ++ y → (a ≡ b) × (x ≡ y)
+record-same : (k : Ask) (a b : Answer) (x y : List Reply) → FitsAnswer k a → FitsAnswer k b
+    → replies_of_record k a ++ x ≡ replies_of_record k b ++ y → (a ≡ b) × (x ≡ y)
 record-same ask.Bad (answer.One r) (answer.One s) x y f g e = (ap answer.One (f ∙ sym g), e)
 record-same ask.Bad (answer.One r) (answer.Rows ss) x y f g e = absurd g
 record-same ask.Bad (answer.Rows rs) b x y f g e = absurd f
 record-same (ask.One t c q) (answer.One r) (answer.One s) x y f g e = (ap answer.One (heads r s x y e), tails r s x y e)
 record-same (ask.One t c q) (answer.One r) (answer.Rows ss) x y f g e = absurd g
 record-same (ask.One t c q) (answer.Rows rs) b x y f g e = absurd f
-record-same (ask.Import t c rows) (answer.Rows rs) (answer.Rows ss) x y f g e = let both =
-    rows-same rows rs ss x y f g e in (ap answer.Rows both.0, both.1)
+record-same (ask.Import t c rows) (answer.Rows rs) (answer.Rows ss) x y f g e =
+    let both = rows-same rows rs ss x y f g e in (ap answer.Rows both.0, both.1)
 record-same (ask.Import t c rows) (answer.Rows rs) (answer.One s) x y f g e = absurd g
 record-same (ask.Import t c rows) (answer.One r) b x y f g e = absurd f
 
@@ -233,41 +234,39 @@ replies-length [] [] h = refl
 replies-length [] (a ∷ ans) h = absurd h
 replies-length (k ∷ ks) [] h = absurd h
 replies-length (k ∷ ks) (a ∷ ans) h = length-append (replies_of_record k a) (replies_of_asks ks ans)
-    ∙ ap₂ (λ m n. m + n) (record-length k a h.0) (replies-length ks ans h.1) ∙ sym
-    (length-append (requests_of_record k) (requests_of_asks ks))
+    ∙ ap₂ (λ m n. m + n) (record-length k a h.0) (replies-length ks ans h.1)
+    ∙ sym (length-append (requests_of_record k) (requests_of_asks ks))
 
 -- ---- without other collectors
+
+not-true : (b : Bool) → not b ≡ true → b ≡ false
+not-true true h = sym h
+not-true false h = refl
 
 -- an own record isn't another collector's
 own-not-others : (key : ℕ) (k : Ask) → is_others key k ≡ true → is_own key k ≡ false
 own-not-others key ask.Bad e = refl
-own-not-others key (ask.One t (Collector j) q) e = by (j == key) e
-  where
-    by : (b : Bool) → not b ≡ true → b ≡ false
-    by true h = sym h
-    by false h = refl
+own-not-others key (ask.One t (Collector j) q) e = not-true (j == key) e
 own-not-others key (ask.One t Public q) e = refl
 own-not-others key (ask.One t Desk q) e = refl
-own-not-others key (ask.Import t (Collector j) rows) e = by (j == key) e
-  where
-    by : (b : Bool) → not b ≡ true → b ≡ false
-    by true h = sym h
-    by false h = refl
+own-not-others key (ask.Import t (Collector j) rows) e = not-true (j == key) e
 own-not-others key (ask.Import t Public rows) e = refl
 own-not-others key (ask.Import t Desk rows) e = refl
 
--- the collector's records stand among those that are left
+-- the collector's records are among those that are left
 own-left : (zone : ZoneRule) (key : ℕ) (rows : List Record) →
     own_asks key (map (ask_of zone) (records_without zone key rows)) ≡ own_asks key (map (ask_of zone) rows)
 own-left zone key [] = refl
-own-left zone key (row ∷ rows) = by (is_others key (ask_of zone row)) refl (own-left zone key rows)
+own-left zone key (row ∷ rows) = case-by-case (is_others key (ask_of zone row)) refl (own-left zone key rows)
   where
-    by : (b : Bool) → is_others key (ask_of zone row) ≡ b →
+    case-by-case : (b : Bool) → is_others key (ask_of zone row) ≡ b →
         own_asks key (map (ask_of zone) (records_without zone key rows)) ≡ own_asks key (map (ask_of zone) rows)
-        → own_asks key (map (ask_of zone) (if not b then row ∷ records_without zone key rows else records_without zone
-        key rows)) ≡ own_asks key (ask_of zone row ∷ map (ask_of zone) rows)
-    by true e rest = rest ∙ rw (own-not-others key (ask_of zone row) e) refl
-    by false e rest = ap (λ (z : List Ask). if is_own key (ask_of zone row) then ask_of zone row ∷ z else z) rest
+        → own_asks key (map (ask_of zone)
+        (if not b then row ∷ records_without zone key rows else records_without zone key rows))
+        ≡ own_asks key (ask_of zone row ∷ map (ask_of zone) rows)
+    case-by-case true e rest = rest ∙ rw (own-not-others key (ask_of zone row) e) refl
+    case-by-case false e rest =
+        ap (λ (z : List Ask). if is_own key (ask_of zone row) then ask_of zone row ∷ z else z) rest
 
 -- the requests of a record go or stay together
 rows-kept : (key t : ℕ) (c : Caller) (rows : List (Option Request)) (more : List Asking) → is_other key c ≡ false
@@ -299,16 +298,16 @@ record-gone key (ask.Import t c rows) more e = rows-gone key t c rows more e
 left-requests : (zone : ZoneRule) (key : ℕ) (rows : List Record) →
     requests_without key (requests_of_records zone rows) ≡ requests_of_records zone (records_without zone key rows)
 left-requests zone key [] = refl
-left-requests zone key (row ∷ rows) = by (is_others key (ask_of zone row)) refl (left-requests zone key rows)
+left-requests zone key (row ∷ rows) = case-by-case (is_others key (ask_of zone row)) refl (left-requests zone key rows)
   where
-    by : (b : Bool) → is_others key (ask_of zone row) ≡ b → requests_without key (requests_of_records zone rows) ≡
-        requests_of_records zone
-        (records_without zone key rows)
-        → requests_without key (requests_of_record (ask_of zone row) ++ requests_of_records zone rows) ≡
-        requests_of_records zone
+    case-by-case : (b : Bool) → is_others key (ask_of zone row) ≡ b
+        → requests_without key (requests_of_records zone rows)
+        ≡ requests_of_records zone (records_without zone key rows)
+        → requests_without key (requests_of_record (ask_of zone row) ++ requests_of_records zone rows)
+        ≡ requests_of_records zone
         (if not b then row ∷ records_without zone key rows else records_without zone key rows)
-    by true e rest = record-gone key (ask_of zone row) (requests_of_records zone rows) e ∙ rest
-    by false e rest = record-kept key (ask_of zone row) (requests_of_records zone rows) e
+    case-by-case true e rest = record-gone key (ask_of zone row) (requests_of_records zone rows) e ∙ rest
+    case-by-case false e rest = record-kept key (ask_of zone row) (requests_of_records zone rows) e
         ∙ ap (λ (z : List Asking). requests_of_record (ask_of zone row) ++ z) rest
 
 -- ---- the law
@@ -337,22 +336,22 @@ module _ {B : Type 0} (state : B → State Office) (zone : ZoneRule) (old new : 
 pub replays_answer_alike : {B C : Type 0} (state : B → State Office) (state' : C → State Office)
     → ReplaysAnswerAlike state state'
 replays_answer_alike state state' zone key old new old' new' rows others ans bs is is' start same =
-    let mine = map (ask_of zone) rows in
-    let yours = map (ask_of zone) others in
-    let asks : own_asks key mine ≡ own_asks key yours =
+    let asked = map (ask_of zone) rows in
+    let asked' = map (ask_of zone) others in
+    let asks : own_asks key asked ≡ own_asks key asked' =
     sym (own-left zone key rows) ∙ ap (λ z. own_asks key (map (ask_of zone) z)) same ∙ own-left zone key others in
     let left = left-requests zone key rows ∙ ap (requests_of_records zone) same ∙ sym (left-requests zone key others) in
     let alike = runs_tell_alike state state' key (requests_of_records zone rows) (requests_of_records zone others)
     (replies_of zone rows ans) (replies_of zone others bs)
     old new old' new' (whole state zone old new rows ans is) (whole state' zone old' new' others bs is') start
     is.none_passes_on is'.none_passes_on left in
-    let answered : replies_of_asks (own_asks key mine) (own key mine ans)
-    ≡ replies_of_asks (own_asks key mine) (own key yours bs) =
+    let answered : replies_of_asks (own_asks key asked) (own key asked ans)
+    ≡ replies_of_asks (own_asks key asked) (own key asked' bs) =
     sym (replies-to-own state zone old new rows ans is key) ∙ alike
     ∙ replies-to-own state' zone old' new' others bs is' key
-    ∙ ap (λ ks. replies_of_asks ks (own key yours bs)) (sym asks) in
-    let here = own-fit key mine ans (fits state zone old new rows ans is) in
-    let there = subst (λ ks. AllFit ks (own key yours bs)) (sym asks)
-    (own-fit key yours bs (fits state' zone old' new' others bs is')) in
-    ap (map answer_line) (own-is zone key rows ans ∙ replies-same (own_asks key mine) (own key mine ans)
-    (own key yours bs) here there answered ∙ sym (own-is zone key others bs))
+    ∙ ap (λ ks. replies_of_asks ks (own key asked' bs)) (sym asks) in
+    let here = own-fit key asked ans (fits state zone old new rows ans is) in
+    let there = subst (λ ks. AllFit ks (own key asked' bs)) (sym asks)
+    (own-fit key asked' bs (fits state' zone old' new' others bs is')) in
+    ap (map answer_line) (own-is zone key rows ans ∙ replies-same (own_asks key asked) (own key asked ans)
+    (own key asked' bs) here there answered ∙ sym (own-is zone key others bs))

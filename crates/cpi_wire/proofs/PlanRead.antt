@@ -20,8 +20,7 @@ use Rattle.cpi_wire.proofs.RowLimits.{within-limit, past-limit}
 title-more : (rows : List PlanRow) (t : Title) →
     body_of_rows (rows ++ row.Title t ∷ []) ≡ record {
       titles = titles_of rows ++ t ∷ [];
-      weights =
-          weights_of_rows rows;
+      weights = weights_of_rows rows;
       places = places_of rows;
       references = references_of rows;
     }
@@ -106,8 +105,7 @@ reference-more (row.Reference m ∷ rows) n = ap
       titles = b.titles;
       weights = b.weights;
       places = b.places;
-      references =
-          m ∷ b.references;
+      references = m ∷ b.references;
     }) (reference-more rows n)
 
 -- a body with one row more
@@ -142,32 +140,33 @@ with-reference b rows n e = ap (λ (b : PlanBody).
 -- ---- the rows of records
 
 -- the rows of two lists of records
-both : Option (List PlanRow) → Option (List PlanRow) → Option (List PlanRow)
-both None more = None
-both (Some rows) None = None
-both (Some rows) (Some more) = Some (rows ++ more)
+joined_rows : Option (List PlanRow) → Option (List PlanRow) → Option (List PlanRow)
+joined_rows None more = None
+joined_rows (Some rows) None = None
+joined_rows (Some rows) (Some more) = Some (rows ++ more)
 
-rows-append : (xs ys : List Record) → plan_rows (xs ++ ys) ≡ both (plan_rows xs) (plan_rows ys)
-unfolding both
+rows-append : (xs ys : List Record) → plan_rows (xs ++ ys) ≡ joined_rows (plan_rows xs) (plan_rows ys)
+unfolding joined_rows
 rows-append [] ys = none (plan_rows ys)
   where
-    none : (o : Option (List PlanRow)) → o ≡ both (Some []) o
+    none : (o : Option (List PlanRow)) → o ≡ joined_rows (Some []) o
     none None = refl
     none (Some rows) = refl
-rows-append (x ∷ xs) ys = by (spelled_plan_row x) (plan_rows xs) (plan_rows ys) (plan_rows (xs ++ ys))
+rows-append (x ∷ xs) ys = case-by-case (spelled_plan_row x) (plan_rows xs) (plan_rows ys) (plan_rows (xs ++ ys))
     (rows-append xs ys)
   where
-    by : (p : Option PlanRow) (o q r : Option (List PlanRow)) → r ≡ both o q
-        → (p >>= λ first. r >>= λ rows. Some (first ∷ rows)) ≡ both (p >>= λ first. o >>= λ rows. Some (first ∷ rows)) q
-    by None o q r e = refl
-    by (Some first) None q r e = rw e refl
-    by (Some first) (Some rows) None r e = rw e refl
-    by (Some first) (Some rows) (Some more) r e = rw e refl
+    case-by-case : (p : Option PlanRow) (o q r : Option (List PlanRow)) → r ≡ joined_rows o q
+        → (p >>= λ first. r >>= λ rows. Some (first ∷ rows))
+        ≡ joined_rows (p >>= λ first. o >>= λ rows. Some (first ∷ rows)) q
+    case-by-case None o q r e = refl
+    case-by-case (Some first) None q r e = rw e refl
+    case-by-case (Some first) (Some rows) None r e = rw e refl
+    case-by-case (Some first) (Some rows) (Some more) r e = rw e refl
 
 pub rows-more : (given : List Record) (rows : List PlanRow) (fields : Record) (one : PlanRow) →
     plan_rows given ≡ Some rows → spelled_plan_row fields ≡ Some one
     → plan_rows (given ++ fields ∷ []) ≡ Some (rows ++ one ∷ [])
-unfolding both
+unfolding joined_rows
 rows-more given rows fields one e f = rows-append given (fields ∷ []) ∙ rw (e, f) refl
 
 -- ---- the body
@@ -189,13 +188,13 @@ body-long text given first h =
 pub body-bad : (text : List ℕ) (given : List Record) (rows : List PlanRow) (fields : Record) →
     AreFirst (given ++ fields ∷ []) text → plan_rows given ≡ Some rows
     → spelled_plan_row fields ≡ None → None ≡ body_of text
-unfolding body_of both
+unfolding body_of joined_rows
 body-bad text given rows fields first e f =
     let all : plan_rows (records_of text) ≡ None = ap plan_rows (first.1 ∙ append_assoc given (fields ∷ []) first.0)
     ∙ rows-append given (fields ∷ first.0) ∙ rw (e, f) refl in
-    by (nat_lt MOST_ROWS (length (records_of text))) (plan_rows (records_of text)) all
+    case-by-case (nat_lt MOST_ROWS (length (records_of text))) (plan_rows (records_of text)) all
   where
-    by : (t : Bool) (o : Option (List PlanRow)) → o ≡ None →
+    case-by-case : (t : Bool) (o : Option (List PlanRow)) → o ≡ None →
         None ≡ (if t then None else (o >>= λ rows. Some (body_of_rows rows)))
-    by true o e = refl
-    by false o e = rw e refl
+    case-by-case true o e = refl
+    case-by-case false o e = rw e refl

@@ -59,8 +59,8 @@ requests_of_records zone (row ∷ rows) = requests_of_record (ask_of zone row) +
 abbrev pub replies_of : ZoneRule → List Record → List Answer → List Reply
 replies_of zone [] replies = []
 replies_of zone (row ∷ rows) [] = []
-replies_of zone (row ∷ rows) (reply ∷ replies) = replies_of_record (ask_of zone row) reply ++ replies_of zone
-    rows replies
+replies_of zone (row ∷ rows) (reply ∷ replies) =
+    replies_of_record (ask_of zone row) reply ++ replies_of zone rows replies
 
 -- records that were answered in turn are a run of their requests
 abbrev pub AreRecordsOfARun : {B : Type 0} → (B → State Office) → Type 0
