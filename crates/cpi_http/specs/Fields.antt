@@ -1,6 +1,6 @@
 -- The fields of a request: each is a name, and a value without the white space around it (RFC 9112, section 5).
-use Rattle.std.specs.Prelude.{◌≡◌, ℕ, ◌≤◌, Bool, List, [], ◌∷◌, length, take, drop, map, flat_map, bytes_eq}
-use Rattle.std.specs.Prelude.{Option, Some, None, if◌then◌else◌, ◌==◌}
+use Rattle.std.specs.Prelude.{◌≡◌, ℕ, ◌≤◌, Bool, List, [], ◌∷◌, length, take, drop, map, flat_map, bytes_eq, Option}
+use Rattle.std.specs.Prelude.{Some, None, if◌then◌else◌, ◌==◌}
 use Rattle.std.specs.Char.{to_ascii_lowercase}
 use Rattle.cpi_http.specs.declared.fields.Named.{Named}
 use Rattle.cpi_http.specs.declared.fields.Named.TheVariants as Of

@@ -1,6 +1,6 @@
 //! Theorems about the definitions.
-ghost use Rattle.cpi_http.specs.Laws.{AreMessagesOfARun, OneMessage, ResponsesAreAlike};
-ghost use Rattle.cpi_http.specs.Laws.{TableResponsesAreComputed, MessagesReportTables};
+ghost use Rattle.cpi_http.specs.Laws.{AreMessagesOfARun, OneMessage, ResponsesAreAlike, TableResponsesAreComputed};
+ghost use Rattle.cpi_http.specs.Laws.{MessagesReportTables};
 
 use cpi_store::Book;
 

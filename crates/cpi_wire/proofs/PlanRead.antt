@@ -8,8 +8,8 @@ use Rattle.cpi_plan.specs.declared.plan_rows.Place.{Place}
 use Rattle.cpi_wire.specs.declared.plan_rows.PlanRow.{PlanRow}
 use Rattle.cpi_wire.specs.declared.plan_rows.PlanRow.TheVariants as row
 use Rattle.cpi_wire.specs.Input.{Record, AreFirst, records_of}
-use Rattle.cpi_wire.specs.PlanBody.{titles_of, weights_of_rows, places_of, references_of, body_of_rows}
-use Rattle.cpi_wire.specs.PlanBody.{plan_rows, body_of}
+use Rattle.cpi_wire.specs.PlanBody.{titles_of, weights_of_rows, places_of, references_of, body_of_rows, plan_rows}
+use Rattle.cpi_wire.specs.PlanBody.{body_of}
 use Rattle.cpi_wire.specs.PlanRows.{spelled_plan_row}
 use Rattle.cpi_codes.specs.Following.{◌>>=◌}
 use Rattle.cpi_wire.specs.declared.limits.TheConstants.{MOST_ROWS}

@@ -11,7 +11,7 @@ use Rattle.cpi_wire.specs.declared.asks.Ask.TheVariants as ask
 use Rattle.cpi_wire.specs.Arguments.{Text, exactly_one}
 use Rattle.cpi_wire.specs.Import.{rows_of_body}
 use Rattle.cpi_codes.specs.Following.{◌>>=◌}
-use Rattle.cpi_wire.specs.Values.{moment}
+use Rattle.cpi_wire.specs.Values.{spelled_moment}
 use Rattle.cpi_wire.specs.Words.{spelled_word, spelled_request}
 
 -- the public, the desk, or a collector by a key
@@ -34,7 +34,7 @@ spelled_asks zone t k word arguments =
 -- a moment, a caller, a word and its arguments
 abbrev pub spelled_parts : ZoneRule → Text → Text → Text → List Text → Option Ask
 spelled_parts zone m k word arguments = do
-  t ← moment m
+  t ← spelled_moment m
   c ← spelled_caller k
   spelled_asks zone t c word arguments
 

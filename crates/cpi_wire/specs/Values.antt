@@ -21,8 +21,8 @@ use Rattle.cpi_survey.specs.declared.mark.Reason.{Reason}
 use Rattle.cpi_survey.specs.declared.mark.Reason.TheVariants.{Stock, Closed, Gone, Refused}
 use Rattle.cpi_wire.specs.Arguments.{Text}
 
-abbrev pub moment : Text → Option ℕ
-moment text = number_in 0 LAST_MOMENT text
+abbrev pub spelled_moment : Text → Option ℕ
+spelled_moment text = number_in 0 LAST_MOMENT text
 
 -- a value, or another if there is none
 abbrev pub or_else : {A : Type 0} → Option A → Option A → Option A
@@ -31,7 +31,7 @@ or_else (Some x) other = Some x
 
 -- a moment as a number, or as the civil text that a clock shows then
 abbrev pub spelled_time : ZoneRule → Text → Option ℕ
-spelled_time zone text = or_else (moment text) (moment_in zone text)
+spelled_time zone text = or_else (spelled_moment text) (moment_in zone text)
 
 abbrev pub spelled_month : Text → Option ℕ
 spelled_month text = result_ok (month_of text)
@@ -39,23 +39,23 @@ spelled_month text = result_ok (month_of text)
 abbrev pub spelled_collector : Text → Option ℕ
 spelled_collector text = number_in 1 GREATEST_COLLECTOR text
 
-abbrev pub slot : Text → Option ℕ
-slot text = number_in 1 GREATEST_SLOT text
+abbrev pub spelled_slot : Text → Option ℕ
+spelled_slot text = number_in 1 GREATEST_SLOT text
 
 abbrev pub spelled_outlet : Text → Option ℕ
 spelled_outlet text = number_in 1 GREATEST_OUTLET text
 
-abbrev pub year : Text → Option ℕ
-year text = number_in 2000 2199 text
+abbrev pub spelled_year : Text → Option ℕ
+spelled_year text = number_in 2000 2199 text
 
-abbrev pub price : Text → Option ℕ
-price text = number_in 1 GREATEST_PRICE text
+abbrev pub spelled_price : Text → Option ℕ
+spelled_price text = number_in 1 GREATEST_PRICE text
 
-abbrev pub low_tolerance : Text → Option ℕ
-low_tolerance text = number_in 1 PER_MILLE text
+abbrev pub spelled_low_tolerance : Text → Option ℕ
+spelled_low_tolerance text = number_in 1 PER_MILLE text
 
-abbrev pub high_tolerance : Text → Option ℕ
-high_tolerance text = number_in PER_MILLE GREATEST_TOLERANCE text
+abbrev pub spelled_high_tolerance : Text → Option ℕ
+spelled_high_tolerance text = number_in PER_MILLE GREATEST_TOLERANCE text
 
 -- parts per million
 abbrev pub spelled_weight : Text → Option ℕ
@@ -75,13 +75,13 @@ spelled_form text =
     else if bytes_eq text (codes "csv") then Some form.Csv
     else None
 
-abbrev pub revision : Text → Option ℕ
-revision text = number_in 1 9 text
+abbrev pub spelled_revision : Text → Option ℕ
+spelled_revision text = number_in 1 9 text
 
 -- the edition of a table: that of a revision, or the latest one if no field names a revision
-abbrev pub edition : Option Text → Option (Option ℕ)
-edition None = Some None
-edition (Some text) = revision text >>= λ r. Some (Some r)
+abbrev pub spelled_edition : Option Text → Option (Option ℕ)
+spelled_edition None = Some None
+spelled_edition (Some text) = spelled_revision text >>= λ r. Some (Some r)
 
 abbrev pub spelled_reason : Text → Option Reason
 spelled_reason text =
@@ -94,8 +94,8 @@ spelled_reason text =
 -- a price, a reason why there is none, or the price of a replacement
 abbrev pub spelled_mark : Text → Text → Option Mark
 spelled_mark kind value =
-    if bytes_eq kind (codes "price") then (price value >>= λ p. Some (Price p))
+    if bytes_eq kind (codes "price") then (spelled_price value >>= λ p. Some (Price p))
     else if bytes_eq kind (codes "missing") then (spelled_reason value >>= λ r. Some (Missing r))
-    else if bytes_eq kind (codes "comparable") then (price value >>= λ p. Some (Comparable p))
-    else if bytes_eq kind (codes "other") then (price value >>= λ p. Some (Other p))
+    else if bytes_eq kind (codes "comparable") then (spelled_price value >>= λ p. Some (Comparable p))
+    else if bytes_eq kind (codes "other") then (spelled_price value >>= λ p. Some (Other p))
     else None

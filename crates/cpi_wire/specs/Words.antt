@@ -1,6 +1,6 @@
 -- The words of requests, each with its arguments.
-use Rattle.std.specs.Prelude.{ℕ, List, [], ◌∷◌, ◌&&◌, if◌then◌else◌, nat_lt, nat_le, Option, Some, None}
-use Rattle.std.specs.Prelude.{bytes_eq, codes}
+use Rattle.std.specs.Prelude.{ℕ, List, [], ◌∷◌, ◌&&◌, if◌then◌else◌, nat_lt, nat_le, Option, Some, None, bytes_eq}
+use Rattle.std.specs.Prelude.{codes}
 use Rattle.cpi_codes.specs.Following.{◌>>=◌}
 use Rattle.cpi_codes.specs.ItemCode.{item_code_of}
 use Rattle.cpi_codes.specs.Key.{key_of}
@@ -15,9 +15,9 @@ use Rattle.cpi_wire.specs.declared.words.Word.TheVariants as word
 use Rattle.cpi_wire.specs.Arguments.{Text, none, exactly_one, exactly_two, exactly_two_or_three, exactly_four}
 use Rattle.cpi_wire.specs.Arguments.{exactly_four_and_confirm, exactly_five, exactly_six}
 use Rattle.cpi_wire.specs.PlanBody.{body_of}
-use Rattle.cpi_wire.specs.Values.{spelled_time, year, spelled_month, spelled_collector, slot, spelled_outlet}
-use Rattle.cpi_wire.specs.Values.{low_tolerance, high_tolerance}
-use Rattle.cpi_wire.specs.Values.{spelled_name, spelled_mark, spelled_form, edition, spelled_elementary_code}
+use Rattle.cpi_wire.specs.Values.{spelled_time, spelled_year, spelled_month, spelled_collector, spelled_slot}
+use Rattle.cpi_wire.specs.Values.{spelled_outlet, spelled_low_tolerance, spelled_high_tolerance, spelled_name}
+use Rattle.cpi_wire.specs.Values.{spelled_mark, spelled_form, spelled_edition, spelled_elementary_code}
 
 -- a row of the calendar opens before it closes, and is published no earlier
 abbrev pub calendar_row : ℕ → ℕ → ℕ → ℕ → Option CalendarPart
@@ -67,7 +67,7 @@ work_request arguments = do
 abbrev pub quote_request : List Text → Option Request
 quote_request arguments = do
   a ← exactly_four_and_confirm arguments
-  s ← slot a.0
+  s ← spelled_slot a.0
   m ← spelled_month a.1
   k ← spelled_mark a.2 a.3
   Some (request.Submit (record { slot = s; month = m; mark = k; confirm = a.4 }))
@@ -78,8 +78,8 @@ item_request arguments = do
   c ← item_code_of a.0
   t ← spelled_name a.1
   u ← spelled_name a.2
-  l ← low_tolerance a.3
-  h ← high_tolerance a.4
+  l ← spelled_low_tolerance a.3
+  h ← spelled_high_tolerance a.4
   Some (request.PutItem (record { code = c; text = t; unit = u; low = l; high = h }))
 
 abbrev pub outlet_request : List Text → Option Request
@@ -100,7 +100,7 @@ abbrev pub assign_request : List Text → Option Request
 assign_request arguments = do
   a ← exactly_six arguments
   c ← spelled_collector a.0
-  s ← slot a.1
+  s ← spelled_slot a.1
   o ← spelled_outlet a.2
   i ← item_code_of a.3
   first ← spelled_month a.4
@@ -113,9 +113,9 @@ abbrev pub hand_over_request : List Text → Option Request
 hand_over_request arguments = do
   a ← exactly_five arguments
   c ← spelled_collector a.0
-  s ← slot a.1
+  s ← spelled_slot a.1
   d ← spelled_collector a.2
-  n ← slot a.3
+  n ← spelled_slot a.3
   m ← spelled_month a.4
   Some (request.HandOver (record { from = c; slot = s; to = d; new_slot = n; month = m }))
 
@@ -132,7 +132,7 @@ calendar_request zone arguments = do
 abbrev pub plan_request : List Text → Option Request
 plan_request arguments = do
   a ← exactly_two arguments
-  y ← year a.0
+  y ← spelled_year a.0
   b ← body_of a.1
   Some (request.PutPlan y b)
 
@@ -145,7 +145,7 @@ table_request arguments = do
   a ← exactly_two_or_three arguments
   m ← spelled_month a.0
   f ← spelled_form a.1
-  e ← edition a.2
+  e ← spelled_edition a.2
   Some (request.Table m f e)
 
 -- the elementary aggregates that the fields name, in the same order

@@ -1,9 +1,7 @@
 //! Lists of a fixed number of arguments. Each function returns the arguments; none if there are fewer or more.
 ghost use Rattle.std.specs.Prelude.{◌≡◌, map, option_map};
-ghost use Rattle.cpi_wire.specs.Arguments.{none, exactly_one, exactly_two};
-ghost use Rattle.cpi_wire.specs.Arguments.{exactly_two_or_three, exactly_four};
-ghost use Rattle.cpi_wire.specs.Arguments.{exactly_four_and_confirm, is_confirm};
-ghost use Rattle.cpi_wire.specs.Arguments.{exactly_five, exactly_six};
+ghost use Rattle.cpi_wire.specs.Arguments.{none, exactly_one, exactly_two, exactly_two_or_three, exactly_four};
+ghost use Rattle.cpi_wire.specs.Arguments.{exactly_four_and_confirm, is_confirm, exactly_five, exactly_six};
 
 /// No argument.
 pub(crate) fn no_more(arguments: &[&[u8]]) -> Option<()>

@@ -4,10 +4,9 @@ ghost use Rattle.std.specs.Option.{option_copied};
 ghost use Rattle.std.specs.String.{string_bytes};
 ghost use Rattle.serde_json.specs.View.{view};
 ghost use Rattle.serde_json.specs.Written.{compact_text};
-ghost use Rattle.cpi_wire.specs.Line.{data_of, line_of_reply, reason_name, name_of_mark};
-ghost use Rattle.cpi_wire.specs.Line.{value_of_mark, quote_data, item_data, item_text};
-ghost use Rattle.cpi_wire.specs.Line.{price_data, mark_data, receipt_data, outlet_fields, item_fields};
-ghost use Rattle.cpi_wire.specs.Line.{price_fields, work_row_data, quotes_data, items_data, work_data};
+ghost use Rattle.cpi_wire.specs.Line.{data_of, line_of_reply, reason_name, name_of_mark, value_of_mark, quote_data};
+ghost use Rattle.cpi_wire.specs.Line.{item_data, item_text, price_data, mark_data, receipt_data, outlet_fields};
+ghost use Rattle.cpi_wire.specs.Line.{item_fields, price_fields, work_row_data, quotes_data, items_data, work_data};
 ghost use Rattle.cpi_wire.specs.Line.{frozen_month_data, tables_data, table_data};
 
 use crate::refusals::refusal_value;

@@ -1,8 +1,7 @@
 //! The rows of the body of a plan.
 ghost use Rattle.std.specs.Prelude.{◌≡◌, map, IfOk};
-ghost use Rattle.cpi_wire.specs.PlanRows.{title_row, weight_row, place_row, spelled_reference_row};
-ghost use Rattle.cpi_wire.specs.PlanRows.{spelled_month_row, spelled_code_row};
-ghost use Rattle.cpi_wire.specs.PlanRows.{spelled_plan_row};
+ghost use Rattle.cpi_wire.specs.PlanRows.{title_row, weight_row, place_row, spelled_reference_row, spelled_month_row};
+ghost use Rattle.cpi_wire.specs.PlanRows.{spelled_code_row, spelled_plan_row};
 
 use crate::arguments::two_or_three;
 use crate::values::{code_of, month_of, name_of, weight_of};

@@ -1,7 +1,6 @@
 //! From the fields of a record to its request.
 ghost use Rattle.std.specs.Prelude.{◌≡◌, map, IfOk};
-ghost use Rattle.cpi_wire.specs.Record.{spelled_caller, spelled_import};
-ghost use Rattle.cpi_wire.specs.Record.{spelled_asks, spelled_parts, ask_of};
+ghost use Rattle.cpi_wire.specs.Record.{spelled_caller, spelled_import, spelled_asks, spelled_parts, ask_of};
 
 use crate::arguments::one;
 use crate::asks::Ask;

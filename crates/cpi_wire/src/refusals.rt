@@ -1,8 +1,8 @@
 //! The JSON value of a refusal.
 ghost use Rattle.std.specs.Prelude.{◌≡◌, IfOk};
 ghost use Rattle.serde_json.specs.View.{view};
-ghost use Rattle.cpi_wire.specs.Refusals.{number_of_plan_fault, sum_in_refusal};
-ghost use Rattle.cpi_wire.specs.Refusals.{numbered_at, plan_fault_data, index_fault_data, refusal_data};
+ghost use Rattle.cpi_wire.specs.Refusals.{number_of_plan_fault, sum_in_refusal, numbered_at, plan_fault_data};
+ghost use Rattle.cpi_wire.specs.Refusals.{index_fault_data, refusal_data};
 
 use cpi_codes::Code;
 use cpi_index::IndexFault;

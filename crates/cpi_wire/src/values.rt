@@ -1,10 +1,8 @@
 //! The value of one field.
 ghost use Rattle.std.specs.Prelude.{◌≡◌, IfOk};
 ghost use Rattle.cpi_codes.specs.CodeOf.{spelled_code};
-ghost use Rattle.cpi_wire.specs.Values.{spelled_time, spelled_month, spelled_name};
-ghost use Rattle.cpi_wire.specs.Values.{spelled_weight, spelled_mark};
-ghost use Rattle.cpi_wire.specs.Values.{spelled_reason, spelled_elementary_code};
-ghost use Rattle.cpi_wire.specs.Values.{spelled_form};
+ghost use Rattle.cpi_wire.specs.Values.{spelled_time, spelled_month, spelled_name, spelled_weight, spelled_mark};
+ghost use Rattle.cpi_wire.specs.Values.{spelled_reason, spelled_elementary_code, spelled_form};
 
 use cpi_codes::{Code, Moment, Month, Name, NameFault, Price, Zone, moment_at, number_of};
 use cpi_plan::ALL_PARTS;

@@ -1,11 +1,9 @@
 //! The words of requests, each with its arguments.
 ghost use Rattle.std.specs.Prelude.{◌≡◌, map, IfOk};
-ghost use Rattle.cpi_wire.specs.Words.{spelled_word, items_request, work_request, quotes_request};
-ghost use Rattle.cpi_wire.specs.Words.{quote_request, item_request, outlet_request, collector_request};
-ghost use Rattle.cpi_wire.specs.Words.{assign_request, hand_over_request, calendar_request};
-ghost use Rattle.cpi_wire.specs.Words.{plan_request, tables_request};
-ghost use Rattle.cpi_wire.specs.Words.{table_request, elementary_codes, freeze_request};
-ghost use Rattle.cpi_wire.specs.Words.{spelled_request};
+ghost use Rattle.cpi_wire.specs.Words.{spelled_word, items_request, work_request, quotes_request, quote_request};
+ghost use Rattle.cpi_wire.specs.Words.{item_request, outlet_request, collector_request, assign_request};
+ghost use Rattle.cpi_wire.specs.Words.{hand_over_request, calendar_request, plan_request, tables_request};
+ghost use Rattle.cpi_wire.specs.Words.{table_request, elementary_codes, freeze_request, spelled_request};
 
 use crate::arguments::{five, four, four_and_confirm, no_more, one, six, two, two_or_three};
 use crate::plan_body::plan_body;

@@ -1,7 +1,6 @@
 use Rattle.std.proofs.Common.{◌≡◌, List, Some, length, map}
 use Rattle.cpi_wire.specs.Import.{row_asks}
-use Rattle.cpi_wire.specs.Input.{Record}
-use Rattle.cpi_wire.specs.Input.{IsAt}
+use Rattle.cpi_wire.specs.Input.{Record, IsAt}
 use Rattle.cpi_wire.proofs.import.import_rows.Given as goal
 
 -- the rows are those of the records that were read so far
