@@ -6,6 +6,7 @@ use Rattle.std.specs.List.{AllByRecursion, list_any}
 use Rattle.std.specs.Ordering.{nat_cmp}
 use Rattle.cpi_codes.specs.declared.codes.Code.{Code}
 use Rattle.cpi_plan.specs.declared.items.Item.{Item}
+use Rattle.cpi_plan.specs.declared.limits.TheConstants.{ALL_PARTS}
 use Rattle.cpi_plan.specs.declared.plan_rows.Place.{Place}
 use Rattle.cpi_plan.specs.declared.plan_faults.PlanFault.{PlanFault}
 use Rattle.cpi_plan.specs.declared.plan_faults.PlanFault.TheVariants.{TitleMissing, DuplicateCode, NotElementary}
@@ -67,7 +68,7 @@ planned_known year b p h =
     let one = passed (not (are_codes_once b.titles b.weights)) DuplicateCode _ p h in
     let two = passed (not (are_all_elementary b.weights b.places)) NotElementary _ p one.1 in
     let three = passed (has_zero_weight b.weights) ZeroWeight _ p two.1 in
-    let four = passed (not (total_weight b.weights == 1000000)) (WeightSum (total_weight b.weights)) _ p three.1 in
+    let four = passed (not (total_weight b.weights == ALL_PARTS)) (WeightSum (total_weight b.weights)) _ p three.1 in
     titled_known year b p (first_untitled b.titles b.weights) four.1
 
 -- the same of a plan that was judged

@@ -16,6 +16,7 @@ use Rattle.cpi_survey.specs.declared.assignment.Assigned.{Assigned}
 use Rattle.cpi_store.specs.declared.registration.Registration.{Registration}
 use Rattle.cpi_survey.specs.declared.decision.Decision.{Decision}
 use Rattle.cpi_survey.specs.declared.decision.Decision.TheVariants.{Again, Put}
+use Rattle.cpi_survey.specs.declared.limits.TheConstants.{LAST_RECEIPT}
 use Rattle.cpi_survey.specs.declared.refusal.Refusal.{Refusal as EntryRefusal}
 use Rattle.cpi_store.specs.Office.{Office}
 use Rattle.cpi_office.specs.Entries.{decision_verdict}
@@ -39,7 +40,7 @@ module _ (entry : EntryRow) (own : OwnPart) (has : IsSome
     New d = IsNewReceipt d own
 
     receipt_new : New (with_receipt entry greatest)
-    receipt_new = if_holds New (nat_le 1000000 greatest) _ _ (λ e. tt) (λ e. (omega arith, has))
+    receipt_new = if_holds New (nat_le LAST_RECEIPT greatest) _ _ (λ e. tt) (λ e. (omega arith, has))
 
     checked_new : (check : Result (Unit {0}) EntryRefusal) → New (once_checked entry check greatest)
     checked_new (Ok _) = receipt_new

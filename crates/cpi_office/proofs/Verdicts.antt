@@ -30,6 +30,7 @@ use Rattle.cpi_store.specs.declared.outlet.Outlet.{Outlet}
 use Rattle.cpi_survey.specs.declared.assignment.Assignment.{Assignment}
 use Rattle.cpi_survey.specs.declared.assignment.Assigned.{Assigned}
 use Rattle.cpi_survey.specs.declared.decision.Decision.{Decision}
+use Rattle.cpi_survey.specs.declared.limits.TheConstants.{LAST_RECEIPT}
 use Rattle.cpi_survey.specs.declared.refusal.Refusal.{Refusal as EntryRefusal}
 use Rattle.cpi_survey.specs.Within.{has_quotes_since}
 use Rattle.cpi_store.specs.Office.{Office, Change, PutsPlan, PutsCalendar, HandsOver, own_part, assignments_by}
@@ -369,7 +370,7 @@ module _ (o : Office) where
     Meets d = Holds (Some (decision_verdict b entry d)) o
 
     receipt_meets : is_active entry.month g.assignment ≡ true → (greatest : ℕ) → Meets (with_receipt entry greatest)
-    receipt_meets active greatest = if_holds Meets (nat_le 1000000 greatest) _ _ (λ e. tt)
+    receipt_meets active greatest = if_holds Meets (nat_le LAST_RECEIPT greatest) _ _ (λ e. tt)
         (λ e. (found, (g, has, active)))
 
     checked_meets : is_active entry.month g.assignment ≡ true →

@@ -1,6 +1,7 @@
 -- Small runs, computed: what each refusal and each reply looks like, and which comes first.
 use Rattle.std.specs.Prelude.{◌≡◌, ℕ, Bool, true, false, List, [], ◌∷◌, ◌++◌, Some, None, codes}
 use Rattle.cpi_plan.specs.declared.items.Item.{Item}
+use Rattle.cpi_survey.specs.declared.limits.TheConstants.{LAST_RECEIPT}
 use Rattle.cpi_survey.specs.declared.mark.Mark.{Mark}
 use Rattle.cpi_survey.specs.declared.mark.Mark.TheVariants.{Price, Missing, Comparable, Other}
 use Rattle.cpi_survey.specs.declared.mark.Reason.TheVariants.{Stock}
@@ -194,9 +195,9 @@ LastReceipt =
     replies (by_key 1500 key_a (quote 2 312 800) ∷ by_key 1500 key_a (quote 2 311 5)
     ∷ by_key 999 key_a (quote 2 311 5) ∷ by_key 2000 key_a (quote 2 311 5) ∷ by_key 1500 key_a (quote 2 312 800)
     ∷ by_key 1500 key_a (request.Quotes 311 312) ∷ by_key 1500 key_a (request.Quotes 312 311) ∷ []) late
-    ≡ Receipt 1000000 ∷ Refused refusal.ReceiptsUsedUp ∷ Refused refusal.NotOpen ∷ Refused refusal.Closed
-    ∷ Receipt 1000000
-    ∷ Quotes (stored 1 311 900 999999 ∷ stored 2 312 800 1000000 ∷ []) ∷ Quotes [] ∷ []
+    ≡ Receipt LAST_RECEIPT ∷ Refused refusal.ReceiptsUsedUp ∷ Refused refusal.NotOpen ∷ Refused refusal.Closed
+    ∷ Receipt LAST_RECEIPT
+    ∷ Quotes (stored 1 311 900 999999 ∷ stored 2 312 800 LAST_RECEIPT ∷ []) ∷ Quotes [] ∷ []
 
 -- quotes that were entered slot by slot are listed month by month
 abbrev pub ByMonth : Type 0
