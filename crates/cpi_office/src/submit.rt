@@ -27,19 +27,6 @@ pub fn enter<B: Book>(book: &mut B, now: Moment, registration: Registration, ent
         Serves (B.state book.old) (B.state book.new) result
         (decision_reply decision) (with_verdict (decision_verdict registration entry decision) o) }
 {
-    submit(book, now, registration, entry)
-}
-
-// Decides an entry of a collector, and stores a new quote. `enter` says the same by a verdict; here the change is the
-// quote that is stored, which is how the arms are proved.
-fn submit<B: Book>(book: &mut B, now: Moment, registration: Registration, entry: Entry) -> Reply
-    requires known { (B.state book.old).is_clean →
-        IsSome (row_by_number (λ b. b.number) registration.number (B.state book.old).held.collectors) }
-    ensures { let o = (B.state book.old).held in
-        let decision = entry_decision now entry (public_part o) (own_part registration.number o) in
-        Serves (B.state book.old) (B.state book.new) result
-        (decision_reply decision) (office_with_quote registration decision o) }
-{
     match decide(book, now, registration.number, entry) {
         Err(StoreFault) => Reply::Refused(Refusal::Unavailable),
         Ok(decision) => carry_out(book, registration, &decision),
