@@ -1,3 +1,4 @@
+pub mod Alike
 pub mod Answered
 pub mod Asked
 pub mod Carried
@@ -5,11 +6,9 @@ pub mod Coded
 pub mod Counted
 pub mod Floats
 pub mod Importing
-pub mod Places
+pub mod OwnAnswers
 pub mod PlanRead
 pub mod Reading
 pub mod RowLimits
 pub mod Runs
-pub mod Alike
 pub mod TableLines
-pub mod OwnAnswers

@@ -1,10 +1,19 @@
-use Rattle.std.proofs.Common.{sym, rules}
+use Rattle.std.proofs.Common.{◌≡◌, sym, ap, rules, ◌+◌, ℕ, zero, suc, List, [], ◌∷◌, ◌++◌, take, Some, add-one}
 use Rattle.std.proofs.lemmas.List.{map-append}
-use Rattle.csv.specs.Records.{fields_of}
+use Rattle.csv.specs.Records.{fields_of, field_at}
 use Rattle.csv.proofs.RecordFacts.{field-there}
-use Rattle.cpi_wire.proofs.Places.{field-more}
 use Rattle.cpi_wire.proofs.fields.field_list.Goals as goal
 use Rattle.cpi_wire.proofs.fields.field_list.Goals.{in-Some+in_ok-push, in_default}
+
+field-suc : (fs : List (List ℕ)) (i : ℕ) (f : List ℕ) → field_at fs i ≡ Some f → take (suc i) fs ≡ take i fs ++ f ∷ []
+unfolding field_at
+field-suc [] i f e = cc
+field-suc (g ∷ fs) zero f e = cc
+field-suc (g ∷ fs) (suc i) f e = ap (λ (z : List (List ℕ)). g ∷ z) (field-suc fs i f e)
+
+field-more : (fs : List (List ℕ)) (i : ℕ) (f : List ℕ) → field_at fs i ≡ Some f
+    → take (i + 1) fs ≡ take i fs ++ f ∷ []
+field-more fs i f e = rw add-one (field-suc fs i f e)
 
 pub loop-i-preserved : goal.loop-i-preserved
 loop-i-preserved c =
