@@ -1,5 +1,5 @@
 -- The response of a table is the computed one's.
-use Rattle.std.proofs.Common.{◌≡◌, ◌∙◌, ap, subst, Ok, Some}
+use Rattle.std.proofs.Common.{◌∙◌, ap, subst, Ok}
 use Rattle.cpi_release.specs.State.{State}
 use Rattle.cpi_store.specs.Office.{Office}
 use Rattle.cpi_office.specs.declared.request.Request.TheVariants.{Table}

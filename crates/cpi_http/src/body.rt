@@ -1,6 +1,5 @@
 //! Reading the body of a request.
-ghost use Rattle.std.specs.Prelude.{◌≡◌, ◌<◌, length, take, true, false, IfOk, IfErr, ℕ, cond, if◌then◌else◌};
-ghost use Rattle.std.specs.Io.KnownBytes.{Consumes, IsAtEnd};
+ghost use Rattle.std.specs.Prelude.{◌≡◌, IfOk, IfErr};
 ghost use Rattle.cpi_http.specs.HeadEnd.{IsFaultOfReading};
 ghost use Rattle.cpi_http.specs.Body.{FillsFrom, IsBodyOf};
 

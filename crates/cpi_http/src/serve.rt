@@ -1,5 +1,5 @@
 //! One HTTP message: it is read, carried out and answered (RFC 9112).
-ghost use Rattle.std.specs.Prelude.{◌≡◌, ◌++◌, false, List, ℕ, IfOk, IfErr, OnOk, OnErr};
+ghost use Rattle.std.specs.Prelude.{◌≡◌, ◌++◌, false, IfOk, IfErr, OnOk, OnErr};
 ghost use Rattle.std.specs.Io.KnownBytes.{Appends};
 ghost use Rattle.cpi_office.specs.declared.refusal.Refusal.TheVariants.{BadRequest};
 ghost use Rattle.cpi_office.specs.declared.reply.Reply.TheVariants.{Refused};

@@ -1,5 +1,5 @@
 -- The line of a table is the computed one's.
-use Rattle.std.proofs.Common.{◌≡◌, ◌∙◌, ap, refl, subst, ℕ, List, Option}
+use Rattle.std.proofs.Common.{◌≡◌, ◌∙◌, ap, refl, subst, ℕ, Option}
 use Rattle.cpi_release.specs.State.{State}
 use Rattle.cpi_release.specs.declared.form.Form.{Form}
 use Rattle.cpi_store.specs.Office.{Office}
@@ -7,7 +7,6 @@ use Rattle.cpi_store.specs.Sound.{IsSound}
 use Rattle.cpi_office.specs.ComputedTables.{computed_reply, IsKnown}
 use Rattle.cpi_office.specs.Served.{NoneFails}
 use Rattle.cpi_office.specs.declared.caller.Caller.{Caller}
-use Rattle.cpi_office.specs.declared.reply.Reply.{Reply}
 use Rattle.cpi_office.specs.declared.request.Ask.{Ask as Asking}
 use Rattle.cpi_office.specs.declared.request.Request.TheVariants.{Table}
 use Rattle.cpi_office.proofs.ComputedTables.{tables_are_told, run_tables}
@@ -16,7 +15,6 @@ use Rattle.cpi_wire.specs.Answer as answer
 use Rattle.cpi_wire.specs.Answers.{Answers}
 use Rattle.cpi_wire.specs.Laws.{requests_of_records, replies_of}
 use Rattle.cpi_wire.specs.Lines.{all_replies}
-use Rattle.cpi_wire.specs.Record.{ask_of}
 use Rattle.cpi_wire.specs.Rows.{answer_line}
 use Rattle.cpi_wire.specs.TableLines.{TableLinesAreComputed, ReplaysReportTables}
 use Rattle.cpi_wire.specs.declared.asks.Ask.TheVariants as ask
