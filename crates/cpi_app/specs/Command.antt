@@ -5,10 +5,12 @@ use Rattle.std.specs.Str.Parse.{ParsesUnsigned}
 use Rattle.clap.specs.Words.{App, Row, Rule, Text, first_of, one_of, new_app, new_rule, with_rule}
 use Rattle.clap.specs.Words.{with_subcommand, subcommand_of}
 use Rattle.clap.specs.declared.builder.value_parser.ValueParser.TheVariants as parser
+use Rattle.cpi_codes.specs.declared.limits.TheConstants.{LAST_MOMENT}
 use Rattle.cpi_app.specs.declared.job.DeskKey.{DeskKey}
 use Rattle.cpi_app.specs.declared.job.DeskKey.TheVariants.{Word, File}
 use Rattle.cpi_app.specs.declared.job.Job.{Job}
 use Rattle.cpi_app.specs.declared.job.Job.TheVariants.{Replay, Serve, Table}
+use Rattle.cpi_app.specs.declared.limits.TheConstants.{MOST_CONNECTIONS}
 
 -- an option --name VALUE
 abbrev pub option : Text → Rule
@@ -37,12 +39,12 @@ replay = with_rule (with_rule (new_app (codes "replay")) (option (codes "zone"))
 abbrev pub serve : App
 serve = with_rule (with_rule (with_rule (with_rule (with_rule (with_rule (new_app (codes "serve"))
     (required_option (codes "db"))) (number_option (codes "port") 1 65535)) (either_option (codes "desk-key")))
-    (either_option (codes "desk-key-file"))) (number_option (codes "limit") 1 1000000)) (option (codes "zone"))
+    (either_option (codes "desk-key-file"))) (number_option (codes "limit") 1 MOST_CONNECTIONS)) (option (codes "zone"))
 
 abbrev pub table : App
 table = with_rule (with_rule (with_rule (with_rule (with_rule (new_app (codes "table"))
     (required_option (codes "db"))) (required_option (codes "month"))) (required_option (codes "form")))
-    (number_option (codes "at") 0 9999999999)) (optional_number (codes "revision") 1 9)
+    (number_option (codes "at") 0 LAST_MOMENT)) (optional_number (codes "revision") 1 9)
 
 -- the program: the words begin with a subcommand, or ask for help or the version
 abbrev pub bare : App
@@ -88,13 +90,13 @@ IsJob sub (Replay zone db) = (sub.0 ≡ codes "replay") × HasZone sub.1 zone.no
 IsJob sub (Serve db port key limit zone) = (sub.0 ≡ codes "serve") × HasText sub.1 (codes "db") db.now
     × HasNumber 16 sub.1 (codes "port") port × (1 ≤ port)
     × HasDeskKey sub.1 key
-    × HasNumber 32 sub.1 (codes "limit") limit × (1 ≤ limit) × (limit ≤ 1000000)
+    × HasNumber 32 sub.1 (codes "limit") limit × (1 ≤ limit) × (limit ≤ MOST_CONNECTIONS)
     × HasZone sub.1 zone.now
 IsJob sub (Table db month revision form at) = (sub.0 ≡ codes "table") × HasText sub.1 (codes "db") db.now
     × HasText sub.1 (codes "month") month.now
     × HasRevision sub.1 revision
     × HasText sub.1 (codes "form") form.now × ((form.now ≡ codes "text") ⊎ (form.now ≡ codes "csv"))
-    × HasNumber 64 sub.1 (codes "at") at × (at ≤ 9999999999)
+    × HasNumber 64 sub.1 (codes "at") at × (at ≤ LAST_MOMENT)
 
 -- the words name a subcommand, and the job is that one
 abbrev pub GivesJob : List Text → Job → Type 0

@@ -2,6 +2,7 @@
 use Rattle.std.specs.Prelude.{◌≡◌, ◌<◌, ◌⊎◌, ℕ, List, Option, Some, None, IsOk, IsErr, length, take}
 use Rattle.std.specs.Io.KnownBytes.{Appends}
 use Rattle.cpi_codes.specs.Month.{month_of}
+use Rattle.cpi_codes.specs.declared.limits.TheConstants.{LAST_MOMENT}
 use Rattle.cpi_release.specs.PublishedTables.{PublishedTable}
 use Rattle.cpi_store.specs.Office.{Office}
 use Rattle.cpi_store.specs.Tables.{table_until}
@@ -14,7 +15,7 @@ use Rattle.cpi_app.specs.declared.table.AskedTable.{AskedTable}
 
 -- the word is a month, and no moment is that late
 abbrev pub IsTooLate : List ℕ → ℕ → Type 0
-IsTooLate month at = IsOk (month_of month) × (9999999999 < at)
+IsTooLate month at = IsOk (month_of month) × (LAST_MOMENT < at)
 
 -- why the words ask for no table
 abbrev pub AsksForNone : List ℕ → ℕ → RunFault → Type 0

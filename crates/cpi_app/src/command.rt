@@ -7,6 +7,7 @@ ghost use Rattle.cpi_app.specs.Command.{GivesJob, IsJob};
 
 use crate::help;
 use crate::job::Job;
+use crate::limits::MOST_CONNECTIONS;
 use crate::options::{
     desk_key_of, either, form_of, limit_of, number, option, optional_number, port_of, required,
     revision_of, second_of, text_of, zone_of,
@@ -14,6 +15,7 @@ use crate::options::{
 use crate::version::VERSION;
 use clap::error::ErrorKind;
 use clap::{ArgMatches, Command, Error};
+use cpi_codes::LAST_MOMENT;
 use std::alloc::{AllocError, Global};
 
 const ZONE_HELP: &str = "The clock's rule, like CET-1CEST,M3.5.0,M10.5.0/3; else UTC0";
@@ -73,7 +75,7 @@ fn serve_command<'a>(alloc: Global) -> Result<Command<'a>, AllocError>
         "limit",
         "How many connections are served, 1 to 1000000",
         1,
-        1_000_000,
+        u64::from(MOST_CONNECTIONS),
     ))?
     .arg(option(alloc, "zone", ZONE_HELP))
 }
@@ -96,7 +98,7 @@ fn table_command<'a>(alloc: Global) -> Result<Command<'a>, AllocError>
         "at",
         "The moment, in seconds since 1970 UTC",
         0,
-        9_999_999_999,
+        LAST_MOMENT,
     ))?
     .arg(optional_number(
         alloc,

@@ -4,16 +4,12 @@ ghost use Rattle.clap.specs.Words.{rule_of, found_of, rows_of, first_of};
 ghost use Rattle.cpi_app.specs.Command as line;
 
 use crate::job::DeskKey;
+use crate::limits::MOST_CONNECTIONS;
 use clap::builder::ValueParser;
 use clap::{Arg, ArgMatches};
+use cpi_codes::LAST_MOMENT;
 use cpi_release::Revision;
 use std::alloc::{AllocError, Global};
-
-/// The greatest second that a moment can be.
-const LAST_SECOND: u64 = 9_999_999_999;
-
-/// The greatest number of connections that are served.
-const MOST_CONNECTIONS: u32 = 1_000_000;
 
 /// An option with a value, and what help says of it.
 pub fn option<'a>(alloc: Global, name: &'a str, help: &'a str) -> Arg<'a>
@@ -112,7 +108,7 @@ pub fn desk_key_of<'a>(matches: &ArgMatches<'a>) -> Option<DeskKey<'a>>
 /// How many connections are to be served.
 pub fn limit_of(matches: &ArgMatches) -> Option<u32>
     ensures { IfSome result (λ n.
-        line.HasNumber 32 (rows_of (found_of matches.now)) (codes "limit") n × (1 ≤ n) × (n ≤ 1000000)) }
+        line.HasNumber 32 (rows_of (found_of matches.now)) (codes "limit") n × (1 ≤ n) × (n ≤ MOST_CONNECTIONS)) }
 {
     match matches.get_one::<u32>("limit") {
         Some(limit) if limit >= 1 && limit <= MOST_CONNECTIONS => Some(limit),
@@ -123,10 +119,10 @@ pub fn limit_of(matches: &ArgMatches) -> Option<u32>
 /// The second of a moment.
 pub fn second_of(matches: &ArgMatches) -> Option<u64>
     ensures { IfSome result (λ n.
-        line.HasNumber 64 (rows_of (found_of matches.now)) (codes "at") n × (n ≤ 9999999999)) }
+        line.HasNumber 64 (rows_of (found_of matches.now)) (codes "at") n × (n ≤ LAST_MOMENT)) }
 {
     match matches.get_one::<u64>("at") {
-        Some(second) if second <= LAST_SECOND => Some(second),
+        Some(second) if second <= LAST_MOMENT => Some(second),
         _ => None,
     }
 }
