@@ -2,8 +2,7 @@
 ghost use Rattle.std.specs.Prelude.{◌≡◌, IfOk, IfSome, map, false, codes, Some, List};
 ghost use Rattle.clap.specs.Words.{app_of, new_app, found_of, rows_of, subcommand_rows_of, Text, Row};
 ghost use Rattle.clap.specs.declared.builder.command.Command.TheViews.{out-Command};
-ghost use Rattle.cpi_app.specs.Command as line;
-ghost use Rattle.cpi_app.specs.Command.{GivesJob, IsJob};
+ghost use Rattle.cpi_app.specs.Command.{GivesJob, IsJob, cpi, replay, serve, table};
 
 use crate::help;
 use crate::job::Job;
@@ -37,7 +36,7 @@ fn subcommand<'a>(alloc: Global, name: &'a str, about: &'a str, after: &'a str) 
 }
 
 fn replay_command<'a>(alloc: Global) -> Result<Command<'a>, AllocError>
-    ensures app { IfOk result (λ c. app_of c ≡ line.replay) }
+    ensures app { IfOk result (λ c. app_of c ≡ replay) }
     ensures local { IfOk result (λ c. (out-Command c).has_globals ≡ false) }
 {
     subcommand(
@@ -51,7 +50,7 @@ fn replay_command<'a>(alloc: Global) -> Result<Command<'a>, AllocError>
 }
 
 fn serve_command<'a>(alloc: Global) -> Result<Command<'a>, AllocError>
-    ensures app { IfOk result (λ c. app_of c ≡ line.serve) }
+    ensures app { IfOk result (λ c. app_of c ≡ serve) }
     ensures local { IfOk result (λ c. (out-Command c).has_globals ≡ false) }
 {
     subcommand(
@@ -81,7 +80,7 @@ fn serve_command<'a>(alloc: Global) -> Result<Command<'a>, AllocError>
 }
 
 fn table_command<'a>(alloc: Global) -> Result<Command<'a>, AllocError>
-    ensures app { IfOk result (λ c. app_of c ≡ line.table) }
+    ensures app { IfOk result (λ c. app_of c ≡ table) }
     ensures local { IfOk result (λ c. (out-Command c).has_globals ≡ false) }
 {
     subcommand(
@@ -111,7 +110,7 @@ fn table_command<'a>(alloc: Global) -> Result<Command<'a>, AllocError>
 
 // The whole command line.
 fn cpi_command<'a>(alloc: Global) -> Result<Command<'a>, AllocError>
-    ensures app { IfOk result (λ c. app_of c ≡ line.cpi) }
+    ensures app { IfOk result (λ c. app_of c ≡ cpi) }
     ensures local { IfOk result (λ c. (out-Command c).has_globals ≡ false) }
 {
     Command::new(alloc, "cpi")

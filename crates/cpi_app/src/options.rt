@@ -1,7 +1,8 @@
 //! The options of the command line, and their values.
 ghost use Rattle.std.specs.Prelude.{◌≡◌, ◌≤◌, ◌⊎◌, IfOk, IfSome, codes, false, option_map};
 ghost use Rattle.clap.specs.Words.{rule_of, found_of, rows_of, first_of};
-ghost use Rattle.cpi_app.specs.Command as line;
+ghost use Rattle.cpi_app.specs.Command.{HasDeskKey, HasNumber, HasRevision, HasText, HasZone};
+ghost use Rattle.cpi_app.specs.Command.{option, required_option, either_option, optional_number, number_option};
 
 use crate::job::DeskKey;
 use crate::limits::MOST_CONNECTIONS;
@@ -13,7 +14,7 @@ use std::alloc::{AllocError, Global};
 
 /// An option with a value, and what help says of it.
 pub fn option<'a>(alloc: Global, name: &'a str, help: &'a str) -> Arg<'a>
-    ensures rule { rule_of result ≡ line.option name.entry.now }
+    ensures rule { rule_of result ≡ option name.entry.now }
     ensures local { result.global ≡ false }
 {
     Arg::new(alloc, name).long(name).help(help)
@@ -21,7 +22,7 @@ pub fn option<'a>(alloc: Global, name: &'a str, help: &'a str) -> Arg<'a>
 
 /// An option that has to be given.
 pub fn required<'a>(alloc: Global, name: &'a str, help: &'a str) -> Arg<'a>
-    ensures rule { rule_of result ≡ line.required name.entry.now }
+    ensures rule { rule_of result ≡ required_option name.entry.now }
     ensures local { result.global ≡ false }
 {
     option(alloc, name, help).required(true)
@@ -34,7 +35,7 @@ pub fn either<'a>(
     other: &'a str,
     help: &'a str,
 ) -> Result<Arg<'a>, AllocError>
-    ensures rule { IfOk result (λ arg. rule_of arg ≡ line.either name.entry.now) }
+    ensures rule { IfOk result (λ arg. rule_of arg ≡ either_option name.entry.now) }
     ensures local { IfOk result (λ arg. arg.global ≡ false) }
 {
     option(alloc, name, help)
@@ -50,7 +51,7 @@ pub fn optional_number<'a>(
     low: u64,
     high: u64,
 ) -> Arg<'a>
-    ensures rule { rule_of result ≡ line.optional_number name.entry.now low high }
+    ensures rule { rule_of result ≡ optional_number name.entry.now low high }
     ensures local { result.global ≡ false }
 {
     option(alloc, name, help).value_parser(ValueParser::Unsigned(low, high))
@@ -58,7 +59,7 @@ pub fn optional_number<'a>(
 
 /// A number in a range, which has to be given.
 pub fn number<'a>(alloc: Global, name: &'a str, help: &'a str, low: u64, high: u64) -> Arg<'a>
-    ensures rule { rule_of result ≡ line.number name.entry.now low high }
+    ensures rule { rule_of result ≡ number_option name.entry.now low high }
     ensures local { result.global ≡ false }
 {
     required(alloc, name, help).value_parser(ValueParser::Unsigned(low, high))
@@ -73,7 +74,7 @@ pub fn text_of<'a>(matches: &ArgMatches<'a>, name: &str) -> Option<&'a str>
 
 /// The zone that was given, or UTC.
 pub fn zone_of<'a>(matches: &ArgMatches<'a>) -> &'a str
-    ensures { line.HasZone (rows_of (found_of matches.now)) result.now }
+    ensures { HasZone (rows_of (found_of matches.now)) result.now }
 {
     match text_of(matches, "zone") {
         Some(zone) => zone,
@@ -83,7 +84,7 @@ pub fn zone_of<'a>(matches: &ArgMatches<'a>) -> &'a str
 
 /// The number of a port.
 pub fn port_of(matches: &ArgMatches) -> Option<u16>
-    ensures { IfSome result (λ n. line.HasNumber 16 (rows_of (found_of matches.now)) (codes "port") n × (1 ≤ n)) }
+    ensures { IfSome result (λ n. HasNumber 16 (rows_of (found_of matches.now)) (codes "port") n × (1 ≤ n)) }
 {
     match matches.get_one::<u16>("port") {
         Some(port) if port >= 1 => Some(port),
@@ -93,7 +94,7 @@ pub fn port_of(matches: &ArgMatches) -> Option<u16>
 
 /// Where the desk's key is, by the one of its two options that was given.
 pub fn desk_key_of<'a>(matches: &ArgMatches<'a>) -> Option<DeskKey<'a>>
-    ensures { IfSome result (line.HasDeskKey (rows_of (found_of matches.now))) }
+    ensures { IfSome result (HasDeskKey (rows_of (found_of matches.now))) }
 {
     match (
         text_of(matches, "desk-key"),
@@ -108,7 +109,7 @@ pub fn desk_key_of<'a>(matches: &ArgMatches<'a>) -> Option<DeskKey<'a>>
 /// How many connections are to be served.
 pub fn limit_of(matches: &ArgMatches) -> Option<u32>
     ensures { IfSome result (λ n.
-        line.HasNumber 32 (rows_of (found_of matches.now)) (codes "limit") n × (1 ≤ n) × (n ≤ MOST_CONNECTIONS)) }
+        HasNumber 32 (rows_of (found_of matches.now)) (codes "limit") n × (1 ≤ n) × (n ≤ MOST_CONNECTIONS)) }
 {
     match matches.get_one::<u32>("limit") {
         Some(limit) if limit >= 1 && limit <= MOST_CONNECTIONS => Some(limit),
@@ -119,7 +120,7 @@ pub fn limit_of(matches: &ArgMatches) -> Option<u32>
 /// The second of a moment.
 pub fn second_of(matches: &ArgMatches) -> Option<u64>
     ensures { IfSome result (λ n.
-        line.HasNumber 64 (rows_of (found_of matches.now)) (codes "at") n × (n ≤ LAST_MOMENT)) }
+        HasNumber 64 (rows_of (found_of matches.now)) (codes "at") n × (n ≤ LAST_MOMENT)) }
 {
     match matches.get_one::<u64>("at") {
         Some(second) if second <= LAST_MOMENT => Some(second),
@@ -129,7 +130,7 @@ pub fn second_of(matches: &ArgMatches) -> Option<u64>
 
 /// The revision that was given, if any was.
 pub fn revision_of(matches: &ArgMatches) -> Option<Option<Revision>>
-    ensures { IfSome result (line.HasRevision (rows_of (found_of matches.now))) }
+    ensures { IfSome result (HasRevision (rows_of (found_of matches.now))) }
 {
     if text_of(matches, "revision").is_none() {
         return Some(None);
@@ -141,7 +142,7 @@ pub fn revision_of(matches: &ArgMatches) -> Option<Option<Revision>>
 
 /// The form of a table.
 pub fn form_of<'a>(matches: &ArgMatches<'a>) -> Option<&'a str>
-    ensures { IfSome result (λ t. line.HasText (rows_of (found_of matches.now)) (codes "form") t.now
+    ensures { IfSome result (λ t. HasText (rows_of (found_of matches.now)) (codes "form") t.now
         × ((t.now ≡ codes "text") ⊎ (t.now ≡ codes "csv"))) }
 {
     match text_of(matches, "form") {

@@ -5,7 +5,7 @@ use Rattle.std.proofs.lemmas.Result.{IfOk-weaker}
 use Rattle.clap.specs.Walk.{is_empty, is_free_arg}
 use Rattle.clap.specs.Words.{rule_of, Rule}
 use Rattle.clap.specs.declared.builder.arg.Arg.{Arg}
-use Rattle.cpi_app.specs.Command as line
+use Rattle.cpi_app.specs.Command.{either_option}
 use Rattle.cpi_app.proofs.options.either.Goals as goal
 
 -- a list with one more isn't empty
@@ -30,7 +30,7 @@ returns-clause-rule c =
     let name = c.args.name.now in
     let first : but_free false c.in_ok-required_unless_present.field-0 ≡ but_free false c.option.result =
     ap (λ arg. but_free false arg) c.in_ok-required_unless_present.ensures.0 in
-    let plain : but_free false c.option.result ≡ line.either name =
+    let plain : but_free false c.option.result ≡ either_option name =
     ap (λ (r : Rule). record r { is_free = false }) c.option.ensures.rule in
     IfOk-weaker c.conflicts_with.result _ _ (λ arg h.
     ap₂ but_free (bound arg (rw h.1 (more _ _))) h.0 ∙ first ∙ plain) c.conflicts_with.ensures
