@@ -3,7 +3,6 @@ ghost use Rattle.std.specs.Prelude.{◌↔◌, IsNone, IfOk, IfErr, IsErrOf};
 ghost use Rattle.jiff.specs.Words.{read_whole};
 ghost use Rattle.cpi_app.specs.Desk.{HasNoKey};
 ghost use Rattle.cpi_app.specs.Listener.{IsUnheard};
-ghost use Rattle.cpi_app.specs.declared.fault.RunFault.TheVariants as RunFault;
 ghost use Rattle.cpi_files.specs.Serve.{EndsWithBook, EndsAtDesk, EndsServing, IsListener};
 
 use crate::cabinet::Cabinet;
