@@ -4,7 +4,9 @@
 
 use clap::Error;
 use clap::error::ErrorKind;
-use cpi_app::{DeskKey, Job, LocalPort, RunFault, asked_table, job_of_words, read_key, run_replay};
+use cpi_app::{
+    DeskKey, Job, LocalPort, RunFault, asked_table, job_of_words, read_key, replay_in_memory,
+};
 use cpi_files::{FileAt, is_missing, replay_in_cabinet, run_serve, table_in_cabinet};
 use cpi_release::Revision;
 use cpi_wire::WireFault;
@@ -44,14 +46,14 @@ fn tell_refused(rt: &HostRuntime, error: &Error) -> Result<u8, RunFault> {
     }
 }
 
-// Answers the records of standard input in an office in memory.
-fn run_replay_in_memory(rt: &HostRuntime, zone: &str) -> Result<u8, RunFault> {
-    run_replay(rt.alloc(), zone, &mut rt.reader(), &mut io::writer(rt))?;
+// Answers the records of standard input in an office in memory, which ends with the process.
+fn replay_stdin_in_memory(rt: &HostRuntime, zone: &str) -> Result<u8, RunFault> {
+    replay_in_memory(rt.alloc(), zone, &mut rt.reader(), &mut io::writer(rt))?;
     Ok(0)
 }
 
-// Answers the records of standard input in the office of the file.
-fn run_replay_in(rt: &HostRuntime, zone: &str, path: &str) -> Result<u8, RunFault> {
+// Answers the records of standard input in the office of the file at a path.
+fn replay_stdin_at_path(rt: &HostRuntime, zone: &str, path: &str) -> Result<u8, RunFault> {
     let file = &mut FileAt { path };
     replay_in_cabinet(rt, zone, file, &mut rt.reader(), &mut io::writer(rt))?;
     Ok(0)
@@ -111,11 +113,11 @@ fn run_table_of(
 // Hands what stands outside to the run of the job, and answers the exit status.
 fn run_job(rt: &HostRuntime, job: &Job) -> Result<u8, RunFault> {
     match job {
-        Job::Replay { zone, db: None } => run_replay_in_memory(rt, zone),
+        Job::Replay { zone, db: None } => replay_stdin_in_memory(rt, zone),
         Job::Replay {
             zone,
             db: Some(path),
-        } => run_replay_in(rt, zone, path),
+        } => replay_stdin_at_path(rt, zone, path),
         Job::Serve {
             db,
             port,

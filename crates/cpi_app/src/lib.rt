@@ -36,7 +36,7 @@ pub use limits::MOST_CONNECTIONS;
 pub use listener::{Address, Listener, NoClock};
 pub use offered::Offered;
 pub use port::{LocalPort, OpenPort};
-pub use replay::{replay_over, run_replay};
+pub use replay::{replay_in_memory, replay_over_book};
 pub use serve::{serve_book, serve_each};
 pub use service::Service;
 pub use shake::{Shake, shake_of};

@@ -1,4 +1,4 @@
-//! The job of a replay.
+//! The job of a replay over any reader and writer: the records of an input, answered in an office.
 ghost use Rattle.std.specs.Prelude.{◌≡◌, ◌↔◌, IsNone, OnOk, IfErr, IsErrOf};
 ghost use Rattle.jiff.specs.Words.{read_whole};
 ghost use Rattle.cpi_wire.specs.Records.{AnsweredInput, GaveUp};
@@ -12,10 +12,11 @@ use cpi_wire::{WireFault, replay};
 use std::alloc::Global;
 use std::io::{BufReader, Read, Write};
 
-/// Answers the records of the reader in the office of a book, each by its line before the next one is carried out, and
-/// hands back the book, also after a fault: what was carried out stands in it. Civil times are read by the clock of the
-/// zone. Input is read through a buffer.
-pub fn replay_over<R: Read, W: Write, B: Book>(
+/// Answers the records of the reader in the office of a book, each by its line before the next one is carried out. It
+/// hands the book back even after an error, and then the book contains all that was carried out. The clock of the zone
+/// reads civil times, and a buffer reads the input. The errors are those of the input and of the output, and a lack of
+/// memory.
+pub fn replay_over_book<R: Read, W: Write, B: Book>(
     alloc: Global,
     zone: &Zone,
     book: B,
@@ -36,9 +37,10 @@ pub fn replay_over<R: Read, W: Write, B: Book>(
 }
 
 /// Answers the records of the reader, each by its line before the next one is carried out, in an office that is empty
-/// at first. Civil times are read by the clock of the zone; where that is no rule of a clock, nothing is read and
-/// nothing is written. Input is read through a buffer.
-pub fn run_replay<R: Read, W: Write>(
+/// at first and is not kept. The clock of the zone reads civil times, and a buffer reads the input. If the zone is no
+/// rule of a clock as POSIX writes it, nothing is read, nothing is written, and the error is `BadZone`. The other errors
+/// are those of `replay_over_book`.
+pub fn replay_in_memory<R: Read, W: Write>(
     alloc: Global,
     zone: &str,
     reader: &mut R,
@@ -54,7 +56,7 @@ pub fn run_replay<R: Read, W: Write>(
     let Ok(zone) = zone_of(zone) else {
         return Err(RunFault::BadZone);
     };
-    let (_book, outcome) = replay_over(alloc, &zone, VecBook::new(alloc), reader, writer);
+    let (_book, outcome) = replay_over_book(alloc, &zone, VecBook::new(alloc), reader, writer);
     outcome?;
     Ok(())
 }

@@ -1,25 +1,24 @@
 //! The job of a replay in the office of files.
 ghost use Rattle.std.specs.Prelude.{◌≡◌, ◌↔◌, IsNone, IsErrOf};
 ghost use Rattle.jiff.specs.Words.{read_whole};
-ghost use Rattle.cpi_app.specs.declared.fault.RunFault.TheVariants as RunFault;
 ghost use Rattle.cpi_files.specs.Replay.{EndsIn};
 
 use crate::cabinet::Cabinet;
 use crate::job::BookJob;
 use crate::taken::job_in_cabinet;
-use cpi_app::{RunFault, replay_over};
+use cpi_app::{RunFault, replay_over_book};
 use cpi_codes::{Zone, zone_of};
 use cpi_store::Book;
 use cpi_wire::WireFault;
 use std::io::{Read, Write, sink};
 
-// The replay of an input, by the clock of a zone.
+// The replay of an input as a job over a book. It adds the clock, by which civil times are read.
 #[derive(Drop)]
-struct Replay {
+struct ReplayByClock {
     clock: Zone,
 }
 
-impl BookJob for Replay {
+impl BookJob for ReplayByClock {
     ghost use Rattle.cpi_files.specs.Replay.{Replays};
 
     type Told = Result<(), WireFault>;
@@ -34,7 +33,7 @@ impl BookJob for Replay {
         out: &mut W,
         _err: &mut E,
     ) -> (B, Result<(), WireFault>) {
-        replay_over(rt.alloc(), &self.clock, book, reader, out)
+        replay_over_book(rt.alloc(), &self.clock, book, reader, out)
     }
 }
 
@@ -57,7 +56,7 @@ pub fn replay_in_cabinet<C: Cabinet, R: Read, W: Write>(
     let Ok(clock) = zone_of(zone) else {
         return Err(RunFault::BadZone);
     };
-    let mut job = Replay { clock };
+    let mut job = ReplayByClock { clock };
     let (outcome, closed) = job_in_cabinet(rt, cabinet, &mut job, reader, writer, &mut sink())?;
     outcome?;
     Ok(closed?)

@@ -1,5 +1,5 @@
 //! An office in a database file and its log, both in memory.
-use cpi_app::{AskedTable, print_table, replay_over};
+use cpi_app::{AskedTable, print_table, replay_over_book};
 use cpi_codes::{Zone, zone_of};
 use cpi_files::{BookJob, Cabinet, job_in_cabinet};
 use cpi_sql::OpenFault;
@@ -74,7 +74,7 @@ impl BookJob for Task {
         err: &mut E,
     ) -> (B, bool) {
         let Some(asked) = self.asked else {
-            let (book, outcome) = replay_over(rt.alloc(), &self.clock, book, reader, out);
+            let (book, outcome) = replay_over_book(rt.alloc(), &self.clock, book, reader, out);
             return (book, outcome.is_ok());
         };
         let mut book = book;
@@ -90,9 +90,9 @@ pub(crate) fn told_in_memory(alloc: Global, before: &str, records: &str) -> Told
         return told;
     };
     let book = VecBook::new(alloc);
-    let (book, _) = replay_over(alloc, &clock, book, &mut before.as_bytes(), &mut told);
+    let (book, _) = replay_over_book(alloc, &clock, book, &mut before.as_bytes(), &mut told);
     let mut told = Told::nothing(alloc);
-    let (_, outcome) = replay_over(alloc, &clock, book, &mut records.as_bytes(), &mut told);
+    let (_, outcome) = replay_over_book(alloc, &clock, book, &mut records.as_bytes(), &mut told);
     told.is_whole = outcome.is_ok();
     told
 }

@@ -1,5 +1,5 @@
 use Rattle.cpi_app.proofs.Beginning.{gave-up-at-once}
-use Rattle.cpi_app.proofs.replay.replay_over.Goals as goal
+use Rattle.cpi_app.proofs.replay.replay_over_book.Goals as goal
 
 -- no room for the buffer
 pub returns-in_default-clause-err : goal.returns-in_default-clause-err
