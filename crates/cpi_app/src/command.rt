@@ -1,4 +1,4 @@
-//! The words of the command line.
+//! The arguments of the command line: the program's commands with their options, and the job that they ask for.
 ghost use Rattle.std.specs.Prelude.{◌≡◌, IfOk, IfSome, map, false, codes, Some, List};
 ghost use Rattle.clap.specs.Words.{app_of, new_app, found_of, rows_of, subcommand_rows_of, Text, Row};
 ghost use Rattle.clap.specs.declared.builder.command.Command.TheViews.{out-Command};
@@ -17,17 +17,18 @@ use clap::{ArgMatches, Command, Error};
 use cpi_codes::LAST_MOMENT;
 use std::alloc::{AllocError, Global};
 
-const ZONE_HELP: &str = "The clock's rule, like CET-1CEST,M3.5.0,M10.5.0/3; else UTC0";
+const ZONE_HELP: &str =
+    "The rule of the clock, like CET-1CEST,M3.5.0,M10.5.0/3; UTC0 if none is given";
 
-const FILE_HELP: &str = "The database file of the office, made if it isn't there";
+const FILE_HELP: &str = "The database file of the office; it is made if it is missing";
 
 const TABLE_FILE_HELP: &str = "The database file of the office";
 
-const KEY_HELP: &str = "The key of the desk itself, 32 characters of 0-9 and a-f";
+const KEY_HELP: &str = "The key of the desk, 32 characters of 0-9 and a-f";
 
-const KEY_FILE_HELP: &str = "The file that holds the key of the desk";
+const KEY_FILE_HELP: &str = "The file that contains the key of the desk";
 
-// A subcommand that has no option yet.
+// A command without options. The caller adds them.
 fn subcommand<'a>(alloc: Global, name: &'a str, about: &'a str, after: &'a str) -> Command<'a>
     ensures app { app_of result ≡ new_app name.entry.now }
     ensures local { (out-Command result).has_globals ≡ false }
@@ -35,6 +36,7 @@ fn subcommand<'a>(alloc: Global, name: &'a str, about: &'a str, after: &'a str) 
     Command::new(alloc, name).about(about).after_help(after)
 }
 
+// The command `cpi replay`, with its options. It fails if there is no memory.
 fn replay_command<'a>(alloc: Global) -> Result<Command<'a>, AllocError>
     ensures app { IfOk result (λ c. app_of c ≡ replay) }
     ensures local { IfOk result (λ c. (out-Command c).has_globals ≡ false) }
@@ -42,13 +44,14 @@ fn replay_command<'a>(alloc: Global) -> Result<Command<'a>, AllocError>
     subcommand(
         alloc,
         "replay",
-        "Reads records from standard input, and writes the line of each reply",
+        "Reads records from standard input, and writes a line in reply to each",
         help::REPLAY,
     )
     .arg(option(alloc, "zone", ZONE_HELP))?
     .arg(option(alloc, "db", FILE_HELP))
 }
 
+// The command `cpi serve`, with its options. It fails if there is no memory.
 fn serve_command<'a>(alloc: Global) -> Result<Command<'a>, AllocError>
     ensures app { IfOk result (λ c. app_of c ≡ serve) }
     ensures local { IfOk result (λ c. (out-Command c).has_globals ≡ false) }
@@ -56,7 +59,7 @@ fn serve_command<'a>(alloc: Global) -> Result<Command<'a>, AllocError>
     subcommand(
         alloc,
         "serve",
-        "Serves the office by HTTP at a port of this machine, one connection after another",
+        "Serves the office over HTTP at a port of this machine, one connection after another",
         help::SERVE,
     )
     .arg(required(alloc, "db", FILE_HELP))?
@@ -72,13 +75,14 @@ fn serve_command<'a>(alloc: Global) -> Result<Command<'a>, AllocError>
     .arg(number(
         alloc,
         "limit",
-        "How many connections are served, 1 to 1000000",
+        "How many connections to serve, 1 to 1000000",
         1,
         u64::from(MOST_CONNECTIONS),
     ))?
     .arg(option(alloc, "zone", ZONE_HELP))
 }
 
+// The command `cpi table`, with its options. It fails if there is no memory.
 fn table_command<'a>(alloc: Global) -> Result<Command<'a>, AllocError>
     ensures app { IfOk result (λ c. app_of c ≡ table) }
     ensures local { IfOk result (λ c. (out-Command c).has_globals ≡ false) }
@@ -102,13 +106,13 @@ fn table_command<'a>(alloc: Global) -> Result<Command<'a>, AllocError>
     .arg(optional_number(
         alloc,
         "revision",
-        "The revision, 1 to 9; else the latest that was published by then",
+        "The revision, 1 to 9; the latest published by then if none is given",
         1,
         9,
     ))
 }
 
-// The whole command line.
+// The whole command line. It fails if there is no memory.
 fn cpi_command<'a>(alloc: Global) -> Result<Command<'a>, AllocError>
     ensures app { IfOk result (λ c. app_of c ≡ cpi) }
     ensures local { IfOk result (λ c. (out-Command c).has_globals ≡ false) }
@@ -125,6 +129,7 @@ fn cpi_command<'a>(alloc: Global) -> Result<Command<'a>, AllocError>
         .subcommand(table_command(alloc)?)
 }
 
+// The job of `cpi replay`, by the values of its options.
 fn replay_of<'a>(matches: &ArgMatches<'a>) -> Job<'a>
     ensures { IsJob (codes "replay", rows_of (found_of matches.now)) result }
 {
@@ -134,6 +139,7 @@ fn replay_of<'a>(matches: &ArgMatches<'a>) -> Job<'a>
     }
 }
 
+// The job of `cpi serve`, by the values of its options. `None` doesn't occur once `clap` has checked them.
 fn serve_of<'a>(matches: &ArgMatches<'a>) -> Option<Job<'a>>
     ensures { IfSome result (IsJob (codes "serve", rows_of (found_of matches.now))) }
 {
@@ -146,6 +152,7 @@ fn serve_of<'a>(matches: &ArgMatches<'a>) -> Option<Job<'a>>
     })
 }
 
+// The job of `cpi table`, by the values of its options. `None` if the form is neither text nor csv.
 fn table_of<'a>(matches: &ArgMatches<'a>) -> Option<Job<'a>>
     ensures { IfSome result (IsJob (codes "table", rows_of (found_of matches.now))) }
 {
@@ -158,7 +165,7 @@ fn table_of<'a>(matches: &ArgMatches<'a>) -> Option<Job<'a>>
     })
 }
 
-// The job of the subcommand that was used.
+// The job of the command that the arguments name. `None` if a form is neither text nor csv.
 fn job_of<'a>(matches: &ArgMatches<'a>) -> Option<Job<'a>>
     ensures { IfSome result (λ job. (sub : Text × List Row)
         × (subcommand_rows_of matches.now ≡ Some sub) × IsJob sub job) }
@@ -172,7 +179,8 @@ fn job_of<'a>(matches: &ArgMatches<'a>) -> Option<Job<'a>>
     }
 }
 
-/// The job that the words after the program's name give, by `clap`'s reading. An error is `clap`'s, with its text.
+/// The job that the arguments after the program's name ask for, as `clap` reads them. The error is `clap`'s and has its
+/// text; a request for help or for the version is one too.
 pub fn job_of_words<'a>(alloc: Global, words: &'a [&'a str]) -> Result<Job<'a>, Error>
     ensures { IfOk result (GivesJob (map (λ s. s.now) words.now)) }
 {
