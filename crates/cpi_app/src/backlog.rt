@@ -1,4 +1,4 @@
-//! Connections that wait in memory.
+//! A listener in memory, over which tests run the loop of connections.
 
 use crate::listener::{Listener, NoClock};
 use crate::service::Service;
@@ -13,14 +13,14 @@ pub struct Queued {
     pub is_open: bool,
     /// The moment that the clock shows when it comes, if any.
     pub moment: Option<Moment>,
-    /// What its peer sends.
+    /// The bytes that its peer sends.
     pub sent: Vec<u8>,
-    /// What was written to its peer.
+    /// The bytes that were written to its peer.
     pub written: Vec<u8>,
 }
 
-/// Connections that come in their order, and after the last of them none. It shows how connections are served whose
-/// bytes and moments are known.
+/// Connections that come in their order, and none after the last one. Their bytes and moments are known, so a test can
+/// compare what each peer gets.
 #[derive(Drop)]
 pub struct Backlog {
     pub queued: Vec<Queued>,

@@ -14,8 +14,8 @@ use cpi_wire::WireFault;
 use std::alloc::Global;
 use std::io::{BufReader, Read, Write};
 
-/// Serves one message of the reader, read through a buffer: bytes after the message may have been read too, and are
-/// thrown away.
+/// Serves one message of the reader, which it reads through a buffer: bytes after the message may have been read too,
+/// and are thrown away. The errors are those of `serve_one` of `cpi_http`, and a lack of memory for the buffer.
 pub fn serve_front<R: Read, W: Write, B: Book>(
     alloc: Global,
     reader: &mut R,

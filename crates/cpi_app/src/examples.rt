@@ -1,7 +1,8 @@
-//! Examples of command lines.
+//! Examples of command lines. Nothing of this file runs.
 ghost use Rattle.cpi_app.specs.CommandExamples.{Replays, Serves, ServesByKeyFile, Prints, NamesNone};
 
-/// Command lines and the values that they give, computed by the definitions.
+/// Command lines and the values that they give, computed by the definitions. The program never calls it: its clauses
+/// show a reader that the definitions say what the documents say.
 pub fn worked_commands()
     ensures replays { Replays }
     ensures serves { Serves }

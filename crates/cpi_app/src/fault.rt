@@ -1,4 +1,4 @@
-//! Why a job was not done to its end.
+//! The errors of a job: their lines on standard error and their exit statuses.
 ghost use Rattle.std.specs.Prelude.{◌≡◌};
 ghost use Rattle.cpi_app.specs.Fault.{status_of_fault, open_line};
 
@@ -7,10 +7,11 @@ use cpi_wire::WireFault;
 use std::alloc::AllocFailed;
 use std::fmt;
 
-/// Why a job was not done to its end. It prints as its line on standard error, without the line's end.
+/// The error of a job that the program couldn't finish. It prints as its line on standard error, without the line's
+/// end. `docs/data/FORMATS.md` lists the lines.
 #[derive(Clone, Copy, Debug, PartialEq, Eq)]
 pub enum RunFault {
-    /// A word of the command line isn't UTF-8.
+    /// An argument of the command line isn't UTF-8.
     BadWord,
     /// The zone is no rule of a clock.
     BadZone,
@@ -24,13 +25,13 @@ pub enum RunFault {
     NoTable,
     /// The machine's clock can't be read.
     NoClock,
-    /// The port can't be listened at.
+    /// The program can't listen at the port.
     NoPort,
-    /// The input was given up.
+    /// The input couldn't be read to its end, a reply couldn't be written, or there was no memory.
     Wire(WireFault),
 }
 
-/// The line of a fault of an open, without its end.
+/// The line of an error of an open, without the line's end. Outside of this file only tests call it.
 pub fn fault_line(fault: &OpenFault) -> &'static str
     ensures { result.now ≡ open_line fault.now }
 {
@@ -41,7 +42,7 @@ pub fn fault_line(fault: &OpenFault) -> &'static str
 }
 
 impl RunFault {
-    /// The exit status: 2 where a word is refused, and 1 for what failed after that.
+    /// The exit status: 2 if an argument is refused, and 1 for each error after that.
     pub fn status(self) -> u8
         ensures { result ≡ status_of_fault self }
     {

@@ -1,17 +1,17 @@
-//! What the program is asked to do.
+//! The jobs that the arguments of the program can ask for.
 
 use cpi_release::Revision;
 
-/// Where the key of the desk is: among the words, or in a file.
+/// The place of the desk's key: among the arguments, or in a file.
 #[derive(Clone, Copy, PartialEq, Eq)]
 pub enum DeskKey<'a> {
     /// The key itself.
     Word(&'a str),
-    /// The path of the file that holds it.
+    /// The path of the file that contains it.
     File(&'a str),
 }
 
-/// A subcommand with the values of its options, as the words give them.
+/// A command with the values of its options, as the arguments give them.
 #[derive(Clone, Copy, PartialEq, Eq)]
 pub enum Job<'a> {
     /// Records from standard input, reply lines to standard output, in the office of the database, or in one in memory

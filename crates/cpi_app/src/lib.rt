@@ -1,5 +1,5 @@
-//! The program's jobs: the words of the command line that ask for them, the run of each, and what is told where one
-//! isn't done to its end.
+//! The program's jobs: the arguments of the command line that ask for them, the run of each, and the line that the
+//! program prints if it can't finish one.
 #![tactic(auto)]
 
 mod backlog;

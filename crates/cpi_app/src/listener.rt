@@ -1,4 +1,4 @@
-//! Where connections come from.
+//! The sources of connections: addresses, and the listeners at them.
 ghost use Rattle.std.specs.Prelude.{IfOk, IfErr};
 ghost use Rattle.cpi_app.specs.Listener.{Meeting, IsUnheard};
 ghost use Rattle.cpi_app.specs.Visits.{IsTurn};
@@ -14,11 +14,11 @@ pub struct NoClock;
 
 /// Waits for connections, and knows the moment at which each comes.
 pub trait Listener {
-    /// What a wait for a connection meets.
+    /// One wait for a connection: the listener before it, the arrival, and the listener after it.
     ghost meets: { Meeting Self };
 
-    /// Waits for the next connection, has it served at its moment, and closes it. Its peer is told nothing else. `None`
-    /// if it couldn't be accepted. Without a moment it is closed unserved, which is an error.
+    /// Waits for the next connection, has it served at its moment, and closes it. Its peer gets nothing else. `None` if
+    /// it couldn't be accepted. If the clock shows no moment, it is closed unserved, and the error is `NoClock`.
     fn serve_next<S: Service>(
         &mut self,
         service: &mut S,
@@ -34,7 +34,8 @@ pub trait Address {
     /// This one was opened there.
     ghost opens: { Self → Self.Open → Type 0 };
 
-    /// Listens there. The faults are `NoPort`, and `Wire(Write)` if it couldn't be reported that somebody listens.
+    /// Listens there. The errors are `NoPort`, and `Wire(Write)` if it couldn't write the line that says so to standard
+    /// output.
     fn listen(&self) -> Result<Self::Open, RunFault>
         ensures ok { IfOk result (opens self.now) }
         ensures err { IfErr result IsUnheard };

@@ -1,4 +1,4 @@
-//! A response as it is offered to a peer.
+//! A writer that offers a response to a peer, who may leave before its end.
 ghost use Rattle.std.specs.Prelude.{IsOk};
 ghost use Rattle.std.specs.Io.{WritesAtMost};
 
@@ -6,7 +6,7 @@ use std::io;
 use std::io::Write;
 
 /// A writer that takes all bytes. They go on to the writer below until one of its writes fails, or takes nothing; from
-/// then on they are thrown away. So what was carried out is known whatever becomes of its response.
+/// then on they are thrown away. So the office knows what it carried out, even if the peer doesn't take the response.
 #[derive(Drop)]
 pub struct Offered<W> {
     writer: W,

@@ -1,4 +1,4 @@
-//! The options of the command line, and their values.
+//! The options of the command line, and the values that the arguments give them.
 ghost use Rattle.std.specs.Prelude.{◌≡◌, ◌≤◌, ◌⊎◌, IfOk, IfSome, codes, false, option_map};
 ghost use Rattle.clap.specs.Words.{rule_of, found_of, rows_of, first_of};
 ghost use Rattle.cpi_app.specs.Command.{HasDeskKey, HasNumber, HasRevision, HasText, HasZone};
@@ -12,7 +12,7 @@ use cpi_codes::LAST_MOMENT;
 use cpi_release::Revision;
 use std::alloc::{AllocError, Global};
 
-/// An option with a value, and what help says of it.
+/// An option with a value, and its line in the help.
 pub fn option<'a>(alloc: Global, name: &'a str, help: &'a str) -> Arg<'a>
     ensures rule { rule_of result ≡ option name.entry.now }
     ensures local { result.global ≡ false }
@@ -28,7 +28,7 @@ pub fn required<'a>(alloc: Global, name: &'a str, help: &'a str) -> Arg<'a>
     option(alloc, name, help).required(true)
 }
 
-/// An option that has to be given if the other one isn't, and can't be given with it.
+/// An option that has to be given if the other one isn't, and can't be given with it. It fails if there is no memory.
 pub fn either<'a>(
     alloc: Global,
     name: &'a str,
@@ -43,7 +43,7 @@ pub fn either<'a>(
         .conflicts_with(other)
 }
 
-/// A number in a range.
+/// An option whose value is a number from `low` to `high`.
 pub fn optional_number<'a>(
     alloc: Global,
     name: &'a str,
@@ -57,7 +57,7 @@ pub fn optional_number<'a>(
     option(alloc, name, help).value_parser(ValueParser::Unsigned(low, high))
 }
 
-/// A number in a range, which has to be given.
+/// An option that has to be given and whose value is a number from `low` to `high`.
 pub fn number<'a>(alloc: Global, name: &'a str, help: &'a str, low: u64, high: u64) -> Arg<'a>
     ensures rule { rule_of result ≡ number_option name.entry.now low high }
     ensures local { result.global ≡ false }
@@ -65,14 +65,14 @@ pub fn number<'a>(alloc: Global, name: &'a str, help: &'a str, low: u64, high: u
     required(alloc, name, help).value_parser(ValueParser::Unsigned(low, high))
 }
 
-/// The value of an option.
+/// The value of an option. `None` if it wasn't given.
 pub fn text_of<'a>(matches: &ArgMatches<'a>, name: &str) -> Option<&'a str>
     ensures { option_map (λ t. t.now) result ≡ first_of name.now (rows_of (found_of matches.now)) }
 {
     matches.get_str(name)
 }
 
-/// The zone that was given, or UTC.
+/// The zone that was given, or `UTC0`.
 pub fn zone_of<'a>(matches: &ArgMatches<'a>) -> &'a str
     ensures { HasZone (rows_of (found_of matches.now)) result.now }
 {
@@ -82,7 +82,7 @@ pub fn zone_of<'a>(matches: &ArgMatches<'a>) -> &'a str
     }
 }
 
-/// The number of a port.
+/// The number of the port, at least 1. `None` if none was given.
 pub fn port_of(matches: &ArgMatches) -> Option<u16>
     ensures { IfSome result (λ n. HasNumber 16 (rows_of (found_of matches.now)) (codes "port") n × (1 ≤ n)) }
 {
@@ -92,7 +92,7 @@ pub fn port_of(matches: &ArgMatches) -> Option<u16>
     }
 }
 
-/// Where the desk's key is, by the one of its two options that was given.
+/// The place of the desk's key, by the one of its two options that was given. `None` if neither or both were.
 pub fn desk_key_of<'a>(matches: &ArgMatches<'a>) -> Option<DeskKey<'a>>
     ensures { IfSome result (HasDeskKey (rows_of (found_of matches.now))) }
 {
@@ -106,7 +106,7 @@ pub fn desk_key_of<'a>(matches: &ArgMatches<'a>) -> Option<DeskKey<'a>>
     }
 }
 
-/// How many connections are to be served.
+/// How many connections to serve, from 1 to `MOST_CONNECTIONS`. `None` if no such number was given.
 pub fn limit_of(matches: &ArgMatches) -> Option<u32>
     ensures { IfSome result (λ n.
         HasNumber 32 (rows_of (found_of matches.now)) (codes "limit") n × (1 ≤ n) × (n ≤ MOST_CONNECTIONS)) }
@@ -117,7 +117,7 @@ pub fn limit_of(matches: &ArgMatches) -> Option<u32>
     }
 }
 
-/// The second of a moment.
+/// The moment in seconds since 1970 UTC, at most `LAST_MOMENT`. `None` if none was given.
 pub fn second_of(matches: &ArgMatches) -> Option<u64>
     ensures { IfSome result (λ n.
         HasNumber 64 (rows_of (found_of matches.now)) (codes "at") n × (n ≤ LAST_MOMENT)) }
@@ -128,7 +128,7 @@ pub fn second_of(matches: &ArgMatches) -> Option<u64>
     }
 }
 
-/// The revision that was given, if any was.
+/// The revision that was given, or `Some(None)` if none was. `None` if the value isn't a number from 1 to 9.
 pub fn revision_of(matches: &ArgMatches) -> Option<Option<Revision>>
     ensures { IfSome result (HasRevision (rows_of (found_of matches.now))) }
 {
@@ -140,7 +140,7 @@ pub fn revision_of(matches: &ArgMatches) -> Option<Option<Revision>>
     Some(Some(revision))
 }
 
-/// The form of a table.
+/// The form of a table, `text` or `csv`. `None` if the value is another one.
 pub fn form_of<'a>(matches: &ArgMatches<'a>) -> Option<&'a str>
     ensures { IfSome result (λ t. HasText (rows_of (found_of matches.now)) (codes "form") t.now
         × ((t.now ≡ codes "text") ⊎ (t.now ≡ codes "csv"))) }

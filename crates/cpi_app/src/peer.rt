@@ -1,4 +1,4 @@
-//! How long the peer of a connection is waited for.
+//! The time that the peer of a connection has, in seconds.
 
 use crate::timed::Timed;
 use std::io;
@@ -21,15 +21,16 @@ const CLOSING_READS: u32 = 1024;
 /// How many bytes are taken each time.
 const CLOSING_BYTES: usize = 4096;
 
-/// Bounds each wait for the peer.
+/// Bounds each wait for the peer to `SILENT_SECONDS`. The error is that of the socket.
 pub fn bound_waits(stream: &TcpStream) -> io::Result<()> {
     let time = Duration::from_secs(SILENT_SECONDS);
     stream.set_read_timeout(Some(time))?;
     stream.set_write_timeout(Some(time))
 }
 
-/// Ends the response, and takes what the peer still sends, for a short time: to close while bytes are unread would
-/// reset the connection, and the peer might lose its response.
+/// Ends the response, and for at most `CLOSING_SECONDS` takes the bytes that the peer still sends: a close while bytes
+/// are unread would reset the connection, and the peer might lose its response (RFC 9112, section 9.6). The error is
+/// that of the socket.
 pub fn hang_up<C: Clock>(clock: &C, stream: &TcpStream) -> io::Result<()> {
     let time = Duration::from_secs(CLOSING_SECONDS);
     stream.shutdown(Shutdown::Write)?;

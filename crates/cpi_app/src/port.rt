@@ -1,5 +1,5 @@
-//! A port of this machine. Nobody knows beforehand which connections come to it, when, and what their peers send: this
-//! file is read, and tested.
+//! A port of this machine. Nobody knows beforehand which connections come to it, when, and with which bytes, so no
+//! contract says it: people read this file, and tests run it.
 ghost use Rattle.std.specs.Prelude.{◌≡◌, [], ◌∷◌};
 ghost use Rattle.std.specs.Net.Addr.{ipv4_octets};
 ghost use Rattle.std.specs.Net.Socket.{v4_ip, v4_port};
@@ -34,7 +34,7 @@ impl<R> LocalPort<'_, R> {
     }
 }
 
-/// A port of this machine at which somebody listens, with the clock of the machine.
+/// A port of this machine at which the program listens, with the clock of the machine.
 #[derive(Drop)]
 pub struct OpenPort<'a, R> {
     listener: TcpListener,
@@ -66,7 +66,7 @@ where
 }
 
 impl<R> OpenPort<'_, R> {
-    // The next connection, each wait for whose peer is bounded.
+    // The next connection. Each wait for its peer is bounded.
     fn accept(&self) -> io::Result<TcpStream> {
         let (stream, _) = self.listener.accept()?;
         bound_waits(&stream)?;

@@ -38,8 +38,8 @@ pub fn replay_over_book<R: Read, W: Write, B: Book>(
 
 /// Answers the records of the reader, each by its line before the next one is carried out, in an office that is empty
 /// at first and is not kept. The clock of the zone reads civil times, and a buffer reads the input. If the zone is no
-/// rule of a clock as POSIX writes it, nothing is read, nothing is written, and the error is `BadZone`. The other errors
-/// are those of `replay_over_book`.
+/// rule of a clock as POSIX writes it, nothing is read, nothing is written, and the error is `BadZone`. The others are
+/// those of `replay_over_book`.
 pub fn replay_in_memory<R: Read, W: Write>(
     alloc: Global,
     zone: &str,

@@ -1,4 +1,4 @@
-//! Serving connections, one after another.
+//! The loop that serves connections, one after another.
 ghost use Rattle.std.specs.Prelude.{◌≡◌};
 ghost use Rattle.cpi_app.specs.Connection.{ServesAtDesk};
 ghost use Rattle.cpi_app.specs.Visits.{ServesUpTo};
@@ -12,7 +12,7 @@ use cpi_office::Office;
 use cpi_store::Book;
 use std::alloc::Global;
 
-// Reports on standard error that so many connections are left, if the number is one of those that it reports.
+// Reports on standard error that so many connections are left, if they are 100,000, 10,000 or 1,000.
 fn report_left<R: Eprint>(rt: &R, left: u32) {
     if matches!(left, 100_000 | 10_000 | 1000) {
         let _ = eprintln!(rt; "cpi: {left} connections of --limit are left");
@@ -28,9 +28,10 @@ fn report_shake<R: Eprint>(rt: &R, shake: Shake, left: u32) {
     };
 }
 
-/// Has up to so many connections served one after another, each as it comes, until one of them shakes the book. Answers
-/// how many are left. A connection that can't be accepted is one of them. Standard error gets a line with why the book
-/// was shaken, and one as 100,000, 10,000 and 1,000 connections are left.
+/// Serves up to `limit` connections one after another, each as it comes, until one of them shakes the book, and answers
+/// how many are left. A connection that can't be accepted counts as one. Standard error gets a line that says why the
+/// book was shaken, and one as 100,000, 10,000 and 1,000 connections are left. The error is that the machine's clock
+/// shows no moment.
 pub fn serve_each<R: Eprint, L: Listener, S: Service>(
     rt: &R,
     listener: &mut L,
@@ -53,9 +54,9 @@ pub fn serve_each<R: Eprint, L: Listener, S: Service>(
     Ok(0)
 }
 
-/// Serves up to so many connections one after another, each at its moment, over the book as it then is, until one of
-/// them shakes the book. Hands back the book, with how many connections are left. Standard error gets the lines of
-/// `serve_each`.
+/// Serves up to `limit` connections one after another, each at its moment, over the book as it then is, until one of
+/// them shakes the book. It hands back the book, with how many connections are left. Standard error gets the lines of
+/// `serve_each`, whose error it has.
 pub fn serve_book<R: Eprint, L: Listener, B: Book>(
     alloc: Global,
     rt: &R,

@@ -1,4 +1,4 @@
-//! Who serves connections.
+//! The service that answers the peers of connections.
 ghost use Rattle.cpi_app.specs.Connection.{Serving, connection};
 
 use cpi_codes::Moment;
@@ -11,8 +11,8 @@ pub trait Service {
     /// What serving a connection does to it and to the service.
     ghost serves: { Serving Self };
 
-    /// Serves one connection at a moment: the reader gives what its peer sends, and the peer is told what is written to
-    /// the writer.
+    /// Serves one connection at a moment: the reader gives the bytes that its peer sends, and the peer gets the bytes
+    /// that are written to the writer. The errors are those of `serve_one` of `cpi_http`.
     fn serve<R: Read, W: Write>(
         &mut self,
         now: Moment,

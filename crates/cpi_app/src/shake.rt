@@ -1,4 +1,4 @@
-//! Why a book has to be opened again.
+//! The reasons to open a book again.
 ghost use Rattle.std.specs.Prelude.{◌≡◌};
 ghost use Rattle.cpi_app.specs.Connection.{shake_of};
 
@@ -6,7 +6,7 @@ use cpi_http::Served;
 use cpi_wire::WireFault;
 use std::fmt;
 
-/// Why a book has to be opened again after a connection. It prints as the words of it in a line on standard error.
+/// The reason to open a book again after a connection. It prints as its words in a line on standard error.
 #[derive(Clone, Copy, Debug, PartialEq, Eq)]
 pub enum Shake {
     /// A reply was that the office was unavailable, so its store may have failed.
@@ -17,7 +17,7 @@ pub enum Shake {
     NoMemory,
 }
 
-/// Why the book has to be opened again after a connection, if it has to.
+/// The reason to open the book again after a connection. `None` if it can stay open.
 pub fn shake_of(served: Result<Served, WireFault>) -> Option<Shake>
     ensures { result ≡ shake_of served }
 {

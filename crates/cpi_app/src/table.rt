@@ -1,4 +1,4 @@
-//! The job of a table.
+//! The job of printing a published table.
 ghost use Rattle.std.specs.Prelude.{◌≡◌, ◌↔◌, ℕ, List, Option, Some, Ok};
 ghost use Rattle.std.specs.Prelude.{IfOk, OnOk, IfErr, IsErr, IsErrOf, codes};
 ghost use Rattle.cpi_codes.specs.Month.{month_of};
@@ -26,7 +26,8 @@ pub struct AskedTable {
     pub until: Moment,
 }
 
-// The revision of the table that is asked for: the one that is named, or the latest.
+// The revision of the table that is asked for: the one that is named, or the latest. The errors are `NoTable` and
+// `Database(Store)`.
 fn revision_of<B: Book>(book: &mut B, asked: AskedTable) -> Result<Revision, RunFault>
     ensures keeps { Keeps (B.state book.old) (B.state book.new) }
     ensures stays { OnOk result (StaysClean (B.state book.old) (B.state book.new)) }
@@ -46,7 +47,7 @@ fn revision_of<B: Book>(book: &mut B, asked: AskedTable) -> Result<Revision, Run
     }
 }
 
-// The printed table.
+// The table that is asked for, printed in its form. The errors are those of `write_table`, but for `Wire(Write)`.
 fn read_table<B: Book>(
     alloc: Global,
     book: &mut B,
@@ -76,8 +77,9 @@ fn read_table<B: Book>(
     }
 }
 
-/// Writes the table of the month, in the revision that is asked for, as it was published by the moment, or answers why
-/// it wasn't written whole. The office stays as it is.
+/// Writes the table of the month, in the revision that is asked for, as it was published by the moment. The office
+/// stays as it is. The errors are `NoTable` if no such table was published by then, `Database(Store)`, and `Wire` with
+/// `Write` or `NoMemory`.
 pub fn write_table<B: Book, W: Write>(
     alloc: Global,
     book: &mut B,
@@ -96,7 +98,7 @@ pub fn write_table<B: Book, W: Write>(
 }
 
 /// Prints the table of the month, in the revision that is asked for, as it was published by the moment, or the line of
-/// the fault to `err`, and answers the status to end with.
+/// the error to `err`, and answers the exit status.
 pub fn print_table<B: Book, W: Write, E: Write>(
     alloc: Global,
     book: &mut B,
@@ -118,8 +120,9 @@ pub fn print_table<B: Book, W: Write, E: Write>(
     }
 }
 
-/// The table that words ask for. The form is `csv`, or else text; no table is published after the last moment. The
-/// faults are `BadMonth` and then `NoTable`.
+/// The table that the arguments ask for. Any form but `csv` means text. `at` is in seconds since 1970 UTC. The errors
+/// are `BadMonth` if the month isn't one like `2026-01` from 2000 to 2199, and then `NoTable` if `at` is after
+/// `LAST_MOMENT`, as no table is published then.
 pub fn asked_table(
     month: &str,
     revision: Option<Revision>,

@@ -1,4 +1,4 @@
-//! Connections that are given up once their time is over.
+//! Connections with a deadline, so that no peer holds the office up.
 ghost use Rattle.std.specs.Prelude.{◌≡◌};
 
 use std::io;
@@ -6,8 +6,8 @@ use std::io::{ErrorKind, Read, Write};
 use std::net::TcpStream;
 use std::time::{Clock, Duration, Instant};
 
-/// A connection with a deadline: so long after its first read or write, each further one fails, whatever the peer sends
-/// or takes meanwhile.
+/// A connection with a deadline: once `limit` has passed since its first read or write, each further one fails with
+/// `TimedOut`, whatever the peer sends or takes meanwhile.
 #[derive(Drop)]
 pub struct Timed<'a, C> {
     stream: &'a TcpStream,
@@ -29,7 +29,8 @@ impl<'a, C: Clock> Timed<'a, C> {
         }
     }
 
-    // An error once the time is over, or where the clock can't be read.
+    // Begins the time with the first call. The error is `TimedOut` once the time is over, or that of the clock if it
+    // can't be read.
     fn keep_time(&mut self) -> io::Result<()> {
         let now = Instant::now(self.clock)?;
         match self.started {

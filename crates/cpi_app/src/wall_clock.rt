@@ -9,7 +9,8 @@ pub trait WallClock {
     /// It may show this moment, or none.
     ghost shows: { Self → Option ℕ → Type 0 };
 
-    /// The moment that it shows; none if it can't be read, or shows none of the office.
+    /// The moment that it shows, in seconds since 1970 UTC; none if it can't be read, or shows one before 1970 or after
+    /// the last moment.
     fn moment(&self) -> Option<Moment>
         ensures { shows self.now result };
 }
