@@ -1,5 +1,5 @@
-//! The program `cpi`. It is wiring alone: it hands the words to `job_of_words` and what stands outside to the run of
-//! the job, prints the line of a fault and ends with its status.
+//! The program `cpi`. It is only wiring: it hands the arguments to `job_of_words`, and files, streams and a port to the
+//! run of the job; it prints the line of an error and ends with its status.
 #![tactic(auto)]
 
 use clap::Error;
@@ -14,7 +14,7 @@ use std::fs::File;
 use std::process::ExitCode;
 use std::{env, io};
 
-// The words after the program's name.
+// The arguments after the program's name. The errors are `BadWord` if one isn't UTF-8, and a lack of memory.
 fn words_of(rt: &HostRuntime) -> Result<Vec<String>, RunFault> {
     let all = match env::args(rt) {
         Ok(all) => all,
@@ -30,8 +30,9 @@ fn words_of(rt: &HostRuntime) -> Result<Vec<String>, RunFault> {
     Ok(words)
 }
 
-// Prints why the words give no job, and answers the exit status: 2 where they are refused, whether or not that could
-// be written, and 0 after help that was asked for.
+// Prints why the arguments give no job, and answers the exit status: 2 if they are refused, whether or not the reason
+// could be written, and 0 after help that was asked for. The errors are a lack of memory, and help that can't be
+// written.
 fn tell_refused(rt: &HostRuntime, error: &Error) -> Result<u8, RunFault> {
     if error.kind() == ErrorKind::OutOfMemory {
         return Err(RunFault::Wire(WireFault::NoMemory));
@@ -59,7 +60,8 @@ fn replay_stdin_at_path(rt: &HostRuntime, zone: &str, path: &str) -> Result<u8, 
     Ok(0)
 }
 
-// The text of the desk's key. That of a file which can't be read is empty, and so no key.
+// The text of the desk's key. That of a file which can't be read is empty, and so no key: the error comes with the key,
+// after that of the zone.
 fn key_text(rt: &HostRuntime, key: DeskKey) -> Result<String, RunFault> {
     let alloc = rt.alloc();
     let path = match key {
@@ -77,7 +79,7 @@ fn key_text(rt: &HostRuntime, key: DeskKey) -> Result<String, RunFault> {
     }
 }
 
-// Serves the office of the file by HTTP.
+// Serves the office of the file over HTTP.
 fn run_serve_of(
     rt: &HostRuntime,
     path: &str,
@@ -93,7 +95,7 @@ fn run_serve_of(
     Ok(0)
 }
 
-// Prints the table from the office of the file. An office that isn't there has none, and isn't made.
+// Prints the table from the office of the file. A missing file has no table, and isn't made.
 fn run_table_of(
     rt: &HostRuntime,
     path: &str,
@@ -110,7 +112,7 @@ fn run_table_of(
     table_in_cabinet(rt, file, asked, &mut io::writer(rt), &mut rt.stderr())
 }
 
-// Hands what stands outside to the run of the job, and answers the exit status.
+// Hands files, streams and a port to the run of the job, and answers the exit status.
 fn run_job(rt: &HostRuntime, job: &Job) -> Result<u8, RunFault> {
     match job {
         Job::Replay { zone, db: None } => replay_stdin_in_memory(rt, zone),
@@ -135,7 +137,7 @@ fn run_job(rt: &HostRuntime, job: &Job) -> Result<u8, RunFault> {
     }
 }
 
-// Does the job of the words, and answers the exit status where nothing failed.
+// Does the job that the arguments ask for, and answers the exit status if nothing failed.
 fn run(rt: &HostRuntime) -> Result<u8, RunFault> {
     let owned = words_of(rt)?;
     let mut words: Vec<&str> = Vec::new(rt.alloc());

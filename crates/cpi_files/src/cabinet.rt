@@ -9,7 +9,7 @@ use sqlite_disk::Disk;
 
 /// The place of an office's two files, the database file and its log. They are taken from it, and put back.
 pub trait Cabinet {
-    /// What the files are on.
+    /// The medium of the files: a disk, or memory.
     type Medium: Disk + Drop;
 
     /// Which files it gives, and what it is while they are away.
@@ -21,7 +21,8 @@ pub trait Cabinet {
     /// What it is once it has the files back.
     ghost keeps: { Self → Files Self.Medium → Self → Type 0 };
 
-    /// Gives the files, and how to open them. It gives no files that can't be used any more.
+    /// Gives the files, and how to open them. It gives no files that can't be used any more. The error says why it
+    /// gives none.
     fn take(&mut self, rt: &HostRuntime) -> Result<(Files<Self::Medium>, Options), OpenFault>
         ensures given { IfOk result (λ it. gives self.old it.0 self.new) }
         ensures refused { IfErr result (λ fault. refuses self.old fault self.new) }

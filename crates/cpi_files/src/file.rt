@@ -10,13 +10,13 @@ use std::hash::{BuildHasher, RandomState};
 use std::io;
 use std::os::unix::fs::OpenOptionsExt;
 
-/// How many bytes a log has once all that it held was copied into its file.
+/// How many bytes a log has once everything in it was copied into its file.
 const EMPTY_LOG: u64 = 41;
 
-/// Who may read and write a file that is made here: only its owner.
+/// The access to a file that is made here: only its owner may read and write it.
 const ONLY_OWNER: u32 = 0o600;
 
-// Whether the port takes the words for a path.
+// Whether the library of the database takes the text for a path.
 fn is_path(words: &str) -> bool {
     words != ":memory:" && !words.starts_with("file:")
 }
@@ -30,8 +30,8 @@ pub fn is_missing(rt: &HostRuntime, path: &str) -> bool {
     }
 }
 
-// Whether a log that holds something is there, but not its file. Answered commands may be in it, and an open would make
-// another file and empty the log.
+// Whether a log that isn't empty is there, but not its file. The log may contain answered commands, and an open would
+// make another file and empty the log. If memory is lacking or the log can't be read, the answer is yes.
 fn has_only_log(rt: &HostRuntime, path: &str) -> bool {
     if !is_missing(rt, path) {
         return false;
@@ -48,8 +48,8 @@ fn has_only_log(rt: &HostRuntime, path: &str) -> bool {
     }
 }
 
-// Makes the file if there is none, for its owner only, since it will hold the keys of all collectors. The port gives
-// the log the access that the file has. (If this fails, so does the open.)
+// Makes the file if there is none, for its owner only, since it will hold the keys of all collectors. The
+// library of the database gives the log the same access. (If this fails, so does the open.)
 fn make_private(rt: &HostRuntime, path: &str) {
     let _made = OpenOptions::new()
         .write(true)
@@ -58,8 +58,8 @@ fn make_private(rt: &HostRuntime, path: &str) {
         .open(rt, path);
 }
 
-/// The file at a path and its log. They are closed when they are put back, and may be taken again and again. Nothing is
-/// supposed of what they hold.
+/// The file at a path and its log, `PATH-wal`. They are closed when they are put back, and may be taken many times.
+/// Nothing is supposed of their contents.
 #[derive(Drop)]
 pub struct FileAt<'a> {
     pub path: &'a str,

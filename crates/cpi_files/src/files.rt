@@ -1,4 +1,4 @@
-//! A job in the office of files, whatever they are on: the files are handed in, and are given back.
+//! A job in the office of files on any medium: the caller hands the files in, and gets them back.
 ghost use Rattle.std.specs.Prelude.{◌≡◌, false, IfErr, IfOk, IsTrue};
 ghost use Rattle.cpi_files.specs.Files.{IsClosedAs, IsDoneAndClosed, IsRefusedAndClosed};
 ghost use Rattle.cpi_files.specs.Files.{IsDoneInFiles, IsRefusedInFiles};
@@ -10,7 +10,7 @@ use sqlite::{Connection, FileStore, Files, Options};
 use sqlite_disk::Disk;
 use std::io::{Read, Write};
 
-// Closes the connection, with what its log holds copied into the database file, and gives the files back.
+// Copies the log into the database file, closes the connection and gives the files back. The error is `Store`.
 fn close<D: Disk + Drop>(conn: Connection<FileStore<D>>) -> (Result<(), OpenFault>, Files<D>)
     ensures { IsClosedAs D.Disk conn result.0 result.1 }
 {
@@ -20,7 +20,8 @@ fn close<D: Disk + Drop>(conn: Connection<FileStore<D>>) -> (Result<(), OpenFaul
     }
 }
 
-// Does the job in the office that the connection holds, closes the connection and gives its files back.
+// Does the job in the office that the connection holds, closes the connection and gives its files back. The error is
+// that of an office that couldn't be opened.
 fn job_in_store<D: Disk + Drop, J: BookJob, R: Read, W: Write, E: Write>(
     rt: &HostRuntime,
     conn: Connection<FileStore<D>>,
@@ -53,8 +54,8 @@ fn job_in_store<D: Disk + Drop, J: BookJob, R: Read, W: Write, E: Write>(
 
 /// Does the job in the office that the files hold, closes it and gives the files back. Empty files get the tables of an
 /// office that holds nothing. Files with the tables of an office stay as they are, and those of schema 1 are migrated.
-/// If the files hold no office, the job doesn't begin, and they hold what they held. The job's answer comes with that
-/// of the close: each answered command is kept before it.
+/// If the files hold no office, the job doesn't begin, they stay as they were, and the error says why. The job's answer
+/// comes with that of the close, before which each answered command is kept.
 pub fn job_in_files<D: Disk + Drop, J: BookJob, R: Read, W: Write, E: Write>(
     rt: &HostRuntime,
     files: Files<D>,

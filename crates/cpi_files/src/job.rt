@@ -1,4 +1,4 @@
-//! What a job is, whatever keeps the office.
+//! A job over the book of an office, whatever keeps the office.
 ghost use Rattle.cpi_files.specs.Job.{Deed};
 
 use cpi_store::Book;
@@ -6,13 +6,13 @@ use std::io::{Read, Write};
 
 /// A job over the book of an office. It may read an input, and write an output and the lines of faults.
 pub trait BookJob {
-    /// What the job tells of how it went.
+    /// The job's report of how it went.
     type Told;
 
-    /// What it does.
+    /// The relation of its input, its book and its outputs.
     ghost does: { Self → Deed Self.Told };
 
-    /// Does the job, and hands the book back, also after a fault.
+    /// Does the job, and hands the book back, also after an error.
     fn run<B: Book, R: Read, W: Write, E: Write>(
         &mut self,
         rt: &HostRuntime,

@@ -9,8 +9,8 @@ use cpi_sql::{SqlBook, Unopened};
 use sqlite::{Alter, Connection};
 use std::io::{Read, Write};
 
-/// Does the job in the office that the connection holds, and gives the connection back with what the job tells. If the
-/// connection holds no office, the job doesn't begin, and the connection is given back as it was.
+/// Does the job in the office that the connection holds, and gives the connection back with the job's report. If the
+/// connection holds no office, the job doesn't begin, and the error has the connection as it was.
 pub fn job_over<S: Alter + Drop, J: BookJob, R: Read, W: Write, E: Write>(
     rt: &HostRuntime,
     conn: Connection<S>,

@@ -38,9 +38,9 @@ impl BookJob for ReplayByClock {
 }
 
 /// Answers the records of the reader, each by its line before the next one is carried out, in the office of the
-/// cabinet's files, and closes them. Civil times are read by the clock of the zone, and input through a buffer. If the
-/// zone is no rule of a clock, no file is taken. If the files hold no office, nothing is read, nothing is written, and
-/// they hold what they held. A fault of the input goes before one of the close.
+/// cabinet's files, and closes them. The clock of the zone reads civil times, and a buffer reads the input. If the zone
+/// is no rule of a clock as POSIX writes it, no file is taken, and the error is `BadZone`. If the files hold no office,
+/// nothing is read, nothing is written, and they stay as they were. An error of the input goes before one of the close.
 pub fn replay_in_cabinet<C: Cabinet, R: Read, W: Write>(
     rt: &HostRuntime,
     zone: &str,

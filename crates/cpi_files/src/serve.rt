@@ -1,4 +1,4 @@
-//! The job of serving the office of files by HTTP.
+//! The job of serving the office of files over HTTP.
 ghost use Rattle.std.specs.Prelude.{◌↔◌, IsNone, IfOk, IfErr, IsErrOf};
 ghost use Rattle.jiff.specs.Words.{read_whole};
 ghost use Rattle.cpi_app.specs.Desk.{HasNoKey};
@@ -12,14 +12,14 @@ use cpi_app::{Address, Desk, RunFault, desk_of, serve_book};
 use cpi_store::Book;
 use std::io::{Read, Write, empty, sink};
 
-// The rest of serving: the listener, and how many connections are left.
+// The rest of serving: the listener, and how many connections are left to serve.
 #[derive(Drop)]
 struct Rest<L> {
     listener: L,
     left: u32,
 }
 
-// Serving up to so many connections at an address, whose listener is there once an office was opened.
+// Serving up to `limit` connections at an address. It has a listener once an office was opened.
 #[derive(Drop)]
 struct Serve<'a, A: Address> {
     desk: &'a Desk,
@@ -28,7 +28,7 @@ struct Serve<'a, A: Address> {
     limit: u32,
 }
 
-// The listener that is there, or else one that is opened at the address.
+// The listener that is there, or else one that is opened at the address, with its error.
 fn listener_at<A: Address>(address: &A, listener: Option<A::Open>) -> Result<A::Open, RunFault>
     ensures ok { IfOk result (IsListener (A.opens address.now) listener) }
     ensures err { IfErr result (λ why. IsUnheard why × IsNone listener) }
@@ -70,7 +70,7 @@ impl<A: Address> BookJob for Serve<'_, A> {
 }
 
 // Serves over the office of the cabinet's files until no connection is left or one of them shook the book, and closes
-// them. If none is left, a close that failed is the fault.
+// them. If none is left, a close that failed is the error.
 fn serve_in_cabinet<C: Cabinet, A: Address>(
     rt: &HostRuntime,
     cabinet: &mut C,
@@ -96,8 +96,8 @@ fn serve_in_cabinet<C: Cabinet, A: Address>(
     Ok(rest)
 }
 
-// Serves over the office of the cabinet's files with the desk. If a connection shook the book, and more are to be
-// served, the files are opened again.
+// Serves over the office of the cabinet's files with the desk. If a connection shook the book and others are left, the
+// files are opened again.
 fn serve_at_desk<C: Cabinet, A: Address>(
     rt: &HostRuntime,
     cabinet: &mut C,
@@ -129,9 +129,9 @@ fn serve_at_desk<C: Cabinet, A: Address>(
     Ok(())
 }
 
-/// Serves the office of the cabinet's files by HTTP at an address, for so many connections one after another, with the
-/// desk of the zone and the key. If a connection shook the book, the files are closed, put back and taken again; the
-/// listener stays. The faults are those of the zone, of the key, of the database and of the address, in this order, and
+/// Serves the office of the cabinet's files over HTTP at an address, for `limit` connections one after another, with
+/// the desk of the zone and the key. If a connection shook the book, the files are closed, put back and taken again; the
+/// listener stays. The errors are those of the zone, of the key, of the database and of the address, in this order, and
 /// then those of the run. Standard error gets a line when the book was shaken, when the files are open again, and when
 /// the limit has come.
 pub fn run_serve<C: Cabinet, A: Address>(

@@ -1,4 +1,4 @@
-//! The job of a table of the office of files.
+//! The job of printing a table of the office of files.
 ghost use Rattle.std.specs.Prelude.{◌≡◌, IfOk, IfErr};
 ghost use Rattle.cpi_files.specs.Table.{IsPrintedFrom};
 ghost use Rattle.cpi_files.specs.Taken.{IsRefusedAs};
@@ -10,7 +10,7 @@ use cpi_app::{AskedTable, RunFault, print_table};
 use cpi_store::Book;
 use std::io::{Read, Write, empty};
 
-// The print of a table.
+// The print of a table as a job over a book.
 #[derive(Drop)]
 struct Print {
     asked: AskedTable,
@@ -19,7 +19,7 @@ struct Print {
 impl BookJob for Print {
     ghost use Rattle.cpi_files.specs.Table.{Prints};
 
-    // the status to end with
+    // The exit status.
     type Told = u8;
 
     ghost does = { λ job. Prints job.asked };
@@ -38,9 +38,9 @@ impl BookJob for Print {
     }
 }
 
-/// Prints a table from the office of the cabinet's files, closes them, and answers the status to end with. The office
-/// is as it was, so nothing is lost if their log can't be copied. If the files hold no office, nothing is written, and
-/// they hold what they held.
+/// Prints a table from the office of the cabinet's files, closes them, and answers the exit status. The office is as it
+/// was, so nothing is lost if their log can't be copied. If the files hold no office, nothing is written, they stay as
+/// they were, and the error says why.
 pub fn table_in_cabinet<C: Cabinet, W: Write, E: Write>(
     rt: &HostRuntime,
     cabinet: &mut C,

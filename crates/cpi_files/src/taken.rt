@@ -9,7 +9,7 @@ use cpi_sql::OpenFault;
 use std::io::{Read, Write};
 
 /// Takes the files from the cabinet, does the job in their office as `job_in_files` does, and puts them back. If the
-/// cabinet gives no files, the job doesn't begin.
+/// cabinet gives no files, the job doesn't begin, and the error says why.
 pub fn job_in_cabinet<C: Cabinet, J: BookJob, R: Read, W: Write, E: Write>(
     rt: &HostRuntime,
     cabinet: &mut C,
