@@ -11,7 +11,7 @@ pub record TakesConnection (was : Backlog) (next now : Queued) (is : Backlog) : 
   pub stored : is.queued.items ≡ slice_set was.queued.items was.taken now
   pub taken : is.taken ≡ was.taken + 1
 
--- it came at this moment and sent these bytes, and what was written to it is kept
+-- it came at this moment and sent these bytes, and the bytes that were written to it are kept
 pub record ComesAs (next now : Queued) (c : Connection) : Type 0 where
   pub is_open : IsTrue next.is_open
   pub moment : next.moment ≡ Some c.moment

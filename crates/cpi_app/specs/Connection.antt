@@ -12,7 +12,7 @@ use Rattle.cpi_http.specs.Served.{Framing, ServedChange, IsServed, GaveUp, serve
 use Rattle.cpi_app.specs.declared.shake.Shake.{Shake}
 use Rattle.cpi_app.specs.declared.shake.Shake.TheVariants.{Unavailable, Unwritten, NoMemory}
 
--- the message at the front of the stream was served, whatever was read of the stream behind it
+-- the message at the front of the stream was served, whatever was read of the stream after it
 abbrev pub ServesFront : {B : Type 0} → (B → State Office) → Framing → Option (List ℕ) → ServedChange B →
     Served → Type 0
 ServesFront state f stream c served = (behind : Option (List ℕ)) × IsServed state f stream behind c served
@@ -22,7 +22,7 @@ abbrev pub GivesUpFront : {B : Type 0} → (B → State Office) → Framing → 
     WireFault → Type 0
 GivesUpFront state f stream c fault = (behind : Option (List ℕ)) × GaveUp state f stream behind c fault
 
--- what came of a connection
+-- the outcome of serving a connection
 abbrev pub Outcome : Type 0
 Outcome = Result Served WireFault
 
@@ -59,7 +59,7 @@ abbrev pub connection : ℕ → Option (List ℕ) → Option (List ℕ) → Opti
 connection moment sent written writing =
     record { moment = moment; sent = sent; written = written; writing = writing }
 
--- the service before a connection, the connection, what came of it, and the service after
+-- the service before a connection, the connection, its outcome, and the service after
 abbrev pub Serving : Type 0 → Type 1
 Serving S = S → Connection → Outcome → S → Type 0
 

@@ -1,4 +1,4 @@
--- The desk that words name, and what is told where they name none.
+-- The desk that the arguments name, and the error if they name none.
 use Rattle.std.specs.Prelude.{◌≡◌, ◌⊎◌, ℕ, List, Some, IsNone, IsSome, take}
 use Rattle.std.specs.Str.{IsTrimAscii}
 use Rattle.jiff.specs.Placed.{IsPosixZone}

@@ -1,4 +1,4 @@
--- What is told of a fault, and the status that the program ends with.
+-- The line of an error on standard error, and the exit status.
 use Rattle.std.specs.Prelude.{ℕ, List, ◌++◌, codes}
 use Rattle.cpi_wire.specs.Fault.{fault_text}
 use Rattle.cpi_app.specs.declared.fault.RunFault.{RunFault}
@@ -24,7 +24,7 @@ line_of_fault NoClock = codes "cpi: no clock"
 line_of_fault NoPort = codes "cpi: no port"
 line_of_fault (Wire fault) = codes "cpi: " ++ fault_text fault
 
--- 2 where a word is refused, and 1 for what failed after that
+-- 2 if an argument is refused, and 1 for each error after that
 abbrev pub status_of_fault : RunFault → ℕ
 status_of_fault BadWord = 2
 status_of_fault _ = 1

@@ -28,7 +28,7 @@ pub record GaveUpReplay (zone : List ℕ) (input was is : Option (List ℕ)) (fa
   pub book : Kept
   pub answered : GaveUp rule kept_state input empty_book book was is fault
 
--- why a replay ended early, and what was answered until then: nothing where the zone's text is no rule
+-- why a replay ended early, and which records were answered until then: none if the zone's text is no rule
 abbrev pub EndedEarly : List ℕ → Option (List ℕ) → Option (List ℕ) → Option (List ℕ) → RunFault → Type 0
 EndedEarly zone input was is BadZone = IsNone (read_whole zone)
 EndedEarly zone input was is (Wire fault) = GaveUpReplay zone input was is fault

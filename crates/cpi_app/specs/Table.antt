@@ -42,7 +42,7 @@ module _ (asked : AskedTable) (o : Office) (was is : Option (List ℕ)) where
     pub short : count < length (table_bytes asked.form asked.month table)
     pub written : Appends was is (take count (table_bytes asked.form asked.month table))
 
-  -- why the whole of it was not written, and what was; there is such a table where there was no memory to print it
+  -- why the whole of it was not written, and which part was; there is such a table if there was no memory to print it
   abbrev pub IsNotWritten : RunFault → Type 0
   IsNotWritten NoTable = (table_until asked.month asked.revision asked.until o.releases ≡ None) × (is ≡ was)
   IsNotWritten (Database fault) = is ≡ was
@@ -50,7 +50,7 @@ module _ (asked : AskedTable) (o : Office) (was is : Option (List ℕ)) where
   IsNotWritten (Wire wire.Write) = IsWrittenInPart
   IsNotWritten _ = ⊥
 
-  -- the status tells whether the whole of it was written, and else of a fault
+  -- the status says whether the whole of it was written, and else that there was an error
   abbrev pub IsPrinted : ℕ → Type 0
   IsPrinted status = ((status ≡ 0) × IsWritten)
       ⊎ ((fault : RunFault) × IsNotWritten fault × (status ≡ status_of_fault fault))

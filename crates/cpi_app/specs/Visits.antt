@@ -6,7 +6,7 @@ use Rattle.cpi_app.specs.declared.listener.NoClock.{NoClock}
 use Rattle.cpi_app.specs.Connection.{Connection, Outcome, Serving, is_shaken}
 use Rattle.cpi_app.specs.Listener.{Came, Missed, Timeless, Meeting}
 
--- a connection that came, and what came of it
+-- a connection that came, and its outcome
 pub record Visit : Type 0 where
   pub came : Connection
   pub outcome : Outcome

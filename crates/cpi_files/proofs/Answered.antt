@@ -1,4 +1,4 @@
--- What is said of an answer, told otherwise.
+-- A statement about an answer, in another form.
 use Rattle.std.specs.Prelude.{Result, Ok, Err, IfOk, IfErr}
 
 module _ {A E : Type 0} where

@@ -130,10 +130,10 @@ fn serve_at_desk<C: Cabinet, A: Address>(
 }
 
 /// Serves the office of the cabinet's files over HTTP at an address, for `limit` connections one after another, with
-/// the desk of the zone and the key. If a connection shook the book, the files are closed, put back and taken again; the
-/// listener stays. The errors are those of the zone, of the key, of the database and of the address, in this order, and
-/// then those of the run. Standard error gets a line when the book was shaken, when the files are open again, and when
-/// the limit has come.
+/// the desk of the zone and the key. If a connection shook the book, the files are closed, put back and taken again,
+/// and the listener stays. The errors are those of the zone, of the key, of the database and of the address, in this
+/// order, and then those of the run. Standard error gets a line when the book was shaken, when the files are open
+/// again, and when the limit has come.
 pub fn run_serve<C: Cabinet, A: Address>(
     rt: &HostRuntime,
     cabinet: &mut C,

@@ -5,8 +5,8 @@ use cpi_store::FailBook;
 use std::alloc::Global;
 use std::test::Fail;
 
-// A connection: whether it can be accepted, the second that the clock shows then, what its peer sends, and what its
-// peer is told.
+// A connection: whether it can be accepted, the second that the clock shows then, the bytes that its peer sends, and
+// those that its peer gets.
 struct Call<'a> {
     is_open: bool,
     second: Option<u64>,
@@ -141,7 +141,7 @@ fn backlog_of(alloc: Global, calls: &[Call]) -> Result<Backlog, Fail> {
     Ok(Backlog { queued, taken: 0 })
 }
 
-// Whether each peer was told what it should be, and nothing else.
+// Whether each peer got the bytes that it should get, and nothing else.
 fn are_told(backlog: &Backlog, calls: &[Call]) -> bool {
     for (place, call) in calls.iter().enumerate() {
         let is_told = match backlog.queued.get(place) {
@@ -156,7 +156,7 @@ fn are_told(backlog: &Backlog, calls: &[Call]) -> bool {
 }
 
 // Serves up to so many of the calls over a book whose n-th call fails, or none at 0. Answers how many connections are
-// left, and how many of the calls were taken, if each peer was told what it should be.
+// left, and how many of the calls were taken, if each peer got the bytes that it should get.
 fn served<R: Eprint>(
     rt: &R,
     alloc: Global,

@@ -11,15 +11,15 @@ use std::io;
 use std::io::{ErrorKind, Read, Write};
 use std::test::Fail;
 
-/// What is told to a caller who leaves at the first reply that the office is unavailable: the lines before it.
+/// The lines that a caller gets who leaves at the first reply that the office is unavailable: those before it.
 #[derive(Drop)]
 pub(crate) struct Told {
     pub(crate) lines: Vec<u8>,
     /// Whether each record has its line, or the table was printed.
     pub(crate) is_whole: bool,
-    /// The line of a fault.
+    /// The line of an error.
     pub(crate) fault: Vec<u8>,
-    /// Whether the files were closed afterwards, with what the log held copied.
+    /// Whether the files were closed afterwards, with the log copied.
     pub(crate) is_closed: bool,
 }
 
@@ -83,7 +83,7 @@ impl BookJob for Task {
     }
 }
 
-/// What is told of records in an office in memory, in which other ones were carried out before.
+/// The lines of records in an office in memory, in which other records were carried out before.
 pub(crate) fn told_in_memory(alloc: Global, before: &str, records: &str) -> Told {
     let mut told = Told::nothing(alloc);
     let Ok(clock) = zone_of("UTC0") else {
@@ -97,7 +97,7 @@ pub(crate) fn told_in_memory(alloc: Global, before: &str, records: &str) -> Told
     told
 }
 
-/// What the log and the database file hold.
+/// The contents of the log and of the database file.
 #[derive(Drop)]
 pub(crate) struct Held {
     pub(crate) log: Vec<u8>,
@@ -137,14 +137,14 @@ pub(crate) const ENOUGH: Calls = Calls {
     db: u64::MAX,
 };
 
-/// What a run leaves.
+/// The outcome of a run.
 #[derive(Drop)]
 pub(crate) struct Left {
-    /// What was told in the office; or why there was none.
+    /// The lines of the office; or the error if there was none.
     pub(crate) told: Result<Told, OpenFault>,
-    /// What the files hold.
+    /// The contents of the files.
     pub(crate) files: Held,
-    /// What they hold if the machine stops then: what was synced.
+    /// Their contents if the machine stops then: the bytes that were synced.
     pub(crate) synced: Held,
 }
 
@@ -265,7 +265,7 @@ pub(crate) fn run(
     })
 }
 
-/// What records are told in the office of files that hold so much, none of whose calls stops.
+/// The lines of records in the office of files with these contents, none of whose calls stops.
 pub(crate) fn told_in(
     rt: &HostRuntime,
     held: &Held,
@@ -275,7 +275,7 @@ pub(crate) fn told_in(
     Ok(told)
 }
 
-// ---- what another program does with the database
+// ---- another program's access to the database
 
 /// The database of files that hold so much.
 pub(crate) fn database(alloc: Global, held: &Held) -> Result<Database, Fail> {
@@ -304,8 +304,8 @@ pub(crate) fn number_in<S: Alter + Drop>(
     Ok(row.get(0)?)
 }
 
-// Closes a connection, with what its log holds copied into the database file, and gives the files back. Whether that
-// was done is the first of what it answers.
+// Copies the log into the database file, closes the connection and gives the files back. The first answer is whether
+// that was done.
 fn close(conn: Database) -> (bool, MemoryFiles) {
     match conn.close_files() {
         Ok(files) => (true, files),
@@ -313,7 +313,7 @@ fn close(conn: Database) -> (bool, MemoryFiles) {
     }
 }
 
-/// The files after the statements, with what the log holds copied into the database file.
+/// The files after the statements, with the log copied into the database file.
 pub(crate) fn changed(alloc: Global, held: &Held, statements: &str) -> Result<Held, Fail> {
     let mut conn = database(alloc, held)?;
     execute(&mut conn, statements)?;

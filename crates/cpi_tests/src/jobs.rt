@@ -40,7 +40,7 @@ fn is_in_file(job: &Job) -> bool {
     }
 }
 
-// The table that a job prints; none where it is a replay.
+// The table that a job prints; none if it is a replay.
 fn asked_by(job: &Job) -> Result<Option<AskedTable>, Fail> {
     match job {
         Job::Replay { .. } => Ok(None),
@@ -92,7 +92,7 @@ fn a_replay_goes_on_where_the_run_before_it_ended(rt: HostRuntime) -> Result<(),
     Ok(())
 }
 
-// Whether the words print this, or tell that fault.
+// Whether the arguments print this, or that line of an error.
 fn prints<'a>(
     rt: &HostRuntime,
     held: &Held,

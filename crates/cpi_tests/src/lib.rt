@@ -1,6 +1,6 @@
-//! What `#[test]` alone can show of the crates below: what becomes of an office over a book each of whose calls is
-//! refused, and in files each of whose calls stops; the jobs of words over such files; that no input is read for ever;
-//! that nothing is refused where nothing is wanting; and calls that the program doesn't make.
+//! Tests of the crates below that only `#[test]` can make: an office over a book that refuses each of its calls in
+//! turn, and in files that stop at each of their calls; the jobs of arguments over such files; that no input is read
+//! for ever; that nothing is refused if nothing is lacking; and calls that the program doesn't make.
 #![tactic(auto)]
 
 #[cfg(test)]

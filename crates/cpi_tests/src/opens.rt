@@ -1,5 +1,5 @@
-//! Opens that are stopped at each call of a file: of files that hold nothing yet, where the tables are made, and of
-//! files of schema 1, which are migrated.
+//! Opens that are stopped at each call of a file: of empty files, in which it makes the tables, and of files of
+//! schema 1, which it migrates.
 use crate::files::{Calls, Held, Told, database, number_in, run, told_in, told_in_memory};
 use crate::first::first_files;
 use crate::script::{answers, questions};
@@ -18,7 +18,7 @@ const LARGE: [(&str, i64); 6] = [
     ("level", 8),
 ];
 
-// Whether each of these tables, under its name with the end, has its rows, or none where they are elsewhere.
+// Whether each of these tables, under its name with the end, has its rows, or none if they are elsewhere.
 fn have_rows<S: Alter + Drop>(
     alloc: Global,
     conn: &mut Connection<S>,
@@ -35,8 +35,9 @@ fn have_rows<S: Alter + Drop>(
     Ok(true)
 }
 
-// The schema of which a database is whole, 0 for one without a table. With the script's rows, all of them stand in the
-// tables of that schema, and in no other; without them no table has a row but `version`. None where it is of neither.
+// The schema of which a database is whole, 0 for one without a table. With the script's rows, the tables of that
+// schema contain all of them, and no other table has one; without them no table has a row but `version`. None if it is
+// of neither.
 fn schema_in<S: Alter + Drop>(
     alloc: Global,
     conn: &mut Connection<S>,
@@ -58,7 +59,7 @@ fn schema_in<S: Alter + Drop>(
     Ok(is_whole.then_some(number))
 }
 
-// Files before an open, their schema, and what their office is told once it was open.
+// Files before an open, their schema, and the lines that their office answers once it was open.
 #[derive(Drop)]
 struct Before {
     files: Held,
@@ -82,7 +83,7 @@ fn of_schema_1(alloc: Global) -> Result<Before, Fail> {
     })
 }
 
-// The schema of what an open left. It is none where the office that is opened there afterwards answers otherwise.
+// The schema of what an open left. It is none if the office that is opened there afterwards answers otherwise.
 fn schema_left(rt: &HostRuntime, before: &Before, held: &Held) -> Result<Option<i64>, Fail> {
     let alloc = rt.alloc();
     let mut conn = database(alloc, held)?;
@@ -109,7 +110,7 @@ fn end_of(told: &Result<Told, OpenFault>) -> End {
     }
 }
 
-// What is seen of opens in which a file stops ever later.
+// The counts of opens in which a file stops ever later.
 #[derive(Clone, Copy, Debug, PartialEq, Eq)]
 struct Seen {
     // how many were stopped and left the files as they were, and how many left the office made; how many succeeded, and
@@ -117,7 +118,7 @@ struct Seen {
     kept: u32,
     made: u32,
     unclosed: u32,
-    // how many calls were made where no file stopped
+    // how many calls were made if no file stopped
     whole: Option<u64>,
     // after how many calls something else was left
     wrong: Option<u64>,

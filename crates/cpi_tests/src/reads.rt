@@ -1,4 +1,4 @@
-//! The reads of a book, each of which is refused in turn. Writes are counted where the office makes them.
+//! The reads of a book, each of which is refused in turn. Writes are counted as the office makes them.
 use crate::records::{at, frozen, january, rice};
 use cpi_codes::{CollectorId, Key, Month, OutletId, Slot};
 use cpi_release::{Groups, Revision};

@@ -95,7 +95,7 @@ pub(crate) fn asked(alloc: Global, record: &str) -> Result<Ask, Fail> {
     }
 }
 
-/// The number of a reply: a refusal's own; `WANTED` where it is that of an office in which the request is the first of
+/// The number of a reply: a refusal's own; `WANTED` if it is that of an office in which the request is the first of
 /// its kind, and the table is the CSV that is given; else `ANOTHER`.
 pub(crate) fn number_of(reply: &Reply, csv: &str) -> u16 {
     let wanted = match reply {

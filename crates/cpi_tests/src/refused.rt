@@ -5,7 +5,7 @@ use cpi_store::{Book, FailBook};
 use std::alloc::Global;
 use std::test::Fail;
 
-/// The number of the refusal where the office is unavailable.
+/// The number of the refusal if the office is unavailable.
 const UNAVAILABLE: u16 = 90;
 
 /// More calls of the book than any row makes.
@@ -192,7 +192,7 @@ const MOVED: Row<'static> = Row {
 };
 
 // Whether one of the requests is refused as unavailable. It changes nothing then: the other in its place is answered as
-// wanted. None where it isn't so, or another one is refused.
+// wanted. None if it isn't so, or another one is refused.
 fn is_unavailable_once<B: Book>(
     alloc: Global,
     office: &mut Office<B>,

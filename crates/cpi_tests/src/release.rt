@@ -88,7 +88,7 @@ impl Write for Narrow {
     }
 }
 
-// Whether both forms tell that a writer failed which takes so many bytes.
+// Whether both forms report that a writer failed which takes so many bytes.
 fn is_cut_off(alloc: Global, levels: &[Level], room: usize) -> Result<bool, Fail> {
     let (month, first) = (january()?, Revision::first());
     let text = table_text(alloc, month, first, levels, &mut Narrow { room });

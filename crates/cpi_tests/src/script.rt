@@ -116,12 +116,12 @@ const ANSWERS: &str = concat!(
     "\n",
 );
 
-// What is asked for the second collector's sake.
+// The questions for the second collector's sake.
 const TAKER: &str = "3000,bbbbbbbbbbbbbbbbbbbbbbbbbbbbbbbb,work,2026-02
 3000,aaaaaaaaaaaaaaaaaaaaaaaaaaaaaaaa,work,2026-02
 ";
 
-// The desk's first commands with other content: each is refused where the one of the script was carried out, and else
+// The desk's first commands with other content: each is refused if the one of the script was carried out, and else
 // accepted.
 const OTHERS: &str = "0,desk,item,RICE,\"Rice, brown\",1 kg,500,2000
 0,desk,item,FLOUR,Flour,1 kg,500,2000
@@ -148,7 +148,7 @@ pub(crate) fn script() -> &'static [&'static str] {
     &SCRIPT
 }
 
-/// What the records are told.
+/// The lines that answer the records.
 pub(crate) fn lines() -> &'static [u8] {
     LINES.as_bytes()
 }
@@ -158,7 +158,7 @@ pub(crate) fn questions() -> &'static str {
     QUESTIONS
 }
 
-/// What they are told after the script.
+/// The lines that answer them after the script.
 pub(crate) fn answers() -> &'static [u8] {
     ANSWERS.as_bytes()
 }
@@ -187,7 +187,7 @@ pub(crate) fn trial(alloc: Global) -> Result<String, Fail> {
     Ok(parts.concat(alloc)?)
 }
 
-/// What the trial is told after each number of the script's first records, from none to all, in an office in memory.
+/// The lines of the trial after each number of the script's first records, from none to all, in an office in memory.
 pub(crate) fn states(alloc: Global, trial: &str) -> Result<Vec<Told>, Fail> {
     let mut states = Vec::new(alloc);
     for count in 0..=script().len() {
@@ -204,7 +204,7 @@ pub(crate) fn states(alloc: Global, trial: &str) -> Result<Vec<Told>, Fail> {
     Ok(states)
 }
 
-/// How many of the script's records change what the trial is told.
+/// How many of the script's records change the lines of the trial.
 pub(crate) fn changes(states: &[Told]) -> u32 {
     let mut changes = 0u32;
     for (before, after) in states.iter().zip(states.iter().skip(1)) {

@@ -3,8 +3,8 @@ use crate::files::{Calls, ENOUGH, Held, Told, run, told_in};
 use crate::script::{CHANGES, changes, lines, script, states, trial};
 use std::test::Fail;
 
-// The script, what is sent to what it leaves, what that is told after each of its records, and what the files of an
-// office hold that has its tables and nothing else.
+// The script, the trial that is sent to the office that it leaves, the lines of the trial after each of its records,
+// and the files of an office that has its tables and nothing else.
 #[derive(Drop)]
 struct Prepared {
     script: String,
@@ -27,7 +27,7 @@ fn prepare(rt: &HostRuntime) -> Result<Prepared, Fail> {
     })
 }
 
-// What is found of a command in what the files hold.
+// The state of a command in the files.
 #[derive(Clone, Copy, PartialEq, Eq)]
 enum Found {
     // the office before it
@@ -59,7 +59,7 @@ fn find(rt: &HostRuntime, prepared: &Prepared, held: &Held, place: usize) -> Res
     Ok(Found::Wrong)
 }
 
-// What became of a run.
+// The outcome of a run.
 #[derive(Clone, Copy, PartialEq, Eq)]
 enum Outcome {
     // A file stopped in the command at the place, all before it being answered as they are to be: what is found of it
@@ -69,7 +69,7 @@ enum Outcome {
     Unclosed,
     // No file stopped.
     Whole,
-    // The lines aren't those of the script, or what they tell isn't kept.
+    // The lines aren't those of the script, or what they confirm isn't kept.
     Wrong,
 }
 
@@ -101,7 +101,7 @@ fn try_with(rt: &HostRuntime, prepared: &Prepared, calls: Calls) -> Result<Outco
     })
 }
 
-// What is seen of runs in which a file stops ever later.
+// The counts of runs in which a file stops ever later.
 #[derive(Clone, Copy, Debug, PartialEq, Eq)]
 struct Seen {
     // how many commands were stopped, and the place of the last
@@ -111,7 +111,7 @@ struct Seen {
     has_after: bool,
     // whether a close was stopped
     has_unclosed: bool,
-    // how many calls were made where no file stopped
+    // how many calls were made if no file stopped
     whole: Option<u64>,
     // after how many calls an answered command isn't there, or one is there in part
     wrong: Option<u64>,
