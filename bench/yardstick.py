@@ -9,7 +9,7 @@ price) and quotes, with the checks of an office that a valid input meets.
 
     yardstick.py --freezes FILE < RECORDS
 
-The words freeze and tables alone, over an office of docs/data/FORMATS.md that stands in the file. A month is computed
+The words freeze and tables alone, over an office of docs/reference/FORMATS.md that stands in the file. A month is computed
 from the rows that a freeze reads, and its release is one durable commit.
 """
 
@@ -126,7 +126,7 @@ class Fault(Exception):
 
 
 class Releases:
-    """The freezes of an office whose tables stand in a file, by the rules of docs/office/OFFICE.md: of each month the
+    """The freezes of an office whose tables stand in a file, by the rules of docs/reference/OFFICE.md: of each month the
     first revision alone."""
 
     def __init__(self, file):

@@ -193,7 +193,7 @@ def try_example(program: Program, room: str, example: str, is_endless: bool) -> 
 
 def main() -> int:
     words = words_of(__doc__)
-    words.add_argument("--only", metavar="NAME", help="one document alone, such as docs/office/DESK.md")
+    words.add_argument("--only", metavar="NAME", help="one document alone, such as docs/desk/DESK.md")
     chosen = program_of(words)
     names = [chosen.only] if chosen.only else sorted(documents())
     with Checks() as checks:

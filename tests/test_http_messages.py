@@ -1,7 +1,7 @@
 #!/usr/bin/env python3
 """Sends messages to `cpi serve`, and compares each whole response with a second reading's.
 
-The second reading (tests/second_office/http_messages.py) follows docs/data/FORMATS.md over the second office, and has
+The second reading (tests/second_office/http_messages.py) follows docs/reference/FORMATS.md over the second office, and has
 no code in common with the program. Each message has a connection of its own, whose peer ends what it sends. They are
 messages that are served, and each of them cut after each of its bytes; heads, fields, bodies and lengths at their
 limits, and bytes that no head has; N of random bytes (10,000), and N with one byte changed (10,000). A few come by

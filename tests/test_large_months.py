@@ -4,7 +4,7 @@
 Plans and quotes are made by a rule (lib/by_rule.py). `cpi replay` is given the records of a desk and of collectors who
 send them: it freezes a December, the year after it and a January with another plan, and prints each table; of national
 size only the December, January and February, with as many aggregates in thirteen divisions as the body of a plan holds.
-Here the same tables are computed from the same plans and quotes by the method as docs/office/OFFICE.md tells it, with
+Here the same tables are computed from the same plans and quotes by the method as docs/reference/OFFICE.md tells it, with
 whole numbers, and each row is compared. That the computation has nothing in common with the one of the second office,
 not even its rounding, is what the comparison is worth.
 

@@ -4,7 +4,7 @@
 Each limit is asked with values one below, at and one above its ends, and everything else in order: in a record, in a
 message to `cpi serve`, in words of the command line, and in a row of a file. Records with a value at an end are also
 carried out over a file, which is then read again. A table (tests/lib/limits) has the answers that the documents give,
-and cites the documents for each limit. Every row of the limits of docs/office/OFFICE.md has its values there, or names
+and cites the documents for each limit. Every row of the limits of docs/reference/OFFICE.md has its values there, or names
 the file that tests it, or says why nothing can reach it.
 
 Then each limit of the second office (tests/second_office/limits.py) is changed by one, and doubled. Some value of the
@@ -38,7 +38,7 @@ Answer = Callable[[Any], str]
 
 def documents() -> str:
     """The text of the documents that have limits."""
-    names = "docs/office/OFFICE.md", "docs/data/FORMATS.md"
+    names = "docs/reference/OFFICE.md", "docs/reference/FORMATS.md"
     return "".join(Path(TOP, name).read_text(encoding="utf-8") for name in names)
 
 

@@ -4,7 +4,7 @@
 The example is run with the built program. From the data files and the quotes as `examples/national/prices` writes them,
 and from nothing that the program answered, this finds which quotes stand (lib/nation.py), which aggregates had nothing
 to compare, and all tables (lib/by_the_manual.py), by the formulas of the Consumer Price Index Manual (2020) with the
-rounding of docs/office/OFFICE.md, in fractions. A check is the table of a month's revision with every figure, its carry
+rounding of docs/reference/OFFICE.md, in fractions. A check is the table of a month's revision with every figure, its carry
 list, or one of these:
 
 - one seed gives the same quotes twice, and another seed gives others;

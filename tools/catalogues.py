@@ -62,7 +62,7 @@ COUNTS = (*range(1000), 10**6, 10**9)
 
 TEMPLATE_HEAD = """\
 # Texts of Sabrethog that people read: the source of all catalogues. tools/pages makes this file.
-# A catalogue of a new language: tools/pages --new LANG (docs/code/CHANGING.md).
+# A catalogue of a new language: tools/pages --new LANG (docs/develop/CONTRIBUTING.md).
 #"""
 
 HEAD = """\

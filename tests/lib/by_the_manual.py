@@ -1,6 +1,6 @@
 """The tables of examples/national by the formulas of the Consumer Price Index Manual (2020), in fractions.
 
-Only the rounding is that of docs/office/OFFICE.md.
+Only the rounding is that of docs/reference/OFFICE.md.
 """
 
 from __future__ import annotations

@@ -34,7 +34,7 @@ INDENTED = re.compile(r"(?<=\n\n)(?: {4}.*\n)+")
 QUOTED = re.compile(r"`([^`]+)`")
 MOST_OF_PARAGRAPH, MOST_OF_CELL = 600, 160
 # (of FORMATS the cells are what is printed, column by column)
-WIDE_TABLES = {"docs/data/FORMATS.md"}
+WIDE_TABLES = {"docs/reference/FORMATS.md"}
 
 
 def prose(text: str) -> str:
@@ -91,10 +91,10 @@ def readme_faults(text: str) -> Iterator[str]:
 MOST_WORDS, MOST_OF_ALL = 5000, 63800
 """Words as `wc -w` counts them: of a document, and of the English pages of docs/ together."""
 
-LONG = {"docs/office/DESK.md"}
+LONG = {"docs/desk/DESK.md"}
 """Documents that may be longer."""
 
-SHORT = {"docs/code/THEOREM.md": 1500}
+SHORT = {"docs/develop/THEOREM.md": 1500}
 """Documents with a bound of their own: two pages of paper."""
 
 
@@ -295,7 +295,7 @@ def name_faults(text: str, code: Code) -> Iterator[str]:
 
 def promise_faults(text: str) -> Iterator[str]:
     items = (part for _, part in paragraphs(text) if part.lstrip().startswith("- "))
-    yield from (f"no heading of PROOF carries: {seen(it)[:60]}.." for it in items if "](../code/PROOF.md#" not in it)
+    yield from (f"no heading of PROOF carries: {seen(it)[:60]}.." for it in items if "](../develop/PROOF.md#" not in it)
 
 
 def script_faults(folder: Path, text: str) -> Iterator[str]:
@@ -322,7 +322,7 @@ def running_faults(text: str) -> Iterator[str]:
     made = (ROOT / "dist/MADE").read_text(encoding="utf-8") if (ROOT / "dist/MADE").exists() else ""
     needed = re.findall(r"^machine: (\S+)$|\b(GLIBC_[\d.]+)", made, re.M)
     yield from (f"no word of {it}, which dist/MADE names" for pair in needed for it in pair if it and it not in text)
-    formats = (ROOT / "docs/data/FORMATS.md").read_text(encoding="utf-8")
+    formats = (ROOT / "docs/reference/FORMATS.md").read_text(encoding="utf-8")
     row = re.search(r"^\| 1 \| .*$", formats.partition("\n## The program\n")[2], re.M)
     told = re.findall(r"`cpi: [^`]*`", row[0] if row else "")
     yield from (f"no word of {it}, which FORMATS has" for it in told or ["the lines of faults"] if it not in text)
@@ -343,14 +343,14 @@ def record_faults(text: str) -> Iterator[str]:
     yield from (f"two decisions have the number {it}" for it in sorted({it for it in every if every.count(it) > 1}))
 
 
-CLAIMING = {"README.md", "docs/code/PROOF.md", "docs/code/THEOREM.md", "docs/data/AUDIT.md"}
-NAMED = {*CLAIMING, "docs/code/ARCHITECTURE.md", "docs/code/CHANGING.md"}
+CLAIMING = {"README.md", "docs/develop/PROOF.md", "docs/develop/THEOREM.md", "docs/data/AUDIT.md"}
+NAMED = {*CLAIMING, "docs/develop/ARCHITECTURE.md", "docs/develop/CONTRIBUTING.md"}
 ALONE = {
-    "docs/code/DECISIONS.md": record_faults,
-    "docs/data/FORMATS.md": example_faults,
-    "docs/office/PROMISE.md": promise_faults,
-    "docs/office/RUNNING.md": running_faults,
-    "docs/code/THEOREM.md": theorem_faults,
+    "docs/develop/DECISIONS.md": record_faults,
+    "docs/reference/FORMATS.md": example_faults,
+    "docs/decide/PROMISE.md": promise_faults,
+    "docs/run/RUNNING.md": running_faults,
+    "docs/develop/THEOREM.md": theorem_faults,
 }
 
 

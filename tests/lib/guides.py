@@ -1,11 +1,11 @@
 #!/usr/bin/python3
 """What a guide in another language owes to the English one that it follows.
 
-A translation has the same name, in the folder of its language: `docs/office/fr/PHONE.md`. In a comment at its head
+A translation has the same name, in the folder of its language: `docs/desk/fr/PHONE.md`. In a comment at its head
 stands the sum of each part of the English guide that it was made of, so a part that has changed since is named. Its
 commands are those of the English guide, and each name of a button is that of the page.
 
-A translation that has been brought up to date gets the new sums by `tests/lib/guides.py docs/office/fr/PHONE.md`.
+A translation that has been brought up to date gets the new sums by `tests/lib/guides.py docs/desk/fr/PHONE.md`.
 """
 
 from __future__ import annotations
@@ -21,7 +21,7 @@ from babel.messages.catalog import Catalog
 from babel.messages.pofile import read_po
 
 ROOT = Path(__file__).resolve().parents[2]
-DOCS = ROOT / "docs/office"
+DOCS = ROOT / "docs/desk"
 
 FOLLOWS = re.compile(r"^<!-- follows ([A-Z-]+\.md): ([0-9a-f ]+) -->$", re.M)
 """The guide, and the sums of its parts."""
@@ -39,7 +39,7 @@ PLACE = re.compile(r"\\\{[a-z_]+\\\}")
 def translations() -> list[str]:
     """The names of the guides in other languages."""
     folders = [it.stem for it in sorted((ROOT / "po").glob("*.po"))]
-    return [f"docs/office/{code}/{path.name}" for code in folders for path in sorted((DOCS / code).glob("*.md"))]
+    return [f"docs/desk/{code}/{path.name}" for code in folders for path in sorted((DOCS / code).glob("*.md"))]
 
 
 def parts(text: str) -> list[tuple[str, str]]:

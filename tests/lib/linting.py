@@ -18,7 +18,7 @@ from .harness import TOP
 WORDS = "tests/linters/words.txt"
 """Words that codespell would change, and that are right."""
 
-IN_ANOTHER_LANGUAGE = re.compile(r"docs/office/[a-z]{2,3}/")
+IN_ANOTHER_LANGUAGE = re.compile(r"docs/desk/[a-z]{2,3}/")
 """Guides that are translated."""
 
 WORKER = "web/collect/sw.js"

@@ -1,6 +1,6 @@
 """Messages of HTTP to a small office: as they should be, at their limits, odd, cut, changed, of random bytes.
 
-The office is served beside a second reading, by docs/data/FORMATS.md over the second office.
+The office is served beside a second reading, by docs/reference/FORMATS.md over the second office.
 """
 
 from __future__ import annotations

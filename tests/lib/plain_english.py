@@ -36,7 +36,11 @@ LEAST_WORDS = 5
 MOST, MOST_FOR_READERS = 8, 5
 """Percent of the sentences of a document, and of those that people read who are no programmers."""
 
-FOR_READERS = {"README.md", *(f"docs/office/{it}.md" for it in ("PROMISE", "CHOOSING", "DESK", "COLLECTING", "PHONE"))}
+FOR_READERS = {
+    "README.md",
+    *(f"docs/decide/{it}.md" for it in ("PROMISE", "COMPARED")),
+    *(f"docs/desk/{it}.md" for it in ("DESK", "COLLECTING", "PHONE")),
+}
 
 CODE = re.compile(r"^```(?s:.*?)^```$|(?<=\n\n)(?: {4}.*\n)+", re.M)
 LINK = re.compile(r"\]\([^)]*\)")

@@ -16,7 +16,7 @@ from cpi_tools.gaps import MISSING
 from conftest import ROOT
 from systems import FIRST, SECOND, System, indented, section, two_systems
 
-GUIDE = (ROOT / "docs/office/SECOND-MACHINE.md").read_text()
+GUIDE = (ROOT / "docs/run/SECOND-MACHINE.md").read_text()
 USER, KEY, ALLOWED, FOLLOW, PROBE = indented(section(GUIDE, "## To set it up"))
 (PROMOTE,) = indented(section(GUIDE, "## When the first machine is lost"))
 STOP, REPLACE, ASIDE, AGAIN = indented(section(GUIDE, "## Back again"))

@@ -81,7 +81,7 @@ sort -u asked
 
 UPGRADED = """\
 cpi: the office still runs the program of before, and nothing restarts it. Stop it, and copy its file and log
-cpi: before you start it again: /usr/share/doc/cpi/docs/office/RUNNING.md, Upgrading
+cpi: before you start it again: /usr/share/doc/cpi/docs/run/RUNNING.md, Upgrading
 --quiet is-active cpi.service
 --system daemon-reload
 """

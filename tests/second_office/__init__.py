@@ -1,1 +1,1 @@
-"""The second office, by docs/office/OFFICE.md and docs/data/FORMATS.md: slow and plain, to compare `cpi` with."""
+"""The second office, by docs/reference/OFFICE.md and docs/reference/FORMATS.md: slow and plain, to compare `cpi` with."""

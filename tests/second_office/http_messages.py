@@ -1,4 +1,4 @@
-"""One message of HTTP and its response, by docs/data/FORMATS.md, over the second office."""
+"""One message of HTTP and its response, by docs/reference/FORMATS.md, over the second office."""
 
 from __future__ import annotations
 

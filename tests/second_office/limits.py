@@ -1,4 +1,4 @@
-"""The limits of numbers by docs/office/OFFICE.md and docs/data/FORMATS.md, one range for each that the documents name.
+"""The limits of numbers by docs/reference/OFFICE.md and docs/reference/FORMATS.md, one range for each that the documents name.
 
 A number is written without a sign, so a range that begins at 0 has no least here. A range can be changed while the
 second office runs: a test does so, to see that a wrong limit is found.

@@ -498,4 +498,4 @@ HABITS: dict[str, Habit] = {
     "an item `SEP1` that a spreadsheet took for a date": Habit(of_items),
     "a window that opens on a day without a time": Habit(date_of_window),
 }  # fmt: skip
-"""By the words of habits.txt, which are those of docs/office/CHANGING-OVER.md."""
+"""By the words of habits.txt, which are those of docs/decide/MIGRATING-AN-OFFICE.md."""

@@ -68,7 +68,7 @@ def test_a_workbook_that_unpacks_to_too_much_takes_no_memory(cpi: Cpi, tmp_path:
     status, megabytes = measured(cpi, folder)
     assert status == 1 and megabytes < 100
     assert f"{MOST_UNPACKED:,} are the most" in fault_of(folder / "prices.xlsx")
-    assert f"{MOST_UNPACKED:,} bytes" in (ROOT / "docs/office/CHANGING-OVER.md").read_text(encoding="utf-8")
+    assert f"{MOST_UNPACKED:,} bytes" in (ROOT / "docs/decide/MIGRATING-AN-OFFICE.md").read_text(encoding="utf-8")
 
 
 def test_a_workbook_that_lies_about_its_size_takes_no_memory_either(cpi: Cpi, tmp_path: Path) -> None:

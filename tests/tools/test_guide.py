@@ -1,4 +1,4 @@
-"""The commands of docs/office/RUNNING.md, as they stand."""
+"""The commands of docs/run/RUNNING.md, as they stand."""
 
 from __future__ import annotations
 
@@ -45,7 +45,7 @@ def test_an_office_is_backed_up_and_drilled_while_it_is_served(cpi: Cpi, tmp_pat
     """The commands of RUNNING, over the office of an example that is being served."""
     made = "mkdir out && ./cpi replay --db out/office.db < examples/table.csv > replies.txt"
     assert ran(made, tmp_path, cpi).returncode == 0
-    commands = "".join(fenced_behind("docs/office/RUNNING.md", heading) for heading in ("## A backup", "## A drill"))
+    commands = "".join(fenced_behind("docs/run/RUNNING.md", heading) for heading in ("## A backup", "## A drill"))
     assert commands.count("./cpi-tools ") == 2
     with served(cpi, tmp_path / "out/office.db", free_port()):
         told = ran(commands, tmp_path, cpi)
@@ -57,7 +57,7 @@ def test_a_backup_is_restored(cpi: Cpi, office: Path, tmp_path: Path) -> None:
     """By the commands of RUNNING, but for those of systemd."""
     made = ran("./cpi-tools backup office.db backup/office.db", tmp_path, cpi)
     assert (made.returncode, made.stderr) == (0, "")
-    restore = block_behind("docs/office/RUNNING.md", "## To restore")
+    restore = block_behind("docs/run/RUNNING.md", "## To restore")
     assert restore.count("systemctl") == 2
     backup = tmp_path / "backup/office.db"
     restore = re.sub(r"/var/lib/cpi-backup/office-[0-9-]+\.db", str(backup), restore)

@@ -12,11 +12,11 @@ from conftest import ROOT
 from lib import guides
 
 NAMES = guides.translations()
-ENGLISH, FRENCH = "docs/office/PHONE.md", "docs/office/fr/PHONE.md"
+ENGLISH, FRENCH = "docs/desk/PHONE.md", "docs/desk/fr/PHONE.md"
 
 
 def test_each_language_has_both_guides() -> None:
-    assert NAMES == [f"docs/office/{code}/{name}.md" for code in ("ar", "es", "fr") for name in ("COLLECTING", "PHONE")]
+    assert NAMES == [f"docs/desk/{code}/{name}.md" for code in ("ar", "es", "fr") for name in ("COLLECTING", "PHONE")]
 
 
 @pytest.mark.parametrize("name", NAMES)
@@ -58,7 +58,7 @@ def copied(tmp_path: Path, monkeypatch: pytest.MonkeyPatch) -> Path:
     for name in ("docs", "po"):
         shutil.copytree(ROOT / name, tmp_path / name)
     monkeypatch.setattr(guides, "ROOT", tmp_path)
-    monkeypatch.setattr(guides, "DOCS", tmp_path / "docs/office")
+    monkeypatch.setattr(guides, "DOCS", tmp_path / "docs/desk")
     return tmp_path
 
 

@@ -1,4 +1,4 @@
-"""Each habit in the lists of docs/office/CHANGING-OVER.md: what becomes of its sheet is what the guide says.
+"""Each habit in the lists of docs/decide/MIGRATING-AN-OFFICE.md: what becomes of its sheet is what the guide says.
 
 habits.txt has the habits as a table, with the line that the tool says.
 """
@@ -21,7 +21,7 @@ from habits import HABITS, MINOR, Habit, Quotes, base
 from ran import Ran, rows_of, run
 from spreadsheets import replayed
 
-GUIDE = ROOT / "docs/office/CHANGING-OVER.md"
+GUIDE = ROOT / "docs/decide/MIGRATING-AN-OFFICE.md"
 TABLE = Path(__file__).with_name("habits.txt")
 FATES = {"Read": "read", "Read, with a warning": "read, with a warning", "Refused": "refused"}
 

@@ -298,7 +298,7 @@ def test_phone_front_and_guide_have_the_same_limits() -> None:
     )
     assert set(re.findall(r"max_\w+ (\w+)\n", caddy)) == {f"{MOST_MESSAGE_BYTES // 1000}KB"}
     assert f" > {MOST_MESSAGE_BYTES}`" in caddy
-    guide = (ROOT / "docs/office/FRONT.md").read_text(encoding="utf-8")
+    guide = (ROOT / "docs/run/FRONT.md").read_text(encoding="utf-8")
     assert (
         f"| text, brand, quantity | {MOST_LETTERS}, {MOST_BRAND_LETTERS} and {MOST_QUANTITY_LETTERS} letters |" in guide
     )

@@ -55,7 +55,7 @@ def test_the_units_are_verified_by_systemd(tmp_path: Path) -> None:
 def guides() -> str:
     """The documents about the machine."""
     return "".join(
-        (ROOT / f"docs/office/{it}.md").read_text(encoding="utf-8") for it in ("RUNNING", "FRONT", "SECOND-MACHINE")
+        (ROOT / f"docs/run/{it}.md").read_text(encoding="utf-8") for it in ("RUNNING", "FRONT", "SECOND-MACHINE")
     )
 
 

@@ -21,7 +21,7 @@ FILES = {
     "row t = number t -- number\n",
     "crates/high/specs/Other.antt": "pub number : ℕ\n" "number = 1\n",
     "crates/high/proofs/Row.antt": "use Rattle.low.specs.Number.{number as n}\nrow-is t = n t\n",
-    "docs/code/PROOF.md": "`number` in `low/specs/Number.antt`\n`number` elsewhere\n",
+    "docs/develop/PROOF.md": "`number` in `low/specs/Number.antt`\n`number` elsewhere\n",
 }
 
 RENAMED = {
@@ -35,7 +35,7 @@ RENAMED = {
     "crates/high/specs/Row.antt": "use Rattle.low.specs.Again.{number_of}\nuse Rattle.high.specs.Other.{row}\n"
     "row t = number_of t -- number\n",
     "crates/high/proofs/Row.antt": "use Rattle.low.specs.Number.{number_of as n}\nrow-is t = n t\n",
-    "docs/code/PROOF.md": "`number_of` in `low/specs/Number.antt`\n`number` elsewhere\n",
+    "docs/develop/PROOF.md": "`number_of` in `low/specs/Number.antt`\n`number` elsewhere\n",
 }
 
 

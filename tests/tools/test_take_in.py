@@ -257,7 +257,7 @@ def test_words_of_a_cell_of_a_plan_that_can_not_be_read(
     assert run(cpi, "take-in", folder, "--check", *words).status == 1
     (told,) = told_of(folder, "problem")
     assert told["because"].startswith(f"the plan of 2026: {because}")
-    assert told["do"].startswith("write ") and told["do"].endswith(" (docs/office/CHANGING-OVER.md)")
+    assert told["do"].startswith("write ") and told["do"].endswith(" (docs/decide/MIGRATING-AN-OFFICE.md)")
 
 
 QUOTE = dict(zip(sheets()["prices"][0], sheets()["prices"][4]))

@@ -41,20 +41,20 @@ def rows_for(to: str) -> Iterator[tuple[str, ...]]:
     return ((number_of(row), *row.words) for row in REFUSALS if row.to == to)
 
 
-@pytest.mark.parametrize(("guide", "to"), [("office/DESK.md", DESK), ("office/COLLECTING.md", COLLECTOR)])
+@pytest.mark.parametrize(("guide", "to"), [("desk/DESK.md", DESK), ("desk/COLLECTING.md", COLLECTOR)])
 def test_the_guides_say_the_same(guide: str, to: str) -> None:
     assert [*rows_for(to)] == table_of(guide, "## What a refusal means, and what to do")
 
 
 def test_each_number_that_the_rules_name_has_words() -> None:
-    rows = table_of("office/OFFICE.md", "with a carry list |")
+    rows = table_of("reference/OFFICE.md", "with a carry list |")
     numbers = {int(number) for cells in rows for number in re.findall(r"\d+", cells[0])}
     assert {number for row in REFUSALS for number in row.numbers} == numbers
 
 
 def test_the_faults_of_a_plan_are_those_of_the_rules() -> None:
     rules = {
-        int(number): told.partition(";")[0] for number, told in table_of("office/OFFICE.md", "## The plan of a year")
+        int(number): told.partition(";")[0] for number, told in table_of("reference/OFFICE.md", "## The plan of a year")
     }
     assert {fault: words.because for fault, words in PLAN_FAULTS.items()} == {
         fault: told for fault, told in rules.items()
@@ -62,13 +62,13 @@ def test_the_faults_of_a_plan_are_those_of_the_rules() -> None:
 
 
 def test_the_faults_of_an_index_are_those_of_the_rules() -> None:
-    text = (DOCS / "office/OFFICE.md").read_text(encoding="utf-8").partition("### Faults")[2]
+    text = (DOCS / "reference/OFFICE.md").read_text(encoding="utf-8").partition("### Faults")[2]
     numbers = {int(number) for number in re.findall(r"^\| (\d+) \|", text, re.M)}
     assert {row.fault for row in REFUSALS if 49 in row.numbers} == numbers
 
 
 def test_each_line_of_the_program_has_words() -> None:
-    text = (DOCS / "data/FORMATS.md").read_text(encoding="utf-8")
+    text = (DOCS / "reference/FORMATS.md").read_text(encoding="utf-8")
     told = re.search(r"^\| status \| when \|\n.*?\n\n", text.partition("## The program")[2], re.M | re.S)
     assert told
     lines = set(re.findall(r"`cpi: ([^`]+)`", told[0]))

@@ -58,7 +58,7 @@ def office_of(cpi: Cpi, folder: Path) -> tuple[Path, Path]:
 
 def steps() -> list[tuple[str, str]]:
     """The steps of the guide: the page of each, and what it says."""
-    guide = (ROOT / "docs/office/DESK.md").read_text(encoding="utf-8")
+    guide = (ROOT / "docs/desk/DESK.md").read_text(encoding="utf-8")
     part = guide.partition("### A month, step by step\n")[2].partition("\n### ")[0]
     found = re.findall(r"^\d+\. \*\*(.+?)\*\*: (.*)$", part, re.M)
     assert len(found) == part.count("\n1. ") + 6 == 7

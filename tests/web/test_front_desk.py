@@ -140,7 +140,7 @@ def test_without_its_address_there_it_says_what_to_set(stage: Stage, tmp_path: P
 
 def test_the_front_and_the_unit_name_one_port_and_one_address() -> None:
     ops = {name: (ROOT / "ops" / name).read_text(encoding="utf-8") for name in ("nginx.conf", "Caddyfile", "cpi-desk")}
-    guide = (ROOT / "docs/office/FRONT.md").read_text(encoding="utf-8")
+    guide = (ROOT / "docs/run/FRONT.md").read_text(encoding="utf-8")
     assert "127.0.0.1:8090" in ops["cpi-desk"] and guide.count("@DESKPORT@|8090|") == 1
     for name in ("nginx.conf", "Caddyfile"):
         assert "127.0.0.1:@DESKPORT@" in ops[name] and "https://@HOST@/desk/" in ops[name]

@@ -15,7 +15,7 @@ HOST = "prices.example"
 
 
 def guide() -> str:
-    return (ROOT / "docs/office/FRONT.md").read_text(encoding="utf-8")
+    return (ROOT / "docs/run/FRONT.md").read_text(encoding="utf-8")
 
 
 @pytest.fixture(scope="module")

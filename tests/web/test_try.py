@@ -164,7 +164,7 @@ def test_the_commands_of_the_guide_are_its_words() -> None:
     assert spec
     module = importlib.util.module_from_spec(spec)
     loader.exec_module(module)
-    guide = (ROOT / "docs/office/PHONE.md").read_text(encoding="utf-8")
+    guide = (ROOT / "docs/desk/PHONE.md").read_text(encoding="utf-8")
     commands = re.findall(r"^    ops/try(.*)$", guide, re.M)
     addresses = [module.parser().parse_args(words.split()).address for words in commands]
     assert addresses == ["localhost", "192.168.1.5"]

@@ -17,7 +17,7 @@ from .sent import DESK, Sent, slot_of
 from .told import Code, Told, said_as, told
 from .words import Words, refusal_words, sentence
 
-GUIDE = of_others("docs/office/CHANGING-OVER.md")
+GUIDE = of_others("docs/decide/MIGRATING-AN-OFFICE.md")
 """The guide that has the columns of sheets."""
 
 MONTH = of_others("2026-01"), of_others("2000-01"), of_others("2199-12")
@@ -135,7 +135,7 @@ WANTED: dict[tuple[str, str], Told] = {
     ("I", "code"): CODE,
     ("R", "reference"): A_MONTH,
 }
-"""What a field takes, by the word of its record and the field's name. The limits are those of docs/office/OFFICE.md."""
+"""What a field takes, by the word of its record and the field's name. The limits are those of docs/reference/OFFICE.md."""
 
 REASONS = {name: of_others(name) for name in ("stock", "closed", "gone", "refused")}
 REASON = told("write {stock}, {closed}, {gone} or {refused} ({guide})", **REASONS, guide=GUIDE)

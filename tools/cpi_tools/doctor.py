@@ -39,7 +39,7 @@ OTHERS = (
 )
 """What a file may be instead, by its first bytes."""
 
-RESTORE = "Put it aside with its log, and restore the last good backup (docs/office/RUNNING.md, To restore)"
+RESTORE = "Put it aside with its log, and restore the last good backup (docs/run/RUNNING.md, To restore)"
 OTHER_FILE = "Name the office's file, or restore it from a backup"
 
 
@@ -263,7 +263,7 @@ def _of_refused(path: Path, copy: Path, cpi: Cpi) -> Iterator[Cause]:
     if has_frames(path) and _opens_without_log(path, cpi):
         yield Cause(
             f"its log {log_beside(path).name} is damaged, or is that of another file: without it cpi opens the file",
-            "Keep both, and restore the last good backup (docs/office/RUNNING.md, To restore)",
+            "Keep both, and restore the last good backup (docs/run/RUNNING.md, To restore)",
         )
     yield from _of_tables(copy)
     yield Cause("it has tables or rows that no office has: another program changed it, or a disk did", RESTORE)

@@ -1,4 +1,4 @@
-"""The sheets of an office, and their columns: docs/office/CHANGING-OVER.md has what each of them takes."""
+"""The sheets of an office, and their columns: docs/decide/MIGRATING-AN-OFFICE.md has what each of them takes."""
 
 from __future__ import annotations
 

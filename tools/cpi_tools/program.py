@@ -1,6 +1,6 @@
 """Finds and runs the program `cpi`: records in, replies out as Python values, many in one process; tables as bytes.
 
-A record is a text as `docs/data/FORMATS.md` has it, `moment,caller,word,arguments`. A reply is what `json.loads` makes
+A record is a text as `docs/reference/FORMATS.md` has it, `moment,caller,word,arguments`. A reply is what `json.loads` makes
 of its line, so `{"refused": 24}` is a dictionary.
 """
 

@@ -7,7 +7,7 @@ compute a figure anew do so by its functions.
 
 Only frozen quotes, plans with their reference months, assignments and carry lists are read, from the first
 December on; an earlier month is read in its latest revision. The rules are those of
-docs/office/OFFICE.md, the chapter "The index of a month". The exit status is 0 only if no figure differs.
+docs/reference/OFFICE.md, the chapter "The index of a month". The exit status is 0 only if no figure differs.
 """
 
 from __future__ import annotations

@@ -1,5 +1,5 @@
 """What the file of an office has stored, as Python values: the one place with SQL, but for `stored_pages`.
-`docs/data/FORMATS.md` has the tables.
+`docs/reference/FORMATS.md` has the tables.
 
 A file is read by Python's sqlite3, so by the C library, and is never one that `cpi` has open: it is a copy.
 """

@@ -1,6 +1,6 @@
 """Each refusal of the office and each fault line of the program in words, and what to do about it.
 
-The rows of the desk and of the collectors are those of `docs/office/DESK.md` and `docs/office/COLLECTING.md`, word for
+The rows of the desk and of the collectors are those of `docs/desk/DESK.md` and `docs/desk/COLLECTING.md`, word for
 word (a link there is its text here).
 """
 
@@ -205,7 +205,7 @@ PLAN_FAULTS: Mapping[int, Words] = {
         "give one month, and none after that December",
     ),
 }
-"""The faults of a plan, refusal 44, by `docs/office/OFFICE.md`."""
+"""The faults of a plan, refusal 44, by `docs/reference/OFFICE.md`."""
 
 FAULTS: Mapping[str, Words] = {
     "bad zone": Words("the zone is no rule of a clock as POSIX writes it", "write it like CET-1CEST,M3.5.0,M10.5.0/3"),

@@ -8,7 +8,7 @@ use std::alloc::AllocFailed;
 use std::fmt;
 
 /// The error of a job that the program couldn't finish. It prints as its line on standard error, without the line's
-/// end. `docs/data/FORMATS.md` lists the lines.
+/// end. `docs/reference/FORMATS.md` lists the lines.
 #[derive(Clone, Copy, Debug, PartialEq, Eq)]
 pub enum RunFault {
     /// An argument of the command line isn't UTF-8.

@@ -15,7 +15,7 @@ Exit status:
 /// The end of `cpi replay --help`.
 pub const REPLAY: &str = "\
 Reads:     records from standard input, in CSV: a moment, a caller, a word and its arguments
-           (docs/data/FORMATS.md lists them); with --db also the file of the office
+           (docs/reference/FORMATS.md lists them); with --db also the file of the office
 Writes:    one line for each record to standard output, also for a refused one; with --db each
            change to the file before the line of its record
 Example:   cpi replay --db office.db < records.csv > replies.txt
@@ -28,7 +28,7 @@ Exit status:
 
 /// The end of `cpi serve --help`.
 pub const SERVE: &str = "\
-Reads:     HTTP requests at http://127.0.0.1:PORT (docs/data/FORMATS.md lists the routes); the file
+Reads:     HTTP requests at http://127.0.0.1:PORT (docs/reference/FORMATS.md lists the routes); the file
            of the office
 Writes:    each change to the file, and then the response to its request; one line to standard
            output as soon as it listens; lines to standard error when refusal 90 makes it open the

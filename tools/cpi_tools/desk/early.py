@@ -1,6 +1,6 @@
 """Tables that come out before a revision that they are computed from: what everybody can compute of it from them.
 
-A month is computed from the latest revisions of months before it, published or not (docs/office/OFFICE.md, the index of
+A month is computed from the latest revisions of months before it, published or not (docs/reference/OFFICE.md, the index of
 a month). So its table shows something of these revisions, and a revision that comes out later has lost its embargo. The
 first month of all has no levels. Moments are seconds since 1970 UTC.
 """

@@ -2,7 +2,7 @@
 every third month only.
 
 A series is matched in a month if it has a comparable price there and an observed one in the month before
-(docs/office/OFFICE.md, the index of a month). Without a match nothing moves what is missing in an aggregate.
+(docs/reference/OFFICE.md, the index of a month). Without a match nothing moves what is missing in an aggregate.
 """
 
 from __future__ import annotations

@@ -1,4 +1,4 @@
-"""The running office, as the application asks it: one message a connection, over HTTP (docs/office/HTTP.md).
+"""The running office, as the application asks it: one message a connection, over HTTP (docs/reference/HTTP.md).
 
 A message whose reply was lost may have been carried out, in part or wholly. One that was never sent wasn't.
 """
