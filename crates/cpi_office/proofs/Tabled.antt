@@ -91,11 +91,6 @@ all_asked : (tables : List PublishedTable) → filter (λ t. is_asked None t.rev
 all_asked [] = refl
 all_asked (t ∷ tables) = ap (λ ts. t ∷ ts) (all_asked tables)
 
-  where
-    by : ((eqb r r ≡ true) × (r ≡ r)) ⊎ ((eqb r r ≡ false) × (r ≢ r)) → (r == r) ≡ true
-    by (inl same) = same.0
-    by (inr apart) = absurd (apart.1 refl)
-
 module _ (month : ℕ) (tables : List PublishedTable) where
   -- the latest table is that of its revision
   pub latest_named : (t : PublishedTable) → asked_table month None tables ≡ Some t →
