@@ -67,16 +67,22 @@ module _ (plan : Plan) (releases : List Release) (month reference link : ℕ) (e
       (λ node. option_and_then (λ m. level_at_month releases m node) o))
       plan.weights
 
-  pub fault_moved : (rows : List WeightLevels) → rows ≡ levelled →
+  fault_moved : (rows : List WeightLevels) → rows ≡ levelled →
       moving_fault rows ≡ weights_fault_in plan releases month
   fault_moved rows is =
       ap moving_fault is
       ∙ ap (λ o. cond (is_some o) (moving_fault (rows_by o link)) None) (sym e)
       ∙ ap (λ k. cond (is_some plan.reference) (moving_fault (rows_by plan.reference k)) None) l
 
-  pub weights_moved : (rows : List WeightLevels) → rows ≡ levelled →
+  weights_moved : (rows : List WeightLevels) → rows ≡ levelled →
       moved_weights rows ≡ (plan_in_use plan releases month).weights
   weights_moved rows is =
       ap moved_weights is
       ∙ ap (λ o. cond (is_some o) (moved_weights (rows_by o link)) plan.weights) (sym e)
       ∙ ap (λ k. cond (is_some plan.reference) (moved_weights (rows_by plan.reference k)) plan.weights) l
+
+  -- the fault of moving such rows and the moved weights are those in use
+  pub are_moved_in_use : (rows : List WeightLevels) → rows ≡ levelled →
+      (moving_fault rows ≡ weights_fault_in plan releases month)
+      × (moved_weights rows ≡ (plan_in_use plan releases month).weights)
+  are_moved_in_use rows is = (fault_moved rows is, weights_moved rows is)
