@@ -7,12 +7,14 @@ ghost use Rattle.cpi_release.specs.Releases.{carried_of, frozen_of, link_month};
 ghost use Rattle.cpi_release.specs.GroupCalls.{Sources, group_of};
 ghost use Rattle.cpi_release.specs.CachedSamples.{IsFit, AreGroupsOf};
 
-use crate::month_rows::{carried_at, frozen_at, group_at, groups_from};
+use crate::month_rows::{carried_at, frozen_at, group_at};
 use crate::release::Release;
 use cpi_codes::{Code, Month};
-use cpi_index::{CarriedPrice, FrozenQuote, GroupRow};
+use cpi_index::{CarriedPrice, FrozenQuote, GroupRow, groups_of_january, groups_of_month};
 use cpi_plan::YearPlan;
 use std::alloc::{AllocError, Global};
+
+const JANUARY: u8 = 1;
 
 /// The samples of a month, one list for each weight of the plan of its year, from what the month reads: `prev` and
 /// `link`, the carried prices and the frozen quotes of its link month, `before`, the carried prices of the month
@@ -30,7 +32,12 @@ pub fn groups_after(
         prev.now ≡ carried_of s.releases (link_month month) → link.now ≡ frozen_of s.releases (link_month month) →
         before.now ≡ carried_of s.releases (month - 1) → s.quotes month ≡ frozen.now → AreGroupsOf s month v.items) }
 {
-    let groups = groups_from(alloc, plan, prev, link, before, month, frozen)?;
+    // In January the carried prices of the month before are the bases themselves.
+    if month.month() == JANUARY {
+        let january = groups_of_january(alloc, plan, prev, link, frozen)?;
+        return Ok(january);
+    }
+    let groups = groups_of_month(alloc, plan, prev, link, before, frozen)?;
     Ok(groups)
 }
 

@@ -1,28 +1,22 @@
 //! The rows that a month reads from the releases before it.
-ghost use Rattle.std.specs.Prelude.{◌≡◌, List, true, option_map, IfOk, if◌then◌else◌};
+ghost use Rattle.std.specs.Prelude.{◌≡◌, List, option_map, IfOk};
 ghost use Rattle.std.specs.Option.{option_copied};
 ghost use Rattle.cpi_codes.specs.CodeOrder.{code_cmp};
 ghost use Rattle.cpi_codes.specs.Month.{year_of};
 ghost use Rattle.cpi_rows.specs.Keyed.{IsInOrder, row_by_number, row_at};
 ghost use Rattle.cpi_index.specs.Row.{Row};
-ghost use Rattle.cpi_index.specs.Series.{are_by_series, carried_serial, frozen_serial};
-ghost use Rattle.cpi_index.specs.Sample.{bases_in_year};
-ghost use Rattle.cpi_index.specs.Month.{rows_of_month, sample_rows};
+ghost use Rattle.cpi_index.specs.Month.{sample_rows};
 ghost use Rattle.cpi_index.specs.MonthGroups.{AreGroups};
 ghost use Rattle.cpi_release.specs.Releases.{latest_release, carried_of, frozen_of, levels_of};
-ghost use Rattle.cpi_release.specs.Releases.{is_january, level_at_month};
+ghost use Rattle.cpi_release.specs.Releases.{level_at_month};
 
 use crate::level::Level;
 use crate::release::{History, Release};
 use cpi_codes::{Code, Month};
-use cpi_index::{
-    CarriedPrice, ChainedLevel, FrozenQuote, GroupRow, groups_of_january, groups_of_month,
-};
+use cpi_index::{CarriedPrice, ChainedLevel, FrozenQuote, GroupRow};
 use cpi_plan::YearPlan;
 use cpi_rows::place_of;
 use std::alloc::{AllocError, Global};
-
-const JANUARY: u8 = 1;
 
 // The latest release of a month.
 fn release_of(releases: &[Release], month: Month) -> Option<&Release>
@@ -55,29 +49,6 @@ pub(crate) fn frozen_at(releases: &[Release], month: Month) -> &[FrozenQuote]
         Some(release) => release.frozen.as_slice(),
         None => &[],
     }
-}
-
-// The samples of a month, one list for each weight of the plan. `prev` and `link` are the carried prices and the
-// frozen quotes of the link month, and `before` the carried prices of the month before.
-pub(crate) fn groups_from(
-    alloc: Global,
-    plan: &YearPlan,
-    prev: &[CarriedPrice],
-    link: &[FrozenQuote],
-    before: &[CarriedPrice],
-    month: Month,
-    frozen: &[FrozenQuote],
-) -> Result<Vec<Vec<GroupRow>>, AllocError>
-    ensures { are_by_series carried_serial prev.now ≡ true → are_by_series frozen_serial link.now ≡ true →
-        are_by_series carried_serial before.now ≡ true → are_by_series frozen_serial frozen.now ≡ true →
-        let bases = bases_in_year plan.now prev.now link.now in
-        let last = if is_january month then bases else before.now in
-        IfOk result (λ v. AreGroups plan.now (rows_of_month bases last frozen.now) v.items) }
-{
-    if month.month() == JANUARY {
-        return groups_of_january(alloc, plan, prev, link, frozen);
-    }
-    groups_of_month(alloc, plan, prev, link, before, frozen)
 }
 
 // The rows of one aggregate, copied.
