@@ -32,13 +32,19 @@ use Rattle.cpi_plan.proofs.NodeLemmas.{row_moved, plan_with}
 use Rattle.cpi_plan.proofs.SameLemmas.{same_rows}
 use Rattle.std.proofs.lemmas.Cmp.{nat_cmp_total as item-law}
 
-pub codes_once : (titles moved : List Title) (weights placed : List Weight) → IsPermutation titles moved →
+codes_once : (titles moved : List Title) (weights placed : List Weight) → IsPermutation titles moved →
     IsPermutation weights placed → IsInOrder code_cmp (λ t. t.code) moved → IsInOrder code_cmp (λ w. w.code) placed →
     CodesOnce titles weights
 codes_once titles moved weights placed m n s t = (
   once_from_order total-law (λ x. x.code) titles moved m s,
   once_from_order total-law (λ x. x.code) weights placed n t,
 )
+
+-- rows in the order of their codes have no code twice
+pub ordered_codes_come_once : (titles : List Title) (weights : List Weight) → IsInOrder code_cmp (λ t. t.code) titles →
+    IsInOrder code_cmp (λ w. w.code) weights → CodesOnce titles weights
+ordered_codes_come_once titles weights s t =
+    codes_once titles titles weights weights (IsPermutation-refl titles) (IsPermutation-refl weights) s t
 
 module _ (year : ℕ) (known : List Item) (titles moved : List Title) (weights placed : List Weight)
     (places : List Place) (references : List ℕ) (m : IsPermutation titles moved) (n : IsPermutation weights placed)
@@ -111,8 +117,7 @@ module _ (year : ℕ) (known : List Item) (titles moved : List Title) (weights p
   pass9 p = (pass8 p.0, p.1)
 
   fault_moved : (f : PlanFault) → IsFirstFault year f ordered → IsFirstFault year f given
-  fault_moved DuplicateCode h = absurd (h (codes_once moved moved placed placed (IsPermutation-refl moved)
-      (IsPermutation-refl placed) s t))
+  fault_moved DuplicateCode h = absurd (h (ordered_codes_come_once moved placed s t))
   fault_moved NotElementary h = (once, elementary ∙ h.1)
   fault_moved ZeroWeight h = (pass2 h.0, zero ∙ h.1)
   fault_moved (WeightSum found) h = (pass3 h.0, h.1 ∙ sum, h.2)
