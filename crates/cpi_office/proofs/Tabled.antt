@@ -1,7 +1,7 @@
 -- The printed table that was found, and the latest table by its revision.
 use Rattle.std.proofs.Common.{◌≡◌, ◌≢◌, ◌⊎◌, inl, inr, ℕ, Bool, true, false, eqb, cond, List, [], ◌∷◌, filter, Some}
 use Rattle.std.proofs.Common.{None, Option, Result, Ok, Err, IfOk, ◌≤◌, arith, refl, sym, ap, ◌∙◌}
-use Rattle.std.specs.Prelude.{option_map, ◌==◌}
+use Rattle.std.specs.Prelude.{option_map}
 use Rattle.std.specs.Option.{option_or}
 use Rattle.std.specs.List.{AllByRecursion}
 use Rattle.std.proofs.lemmas.Bool.{eqb-true}
