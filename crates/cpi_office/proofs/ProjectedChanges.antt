@@ -17,7 +17,7 @@ use Rattle.cpi_survey.specs.Quote.{quote_key, quote_cmp, QuoteRow}
 use Rattle.cpi_store.specs.Outlet.{with_name}
 use Rattle.cpi_survey.specs.declared.assignment.Assigned.{Assigned}
 use Rattle.cpi_office.specs.Projections.{View, view, OwnView, own_view, own}
-use Rattle.cpi_office.specs.ProjectedChanges.{Sight, IsAssigned, HasEnded, sights, seen_if, view_with, build}
+use Rattle.cpi_office.specs.ProjectedChanges.{Sight, IsAssigned, HasEnded, HasQuoted, sights, seen_if, view_with, build}
 use Rattle.cpi_office.specs.ProjectedChanges.{is_registration_of}
 use Rattle.cpi_office.specs.ProjectedChanges.{with_assigned}
 use Rattle.cpi_office.specs.ProjectedChanges.{with_end, with_quote}
@@ -94,8 +94,21 @@ module _ (key t : ℕ) (o : Office) (sorted : IsInOrder nat_cmp (λ b. b.number)
         by None e = rw e refl
         by (Some c) e = rw e (ap Some (others c (numbers_apart key b c o.collectors sorted found apart e)))
 
+    -- with these own parts, the view is the one before with this row if the caller is the collector
+    shows_own_row : (row : Sight) → ((v : View) → view_with row v ≡ with_own v (option_map f v.own)) →
+        with_own (view (Collector key) t o) (option_map part (registration_of key o.collectors)) ≡
+        build (view (Collector key) t o) (seen_if (is_registration_of (Collector key) b) row)
+    shows_own_row row changes = by (eqb_tells b.key key)
+      where
+        by : ((eqb b.key key ≡ true) × (b.key ≡ key)) ⊎ ((eqb b.key key ≡ false) × (b.key ≢ key)) →
+            with_own (view (Collector key) t o) (option_map part (registration_of key o.collectors)) ≡
+            build (view (Collector key) t o) (seen_if (is_registration_of (Collector key) b) row)
+        by (inl same) = rw same.0
+            (ap (with_own (view (Collector key) t o)) (own_mine same.1) ∙ sym (changes (view (Collector key) t o)))
+        by (inr apart) = rw apart.0 (ap (with_own (view (Collector key) t o)) (own_other apart.1))
+
   shows_own_quote : (q : QuoteRow) → Shows (Collector key) t o (Quotes b q)
-  shows_own_quote q = by (eqb_tells b.key key)
+  shows_own_quote q = shows_own_row part (with_quote q) mine others (HasQuoted q) (λ v. refl)
     where
       part : Registration → OwnView
       part c = record {
@@ -123,14 +136,11 @@ module _ (key t : ℕ) (o : Office) (sorted : IsInOrder nat_cmp (λ b. b.number)
       })
           (puts_other quote_cmp quote_key c.number b.number q o.quotes apart)
 
-      by : ((eqb b.key key ≡ true) × (b.key ≡ key)) ⊎ ((eqb b.key key ≡ false) × (b.key ≢ key)) →
-          Shows (Collector key) t o (Quotes b q)
-      by (inl same) = rw same.0 (ap (with_own (view (Collector key) t o))
-          (own_mine part (with_quote q) mine others same.1))
-      by (inr apart) = rw apart.0 (ap (with_own (view (Collector key) t o))
-          (own_other part (with_quote q) mine others apart.1))
-
   -- ---- what slots are given
+
+  -- what the collector of these rows sees of them
+  abbrev with_names : List Given → List Assigned
+  with_names gs = map (with_name o.outlets) (map (λ g. g.assignment) gs)
 
   -- with these assignments of all collectors, the caller has this own part
   abbrev part_with : List (ℕ × Given) → Registration → OwnView
@@ -138,11 +148,20 @@ module _ (key t : ℕ) (o : Office) (sorted : IsInOrder nat_cmp (λ b. b.number)
     number = c.number;
     part =
         record {
-          assignments = map (with_name o.outlets) (map (λ g. g.assignment) (held_by c.number rows));
+          assignments = with_names (held_by c.number rows);
           quotes =
               held_by c.number o.quotes;
         };
   }
+
+  -- a collector's own part has these assignments if these are what the collector's rows show
+  own_part_is : (rows : List (ℕ × Given)) (c : Registration) (shown : List Assigned) →
+      with_names (held_by c.number rows) ≡ shown → part_with rows c ≡ record {
+        number = c.number;
+        part = record { assignments = shown; quotes = held_by c.number o.quotes };
+      }
+  own_part_is rows c shown e =
+      ap (λ xs. record { number = c.number; part = record { assignments = xs; quotes = held_by c.number o.quotes } }) e
 
   -- with these assignments of all collectors, the view is the one before with this row if the caller is the collector
   abbrev ShowsGiven : List (ℕ × Given) → Sight → Type 0
@@ -152,7 +171,8 @@ module _ (key t : ℕ) (o : Office) (sorted : IsInOrder nat_cmp (λ b. b.number)
   shows_own_given : (a : Assigned) (series : SeriesId) → a ≡ with_name o.outlets a.assignment →
       ShowsGiven (put_given b.number (record { assignment = a.assignment; series = series }) o.assignments)
       (IsAssigned a)
-  shows_own_given a series named = by (eqb_tells b.key key)
+  shows_own_given a series named =
+      shows_own_row (part_with rows) (with_assigned a) mine others (IsAssigned a) (λ v. refl)
     where
       g : Given
       g = record { assignment = a.assignment; series = series }
@@ -164,13 +184,8 @@ module _ (key t : ℕ) (o : Office) (sorted : IsInOrder nat_cmp (λ b. b.number)
       own_rows = held_by b.number o.assignments
 
       mine : part_with rows b ≡ with_assigned a (own_view o b)
-      mine = ap (λ xs. record {
-        number = b.number;
-        part =
-            record { assignments = xs; quotes = held_by b.number o.quotes };
-      })
-          (ap (λ gs. map (with_name o.outlets) (map (λ (g : Given). g.assignment) gs))
-          (puts_own nat_cmp (λ (g : Given). g.assignment.slot) b.number g o.assignments)
+      mine = own_part_is rows b _
+          (ap with_names (puts_own nat_cmp (λ (g : Given). g.assignment.slot) b.number g o.assignments)
           ∙ ap (map (with_name o.outlets)) (map-put nat_cmp (λ (x : Assignment). x.slot)
           (λ (g : Given). g.assignment) g own_rows)
           ∙ map-put nat_cmp (λ (x : Assigned). x.assignment.slot) (with_name o.outlets) a.assignment
@@ -179,58 +194,23 @@ module _ (key t : ℕ) (o : Office) (sorted : IsInOrder nat_cmp (λ b. b.number)
           (map (with_name o.outlets) (map (λ (g : Given). g.assignment) own_rows))) (sym named))
 
       others : (c : Registration) → c.number ≢ b.number → part_with rows c ≡ own_view o c
-      others c apart = ap (λ gs. record {
-        number = c.number;
-        part =
-            record {
-              assignments = map (with_name o.outlets) (map (λ (g : Given). g.assignment) gs);
-              quotes =
-                  held_by c.number o.quotes;
-            };
-      })
-          (puts_other nat_cmp (λ (g : Given). g.assignment.slot) c.number b.number g o.assignments apart)
-
-      by : ((eqb b.key key ≡ true) × (b.key ≡ key)) ⊎ ((eqb b.key key ≡ false) × (b.key ≢ key)) →
-          ShowsGiven rows (IsAssigned a)
-      by (inl same) = rw same.0 (ap (with_own (view (Collector key) t o))
-          (own_mine (part_with rows) (with_assigned a) mine others same.1))
-      by (inr apart) = rw apart.0 (ap (with_own (view (Collector key) t o))
-          (own_other (part_with rows) (with_assigned a) mine others apart.1))
+      others c apart = own_part_is rows c _ (ap with_names
+          (puts_other nat_cmp (λ (g : Given). g.assignment.slot) c.number b.number g o.assignments apart))
 
   shows_own_end : (slot last : ℕ) → ShowsGiven (end_given b.number slot last o.assignments) (HasEnded slot last)
-  shows_own_end slot last = by (eqb_tells b.key key)
+  shows_own_end slot last =
+      shows_own_row (part_with rows) (with_end slot last) mine others (HasEnded slot last) (λ v. refl)
     where
       rows : List (ℕ × Given)
       rows = end_given b.number slot last o.assignments
 
       mine : part_with rows b ≡ with_end slot last (own_view o b)
-      mine = ap (λ xs. record {
-        number = b.number;
-        part =
-            record { assignments = xs; quotes = held_by b.number o.quotes };
-      })
-          (ap (λ gs. map (with_name o.outlets) (map (λ (g : Given). g.assignment) gs))
-          (held_ended_own b.number slot last o.assignments)
+      mine = own_part_is rows b _ (ap with_names (held_ended_own b.number slot last o.assignments)
           ∙ shown_ended o.outlets slot last (held_by b.number o.assignments))
 
       others : (c : Registration) → c.number ≢ b.number → part_with rows c ≡ own_view o c
-      others c apart = ap (λ gs. record {
-        number = c.number;
-        part =
-            record {
-              assignments = map (with_name o.outlets) (map (λ (g : Given). g.assignment) gs);
-              quotes =
-                  held_by c.number o.quotes;
-            };
-      })
-          (held_ended_other c.number b.number slot last o.assignments apart)
-
-      by : ((eqb b.key key ≡ true) × (b.key ≡ key)) ⊎ ((eqb b.key key ≡ false) × (b.key ≢ key)) →
-          ShowsGiven rows (HasEnded slot last)
-      by (inl same) = rw same.0 (ap (with_own (view (Collector key) t o))
-          (own_mine (part_with rows) (with_end slot last) mine others same.1))
-      by (inr apart) = rw apart.0 (ap (with_own (view (Collector key) t o))
-          (own_other (part_with rows) (with_end slot last) mine others apart.1))
+      others c apart =
+          own_part_is rows c _ (ap with_names (held_ended_other c.number b.number slot last o.assignments apart))
 
 pub shows_quote : (k : Caller) (t : ℕ) (o : Office) → IsSound o → (b : Registration) (q : QuoteRow) →
     row_by_number (λ b. b.number) b.number o.collectors ≡ Some b → Shows k t o (Quotes b q)
