@@ -1,5 +1,5 @@
 //! The desk hands a series over from one slot to another.
-ghost use Rattle.std.specs.Prelude.{◌≡◌, Some, None, Ok, IsSome, option_map, if◌then◌else◌};
+ghost use Rattle.std.specs.Prelude.{◌≡◌, Some, None, Ok, IsSome, MatchOption, option_map, if◌then◌else◌};
 ghost use Rattle.std.specs.Option.{option_copied};
 ghost use Rattle.cpi_rows.specs.Keyed.{row_by_number};
 ghost use Rattle.cpi_rows.specs.Held.{held_by};
@@ -79,7 +79,7 @@ fn find_both<B: Book>(
     Ok((former, taker))
 }
 
-// Hands a series over between registered collectors, if the former one has the slot.
+// Hands a series over between registered collectors, if the former one has the slot and the new slot is free.
 fn hand_over_slot<B: Book>(
     alloc: Global,
     book: &mut B,
@@ -94,33 +94,35 @@ fn hand_over_slot<B: Book>(
         (row_by_number (λ g. g.assignment.slot) what.new_slot (held_by taker.number o.assignments)) in
         ServesWhere (B.state book.old) (B.state book.new) (IsSound o) result (verdict_reply v) (with_verdict v o) }
 {
-    match book.given(former.number, what.slot) {
+    match find_slots(book, &what, former.number, taker.number) {
         Err(StoreFault) => Reply::Refused(Refusal::Unavailable),
         Ok(None) => Reply::Refused(Refusal::UnknownSlot),
-        Ok(Some(given)) => hand_over_given(alloc, book, what, former, taker, given),
+        Ok(Some((given, new))) => match new {
+            None => hand_over_free(alloc, book, what, former, taker, given),
+            Some(new) => answer_standing(what, &given, &new),
+        },
     }
 }
 
-// Hands a series over that the former collector has, if the new slot is free.
-fn hand_over_given<B: Book>(
-    alloc: Global,
+// What the former slot was given, and what the new one was; nothing if the former slot was given nothing. The new slot
+// is read only after the former one is found.
+fn find_slots<B: Book>(
     book: &mut B,
-    what: HandOver,
-    former: Registration,
-    taker: Registration,
-    given: Given,
-) -> Reply
-    requires there { (B.state book.old).is_clean → AreThere what former taker given (B.state book.old).held }
-    ensures { let o = (B.state book.old).held in
-        let v = over_slots what o former taker (Some given)
-        (row_by_number (λ g. g.assignment.slot) what.new_slot (held_by taker.number o.assignments)) in
-        ServesWhere (B.state book.old) (B.state book.new) (IsSound o) result (verdict_reply v) (with_verdict v o) }
+    what: &HandOver,
+    former: CollectorId,
+    taker: CollectorId,
+) -> Result<Option<(Given, Option<Given>)>, StoreFault>
+    ensures { let rows = (B.state book.old).held.assignments in
+        let former_row = row_by_number (λ g. g.assignment.slot) what.now.slot (held_by former rows) in
+        Reads (B.state book.old) (B.state book.new) result (λ found.
+        MatchOption found (former_row ≡ None) (λ slots. (former_row ≡ Some slots.0)
+        × (slots.1 ≡ row_by_number (λ g. g.assignment.slot) what.now.new_slot (held_by taker rows)))) }
 {
-    match book.given(taker.number, what.new_slot) {
-        Err(StoreFault) => Reply::Refused(Refusal::Unavailable),
-        Ok(None) => hand_over_free(alloc, book, what, former, taker, given),
-        Ok(Some(new)) => answer_standing(what, &given, &new),
-    }
+    let Some(given) = book.given(former, what.slot)? else {
+        return Ok(None);
+    };
+    let new = book.given(taker, what.new_slot)?;
+    Ok(Some((given, new)))
 }
 
 // Answers a hand-over whose new slot isn't free: done, if that slot took over this series in this month.
