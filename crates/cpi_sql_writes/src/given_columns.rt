@@ -1,12 +1,13 @@
 //! What a slot was given, as the columns of its row.
 ghost use Rattle.std.specs.Prelude.{◌≡◌};
-ghost use Rattle.cpi_sql_rows.specs.Common.{IfOk, Some};
+ghost use Rattle.cpi_sql_rows.specs.Common.{bound, IfOk, Some};
 ghost use Rattle.cpi_sql_rows.specs.Lists.{price_or_none};
-ghost use Rattle.cpi_sql_writes.specs.GivenColumns.{copied_column, given_of};
+ghost use Rattle.cpi_sql_writes.specs.GivenColumns.{columns_of, copied_column, given_of};
 
 use cpi_codes::{CollectorId, Price, SeriesId};
 use cpi_sql_rows::{Unread, collector_number, item_text, month_number, outlet_number, slot_number};
 use cpi_survey::Assignment;
+use sqlite::types::{ToSql, ValueRef};
 use std::alloc::Global;
 
 /// The columns of a row of what a slot was given, but for its rowid.
@@ -30,6 +31,25 @@ pub struct GivenColumns {
     pub series_slot: u32,
     /// In minor units; NULL if no price was copied.
     pub copied: Option<u32>,
+}
+
+impl GivenColumns {
+    /// The columns as the parameters of a statement, in the order of the table.
+    pub fn parameters(&self) -> [ValueRef<'_>; 9]
+        ensures { bound result ≡ columns_of self.now }
+    {
+        [
+            self.collector.to_sql(),
+            self.slot.to_sql(),
+            self.outlet.to_sql(),
+            self.item.to_sql(),
+            self.first_month.to_sql(),
+            self.last_month.to_sql(),
+            self.series_collector.to_sql(),
+            self.series_slot.to_sql(),
+            self.copied.to_sql(),
+        ]
+    }
 }
 
 // The copied price in minor units, if there is one.

@@ -14,7 +14,7 @@ use crate::inside::run_inside;
 use crate::one_change::{OneChange, make_change};
 use cpi_sql_rows::Unread;
 use cpi_store::SeriesMove;
-use sqlite::{Alter, Connection, Transaction, params};
+use sqlite::{Alter, Connection, Transaction};
 use std::alloc::Global;
 
 // Runs a statement of the transaction with these columns as its parameters.
@@ -27,21 +27,8 @@ fn run_given<S: Alter>(
     ensures ran { Within (state S.Store tx.old.conn.now) (state S.Store tx.new.conn.now) result
         (RanStatement text.now (columns_of columns.now)) }
 {
-    run_inside(
-        tx,
-        text,
-        params![
-            columns.collector,
-            columns.slot,
-            columns.outlet,
-            columns.item.as_str(),
-            columns.first_month,
-            columns.last_month,
-            columns.series_collector,
-            columns.series_slot,
-            columns.copied
-        ],
-    )
+    let row = columns.parameters();
+    run_inside(tx, text, &row)
 }
 
 const REPLACE_GIVEN: &str =

@@ -122,21 +122,8 @@ pub fn put_assignment<S: Alter>(
     let (collector, slot) = (registration.number, assigned.assignment.slot);
     let series = SeriesId { collector, slot };
     let columns = given_columns(alloc, collector, &assigned.assignment, series)?;
-    put_row(
-        conn,
-        PUT_ASSIGNMENT,
-        params![
-            columns.collector,
-            columns.slot,
-            columns.outlet,
-            columns.item.as_str(),
-            columns.first_month,
-            columns.last_month,
-            columns.series_collector,
-            columns.series_slot,
-            columns.copied
-        ],
-    )
+    let row = columns.parameters();
+    put_row(conn, PUT_ASSIGNMENT, &row)
 }
 
 const PUT_QUOTE: &str =
