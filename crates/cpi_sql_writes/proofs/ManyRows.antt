@@ -30,7 +30,7 @@ use Rattle.cpi_sql_rows.specs.Texts.{given_columns, given_rows}
 use Rattle.cpi_sql_rows.proofs.TableRows.{Gives, adds_rows}
 use Rattle.cpi_sql_rows.proofs.Texts.{Makes}
 use Rattle.cpi_sql_rows.proofs.Writing.{as_plain}
-use Rattle.cpi_sql_writes.specs.Columns.{AddsColumns, AreColumns, AreColumnsOf, AreTextsOf, PutsColumns}
+use Rattle.cpi_sql_writes.specs.Columns.{AddsColumns, AreColumns, AreColumnsOf, AreTextsOf, IsInsertOf, PutsColumns}
 use Rattle.cpi_sql_writes.specs.Columns.{rows_at_once}
 use Rattle.cpi_sql_writes.specs.Within.{AddsTo, Changes, RanStatement, Within}
 use Rattle.cpi_sql_writes.proofs.TableSteps.{made_step}
@@ -219,35 +219,30 @@ module _ {X : Type 0} (it : Table) (entry : Row → Option (ℕ × X)) (GoesBy :
         }) inside run
 
 -- the statement of one row, or of thirty-two, of a table
-module _ {X H A E : Type 0} (it : Table) (at : ℕ) (stands : slice_get office_schema.tables at ≡ Some (as_plain it))
+module _ {X H : Type 0} (it : Table) (at : ℕ) (stands : slice_get office_schema.tables at ≡ Some (as_plain it))
     (one_text many_text : List ℕ) (entry : Row → Option (ℕ × X)) (GoesBy : H → ℕ → Type 0)
     (makes_one : Makes one_text (Insert at (Values (given_rows (length it.columns) 1 0) (suc (length it.columns)))))
     (makes_many : Makes many_text (Insert at (Values (given_rows (length it.columns) 32 0) (suc (length it.columns)))))
-    (values : Row) (old new : State) (result : Result A E) where
-  abbrev Step : Bool → State → State → Type 0
-  Step many a b = (h : H) → AddsColumns it entry (GoesBy h) (rows_at_once many) values a b
+    (many : Bool) where
+  pub many_inserted : many ≡ true → (h : H) → IsInsertOf it entry (GoesBy h) (rows_at_once many) many_text
+  many_inserted is h = subst (λ b. IsInsertOf it entry (GoesBy h) (rows_at_once b) many_text) (sym is)
+      (λ values old new inside run.
+      rows_added it entry (GoesBy h) at stands 32 many_text values old new makes_many inside run)
 
-  pub many_inserted : (many : Bool) → many ≡ true → Within old new result (RanStatement many_text values)
-      → Within old new result (Step many)
-  many_inserted many is ran = subst (λ b. Within old new result (Step b)) (sym is)
-      (within_as old new result (RanStatement many_text values) (Step true) ran
-      (λ inside run h. rows_added it entry (GoesBy h) at stands 32 many_text values old new makes_many inside run))
+  pub one_inserted : many ≡ false → (h : H) → IsInsertOf it entry (GoesBy h) (rows_at_once many) one_text
+  one_inserted is h = subst (λ b. IsInsertOf it entry (GoesBy h) (rows_at_once b) one_text) (sym is)
+      (λ values old new inside run.
+      rows_added it entry (GoesBy h) at stands 1 one_text values old new makes_one inside run)
 
-  pub one_inserted : (many : Bool) → many ≡ false → Within old new result (RanStatement one_text values)
-      → Within old new result (Step many)
-  one_inserted many is ran = subst (λ b. Within old new result (Step b)) (sym is)
-      (within_as old new result (RanStatement one_text values) (Step false) ran
-      (λ inside run h. rows_added it entry (GoesBy h) at stands 1 one_text values old new makes_one inside run))
-
--- the rows of one holder are added
-pub added_for : {X H A E : Type 0} (it : Table) (entry : Row → Option (ℕ × X)) (GoesBy : H → ℕ → Type 0) (count : ℕ)
-    (values : Row) (holder : H) (xs : List X) → length xs ≡ count → AreColumnsOf it entry (GoesBy holder) xs values
-    → (old new : State) (result : Result A E)
-    → Within old new result (λ a b. (h : H) → AddsColumns it entry (GoesBy h) count values a b)
-    → Within old new result (Changes it.tree (AddsTo entry (GoesBy holder) xs))
-added_for it entry GoesBy count values holder xs counted are old new result added =
-    within_as old new result (λ a b. (h : _) → AddsColumns it entry (GoesBy h) count values a b)
-    (Changes it.tree (AddsTo entry (GoesBy holder) xs)) added (λ inside step. step holder xs counted are)
+-- the rows of a holder are added by the statement that has their columns as its parameters
+pub added_for : {X A E : Type 0} (it : Table) (entry : Row → Option (ℕ × X)) (GoesBy : ℕ → Type 0) (count : ℕ)
+    (text : List ℕ) (values : Row) (xs : List X) → length xs ≡ count → AreColumnsOf it entry GoesBy xs values
+    → IsInsertOf it entry GoesBy count text → (old new : State) (result : Result A E)
+    → Within old new result (RanStatement text values)
+    → Within old new result (Changes it.tree (AddsTo entry GoesBy xs))
+added_for it entry GoesBy count text values xs counted are inserts old new result ran =
+    within_as old new result (RanStatement text values) (Changes it.tree (AddsTo entry GoesBy xs)) ran
+    (λ inside run. inserts values old new inside run xs counted are)
 
 -- ---- the texts of the rows
 

@@ -1,12 +1,12 @@
 -- The columns that rows are written as, one row after the other.
-use Rattle.std.specs.Prelude.{◌≡◌, ℕ, Bool, List, [], ◌∷◌, ◌++◌, Option, Some, length, if◌then◌else◌}
+use Rattle.std.specs.Prelude.{◌≡◌, ℕ, Bool, IsTrue, List, [], ◌∷◌, ◌++◌, Option, Some, length, if◌then◌else◌}
 use Rattle.sqlite.specs.Cast.{cast_row}
 use Rattle.sqlite.specs.declared.types.Value.{Value}
 use Rattle.sqlite.specs.declared.types.Value.TheVariants.{Null}
 use Rattle.sqlite.specs.Order.{Row}
 use Rattle.sqlite.specs.State.{State}
 use Rattle.sqlite.specs.Table.{Table}
-use Rattle.cpi_sql_writes.specs.Within.{AddsTo, Changes}
+use Rattle.cpi_sql_writes.specs.Within.{AddsTo, Changes, RanStatement}
 
 -- the rows that one statement adds
 abbrev pub rows_at_once : Bool → ℕ
@@ -39,3 +39,8 @@ module _ {X : Type 0} (it : Table) (entry : Row → Option (ℕ × X)) (GoesBy :
   abbrev pub AddsColumns : ℕ → Row → State → State → Type 0
   AddsColumns count values old new = (xs : List X) → length xs ≡ count → AreColumnsOf xs values
       → Changes it.tree (AddsTo entry GoesBy xs) old new
+
+  -- within a transaction, the statement adds so many rows, whose columns are its parameters
+  abbrev pub IsInsertOf : ℕ → List ℕ → Type 0
+  IsInsertOf count text = (values : Row) (old new : State) → IsTrue old.in_transaction
+      → RanStatement text values old new → AddsColumns count values old new

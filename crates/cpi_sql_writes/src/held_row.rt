@@ -3,9 +3,10 @@
 ghost use Rattle.std.specs.Prelude.{◌<◌, ◌≡◌, ◌≤◌};
 ghost use Rattle.sqlite.specs.Table.{Table};
 ghost use Rattle.cpi_sql_rows.specs.Common.{ℕ, Bool, bound, IfOk, length, OnOk, Option, Row, state};
-ghost use Rattle.cpi_sql_writes.specs.Columns.{AddsColumns, AreColumnsOf, AreTextsOf, PutsColumns, rows_at_once};
+ghost use Rattle.cpi_sql_writes.specs.Columns.{AreColumnsOf, AreTextsOf, IsInsertOf, PutsColumns, rows_at_once};
 ghost use Rattle.cpi_sql_writes.specs.Within.{AddsTo, Changes, Drops, Replaces, Within};
 
+use crate::inside::run_inside;
 use cpi_sql_rows::Unread;
 use sqlite::types::ValueRef;
 use sqlite::{Alter, Transaction};
@@ -17,28 +18,24 @@ const AT_ONCE: usize = 32;
 // How many columns thirty-two rows of the widest table have. The columns of a statement are given this room at once.
 const ROOM: usize = AT_ONCE * 11;
 
-// Runs the INSERT of thirty-two rows, or of one. Its text begins with one row; each `twice` makes them twice as many.
-macro_rules! insert_rows {
-    ($tx:expr, $columns:expr, $many:expr, $table:literal, $row:literal) => {
+// The text of the INSERT of thirty-two rows, or of one. It begins with one row; each `twice` makes them twice as many.
+macro_rules! insert_text {
+    ($many:expr, $table:literal, $row:literal) => {
         if $many {
-            run_inside(
-                $tx,
-                insert_rows!(@ twice twice twice twice twice; $table; $row),
-                $columns,
-            )
+            insert_text!(@ twice twice twice twice twice; $table; $row)
         } else {
-            run_inside($tx, insert_rows!(@; $table; $row), $columns)
+            insert_text!(@; $table; $row)
         }
     };
     (@ twice $($twice:ident)*; $table:literal; $($row:literal),+) => {
-        insert_rows!(@ $($twice)*; $table; $($row),+, $($row),+)
+        insert_text!(@ $($twice)*; $table; $($row),+, $($row),+)
     };
     (@; $table:literal; $row:literal $(, $more:literal)*) => {
         concat!("INSERT INTO ", $table, " VALUES ", $row $(, ", ", $more)*)
     };
 }
 
-pub(crate) use insert_rows;
+pub(crate) use insert_text;
 
 /// A row of a list of which a table has one for each holder.
 pub trait HeldRow {
@@ -85,17 +82,10 @@ pub trait HeldRow {
         ensures { OnOk result
             (PutsColumns table entry (goes_by holder) self.now (bound all.old.items) (bound all.new.items)) };
 
-    /// Adds the rows that have these columns, by one statement: thirty-two rows if there are `many`, or one. It is an
-    /// error if the store fails.
-    fn insert<S: Alter>(
-        tx: &mut Transaction<'_, S>,
-        columns: &[ValueRef<'_>],
-        many: bool,
-    ) -> Result<(), Unread>
-        ensures same_reference { tx.new.conn.ghost_name ≡ tx.old.conn.ghost_name }
-        ensures added { Within (state S.Store tx.old.conn.now) (state S.Store tx.new.conn.now) result
-            (λ old new. (holder : Self.Holder) →
-            AddsColumns table entry (goes_by holder) (rows_at_once many) (bound columns.now) old new) };
+    /// The text of the INSERT of thirty-two rows if there are `many`, or of one. Its parameters are the columns of the
+    /// rows.
+    fn insert_text(many: bool) -> &'static str
+        ensures { (holder : Self.Holder) → IsInsertOf table entry (goes_by holder) (rows_at_once many) result.now };
 }
 
 // The texts of each row. It is an error if memory is refused.
@@ -143,7 +133,7 @@ fn add_at_once<S: Alter, T: HeldRow>(
 {
     let texts = texts_of(alloc, rows)?;
     let columns = columns_of(alloc, holder, rows, &texts)?;
-    T::insert(tx, &columns, many)
+    run_inside(tx, T::insert_text(many), &columns)
 }
 
 // Adds the rows to those of the holder, thirty-two at a time while so many are left, and then one by one.

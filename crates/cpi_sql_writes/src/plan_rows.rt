@@ -8,7 +8,7 @@ ghost use Rattle.cpi_sql_rows.specs.Tables.{table_of_nodes, table_of_plan_items,
 ghost use Rattle.cpi_sql_writes.specs.PlanSteps.{is_of_year, IsYearNumber};
 ghost use Rattle.cpi_sql_writes.specs.Within.{AddsTo, Changes, Drops, Replaces, Within};
 
-use crate::held_row::{HeldRow, insert_rows};
+use crate::held_row::{HeldRow, insert_text};
 use crate::inside::run_inside;
 use cpi_codes::Month;
 use cpi_plan::{Node, Place};
@@ -57,18 +57,8 @@ impl HeldRow for Node {
         all.extend_from_slice(&columns).map_err(|_| Unread)
     }
 
-    fn insert<S: Alter>(
-        tx: &mut Transaction<'_, S>,
-        columns: &[ValueRef<'_>],
-        many: bool,
-    ) -> Result<(), Unread> {
-        insert_rows!(
-            tx,
-            columns,
-            many,
-            "node (year, code, title, weight)",
-            "(?, ?, ?, ?)"
-        )
+    fn insert_text(many: bool) -> &'static str {
+        insert_text!(many, "node (year, code, title, weight)", "(?, ?, ?, ?)")
     }
 }
 
@@ -120,18 +110,8 @@ impl HeldRow for Place {
         all.extend_from_slice(&columns).map_err(|_| Unread)
     }
 
-    fn insert<S: Alter>(
-        tx: &mut Transaction<'_, S>,
-        columns: &[ValueRef<'_>],
-        many: bool,
-    ) -> Result<(), Unread> {
-        insert_rows!(
-            tx,
-            columns,
-            many,
-            "plan_item (year, item, code)",
-            "(?, ?, ?)"
-        )
+    fn insert_text(many: bool) -> &'static str {
+        insert_text!(many, "plan_item (year, item, code)", "(?, ?, ?)")
     }
 }
 

@@ -13,7 +13,7 @@ ghost use Rattle.cpi_sql_rows.specs.ReleaseRows.{annual};
 ghost use Rattle.cpi_sql_rows.specs.Tables.{table_of_carried_2, table_of_frozen_2, table_of_levels_2};
 ghost use Rattle.cpi_sql_writes.specs.ReleaseSteps.{is_of_release, IsReleaseNumber};
 
-use crate::held_row::{HeldRow, insert_rows};
+use crate::held_row::{HeldRow, insert_text};
 use crate::inside::run_inside;
 use cpi_codes::Code;
 use cpi_index::{CarriedPrice, ChainedLevel, FrozenQuote, Index, NodeWeight};
@@ -89,14 +89,8 @@ impl HeldRow for FrozenQuote {
         all.extend_from_slice(&columns).map_err(|_| Unread)
     }
 
-    fn insert<S: Alter>(
-        tx: &mut Transaction<'_, S>,
-        columns: &[ValueRef<'_>],
-        many: bool,
-    ) -> Result<(), Unread> {
-        insert_rows!(
-            tx,
-            columns,
+    fn insert_text(many: bool) -> &'static str {
+        insert_text!(
             many,
             "frozen_2 (month, revision, collector, slot, item, last_month, mark, value)",
             "(?, ?, ?, ?, ?, ?, ?, ?)"
@@ -171,14 +165,8 @@ impl HeldRow for CarriedPrice {
         all.extend_from_slice(&columns).map_err(|_| Unread)
     }
 
-    fn insert<S: Alter>(
-        tx: &mut Transaction<'_, S>,
-        columns: &[ValueRef<'_>],
-        many: bool,
-    ) -> Result<(), Unread> {
-        insert_rows!(
-            tx,
-            columns,
+    fn insert_text(many: bool) -> &'static str {
+        insert_text!(
             many,
             "carried_2 (month, revision, collector, slot, item, last_month, ticks, knum, kden, observed, imputed)",
             "(?, ?, ?, ?, ?, ?, ?, ?, ?, ?, ?)"
@@ -281,14 +269,8 @@ impl HeldRow for Level {
         all.extend_from_slice(&columns).map_err(|_| Unread)
     }
 
-    fn insert<S: Alter>(
-        tx: &mut Transaction<'_, S>,
-        columns: &[ValueRef<'_>],
-        many: bool,
-    ) -> Result<(), Unread> {
-        insert_rows!(
-            tx,
-            columns,
+    fn insert_text(many: bool) -> &'static str {
+        insert_text!(
             many,
             "level_2 (month, revision, code, title, weight, within, chained, month_change, year_change, imputed)",
             "(?, ?, ?, ?, ?, ?, ?, ?, ?, ?)"
