@@ -127,6 +127,24 @@ module _ {X : Type 0} (it : Table) (entry : Row → Option (ℕ × X)) (GoesBy :
   columns_put x old added new (Err d) (Ok b) items same are = absurd (true≢false same)
   columns_put x old added new made (Err e) items same are = tt
 
+  -- columns that were added in two parts, unless memory was refused
+  pub parts_put : {A B D E F G : Type 0} (x : X) (old first mid rest new : List ValueRef) (made_first : Result A D)
+      (made : Result B E) (result : Result F G)
+      → mid ≡ (if is_ok made_first then old ++ first else old) → true ≡ is_ok made_first
+      → new ≡ (if is_ok made then mid ++ rest else mid) → is_ok result ≡ is_ok made
+      → AreColumns it entry GoesBy x (bound first ++ bound rest)
+      → OnOk result (PutsColumns it entry GoesBy x (bound old) (bound new))
+  parts_put x old first mid rest new (Ok a) (Ok b) (Ok e) front done items same are = (
+    bound first ++ bound rest,
+    are,
+    ap bound items ∙ map-append (λ v. bound_value (owned v)) mid rest
+        ∙ ap (λ b. b ++ bound rest) (ap bound front ∙ map-append (λ v. bound_value (owned v)) old first)
+        ∙ append_assoc (bound old) (bound first) (bound rest),
+  )
+  parts_put x old first mid rest new (Ok a) (Err d) (Ok e) front done items same are = absurd (true≢false same)
+  parts_put x old first mid rest new (Err d) made (Ok e) front done items same are = absurd (true≢false done)
+  parts_put x old first mid rest new made_first made (Err e) front done items same are = tt
+
   -- the columns of one row more
   pub columns_more : (rows : List X) (i : ℕ) (d : X) (all new : Row) → i < length rows
       → AreColumnsOf it entry GoesBy (take i rows) all → PutsColumns it entry GoesBy (get_or rows i d) all new

@@ -1,5 +1,6 @@
 -- The statements on the tables of releases: a row added, and the rows of a release dropped.
-use Rattle.std.proofs.Common.{◌≡◌, ℕ, ℤ, pos, List, [], ◌∷◌, ◌++◌, Some, None, Option, Result, refl, ◌∙◌}
+use Rattle.std.proofs.Common.{◌≡◌, ℕ, ℤ, pos, List, [], ◌∷◌, ◌++◌, Some, None, Option, Result, refl, sym, ◌∙◌}
+use Rattle.std.proofs.Common.{subst}
 use Rattle.sqlite.specs.declared.types.Value.TheVariants.{Null, Int, Text}
 use Rattle.sqlite.specs.Cast.{cast}
 use Rattle.sqlite.specs.Kind.TheVariants.{Integer}
@@ -19,7 +20,7 @@ use Rattle.cpi_sql_rows.specs.declared.release_rows.Header.{Header}
 use Rattle.cpi_sql_rows.specs.Tables.{table_of_releases_2, table_of_frozen_2, table_of_carried_2, table_of_levels_2}
 use Rattle.cpi_sql_rows.specs.Texts.{add_header_text, add_header_terms}
 use Rattle.cpi_sql_rows.specs.Texts.{drop_frozen_text, drop_carried_text, drop_level_text, is_release}
-use Rattle.cpi_sql_rows.specs.Lists.{number_within, month_at, mark_from, flag_in_value, name_of, spelled_codes}
+use Rattle.cpi_sql_rows.specs.Lists.{number_within, mark_from, flag_in_value, name_of, spelled_codes}
 use Rattle.cpi_sql_rows.specs.Lists.{frozen_in}
 use Rattle.cpi_sql_rows.specs.Lists.{carried_in_row, level_in_row, weight_from, whole_or_none}
 use Rattle.cpi_sql_rows.specs.ReleaseRows.{annual}
@@ -28,7 +29,7 @@ use Rattle.cpi_sql_rows.proofs.ReleaseRows.{release_tested}
 use Rattle.cpi_sql_rows.proofs.Texts.{add_header_is, drop_frozen_is, drop_carried_is, drop_level_is}
 use Rattle.cpi_sql_rows.proofs.Writing.{cast_int, cast_null}
 use Rattle.cpi_sql_writes.specs.Columns.{AreColumns}
-use Rattle.cpi_sql_writes.specs.ReleaseSteps.{is_of_release, IsReleaseNumber, PutsHeader}
+use Rattle.cpi_sql_writes.specs.ReleaseSteps.{AreSeriesColumns, is_of_release, IsReleaseNumber, PutsHeader}
 use Rattle.cpi_sql_writes.specs.Within.{Changes, Drops, RanStatement, Within}
 use Rattle.cpi_sql_rows.proofs.TableRows.{adds_one}
 use Rattle.cpi_sql_writes.proofs.TableSteps.{drops_rows}
@@ -48,32 +49,43 @@ bound_annual (Some z) = refl
 
 -- what the columns of a row stand for
 module _ (m v : ℕ) where
-  pub frozen_columns : (c s : ℕ) (i : List ℕ) (l : ℕ) (k : List ℕ) (w : ℕ) (x : Frozen)
-      → number_within 1 9999 (Int (pos c)) ≡ Some x.series.collector
-      → number_within 1 400 (Int (pos s)) ≡ Some x.series.slot
-      → item_code_of i ≡ Some x.item → month_at l ≡ Some x.last_month → mark_from k w ≡ Some x.mark
-      → AreColumns table_of_frozen_2 frozen_in (IsReleaseNumber m v) x (Int (pos m) ∷ Int (pos v) ∷ Int (pos c)
-      ∷ Int (pos s) ∷ Text i ∷ Int (pos l) ∷ Text k ∷ Int (pos w) ∷ [])
-  frozen_columns c s i l k w x collector slot item last mark = record {
-    stand = λ id number is. rw (is, collector, slot, item, last, mark) refl;
-    taken = simp (cast_null, cast_int);
-    width = refl;
-  }
+  pub frozen_columns : (first : Row) (i k : List ℕ) (w : ℕ) (x : Frozen)
+      → AreSeriesColumns m v x.series i x.last_month first → item_code_of i ≡ Some x.item → mark_from k w ≡ Some x.mark
+      → AreColumns table_of_frozen_2 frozen_in (IsReleaseNumber m v) x (first ++ Text k ∷ Int (pos w) ∷ [])
+  frozen_columns first i k w x series item mark =
+      subst (λ columns. AreColumns table_of_frozen_2 frozen_in (IsReleaseNumber m v) x
+      (columns ++ Text k ∷ Int (pos w) ∷ [])) (sym series.columns_are) (record {
+        stand = λ id number is. rw (is, series.collector, series.slot, item, series.last_is, mark) refl;
+        taken = simp (cast_null, cast_int);
+        width = refl;
+      })
 
-  pub carried_columns : (c s : ℕ) (i : List ℕ) (l t n d o u : ℕ) (x : Carried)
-      → number_within 1 9999 (Int (pos c)) ≡ Some x.series.collector
-      → number_within 1 400 (Int (pos s)) ≡ Some x.series.slot
-      → item_code_of i ≡ Some x.item → month_at l ≡ Some x.last_month
+  pub carried_columns : (first : Row) (i : List ℕ) (t n d o u : ℕ) (x : Carried)
+      → AreSeriesColumns m v x.series i x.last_month first → item_code_of i ≡ Some x.item
       → number_within 1 MOST_TICKS (Int (pos t)) ≡ Some x.ticks → number_within 1 MOST_TICKS (Int (pos n)) ≡ Some x.knum
       → number_within 1 GREATEST_PRICE (Int (pos d)) ≡ Some x.kden → flag_in_value (Int (pos o)) ≡ Some x.observed
       → flag_in_value (Int (pos u)) ≡ Some x.imputed
-      → AreColumns table_of_carried_2 carried_in_row (IsReleaseNumber m v) x (Int (pos m) ∷ Int (pos v) ∷ Int (pos c)
-      ∷ Int (pos s) ∷ Text i ∷ Int (pos l) ∷ Int (pos t) ∷ Int (pos n) ∷ Int (pos d) ∷ Int (pos o) ∷ Int (pos u) ∷ [])
-  carried_columns c s i l t n d o u x collector slot item last ticks knum kden observed imputed = record {
-    stand = λ id number is. rw (is, collector, slot, item, last, ticks, knum, kden, observed, imputed) refl;
-    taken = simp (cast_null, cast_int);
-    width = refl;
-  }
+      → AreColumns table_of_carried_2 carried_in_row (IsReleaseNumber m v) x
+      (first ++ Int (pos t) ∷ Int (pos n) ∷ Int (pos d) ∷ Int (pos o) ∷ Int (pos u) ∷ [])
+  carried_columns first i t n d o u x series item ticks knum kden observed imputed =
+      subst (λ columns. AreColumns table_of_carried_2 carried_in_row (IsReleaseNumber m v) x
+      (columns ++ Int (pos t) ∷ Int (pos n) ∷ Int (pos d) ∷ Int (pos o) ∷ Int (pos u) ∷ []))
+      (sym series.columns_are) (record {
+        stand = λ id number is. rw (
+          is,
+          series.collector,
+          series.slot,
+          item,
+          series.last_is,
+          ticks,
+          knum,
+          kden,
+          observed,
+          imputed,
+        ) refl;
+        taken = simp (cast_null, cast_int);
+        width = refl;
+      })
 
   pub level_columns : (c t : List ℕ) (u : ℕ) (x : Level) → spelled_code c ≡ Some x.code → name_of t ≡ Some x.title
       → weight_from x.code (Int (pos x.weight)) ≡ Some x.weight

@@ -1,12 +1,13 @@
 -- The steps of putting a release, on the rows of its tables.
 use Rattle.std.specs.Prelude.{◌≡◌, ◌&&◌, ℕ, pos, Bool, List, [], ◌∷◌, Option, Some, None, IsTrue}
 use Rattle.std.specs.Ordering.{nat_cmp}
-use Rattle.sqlite.specs.declared.types.Value.TheVariants.{Int}
+use Rattle.sqlite.specs.declared.types.Value.TheVariants.{Int, Text}
 use Rattle.sqlite.specs.Order.{Row, column}
 use Rattle.sqlite.specs.Tree.{put_row, Trees}
 use Rattle.sqlite.specs.State.{State}
 use Rattle.sqlite_rules.specs.Lists.{Has}
 use Rattle.cpi_codes.specs.CodeOrder.{code_cmp}
+use Rattle.cpi_codes.specs.declared.series.SeriesId.{SeriesId}
 use Rattle.cpi_rows.specs.Keyed.{IsInOrder, row_at}
 use Rattle.cpi_index.specs.Series.{frozen_serial, carried_serial}
 use Rattle.cpi_release.specs.declared.release.Release.{Release}
@@ -16,7 +17,7 @@ use Rattle.cpi_sql_rows.specs.declared.release_rows.Header.{Header}
 use Rattle.cpi_sql_rows.specs.Tables.{table_of_carried_2, table_of_frozen_2, table_of_levels_2, office_schema}
 use Rattle.cpi_sql_rows.specs.Tables.{table_of_releases_2}
 use Rattle.cpi_sql_rows.specs.Lists.{and_then, month_at, release_from_key, revision_from, header_in, release_number}
-use Rattle.cpi_sql_rows.specs.Lists.{carried_in_row, frozen_in, level_in_row}
+use Rattle.cpi_sql_rows.specs.Lists.{carried_in_row, frozen_in, level_in_row, number_within}
 use Rattle.cpi_sql_rows.specs.Shelf.{AllStandOf, equals}
 use Rattle.cpi_sql_rows.specs.Making.{HasAllTables}
 use Rattle.cpi_sql_rows.specs.Steps.{SameBut}
@@ -29,6 +30,16 @@ is_of_release month revision r = equals (column r 1) (Int (pos month)) && equals
 -- the number of the release that these columns stand for
 abbrev pub IsReleaseNumber : ℕ → ℕ → ℕ → Type 0
 IsReleaseNumber month revision number = release_from_key (Int (pos month)) (Int (pos revision)) ≡ Some number
+
+-- the columns that a row of a series begins with in a release; the code of the item is a text
+pub record AreSeriesColumns (month revision : ℕ) (series : SeriesId) (item : List ℕ) (last_month : ℕ) (columns : Row)
+    : Type 0 where
+  pub collector : number_within 1 9999 (Int (pos series.collector)) ≡ Some series.collector
+  pub slot : number_within 1 400 (Int (pos series.slot)) ≡ Some series.slot
+  pub last : ℕ
+  pub last_is : month_at last ≡ Some last_month
+  pub columns_are : columns ≡ Int (pos month) ∷ Int (pos revision) ∷ Int (pos series.collector)
+      ∷ Int (pos series.slot) ∷ Text item ∷ Int (pos last) ∷ []
 
 -- the value that a row stands for, with the release that it begins with
 abbrev pub beside_release : {X : Type 0} → (Row → Option X) → Row → Option (ℕ × X)

@@ -6,16 +6,16 @@ ghost use Rattle.cpi_codes.specs.ItemCode.{item_code_of};
 ghost use Rattle.cpi_codes.specs.declared.limits.TheConstants.{GREATEST_PRICE};
 ghost use Rattle.cpi_index.specs.Carried.{IsTicks};
 ghost use Rattle.cpi_index.specs.declared.limits.TheConstants.{MOST_INDEX, MOST_LEVEL, MOST_TICKS};
-ghost use Rattle.cpi_sql_rows.specs.Common.{IfOk, Int, OnOk, pos, Some, string_bytes};
+ghost use Rattle.cpi_sql_rows.specs.Common.{bound, IfOk, Int, OnOk, pos, Some, string_bytes};
 ghost use Rattle.cpi_sql_rows.specs.Lists.{carried_in_row, flag_in_value, frozen_in, level_in_row, number_within};
 ghost use Rattle.cpi_sql_rows.specs.Lists.{weight_from};
 ghost use Rattle.cpi_sql_rows.specs.ReleaseRows.{annual};
 ghost use Rattle.cpi_sql_rows.specs.Tables.{table_of_carried_2, table_of_frozen_2, table_of_levels_2};
-ghost use Rattle.cpi_sql_writes.specs.ReleaseSteps.{is_of_release, IsReleaseNumber};
+ghost use Rattle.cpi_sql_writes.specs.ReleaseSteps.{AreSeriesColumns, is_of_release, IsReleaseNumber};
 
 use crate::held_row::{HeldRow, insert_text};
 use crate::inside::run_inside;
-use cpi_codes::Code;
+use cpi_codes::{Code, Month, SeriesId};
 use cpi_index::{CarriedPrice, ChainedLevel, FrozenQuote, Index, NodeWeight};
 use cpi_release::Level;
 use cpi_sql_rows::{
@@ -40,6 +40,27 @@ fn flag_number(flag: bool) -> u32
     ensures { flag_in_value (Int (pos result)) ≡ Some flag }
 {
     if flag { 1 } else { 0 }
+}
+
+// The columns that a row of a series begins with in a release: the numbers of the release, the series, the code of its
+// item and its last month.
+fn series_columns<'a>(
+    numbers: ReleaseNumbers,
+    series: SeriesId,
+    item: &'a String,
+    last_month: Month,
+) -> [ValueRef<'a>; 6]
+    ensures { AreSeriesColumns numbers.month numbers.revision series (string_bytes item.now) last_month
+        (bound result) }
+{
+    [
+        numbers.month.to_sql(),
+        numbers.revision.to_sql(),
+        collector_number(series.collector).to_sql(),
+        slot_number(series.slot).to_sql(),
+        item.to_sql(),
+        month_number(last_month).to_sql(),
+    ]
 }
 
 const DROP_FROZEN: &str = "DELETE FROM frozen_2 WHERE month = ?1 AND revision = ?2";
@@ -76,13 +97,9 @@ impl HeldRow for FrozenQuote {
         item: &'a String,
         all: &mut Vec<ValueRef<'a>>,
     ) -> Result<(), Unread> {
+        let first = series_columns(numbers, self.series, item, self.last_month);
+        all.extend_from_slice(&first).map_err(|_| Unread)?;
         let columns = [
-            numbers.month.to_sql(),
-            numbers.revision.to_sql(),
-            collector_number(self.series.collector).to_sql(),
-            slot_number(self.series.slot).to_sql(),
-            item.to_sql(),
-            month_number(self.last_month).to_sql(),
             mark_text(self.mark).to_sql(),
             mark_value(self.mark).to_sql(),
         ];
@@ -148,14 +165,9 @@ impl HeldRow for CarriedPrice {
         item: &'a String,
         all: &mut Vec<ValueRef<'a>>,
     ) -> Result<(), Unread> {
-        let series = self.series();
+        let first = series_columns(numbers, self.series(), item, self.last_month());
+        all.extend_from_slice(&first).map_err(|_| Unread)?;
         let columns = [
-            numbers.month.to_sql(),
-            numbers.revision.to_sql(),
-            collector_number(series.collector).to_sql(),
-            slot_number(series.slot).to_sql(),
-            item.to_sql(),
-            month_number(self.last_month()).to_sql(),
             ticks_value(self.ticks()),
             ticks_value(self.knum()),
             denominator(self).to_sql(),
