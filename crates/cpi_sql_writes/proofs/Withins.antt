@@ -2,12 +2,8 @@
 use Rattle.std.proofs.Common.{◌∙◌, inl, Result, Ok, Err, OnOk, IsTrue, arith, refl}
 use Rattle.sqlite.specs.State.{State, HasCleanDisk}
 use Rattle.sqlite.proofs.StateLemmas.{survives_then}
+use Rattle.cpi_sql_rows.proofs.FoundTables.{on_ok_implies}
 use Rattle.cpi_sql_writes.specs.Within.{Inside, Within}
-
--- what follows from the fact about an answer holds if the call answers
-pub on_then : {A E : Type 0} (r : Result A E) (P Q : Type 0) → OnOk r P → (P → Q) → OnOk r Q
-on_then (Ok a) P Q h f = f h
-on_then (Err e) P Q h f = tt
 
 -- a premise that doesn't turn on the answer
 pub on_given : {A E : Type 0} (r : Result A E) (P Q : Type 0) → (P → OnOk r Q) → OnOk r (P → Q)
@@ -22,7 +18,7 @@ clean_before a b p clean = omega (arith, p.survives.clean)
 pub within_as : {A E : Type 0} (a b : State) (r : Result A E) (P Q : State → State → Type 0) → Within a b r P
     → (IsTrue a.in_transaction → P a b → Q a b) → Within a b r Q
 within_as a b r P Q p f = record {
-  step = λ clean inside. on_then r (P a b) (Q a b) (p.step clean inside) (f inside);
+  step = λ clean inside. on_ok_implies r (P a b) (Q a b) (p.step clean inside) (f inside);
   kept = p.kept;
   survives = p.survives;
 }

@@ -8,7 +8,8 @@ use Rattle.cpi_sql_rows.specs.Tables.{table_of_assignments_2}
 use Rattle.cpi_sql_writes.specs.GivenColumns.{IsNumberFree, PutsGiven}
 use Rattle.cpi_sql_writes.proofs.AddedRows.{step_ready}
 use Rattle.cpi_sql_writes.proofs.HandoverOffice.{handed_over, free_after}
-use Rattle.cpi_sql_writes.proofs.Withins.{inside_then, on_given, on_then}
+use Rattle.cpi_sql_rows.proofs.FoundTables.{on_ok_implies}
+use Rattle.cpi_sql_writes.proofs.Withins.{inside_then, on_given}
 use Rattle.cpi_sql_writes.proofs.handovers.SeriesMoveOneChange.write.Goals as goal
 
 pub returns-clause-written : goal.returns-clause-written
@@ -25,6 +26,6 @@ returns-clause-written g c =
     (record { schema = has.schema; rowids = has.assignment_ids }) in
     let free = subst (IsNumberFree h.taker.number h.assigned.assignment.slot) (sym (one.rows has.assignments).0)
     (free_after h (office_in a.now.trees).assignments can) in
-    on_then c.add_given.result _ _ (next.step clean one.inside) (λ put. handed_over h a b d has can one
+    on_ok_implies c.add_given.result _ _ (next.step clean one.inside) (λ put. handed_over h a b d has can one
     (put h.taker.number (given_over h) c.in_ok-new.ensures free
     (step_ready table_of_assignments_2.tree (PutsGiven h.former.number h.ended) a b one))))))

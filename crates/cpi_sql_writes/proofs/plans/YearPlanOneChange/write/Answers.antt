@@ -6,7 +6,8 @@ use Rattle.cpi_sql_rows.specs.Shelf.{HasRowids, HasTables, IsDone}
 use Rattle.cpi_sql_rows.specs.Steps.{outside}
 use Rattle.cpi_sql_writes.specs.Within.{ChangesOffice}
 use Rattle.cpi_sql_writes.proofs.PlanOffice.{plan_done}
-use Rattle.cpi_sql_writes.proofs.Withins.{clean_before, inside_then, on_given, on_then}
+use Rattle.cpi_sql_rows.proofs.FoundTables.{on_ok_implies}
+use Rattle.cpi_sql_writes.proofs.Withins.{clean_before, inside_then, on_given}
 use Rattle.cpi_sql_writes.proofs.plans.YearPlanOneChange.write.Goals as goal
 
 pub returns-clause-written : goal.returns-clause-written
@@ -29,7 +30,7 @@ returns-clause-written g c =
     (record { schema = one.schema; rowids = place_ids }) in
     let month_ids = subst HasRowids (sym (two.others 34 refl ∙ one.others 34 refl)) has.plans.reference_ids in
     let year : c.from-year.result ≡ plan.year = search rules in
-    on_then result _ _ (month.step clean two.inside) (λ three.
+    on_ok_implies result _ _ (month.step clean two.inside) (λ three.
     plan_done plan c.nodes.ensures.kept c.from-year.result c.nodes.result.now c.places.result.now c.reference.result
     year (rw (← year) (search rules)) c.nodes.ensures.value c.places.ensures.value c.reference.ensures.value a b d e has
     one two

@@ -9,7 +9,8 @@ use Rattle.cpi_sql_rows.specs.Steps.{outside}
 use Rattle.cpi_sql_writes.specs.ReleaseSteps.{IsNewRevision, ListsStand}
 use Rattle.cpi_sql_writes.specs.Within.{ChangesOffice, LeavesTables, Within}
 use Rattle.cpi_sql_writes.proofs.ReleaseOffice.{release_put}
-use Rattle.cpi_sql_writes.proofs.Withins.{clean_before, inside_then, on_given, on_then, within_as}
+use Rattle.cpi_sql_rows.proofs.FoundTables.{on_ok_implies}
+use Rattle.cpi_sql_writes.proofs.Withins.{clean_before, inside_then, on_given, within_as}
 use Rattle.cpi_sql_writes.proofs.releases.ReleaseOneChange.write.Goals as goal
 
 -- the change of the office, and what it leaves
@@ -48,7 +49,7 @@ put g c =
     (record { schema = two.schema; rowids = carried_ids }) in
     let level_ids = subst HasRowids (sym (three.others 32 refl ∙ two.others 32 refl ∙ one.others 32 refl))
     has.releases.level_ids in
-    on_then result _ _ (levels.step clean three.inside) (λ four.
+    on_ok_implies result _ _ (levels.step clean three.inside) (λ four.
     release_put r (c.fits_tables.ensures (search rules)) numbers.month numbers.revision is
     c.numbers_of-numbers.ensures.revision c.as_slice.result.now c.as_slice-2.result.now c.as_slice-3.result.now
     c.as_slice.ensures c.as_slice-2.ensures c.as_slice-3.ensures a b d e f has none one two three
