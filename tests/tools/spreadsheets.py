@@ -14,6 +14,31 @@ KEY_7, KEY_8 = "a7" * 16, "b8" * 16
 Sheets = dict[str, list[list[str]]]
 """Rows of cells by the sheet's name; the first names the columns."""
 
+CLASSIFICATION = (
+    ("year", "code", "title", "weight"),
+    ("2026", "00", "All items", ""),
+    ("2026", "01", "Food", ""),
+    ("2026", "01.1", "Food", ""),
+    ("2026", "01.1.1", "Cereals", ""),
+    ("2026", "01.1.1.1", "Rice", ""),
+    ("2026", "01.1.1.1-01", "Rice", "600000"),
+    ("2026", "01.1.1.2", "Flour", ""),
+    ("2026", "01.1.1.2-01", "Flour", "400000"),
+)
+
+PRICES = (
+    ("month", "collector", "slot", "mark", "value", "confirm"),
+    ("2025-12", "7", "1", "price", "200", ""),
+    ("2025-12", "7", "2", "price", "80", ""),
+    ("2025-12", "8", "1", "price", "240", ""),
+    ("2026-01", "7", "1", "price", "210", ""),
+    ("2026-01", "7", "2", "price", "84", ""),
+    ("2026-01", "8", "1", "comparable", "246", ""),
+    ("2026-02", "7", "1", "missing", "stock", ""),
+    ("2026-02", "8", "2", "price", "90", ""),
+)
+"""The prices of three months."""
+
 
 def sheets() -> Sheets:
     """The whole office."""
@@ -32,17 +57,7 @@ def sheets() -> Sheets:
             ["8", "1", "11", "RICE", "2025-12", "2026-01"],
         ],
         "handovers": [["month", "collector", "slot", "to", "to_slot"], ["2026-02", "7", "2", "8", "2"]],
-        "classification": [
-            ["year", "code", "title", "weight"],
-            ["2026", "00", "All items", ""],
-            ["2026", "01", "Food", ""],
-            ["2026", "01.1", "Food", ""],
-            ["2026", "01.1.1", "Cereals", ""],
-            ["2026", "01.1.1.1", "Rice", ""],
-            ["2026", "01.1.1.1-01", "Rice", "600000"],
-            ["2026", "01.1.1.2", "Flour", ""],
-            ["2026", "01.1.1.2-01", "Flour", "400000"],
-        ],
+        "classification": [[*row] for row in CLASSIFICATION],
         "places": [["year", "item", "code"], ["2026", "RICE", "01.1.1.1-01"], ["2026", "FLOUR", "01.1.1.2-01"]],
         "plans": [["year", "reference"], ["2026", ""]],
         "calendar": [
@@ -51,17 +66,7 @@ def sheets() -> Sheets:
             ["2026-01", "1000", "2000", "3000"],
             ["2026-02", "2000", "4000", "5000"],
         ],
-        "prices": [
-            ["month", "collector", "slot", "mark", "value", "confirm"],
-            ["2025-12", "7", "1", "price", "200", ""],
-            ["2025-12", "7", "2", "price", "80", ""],
-            ["2025-12", "8", "1", "price", "240", ""],
-            ["2026-01", "7", "1", "price", "210", ""],
-            ["2026-01", "7", "2", "price", "84", ""],
-            ["2026-01", "8", "1", "comparable", "246", ""],
-            ["2026-02", "7", "1", "missing", "stock", ""],
-            ["2026-02", "8", "2", "price", "90", ""],
-        ],
+        "prices": [[*row] for row in PRICES],
         "releases": [
             ["month", "revision", "opens", "closes", "publishes", "frozen_at", "carry"],
             ["2025-12", "1", "0", "1000", "1000", "1000", ""],

@@ -102,7 +102,7 @@ def slots(path: Path) -> list[tuple[str, str, str]]:
     return [(row["collector"], row["slot"], row["code"]) for row in rows_of(path)]
 
 
-def test_the_lists_and_the_draft(cpi: Cpi, december: Path, tmp_path: Path) -> None:
+def test_the_lists(cpi: Cpi, december: Path, tmp_path: Path) -> None:
     before = sums(december)
     ran = run(cpi, "next-year", december, 2027, tmp_path / "next")
     assert sums(december) == before
@@ -131,26 +131,36 @@ def test_the_lists_and_the_draft(cpi: Cpi, december: Path, tmp_path: Path) -> No
         ["7", "3", "10", "Shop 10", "FLOUR", "Text of FLOUR", flour, "2026-12", because, again],
         ["9", "3", "12", "Shop 12", "TEA", "Text of TEA", tea, "2027-12", because, again],
     ]
+    for path in [tmp_path / "next", *(tmp_path / "next").rglob("*")]:
+        assert path.stat().st_mode & 0o077 == 0
+
+
+def test_aggregates_with_few_series(cpi: Cpi, december: Path, tmp_path: Path) -> None:
+    """Rice: that which stays and the new one that has a price, in one outlet; flour has three; salt: its new series has
+    no price that it could begin with; tea: that which is gone."""
+    assert run(cpi, "next-year", december, 2027, tmp_path / "next").status == 0
+    rice, _, salt, tea = ITEMS.values()
     few = [
         [row[it] for it in ("code", "title", "series", "outlets", "drafted", "do")]
         for row in rows_of(tmp_path / "next/few-series.csv")
     ]
-    # rice: that which stays and the new one that has a price, in one outlet; flour has three; salt: its new series has no
-    # price that it could begin with; tea: that which is gone
     price, assign = "price the draft's in December", "assign more, and price them in December"
     assert few == [
         [rice, f"Title of {rice}", "2", "1", "2", price],
         [salt, f"Title of {salt}", "0", "0", "0", assign],
         [tea, f"Title of {tea}", "1", "1", "1", assign],
     ]
+
+
+def test_the_draft(cpi: Cpi, december: Path, tmp_path: Path) -> None:
+    assert run(cpi, "next-year", december, 2027, tmp_path / "next").status == 0
+    rice, flour, salt, tea = ITEMS.values()
     draft = tmp_path / "next/draft"
     assert [[*row.values()] for row in rows_of(draft / "series.csv")] == [
         ["7", "7", "11", "RICE", "2026-12", "2027-12"],
         ["7", "8", "12", "RICE", "2026-12", "2027-12"],
         ["9", "4", "12", "TEA", "2026-12", "2027-12"],
     ]
-    for path in [tmp_path / "next", *(tmp_path / "next").rglob("*")]:
-        assert path.stat().st_mode & 0o077 == 0
     weights = {row["code"]: row["weight"] for row in rows_of(draft / "classification.csv") if row["weight"]}
     assert weights == {rice: "500000", flour: "250000", salt: "50000", tea: "200000"}
     assert {row["year"] for row in rows_of(draft / "classification.csv")} == {"2027"}

@@ -212,7 +212,13 @@ def test_a_month_from_an_empty_office_to_its_revision(desk: Desk, stage: Stage, 
     0.5990099, in the revision 995 / 1010 = 0.98514851. All items, 0.6 of the one and 0.4 of the other: 86.960396, and
     102.405940 in the revision."""
     registered(desk)
-    # December, with which the year is compared
+    december_is_frozen(desk, browser)
+    january_is_published(desk, stage, browser)
+    january_is_revised(desk, stage, browser)
+
+
+def december_is_frozen(desk: Desk, browser: Browser) -> None:
+    """The month with which the year is compared."""
     desk.at.judge(f"calendar,{DECEMBER},1000,{FAR},{FAR}")
     desk.cut_off(lambda: desk.at.press("form[action$='/records/send'] button"), False, "Ada")
     desk.window(DECEMBER, 1000, FAR, FAR)
@@ -227,7 +233,10 @@ def test_a_month_from_an_empty_office_to_its_revision(desk: Desk, stage: Stage, 
     desk.to_confirm(DECEMBER, "Ben")
     desk.confirm()
     browser.wait_text(".told.good", "is frozen, revision 1.")
-    # January: its window, prices of two phones, a price to look at
+
+
+def january_is_published(desk: Desk, stage: Stage, browser: Browser) -> None:
+    """Its window, prices of two phones, and a price to look at; its moment has come, so it is out."""
     desk.window(JANUARY, 3000, FAR, FAR)
     priced(desk, ANNA, (1, "2.10"), (2, "1.00"), asks=2)
     desk.at.sign_in("Ada")
@@ -240,8 +249,10 @@ def test_a_month_from_an_empty_office_to_its_revision(desk: Desk, stage: Stage, 
     desk.prepare(JANUARY)
     desk.to_confirm(JANUARY, "Ben")
     desk.cut_off(desk.confirm, True, "Ben")
-    # it is out, since its moment has come; and it is revised
     assert table(stage, JANUARY)[0].startswith("00,1000000,86.960396,")
+
+
+def january_is_revised(desk: Desk, stage: Stage, browser: Browser) -> None:
     desk.window(JANUARY, 5000, FAR, FAR)
     priced(desk, ANNA, (2, "4.90"))
     desk.at.sign_in("Ben")

@@ -10,7 +10,7 @@ import argparse
 import sys
 import tempfile
 import time
-from collections.abc import Callable, Iterable
+from collections.abc import Callable, Iterable, Sequence
 from pathlib import Path
 from typing import NamedTuple, Optional
 
@@ -159,13 +159,17 @@ def publish(
         cards = cards_after(out) if config.address else NO_CARDS
         pack = Pack(series, config, previous_of(last, series), signed_by(key, config.agency), cards)
         write_pack(pack, new, now, Before(behind_link(out) if standing else None))
-        changed = changed_pages(earlier, new, series) if earlier else []
-        if changed:
-            tell(
-                f"{counted(len(changed), 'page')} of earlier releases, such as {changed[0]}, no longer"
-                f" {'says' if len(changed) == 1 else 'say'} the same: the configuration or the tool is another one"
-            )
+        if earlier:
+            _tell_changes(changed_pages(earlier, new, series), tell)
     return series
+
+
+def _tell_changes(changed: Sequence[str], tell: Callable[[str], None]) -> None:
+    if changed:
+        tell(
+            f"{counted(len(changed), 'page')} of earlier releases, such as {changed[0]}, no longer"
+            f" {'says' if len(changed) == 1 else 'say'} the same: the configuration or the tool is another one"
+        )
 
 
 def _refuse_changes(before: Manifest, series: Series) -> None:

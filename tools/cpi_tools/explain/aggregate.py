@@ -192,16 +192,21 @@ def index_lines(sources: Sources, code: str, sample: Sequence[Series]) -> list[L
 def aggregate_parts(sources: Sources, code: str) -> list[Part]:
     """The parts of an aggregate, from its index down to what was found."""
     sample = sources.samples[code]
+    index = Part(
+        told("Elementary index"),
+        told("The sum of the carried prices over the sum of the bases, of the same series (Dutot)."),
+        index_lines(sources, code, sample),
+    )
+    parts = [index, *carried_parts(sources, code, sample), *found_parts(sources, sample)]
+    return [part for part in parts if part.lines]
+
+
+def carried_parts(sources: Sources, code: str, sample: Sequence[Series]) -> list[Part]:
+    """How the carried prices of a sample come about."""
     seen = [it for it in sample if sources.is_comparable(it)]
     up, down, moved = movement(sources, code, sample)
     imputed = [line for it in sample if it not in seen for line in imputed_lines(sources, it, up, down)]
-    link, month = month_of(link_month(sources.month)), month_of(sources.month)
-    parts = [
-        Part(
-            told("Elementary index"),
-            told("The sum of the carried prices over the sum of the bases, of the same series (Dutot)."),
-            index_lines(sources, code, sample),
-        ),
+    return [
         Part(
             told("Movement"),
             told("Of the matched series: a comparable price now, and observed in the month before."),
@@ -213,6 +218,13 @@ def aggregate_parts(sources: Sources, code: str) -> list[Part]:
             told("What they count as, in ticks: price times scale."),
             [observed_line(sources, it) for it in seen],
         ),
+    ]
+
+
+def found_parts(sources: Sources, sample: Sequence[Series]) -> list[Part]:
+    """What was found of a sample, in the month, the month before, and the link month."""
+    link, month = month_of(link_month(sources.month)), month_of(sources.month)
+    return [
         Part(
             told("What was found"),
             told("The quotes that {month} was frozen with, in minor units of money.", month=month),
@@ -229,7 +241,6 @@ def aggregate_parts(sources: Sources, code: str) -> list[Part]:
             [base_line(sources, it) for it in sample],
         ),
     ]
-    return [part for part in parts if part.lines]
 
 
 def sample_glance(sources: Sources, code: str) -> Section:
