@@ -22,6 +22,7 @@ at or below the node was imputed is an attribute of its own, IMPUTED_PRICES.
 from __future__ import annotations
 
 import contextlib
+import functools
 from collections.abc import Iterator, Mapping, Sequence
 from pathlib import Path
 from typing import NamedTuple, Optional, TextIO, Union
@@ -221,31 +222,46 @@ def observed(known: Known, config: Config) -> Iterator[Observed]:
     yield from _annual(known, config)
 
 
+class Year(NamedTuple):
+    """A year all of whose months have tables: when the last of these was published, in seconds since 1970 UTC, and the
+    months."""
+
+    year: int
+    moment: int
+    months: frozenset[str]
+
+
+def _years(series: Series) -> list[Year]:
+    """The full years. A figure of a year is out when the tables of all its months are."""
+    found = []
+    for year in full_years(series):
+        months = [month for month in series.months if month.startswith(f"{year:04}-")]
+        found.append(Year(year, max(series.latest[month].moment for month in months), frozenset(months)))
+    return found
+
+
 def _annual(known: Known, config: Config) -> Iterator[Observed]:
     """The annual averages of all nodes, and their changes on the year before."""
-    series, shown = known.series, known.shown
+    series, shown, years = known.series, known.shown, _years(known.series)
     rates = Measure("CPI", "G1", "PC", 1, None)
     for it in (Measure("CPI", "N", "IX", 6, None), rates):
         ids = [config.id(each) for each in (it.measure, it.unit, it.transformation)]
-        years = full_years(series)
         for code in known.codes:
-            found = []
-            for year in years:
-                value = average_change(series, code, year) if it is rates else shown.average(code, year)
+            found, marks = [], series.marks(code)
+            for each in years:
+                value = average_change(series, code, each.year) if it is rates else shown.average(code, each.year)
                 if value is not None:
-                    found.append(_of_year(known, config, code, year, written(value, it.decimals)))
+                    found.append(_of_year(config, each, marks, written(value, it.decimals)))
             if found:
                 key = (config.id("A"), config.area, *ids[:2], item_id(code), ids[2])
                 bases = "" if it is rates else " ".join(hundred for _, hundred in shown.hundreds(code))
                 yield Observed(key, (bases, str(it.decimals)), found)
 
 
-def _of_year(known: Known, config: Config, code: str, year: int, value: str) -> Observation:
-    """A figure of a year, which is out when the tables of all its months are."""
-    months = [month for month in known.series.months if month.startswith(f"{year:04}-")]
-    moment = max(known.series.latest[month].moment for month in months)
-    is_broken = any(month in known.series.marks(code) for month in months)
-    return f"{year:04}", value, (config.id("B" if is_broken else "A"), "", "", iso(moment))
+def _of_year(config: Config, year: Year, marks: Sequence[str], value: str) -> Observation:
+    """A figure of a year; `marks` are the months of the node that come after a break."""
+    is_broken = not year.months.isdisjoint(marks)
+    return f"{year.year:04}", value, (config.id("B" if is_broken else "A"), "", "", iso(year.moment))
 
 
 def _bases(it: Measure, known: Known, code: str) -> str:
@@ -288,11 +304,14 @@ class CsvForm:
         self._start = ["dataflow", f"{flow.agency}:{flow.id}({flow.version})", "I"]
         self._file = file
         self._ends: dict[Attributes, str] = {}
+        self._attributes: dict[Attributes, str] = {}
         file.write(line_of(["STRUCTURE", "STRUCTURE_ID", "ACTION", *names]) + "\n")
 
     def add(self, found: Observed) -> None:
         """Writes a series."""
-        start, attributes = line_of([*self._start, *found.key]), line_of(found.attributes)
+        start, attributes = line_of([*self._start, *found.key]), self._attributes.get(found.attributes)
+        if attributes is None:
+            attributes = self._attributes[found.attributes] = line_of(found.attributes)
         lines = []
         for month, value, said in found.observations:
             end = self._ends.get(said) or self._end(said)
@@ -311,18 +330,25 @@ class CsvForm:
 # ---- XML
 
 
+@functools.lru_cache(maxsize=1 << 14)
+def _attribute(name: str, value: str) -> str:
+    """An attribute of a series. (An item has a series for each measure, so its own attribute is that of several.)"""
+    return attributes_of({name: value})
+
+
 class XmlForm:
     """SDMX-ML 2.1, StructureSpecificData."""
 
     def __init__(self, file: TextIO, structure: Structure, series: Series, config: Config):
         self._file, self._config = file, config
         self._ends: dict[Attributes, str] = {}
+        self._names = [config.id(name) for name in (*DIMENSIONS, *SERIES_ATTRIBUTES)]
         file.write(_data_head(structure, series, config))
 
     def add(self, found: Observed) -> None:
         """Writes a series."""
-        named = zip((*DIMENSIONS, *SERIES_ATTRIBUTES), (*found.key, *found.attributes))
-        lines = [f"<Series{attributes_of({self._config.id(name): value for name, value in named})}>\n"]
+        named = map(_attribute, self._names, (*found.key, *found.attributes))
+        lines = [f"<Series{''.join(named)}>\n"]
         for month, value, said in found.observations:
             # (months, figures and the ids of attributes have no character that would have to be escaped)
             end = self._ends.get(said) or self._end(said)
