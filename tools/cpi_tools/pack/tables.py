@@ -219,9 +219,12 @@ class Series:
             rows = self.specials[code].rows
             return [getattr(rows[month], name) if month in rows else None for month in months]
         found: list[Optional[int]] = []
+        named, place = NO_ROWS.named, None
         for month in months:
             of_month = self._rows.get(month, NO_ROWS)
-            place = of_month.named.places.get(code)
+            # (most tables have the rows of the one before, so the place is the same)
+            if of_month.named is not named:
+                named, place = of_month.named, of_month.named.places.get(code)
             value = None if place is None else getattr(of_month, name)[place]
             found.append(None if value == NO_CHANGE else value)
         return found
