@@ -171,13 +171,16 @@ def contribution_row(month: str, it: Contribution) -> Sequence[object]:
 def _contribution_lines(known: Known) -> Iterator[str]:
     """Of each node to all items, and to the node above it if that is another."""
     above = [(code, parent_of(code)) for code in known.series.titles]
+    parents = dict.fromkeys(parent for _, parent in above if parent is not None and parent != ALL_ITEMS)
     for at, month in enumerate(known.series.months):
         given = (known.texts_of_month(figure, at) for figure in (GIVEN_MONTH, GIVEN_YEAR))
+        both = {parent: known.contributions.both(month, parent) for parent in parents}
         for (code, parent), to_month, to_year in zip(above, *given):
             if to_month or to_year:
                 yield f"{month},{code},{ALL_ITEMS},{to_month},{to_year}\n"
-            if parent is not None and parent != ALL_ITEMS:
-                monthly, annual = (each(code) for each in known.contributions.both(month, parent))
+            if parent in both:
+                of_month, of_year = both[parent]
+                monthly, annual = of_month(code), of_year(code)
                 if monthly is not None or annual is not None:
                     yield f"{month},{code},{parent},{written(monthly, 6)},{written(annual, 6)}\n"
 
