@@ -74,7 +74,7 @@ def participles() -> list[str]:
 
 def literals(part: str) -> list[str]:
     """Numbers of seven and more digits without a `_`, which code has, so in clauses and definitions; examples aside."""
-    files = (lines for file, lines in texts(part) if not file.endswith("Examples.antt"))
+    files = (lines for file, lines in texts(part) if not file.endswith(("Examples.antt", "WorkedRows.antt")))
     return [it for lines in files for line in lines if not is_comment(line) for it in LITERAL.findall(line)]
 
 
