@@ -14,11 +14,12 @@ use Rattle.sqlite_rules.proofs.ListLemmas.{has_left, has_right, has_either}
 use Rattle.sqlite_rules.proofs.TableLemmas.{has_put as has_put_row, put_has as put_row_has}
 use Rattle.cpi_rows.specs.Keyed.{IsInOrder}
 use Rattle.cpi_rows.specs.Held.{held_cmp, held_key}
+use Rattle.cpi_sql_rows.proofs.FoundTables.{on_ok_implies}
 use Rattle.cpi_sql_rows.specs.Steps.{IsRowStep}
 use Rattle.cpi_sql_rows.specs.Shelf.{AllStandFor, IsKeyed, Takes}
 use Rattle.cpi_sql_writes.specs.Within.{Adds, AddsTo, Changes, Drops, Inside, IsReady, Replaces, Within}
 use Rattle.cpi_sql_writes.proofs.Replaced.{Replaced, replaced}
-use Rattle.cpi_sql_writes.proofs.Withins.{inside_here, inside_then, on_given, on_then}
+use Rattle.cpi_sql_writes.proofs.Withins.{inside_here, inside_then, on_given}
 use Rattle.cpi_sql_rows.proofs.Lists.{some_is}
 
 -- a step leaves the table ready for the next
@@ -118,7 +119,7 @@ module _ {X : Type 0} (entry : Row → Option (ℕ × X)) where
         → Within a c r (Changes tree (Replaces entry is_of GoesBy xs))
     list_replaces is_of xs a b c r p q = inside_then a b c p q (λ mid clean inside. on_given r _ _ (λ ready.
         let dropped = p.step mid inside ready in
-        on_then r _ _ (q.step clean dropped.inside) (λ lists.
+        on_ok_implies r _ _ (q.step clean dropped.inside) (λ lists.
         step_then tree (Drops is_of) (AddsTo entry GoesBy xs) (Replaces entry is_of GoesBy xs)
         (λ d e f one two. (e, one, two)) a b c dropped (lists (step_ready tree (Drops is_of) a b dropped)))))
 

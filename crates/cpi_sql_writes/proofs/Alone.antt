@@ -6,13 +6,13 @@ use Rattle.sqlite.specs.Effect.{Database, IsDatabase}
 use Rattle.sqlite.specs.State.{State}
 use Rattle.sqlite.proofs.StateLemmas.{survives_weaker}
 use Rattle.cpi_store.specs.Office.{Change, Office}
+use Rattle.cpi_sql_rows.proofs.FoundTables.{on_ok_implies}
 use Rattle.cpi_sql_rows.specs.Lists.{office_in}
 use Rattle.cpi_sql_rows.specs.Making.{IsOfficeDatabase}
 use Rattle.cpi_sql_rows.specs.Shelf.{HasTables, IsChangedBy, IsDone}
 use Rattle.cpi_sql_rows.proofs.Change.{IsChange}
 use Rattle.cpi_sql_writes.specs.Within.{RunsAlone}
 use Rattle.cpi_sql_writes.specs.Written.{Written}
-use Rattle.cpi_sql_writes.proofs.Withins.{on_then}
 
 module _ (text : List ℕ) (params : Row) (Made : Trees → Database → Type 0) (makes : IsChange text params Made)
     (change : Change) (fits : Office → Type 0)
@@ -22,7 +22,7 @@ module _ (text : List ℕ) (params : Row) (Made : Trees → Database → Type 0)
       → Written change fits old new result
   alone_written old new result runs = record {
     clean = runs.clean;
-    done = λ clean has fit. on_then result _ _ (runs.ran clean.disk) (λ it.
+    done = λ clean has fit. on_ok_implies result _ _ (runs.ran clean.disk) (λ it.
         let made = makes.ran old new it.0 has.schema it.1 in
         done old new has fit made.0 (made.1 ∙ has.alone) made.2);
     kept = λ clean has. runs.kept clean has.alone;

@@ -30,7 +30,7 @@ use Rattle.cpi_sql_rows.specs.Texts.{given_columns, given_rows}
 use Rattle.cpi_sql_rows.proofs.TableRows.{Gives, adds_rows}
 use Rattle.cpi_sql_rows.proofs.Texts.{Makes}
 use Rattle.cpi_sql_rows.proofs.Writing.{as_plain}
-use Rattle.cpi_sql_writes.specs.Columns.{AddsColumns, AreColumns, AreColumnsOf, AreTextsOf, IsInsertOf, PutsColumns}
+use Rattle.cpi_sql_writes.specs.Columns.{AreColumns, AreColumnsOf, AreTextsOf, IsInsertOf, PutsColumns}
 use Rattle.cpi_sql_writes.specs.Columns.{rows_at_once}
 use Rattle.cpi_sql_writes.specs.Within.{AddsTo, Changes, RanStatement, Within}
 use Rattle.cpi_sql_writes.proofs.TableSteps.{made_step}
@@ -223,7 +223,8 @@ module _ {X : Type 0} (it : Table) (entry : Row → Option (ℕ × X)) (GoesBy :
     -- where the statement was run
     rows_added : (text : List ℕ) (values : Row) (old new : State) → Makes text (Insert at (Values terms (suc width)))
         → IsTrue old.in_transaction → RanStatement text values old new
-        → AddsColumns it entry GoesBy count values old new
+        → (xs : List X) → length xs ≡ count → AreColumnsOf it entry GoesBy xs values
+        → Changes it.tree (AddsTo entry GoesBy xs) old new
     rows_added text values old new is inside run xs counted p =
         let gives = gives_rows values xs p counted in
         let from = Values terms (suc width) in
@@ -237,30 +238,28 @@ module _ {X : Type 0} (it : Table) (entry : Row → Option (ℕ × X)) (GoesBy :
         }) inside run
 
 -- the statement of one row, or of thirty-two, of a table
-module _ {X H : Type 0} (it : Table) (at : ℕ) (stands : slice_get office_schema.tables at ≡ Some (as_plain it))
-    (one_text many_text : List ℕ) (entry : Row → Option (ℕ × X)) (GoesBy : H → ℕ → Type 0)
+module _ (it : Table) (at : ℕ) (stands : slice_get office_schema.tables at ≡ Some (as_plain it))
+    (one_text many_text : List ℕ)
     (makes_one : Makes one_text (Insert at (Values (given_rows (length it.columns) 1 0) (suc (length it.columns)))))
     (makes_many : Makes many_text (Insert at (Values (given_rows (length it.columns) 32 0) (suc (length it.columns)))))
     (many : Bool) where
-  pub many_inserted : many ≡ true → (h : H) → IsInsertOf it entry (GoesBy h) (rows_at_once many) many_text
-  many_inserted is h = subst (λ b. IsInsertOf it entry (GoesBy h) (rows_at_once b) many_text) (sym is)
-      (λ values old new inside run.
-      rows_added it entry (GoesBy h) at stands 32 many_text values old new makes_many inside run)
+  pub many_inserted : many ≡ true → IsInsertOf it (rows_at_once many) many_text
+  many_inserted is = subst (λ b. IsInsertOf it (rows_at_once b) many_text) (sym is)
+      (at, stands, makes_many.0, makes_many.1)
 
-  pub one_inserted : many ≡ false → (h : H) → IsInsertOf it entry (GoesBy h) (rows_at_once many) one_text
-  one_inserted is h = subst (λ b. IsInsertOf it entry (GoesBy h) (rows_at_once b) one_text) (sym is)
-      (λ values old new inside run.
-      rows_added it entry (GoesBy h) at stands 1 one_text values old new makes_one inside run)
+  pub one_inserted : many ≡ false → IsInsertOf it (rows_at_once many) one_text
+  one_inserted is = subst (λ b. IsInsertOf it (rows_at_once b) one_text) (sym is)
+      (at, stands, makes_one.0, makes_one.1)
 
 -- the rows of a holder are added by the statement that has their columns as its parameters
 pub added_for : {X A E : Type 0} (it : Table) (entry : Row → Option (ℕ × X)) (GoesBy : ℕ → Type 0) (count : ℕ)
     (text : List ℕ) (values : Row) (xs : List X) → length xs ≡ count → AreColumnsOf it entry GoesBy xs values
-    → IsInsertOf it entry GoesBy count text → (old new : State) (result : Result A E)
+    → IsInsertOf it count text → (old new : State) (result : Result A E)
     → Within old new result (RanStatement text values)
     → Within old new result (Changes it.tree (AddsTo entry GoesBy xs))
-added_for it entry GoesBy count text values xs counted are inserts old new result ran =
+added_for it entry GoesBy count text values xs counted are is old new result ran =
     within_as old new result (RanStatement text values) (Changes it.tree (AddsTo entry GoesBy xs)) ran
-    (λ inside run. inserts values old new inside run xs counted are)
+    (λ inside run. rows_added it entry GoesBy is.0 is.1 count text values old new (is.2, is.3) inside run xs counted are)
 
 -- ---- the texts of the rows
 

@@ -1,12 +1,16 @@
 -- The columns that rows are written as, one row after the other.
-use Rattle.std.specs.Prelude.{◌≡◌, ℕ, Bool, IsTrue, List, [], ◌∷◌, ◌++◌, Option, Some, length, if◌then◌else◌}
+use Rattle.std.specs.Prelude.{◌≡◌, ℕ, suc, Bool, List, [], ◌∷◌, ◌++◌, Option, Some, length, slice_get, if◌then◌else◌}
 use Rattle.sqlite.specs.Cast.{cast_row}
+use Rattle.sqlite.specs.Command.TheVariants.{Insert}
 use Rattle.sqlite.specs.declared.types.Value.{Value}
 use Rattle.sqlite.specs.declared.types.Value.TheVariants.{Null}
+use Rattle.sqlite.specs.Listing.{understood}
 use Rattle.sqlite.specs.Order.{Row}
-use Rattle.sqlite.specs.State.{State}
+use Rattle.sqlite.specs.Source.TheVariants.{Values}
 use Rattle.sqlite.specs.Table.{Table}
-use Rattle.cpi_sql_writes.specs.Within.{AddsTo, Changes, RanStatement}
+use Rattle.sqlite.proofs.Callers.{IsPlain, command_of}
+use Rattle.cpi_sql_rows.specs.Tables.{office_schema, plain_table}
+use Rattle.cpi_sql_rows.specs.Texts.{given_rows}
 
 -- the rows that one statement adds
 abbrev pub rows_at_once : Bool → ℕ
@@ -17,6 +21,16 @@ abbrev pub AreTextsOf : {X T : Type 0} → (X → T → Type 0) → List X → L
 AreTextsOf Spells [] all = all ≡ []
 AreTextsOf {T = T} Spells (x ∷ xs) all =
     (texts : T) × (behind : List T) × Spells x texts × AreTextsOf Spells xs behind × (all ≡ texts ∷ behind)
+
+-- the text is an INSERT of so many rows into a table of the office, with their columns as its parameters
+abbrev pub IsInsertOf : Table → ℕ → List ℕ → Type 0
+IsInsertOf it count text =
+    (at : ℕ)
+    × (slice_get office_schema.tables at
+    ≡ Some (plain_table it.name it.tree it.columns it.key it.primary it.uniques it.orders it.references))
+    × (command_of (understood office_schema text)
+    ≡ Insert at (Values (given_rows (length it.columns) count 0) (suc (length it.columns))))
+    × IsPlain (understood office_schema text)
 
 module _ {X : Type 0} (it : Table) (entry : Row → Option (ℕ × X)) (GoesBy : ℕ → Type 0) where
   -- the columns stand for this, whatever rowid is before them, and the table takes them as they are
@@ -34,13 +48,3 @@ module _ {X : Type 0} (it : Table) (entry : Row → Option (ℕ × X)) (GoesBy :
   -- the columns of one more are added at the end
   abbrev pub PutsColumns : X → Row → Row → Type 0
   PutsColumns x old new = (columns : Row) × AreColumns x columns × (new ≡ old ++ columns)
-
-  -- a statement that has the columns of so many rows adds these rows
-  abbrev pub AddsColumns : ℕ → Row → State → State → Type 0
-  AddsColumns count values old new = (xs : List X) → length xs ≡ count → AreColumnsOf xs values
-      → Changes it.tree (AddsTo entry GoesBy xs) old new
-
-  -- within a transaction, the statement adds so many rows, whose columns are its parameters
-  abbrev pub IsInsertOf : ℕ → List ℕ → Type 0
-  IsInsertOf count text = (values : Row) (old new : State) → IsTrue old.in_transaction
-      → RanStatement text values old new → AddsColumns count values old new

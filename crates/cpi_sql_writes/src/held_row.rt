@@ -85,7 +85,7 @@ pub trait HeldRow {
     /// The text of the INSERT of thirty-two rows if there are `many`, or of one. Its parameters are the columns of the
     /// rows.
     fn insert_text(many: bool) -> &'static str
-        ensures { (holder : Self.Holder) → IsInsertOf table entry (goes_by holder) (rows_at_once many) result.now };
+        ensures { IsInsertOf table (rows_at_once many) result.now };
 }
 
 // The texts of each row. It is an error if memory is refused.

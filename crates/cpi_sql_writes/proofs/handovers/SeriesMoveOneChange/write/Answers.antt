@@ -1,6 +1,7 @@
 use Rattle.std.proofs.Common.{sym, subst}
 use Rattle.sqlite.specs.Held.{state}
 use Rattle.cpi_store.specs.Office.{HandsOver, given_over}
+use Rattle.cpi_sql_rows.proofs.FoundTables.{on_ok_implies}
 use Rattle.cpi_sql_rows.specs.Lists.{office_in}
 use Rattle.cpi_sql_rows.specs.Shelf.{HasTables, IsDone}
 use Rattle.cpi_sql_rows.specs.Steps.{outside}
@@ -8,7 +9,6 @@ use Rattle.cpi_sql_rows.specs.Tables.{table_of_assignments_2}
 use Rattle.cpi_sql_writes.specs.GivenColumns.{IsNumberFree, PutsGiven}
 use Rattle.cpi_sql_writes.proofs.AddedRows.{step_ready}
 use Rattle.cpi_sql_writes.proofs.HandoverOffice.{handed_over, free_after}
-use Rattle.cpi_sql_rows.proofs.FoundTables.{on_ok_implies}
 use Rattle.cpi_sql_writes.proofs.Withins.{inside_then, on_given}
 use Rattle.cpi_sql_writes.proofs.handovers.SeriesMoveOneChange.write.Goals as goal
 

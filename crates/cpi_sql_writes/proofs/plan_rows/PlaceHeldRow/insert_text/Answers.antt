@@ -1,17 +1,13 @@
 use Rattle.std.proofs.Common.{refl}
-use Rattle.cpi_sql_rows.specs.Lists.{place_in_row}
 use Rattle.cpi_sql_rows.specs.Tables.{table_of_plan_items}
 use Rattle.cpi_sql_rows.proofs.Texts.{add_place_is, add_places_is}
-use Rattle.cpi_sql_writes.specs.PlanSteps.{IsYearNumber}
 use Rattle.cpi_sql_writes.proofs.ManyRows.{many_inserted, one_inserted}
 use Rattle.cpi_sql_writes.proofs.plan_rows.PlaceHeldRow.insert_text.Goals as goal
 
 pub returns-then-many : goal.returns-then-many
 returns-then-many c =
-    many_inserted table_of_plan_items 5 refl _ _ place_in_row IsYearNumber add_place_is add_places_is c.args.many
-    c.if-many.true
+    many_inserted table_of_plan_items 5 refl _ _ add_place_is add_places_is c.args.many c.if-many.true
 
 pub returns-else-many : goal.returns-else-many
 returns-else-many c =
-    one_inserted table_of_plan_items 5 refl _ _ place_in_row IsYearNumber add_place_is add_places_is c.args.many
-    c.if-many.false
+    one_inserted table_of_plan_items 5 refl _ _ add_place_is add_places_is c.args.many c.if-many.false

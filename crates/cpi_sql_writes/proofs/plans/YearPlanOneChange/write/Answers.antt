@@ -2,11 +2,11 @@ use Rattle.std.proofs.Common.{◌≡◌, ◌∙◌, rules, refl, sym, subst}
 use Rattle.std.specs.Prelude.{⊤}
 use Rattle.sqlite.specs.Held.{state}
 use Rattle.cpi_store.specs.Office.{PutsPlan}
+use Rattle.cpi_sql_rows.proofs.FoundTables.{on_ok_implies}
 use Rattle.cpi_sql_rows.specs.Shelf.{HasRowids, HasTables, IsDone}
 use Rattle.cpi_sql_rows.specs.Steps.{outside}
 use Rattle.cpi_sql_writes.specs.Within.{ChangesOffice}
 use Rattle.cpi_sql_writes.proofs.PlanOffice.{plan_done}
-use Rattle.cpi_sql_rows.proofs.FoundTables.{on_ok_implies}
 use Rattle.cpi_sql_writes.proofs.Withins.{clean_before, inside_then, on_given}
 use Rattle.cpi_sql_writes.proofs.plans.YearPlanOneChange.write.Goals as goal
 

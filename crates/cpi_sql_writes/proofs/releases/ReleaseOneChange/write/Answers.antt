@@ -3,13 +3,13 @@ use Rattle.sqlite.specs.Held.{state}
 use Rattle.sqlite.specs.State.{State}
 use Rattle.cpi_release.specs.declared.release.Release.{Release}
 use Rattle.cpi_store.specs.Office.{Freezes}
+use Rattle.cpi_sql_rows.proofs.FoundTables.{on_ok_implies}
 use Rattle.cpi_sql_rows.specs.Lists.{month_at, office_in}
 use Rattle.cpi_sql_rows.specs.Shelf.{HasRowids, HasTables, IsDone}
 use Rattle.cpi_sql_rows.specs.Steps.{outside}
 use Rattle.cpi_sql_writes.specs.ReleaseSteps.{IsNewRevision, ListsStand}
 use Rattle.cpi_sql_writes.specs.Within.{ChangesOffice, LeavesTables, Within}
 use Rattle.cpi_sql_writes.proofs.ReleaseOffice.{release_put}
-use Rattle.cpi_sql_rows.proofs.FoundTables.{on_ok_implies}
 use Rattle.cpi_sql_writes.proofs.Withins.{clean_before, inside_then, on_given, within_as}
 use Rattle.cpi_sql_writes.proofs.releases.ReleaseOneChange.write.Goals as goal
 
