@@ -91,16 +91,13 @@ def readme_faults(text: str) -> Iterator[str]:
 MOST_WORDS, MOST_OF_ALL = 5000, 60200
 """Words as `wc -w` counts them: of a document, and of the English pages of docs/ together."""
 
-LONG = {"docs/desk/DESK.md"}
-"""Documents that may be longer."""
-
 SHORT = {"docs/develop/THEOREM.md": 1500}
 """Documents with a bound of their own: two pages of paper."""
 
 
 def length_faults(name: str, text: str) -> Iterator[str]:
     most, count = SHORT.get(name, MOST_WORDS), len(text.split())
-    if name.startswith("docs/") and name not in LONG and count > most:
+    if name.startswith("docs/") and count > most:
         yield f"{count} words, over {most}"
 
 
