@@ -150,9 +150,9 @@ DESCRIPTION = """\
 Reads the spreadsheets of an office, as files of text (.csv, .tsv, .txt) or workbooks (.xlsx, .xlsm;
 .ods, .xls and .xlsb if LibreOffice is installed) in FOLDER, or as one workbook: items, outlets,
 collectors, series, classification, places, plans, handovers, calendar, prices, releases.
-docs/decide/MIGRATING-AN-OFFICE.md has their columns. Rows become records in the order of an office, and cpi
-itself says what it would refuse: in an office in memory, or over a copy of the office that --onto
-names, which isn't changed. What that office already has, exactly so, is passed over.
+docs/decide/MIGRATING-AN-OFFICE.md has their columns. Rows become records in the order of an office,
+and cpi itself says what it would refuse: in an office in memory, or over a copy of the office that
+--onto names, which isn't changed. What that office already has, exactly so, is passed over.
 
 --check writes problems.csv (kind, file, row as a spreadsheet counts it, column, number of the
 refusal, because, do) and report.html. A column of prices that is no month, a file that isn't read,
