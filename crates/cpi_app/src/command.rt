@@ -77,7 +77,7 @@ fn serve_command<'a>(alloc: Global) -> Result<Command<'a>, AllocError>
         "limit",
         "How many connections to serve, 1 to 1000000",
         1,
-        u64::from(MOST_CONNECTIONS),
+        MOST_CONNECTIONS as u64,
     ))?
     .arg(option(alloc, "zone", ZONE_HELP))
 }
