@@ -17,8 +17,7 @@ use clap::{ArgMatches, Command, Error};
 use cpi_codes::LAST_MOMENT;
 use std::alloc::{AllocError, Global};
 
-const ZONE_HELP: &str =
-    "The rule of the clock, like CET-1CEST,M3.5.0,M10.5.0/3; UTC0 if none is given";
+const ZONE_HELP: &str = "The clock's rule, like CET-1CEST,M3.5.0,M10.5.0/3; else UTC0";
 
 const FILE_HELP: &str = "The database file of the office; it is made if it is missing";
 

@@ -28,8 +28,8 @@ Exit status:
 
 /// The end of `cpi serve --help`.
 pub const SERVE: &str = "\
-Reads:     HTTP requests at http://127.0.0.1:PORT (docs/reference/FORMATS.md lists the routes); the file
-           of the office
+Reads:     HTTP requests at http://127.0.0.1:PORT (docs/reference/FORMATS.md lists the routes);
+           the file of the office
 Writes:    each change to the file, and then the response to its request; one line to standard
            output as soon as it listens; lines to standard error when refusal 90 makes it open the
            file again, when 100,000, 10,000 or 1,000 connections are left, and at the end
