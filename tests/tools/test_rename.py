@@ -18,7 +18,8 @@ FILES = {
     "crates/low/must-fail/another.edit": "file: src/same.rt\nold: number text\nnew: number other\n",
     "crates/low/src/same.rt": "ghost use Rattle.low.specs.Number.{number};\nensures is { number text }\n",
     "crates/high/specs/Row.antt": "use Rattle.low.specs.Again.{number}\nuse Rattle.high.specs.Other.{row}\n"
-    "row t = number t -- number\n",
+    "row t = number t -- number\n"
+    "rows t = record {\n  text = t;\n  number = number t;\n}\n",
     "crates/high/specs/Other.antt": "pub number : ℕ\n" "number = 1\n",
     "crates/high/proofs/Row.antt": "use Rattle.low.specs.Number.{number as n}\nrow-is t = n t\n",
     "docs/develop/PROOF.md": "`number` in `low/specs/Number.antt`\n`number` elsewhere\n",
@@ -33,7 +34,8 @@ RENAMED = {
     "crates/low/must-fail/another.edit": "file: src/same.rt\nold: number_of text\nnew: number_of other\n",
     "crates/low/src/same.rt": "ghost use Rattle.low.specs.Number.{number_of};\nensures is { number_of text }\n",
     "crates/high/specs/Row.antt": "use Rattle.low.specs.Again.{number_of}\nuse Rattle.high.specs.Other.{row}\n"
-    "row t = number_of t -- number\n",
+    "row t = number_of t -- number\n"
+    "rows t = record {\n  text = t;\n  number = number_of t;\n}\n",
     "crates/high/proofs/Row.antt": "use Rattle.low.specs.Number.{number_of as n}\nrow-is t = n t\n",
     "docs/develop/PROOF.md": "`number_of` in `low/specs/Number.antt`\n`number` elsewhere\n",
 }
