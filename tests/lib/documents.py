@@ -341,7 +341,7 @@ def record_faults(text: str) -> Iterator[str]:
 
 
 CLAIMING = {"README.md", "docs/develop/PROOF.md", "docs/develop/THEOREM.md", "docs/data/AUDIT.md"}
-NAMED = {*CLAIMING, "docs/develop/ARCHITECTURE.md", "docs/develop/CONTRIBUTING.md"}
+NAMED = {*CLAIMING, *(f"docs/develop/{it}.md" for it in ("ARCHITECTURE", "CONTRIBUTING", "TERMS"))}
 ALONE = {
     "docs/develop/DECISIONS.md": record_faults,
     "docs/reference/FORMATS.md": example_faults,
