@@ -1,8 +1,8 @@
 #!/usr/bin/python3
 """Tests what other programs make of what is made here, with pytest (tests/outside): they need more than tools/setup.
 
-The programs are some 600 MB of Debian's packages: caddy, chromium, libreoffice-calc-nogui, libxml2-utils, lintian,
-openssh-server, poppler-utils, python3-pandas, python3-zbar, r-base-core, r-cran-rsdmx, rclone, rsync,
+The programs are some 600 MB of Debian's packages: caddy, chromium, iproute2, libreoffice-calc-nogui, libxml2-utils,
+lintian, openssh-server, poppler-utils, python3-pandas, python3-zbar, r-base-core, r-cran-rsdmx, rclone, rsync,
 systemd-container. A test fails if one that it needs is missing, unless NAME, such as Rscript or pandas, leaves it out; a
 line then says what was left out. Further words go to pytest.
 
