@@ -53,6 +53,7 @@ impl ItemCode {
     }
 }
 
+// 1 to 12 characters of A-Z and 0-9.
 fn is_item_text(text: &[u8]) -> bool
     ensures { result ≡ is_text_of_item text.now }
 {
@@ -62,12 +63,14 @@ fn is_item_text(text: &[u8]) -> bool
     are_item_characters(text)
 }
 
+// Only characters of A-Z and 0-9.
 fn are_item_characters(text: &[u8]) -> bool
     ensures { result ≡ list_all is_character_of_item text.now }
 {
     text.iter().all(|byte| is_item_character(*byte))
 }
 
+// A character of A-Z and 0-9.
 fn is_item_character(byte: u8) -> bool
     ensures { result ≡ is_character_of_item byte }
 {

@@ -46,12 +46,14 @@ impl Key {
     }
 }
 
+// Only characters of 0-9 and a-f.
 fn are_key_digits(text: &[u8]) -> bool
     ensures { result ≡ list_all is_digit_of_key text.now }
 {
     text.iter().all(|byte| is_key_digit(*byte))
 }
 
+// A character of 0-9 and a-f.
 fn is_key_digit(byte: u8) -> bool
     ensures { result ≡ is_digit_of_key byte }
 {

@@ -19,6 +19,7 @@ pub fn number_of(text: &[u8], low: u64, high: u64) -> Option<u64>
     if low <= number { Some(number) } else { None }
 }
 
+// Decimal digits without a zero before them; 0 is `0`.
 fn is_number(text: &[u8]) -> bool
     ensures { result ≡ is_number_text text.now }
 {
@@ -28,6 +29,7 @@ fn is_number(text: &[u8]) -> bool
     text.len() == 1 || text[0] != b'0'
 }
 
+// Only characters of 0-9.
 pub(crate) fn are_digits(text: &[u8]) -> bool
     ensures { result ≡ list_all is_ascii_digit text.now }
 {

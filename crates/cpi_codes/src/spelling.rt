@@ -16,6 +16,7 @@ pub struct Parts {
     pub aggregate: Option<u8>,
 }
 
+// The value of a decimal digit, 0 to 9.
 fn digit(byte: u8) -> Option<u8>
     ensures { SomeIff result ((48 ≤ byte) × (byte ≤ 57)) (byte - 48) }
 {
@@ -26,6 +27,7 @@ fn digit(byte: u8) -> Option<u8>
     }
 }
 
+// The parts, if their division is one: 01 to 15, or 00 without further parts.
 fn numbered(parts: Parts) -> Option<Parts>
     ensures { SomeIff result (IsTrue (is_numbered parts)) parts }
 {
@@ -36,6 +38,7 @@ fn numbered(parts: Parts) -> Option<Parts>
     }
 }
 
+// The value of two decimal digits.
 fn two(tens: u8, ones: u8) -> Option<u8>
     ensures { SomeIff result ((48 ≤ tens) × (tens ≤ 57) × ((48 ≤ ones) × (ones ≤ 57)))
         (10 * (tens - 48) + (ones - 48)) }
@@ -43,6 +46,7 @@ fn two(tens: u8, ones: u8) -> Option<u8>
     Some(10 * digit(tens)? + digit(ones)?)
 }
 
+// The values of three decimal digits: of a group, a class and a subclass.
 fn three(group: u8, class: u8, subclass: u8) -> Option<(u8, u8, u8)>
     ensures { SomeIff result
         ((48 ≤ group) × (group ≤ 57) × ((48 ≤ class) × (class ≤ 57)) × ((48 ≤ subclass) × (subclass ≤ 57)))
