@@ -37,7 +37,8 @@ pub use laws::{
     numbers_have_one_spelling,
 };
 pub use limits::{
-    GREATEST_COLLECTOR, GREATEST_OUTLET, GREATEST_PRICE, GREATEST_SLOT, LAST_MOMENT, MOST_SERIES,
+    GREATEST_COLLECTOR, GREATEST_OUTLET, GREATEST_PRICE, GREATEST_SLOT, LAST_MOMENT, LONGEST_NAME,
+    MOST_SERIES,
 };
 pub use moments::Moment;
 pub use months::{Month, MonthFault};

@@ -17,3 +17,6 @@ pub const GREATEST_OUTLET: u64 = 999_999;
 
 /// The most series of an office: 9,999 collectors of 400 slots each.
 pub const MOST_SERIES: usize = 3_999_600;
+
+/// The most bytes of a name, title, unit or text.
+pub const LONGEST_NAME: usize = 400;

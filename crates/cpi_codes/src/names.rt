@@ -5,10 +5,9 @@ ghost use Rattle.std.specs.Str.{is_utf8};
 ghost use Rattle.cpi_codes.specs.Name.{is_text_of_name, is_plain_byte};
 ghost use Rattle.cpi_codes.specs.Text.{same_text};
 
+use crate::limits::LONGEST_NAME;
 use std::alloc::{AllocError, Global};
 use std::marker::Model;
-
-const LONGEST: usize = 400;
 
 /// A name, title, unit or text: 1 to 400 bytes of UTF-8, no byte below 0x20 and no 0x7F. It is seen as its bytes.
 #[derive(Drop)]
@@ -85,12 +84,13 @@ impl Name {
 fn is_name(text: &[u8]) -> bool
     ensures { result ≡ is_text_of_name text.now }
 {
-    if text.is_empty() || LONGEST < text.len() || !is_plain(text) {
+    if text.is_empty() || LONGEST_NAME < text.len() || !is_plain(text) {
         return false;
     }
     is_utf8_text(text)
 }
 
+// Whether the bytes are UTF-8.
 fn is_utf8_text(text: &[u8]) -> bool
     ensures { result ≡ is_utf8 text.now }
 {

@@ -2,13 +2,14 @@
 use Rattle.std.specs.Prelude.{ℕ, ◌≡◌, ◌≤◌, ◌+◌, ◌*◌, ◌-◌, ◌==◌, Bool, true, ◌&&◌, nat_le, List, [], ◌∷◌, Option}
 use Rattle.std.specs.Prelude.{map, find}
 use Rattle.cpi_codes.specs.declared.series.SeriesId.{SeriesId}
+use Rattle.cpi_codes.specs.declared.limits.TheConstants.{GREATEST_SLOT}
 use Rattle.cpi_index.specs.Carried.{Carried}
 use Rattle.cpi_index.specs.Frozen.{Frozen}
 use Rattle.cpi_index.specs.Row.{Row}
 
 -- the number of a series among all that there can be: at most 9,999 collectors with 400 slots each
 abbrev pub serial : SeriesId → ℕ
-serial s = 400 * (s.collector - 1) + (s.slot - 1)
+serial s = GREATEST_SLOT * (s.collector - 1) + (s.slot - 1)
 
 abbrev pub carried_serial : Carried → ℕ
 carried_serial c = serial c.series
@@ -37,7 +38,8 @@ element_at key n xs = find (λ x. key x == n) xs
 
 -- slots are 1 to 400
 abbrev pub AreSlots : SeriesId → SeriesId → Type 0
-AreSlots s t = ((1 ≤ s.slot) × (s.slot ≤ 400)) × ((1 ≤ t.slot) × (t.slot ≤ 400)) × (1 ≤ s.collector) × (1 ≤ t.collector)
+AreSlots s t = ((1 ≤ s.slot) × (s.slot ≤ GREATEST_SLOT)) × ((1 ≤ t.slot) × (t.slot ≤ GREATEST_SLOT))
+    × (1 ≤ s.collector) × (1 ≤ t.collector)
 
 -- one number, one series
 abbrev pub IsOneSeries : SeriesId → SeriesId → Type 0

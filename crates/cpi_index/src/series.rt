@@ -8,10 +8,10 @@ ghost use Rattle.cpi_codes.specs.declared.limits.TheConstants.{MOST_SERIES};
 use crate::carried::CarriedPrice;
 use crate::frozen::FrozenQuote;
 use crate::row::GroupRow;
-use cpi_codes::SeriesId;
+use cpi_codes::{GREATEST_SLOT, SeriesId};
 
 // The slots of a collector.
-const SLOTS: u32 = 400;
+const SLOTS: u32 = GREATEST_SLOT as u32;
 
 // The number of a series among all that there can be, by collector and then by slot.
 fn serial_of(series: SeriesId) -> u32

@@ -40,6 +40,7 @@ use Rattle.cpi_store.specs.declared.given.Given.{Given}
 use Rattle.cpi_store.proofs.Changes.{IsHandover}
 use Rattle.cpi_codes.specs.declared.series.SeriesId.{SeriesId}
 use Rattle.cpi_codes.specs.declared.codes.Code.{Code}
+use Rattle.cpi_codes.specs.declared.limits.TheConstants.{GREATEST_SLOT}
 use Rattle.cpi_index.specs.declared.fault.IndexFault.{IndexFault}
 use Rattle.cpi_release.specs.FrozenMonths.{frozen_months, last_frozen, keeps_frozen, has_year_frozen, is_next_month}
 use Rattle.cpi_release.specs.FrozenMonths.{plan_for}
@@ -204,13 +205,14 @@ module _ (o : Office) where
 
   well_made : (n : ℕ) (p : NewAssignment) → may_be_assigned n p ≡ true → IsWellMade (n, assignment_sent p)
   well_made n p e =
-      let last = and_both (nat_le p.first_month p.last_month && nat_le 1 n && nat_le 1 p.slot) (nat_le p.slot 400) e in
+      let last = and_both (nat_le p.first_month p.last_month && nat_le 1 n && nat_le 1 p.slot)
+      (nat_le p.slot GREATEST_SLOT) e in
       let slot = and_both (nat_le p.first_month p.last_month && nat_le 1 n) (nat_le 1 p.slot) last.0 in
       let number = and_both (nat_le p.first_month p.last_month) (nat_le 1 n) slot.0 in
       record {
         months = leb-true p.first_month p.last_month number.0;
         collector = leb-true 1 n number.1;
-        slot = (leb-true 1 p.slot slot.1, leb-true p.slot 400 last.1);
+        slot = (leb-true 1 p.slot slot.1, leb-true p.slot GREATEST_SLOT last.1);
       }
 
   placed_fair : (n : ℕ) (p : NewAssignment) → Fair (assigned_in n p o)
@@ -248,7 +250,7 @@ module _ (o : Office) where
         over within unquoted =
             let months = and_both (nat_lt former.assignment.first_month h.month)
             (nat_le h.month former.assignment.last_month) (not_false (is_handed_within h former.assignment) within) in
-            let last = and_both (nat_le 1 h.to && nat_le 1 h.new_slot) (nat_le h.new_slot 400) takeable in
+            let last = and_both (nat_le 1 h.to && nat_le 1 h.new_slot) (nat_le h.new_slot GREATEST_SLOT) takeable in
             let first = and_both (nat_le 1 h.to) (nat_le 1 h.new_slot) last.0 in
             record {
               former = former;
@@ -261,7 +263,7 @@ module _ (o : Office) where
               outlet = refl;
               new = free;
               taker = subst (λ n. 1 ≤ n) (sym (number_is h.to c to)) (leb-true 1 h.to first.0);
-              slot = (leb-true 1 h.new_slot first.1, leb-true h.new_slot 400 last.1);
+              slot = (leb-true 1 h.new_slot first.1, leb-true h.new_slot GREATEST_SLOT last.1);
               unquoted = ap (λ k. has_quotes_since k h.month (held_by b.number o.quotes)) former_slot ∙ unquoted;
             }
 

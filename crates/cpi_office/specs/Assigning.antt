@@ -2,6 +2,7 @@
 use Rattle.std.specs.Prelude.{ℕ, nat_le, ◌&&◌, Bool, Option, Some, None, if◌then◌else◌, is_none}
 use Rattle.cpi_rows.specs.Keyed.{row_by_number}
 use Rattle.cpi_rows.specs.Held.{held_by}
+use Rattle.cpi_codes.specs.declared.limits.TheConstants.{GREATEST_SLOT}
 use Rattle.cpi_plan.specs.declared.items.Item.{Item}
 use Rattle.cpi_survey.specs.Assignment.{same_assignment}
 use Rattle.cpi_survey.specs.declared.assignment.Assignment.{Assignment}
@@ -38,7 +39,7 @@ same_given old g = same_assignment old.assignment g.assignment && same_series ol
 -- the first month isn't after the last, and number and slot are within their limits, which their types keep
 abbrev pub may_be_assigned : ℕ → NewAssignment → Bool
 may_be_assigned collector sent =
-    nat_le sent.first_month sent.last_month && nat_le 1 collector && nat_le 1 sent.slot && nat_le sent.slot 400
+    nat_le sent.first_month sent.last_month && nat_le 1 collector && nat_le 1 sent.slot && nat_le sent.slot GREATEST_SLOT
 
 -- the next verdict, if the assignment is within the limits; else refusal 10
 abbrev pub if_assignable : ℕ → NewAssignment → Verdict → Verdict

@@ -3,6 +3,7 @@ use Rattle.std.specs.Prelude.{◌≡◌, ℕ, ◌+◌, ◌-◌, ◌&&◌, ◌==�
 use Rattle.std.specs.Prelude.{Result, Ok, Err, if◌then◌else◌}
 use Rattle.cpi_rows.specs.Keyed.{row_by_number}
 use Rattle.cpi_rows.specs.Held.{held_by}
+use Rattle.cpi_codes.specs.declared.limits.TheConstants.{GREATEST_SLOT}
 use Rattle.cpi_survey.specs.LastPrice.{last_price}
 use Rattle.cpi_survey.specs.Quote.{QuoteRow}
 use Rattle.cpi_survey.specs.Within.{has_quotes_since}
@@ -110,7 +111,7 @@ over_collectors h o (Some b) (Some c) =
 
 -- the new collector's number and slot are within their limits, which their types keep
 abbrev pub is_takeable : HandOver → Bool
-is_takeable h = nat_le 1 h.to && nat_le 1 h.new_slot && nat_le h.new_slot 400
+is_takeable h = nat_le 1 h.to && nat_le 1 h.new_slot && nat_le h.new_slot GREATEST_SLOT
 
 abbrev pub if_takeable : HandOver → Verdict → Verdict
 if_takeable h next = if is_takeable h then next else Refuses BadRequest

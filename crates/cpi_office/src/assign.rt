@@ -17,7 +17,7 @@ use crate::refusal::Refusal;
 use crate::reply::Reply;
 use crate::request::NewAssignment;
 use crate::standing::Standing;
-use cpi_codes::{CollectorId, Slot};
+use cpi_codes::{CollectorId, GREATEST_SLOT, Slot};
 use cpi_store::{Book, Outlet, StoreFault};
 use cpi_survey::{Assigned, Assignment};
 use std::alloc::{AllocError, Global};
@@ -51,7 +51,7 @@ fn is_assignable(collector: CollectorId, new_assignment: &NewAssignment) -> bool
     new_assignment.first_month <= new_assignment.last_month
         && 1 <= number
         && 1 <= slot
-        && slot <= 400
+        && u64::from(slot) <= GREATEST_SLOT
 }
 
 // The assignment of the request. No price is copied, since the series is new.

@@ -19,7 +19,7 @@ use crate::months::last;
 use crate::refusal::Refusal;
 use crate::reply::Reply;
 use crate::request::HandOver;
-use cpi_codes::{CollectorId, Month};
+use cpi_codes::{CollectorId, GREATEST_SLOT, Month};
 use cpi_release::FrozenMonth;
 use cpi_store::{Book, Given, Registration, SeriesMove, StoreFault};
 use cpi_survey::{Assignment, Own};
@@ -44,7 +44,7 @@ fn can_take(what: &HandOver) -> bool
 {
     let number = what.to.number();
     let slot = what.new_slot.number();
-    1 <= number && 1 <= slot && slot <= 400
+    1 <= number && 1 <= slot && u64::from(slot) <= GREATEST_SLOT
 }
 
 // Hands a series over, if both collectors are registered.

@@ -9,7 +9,7 @@ use Rattle.sqlite_catalog.specs.Listing.{IsSound}
 use Rattle.sqlite_schema.specs.declared.schema.Constraint.TheVariants.{Unique}
 use Rattle.cpi_codes.specs.CodeOrder.{code_cmp}
 use Rattle.cpi_codes.specs.CodeText.{code_text}
-use Rattle.cpi_codes.specs.declared.limits.TheConstants.{LAST_MOMENT}
+use Rattle.cpi_codes.specs.declared.limits.TheConstants.{GREATEST_COLLECTOR, GREATEST_SLOT, LAST_MOMENT}
 use Rattle.cpi_codes.specs.declared.series.SeriesId.{SeriesId}
 use Rattle.cpi_rows.specs.Held.{held_cmp, held_key}
 use Rattle.cpi_rows.proofs.Truth.{equal_of_order, then_first, then_second}
@@ -43,17 +43,17 @@ record HasSeries (r : Row) (s : SeriesId) : Type 0 where
   pub slot : column r 4 ≡ Int (pos s.slot)
   pub least : 1 ≤ s.collector
   pub first : 1 ≤ s.slot
-  pub last : s.slot ≤ 400
+  pub last : s.slot ≤ GREATEST_SLOT
 
-series_of : (r : Row) (s : SeriesId) → number_within 1 9999 (column r 3) ≡ Some s.collector
-    → number_within 1 400 (column r 4) ≡ Some s.slot
+series_of : (r : Row) (s : SeriesId) → number_within 1 GREATEST_COLLECTOR (column r 3) ≡ Some s.collector
+    → number_within 1 GREATEST_SLOT (column r 4) ≡ Some s.slot
     → HasSeries r s
 series_of r s c t =
-    let low = within_limits 1 9999 (column r 3) s.collector c in
-    let slots = within_limits 1 400 (column r 4) s.slot t in
+    let low = within_limits 1 GREATEST_COLLECTOR (column r 3) s.collector c in
+    let slots = within_limits 1 GREATEST_SLOT (column r 4) s.slot t in
     record {
-      collector = ranged_is 1 9999 (column r 3) s.collector c;
-      slot = ranged_is 1 400 (column r 4) s.slot t;
+      collector = ranged_is 1 GREATEST_COLLECTOR (column r 3) s.collector c;
+      slot = ranged_is 1 GREATEST_SLOT (column r 4) s.slot t;
       least = low.0;
       first = slots.0;
       last = slots.1;
@@ -112,8 +112,8 @@ beside_tells R key from places t = record {
 
 frozen_series : (r : Row) (q : Frozen) → frozen_after r ≡ Some q → HasSeries r q.series
 frozen_series r q e =
-    let one = bound_is (number_within 1 9999 (column r 3)) _ _ e in
-    let two = bound_is (number_within 1 400 (column r 4)) _ _ one.2 in
+    let one = bound_is (number_within 1 GREATEST_COLLECTOR (column r 3)) _ _ e in
+    let two = bound_is (number_within 1 GREATEST_SLOT (column r 4)) _ _ one.2 in
     let three = bound_is (item_from (column r 5)) _ _ two.2 in
     let four = bound_is (month_from (column r 6)) _ _ three.2 in
     let five = bound_is (mark_in (column r 7) (column r 8)) _ _ four.2 in
@@ -122,8 +122,8 @@ frozen_series r q e =
 
 carried_series : (r : Row) (c : Carried) → carried_after r ≡ Some c → HasSeries r c.series
 carried_series r c e =
-    let one = bound_is (number_within 1 9999 (column r 3)) _ _ e in
-    let two = bound_is (number_within 1 400 (column r 4)) _ _ one.2 in
+    let one = bound_is (number_within 1 GREATEST_COLLECTOR (column r 3)) _ _ e in
+    let two = bound_is (number_within 1 GREATEST_SLOT (column r 4)) _ _ one.2 in
     let three = bound_is (item_from (column r 5)) _ _ two.2 in
     let four = bound_is (month_from (column r 6)) _ _ three.2 in
     let five = bound_is (priced_from (column r 7) (column r 8) (column r 9)) _ _ four.2 in

@@ -11,6 +11,7 @@ use Rattle.sqlite.specs.Order.{Row, column}
 use Rattle.cpi_rows.specs.Held.{held_cmp, held_key}
 use Rattle.cpi_rows.proofs.Held.{held_total}
 use Rattle.cpi_rows.proofs.Truth.{equal_of_order}
+use Rattle.cpi_codes.specs.declared.limits.TheConstants.{GREATEST_SLOT, GREATEST_COLLECTOR, GREATEST_OUTLET}
 use Rattle.cpi_survey.specs.declared.assignment.Assignment.{Assignment}
 use Rattle.cpi_store.specs.declared.given.Given.{Given}
 use Rattle.cpi_sql_rows.specs.Lists.{number_within, month_from, item_from, price_or_none, series_from, assignment_from}
@@ -35,23 +36,23 @@ pub record HasSlot (r : Row) (c : ℕ) (g : Given) : Type 0 where
 pub slot_is : (slot outlet item first last copied : Value) (a : Assignment)
     → assignment_from slot outlet item first last copied ≡ Some a → slot ≡ Int (pos a.slot)
 slot_is slot outlet item first last copied a e =
-    let one = bound_is (number_within 1 400 slot) _ _ e in
-    let two = bound_is (number_within 1 999999 outlet) _ _ one.2 in
+    let one = bound_is (number_within 1 GREATEST_SLOT slot) _ _ e in
+    let two = bound_is (number_within 1 GREATEST_OUTLET outlet) _ _ one.2 in
     let three = bound_is (item_from item) _ _ two.2 in
     let four = bound_is (month_from first) _ _ three.2 in
     let five = bound_is (month_from last) _ _ four.2 in
     let six = bound_is (price_or_none copied) _ _ five.2 in
-    ranged_is 1 400 slot a.slot (one.1 ∙ ap (λ (b : Assignment). Some b.slot) (some_is six.2))
+    ranged_is 1 GREATEST_SLOT slot a.slot (one.1 ∙ ap (λ (b : Assignment). Some b.slot) (some_is six.2))
 
 pub slot_of : (r : Row) (c : ℕ) (g : Given) → shown_given (assignment_shape r) ≡ Some (c, g) → HasSlot r c g
 slot_of r c g e =
-    let one = bound_is (number_within 1 9999 (column r 1)) _ _ e in
+    let one = bound_is (number_within 1 GREATEST_COLLECTOR (column r 1)) _ _ e in
     let two = bound_is (assignment_from (column r 2) (column r 3) (column r 4) (column r 5) (column r 6) (column r 9))
     _ _ one.2 in
     let three = bound_is (series_from (column r 7) (column r 8)) _ _ two.2 in
     let pair : ◌≡◌ {A = ℕ × Given} (one.0, record { assignment = two.0; series = three.0 }) (c, g) = some_is three.2 in
     record {
-      collector = ranged_is 1 9999 (column r 1) c (one.1 ∙ ap (λ (p : ℕ × Given). Some p.0) pair);
+      collector = ranged_is 1 GREATEST_COLLECTOR (column r 1) c (one.1 ∙ ap (λ (p : ℕ × Given). Some p.0) pair);
       slot = slot_is (column r 2) (column r 3) (column r 4) (column r 5) (column r 6) (column r 9) two.0 two.1
           ∙ ap (λ (p : ℕ × Given). Int (pos p.1.assignment.slot)) pair;
       shown = e;

@@ -16,6 +16,7 @@ use Rattle.cpi_rows.proofs.Truth.{equal_of_order, then_first, then_second}
 use Rattle.cpi_survey.proofs.Latest.{quote_order}
 use Rattle.cpi_codes.specs.Month.{month_in, is_in_calendar}
 use Rattle.cpi_codes.specs.declared.months.MonthFault.TheVariants.{Range}
+use Rattle.cpi_codes.specs.declared.limits.TheConstants.{GREATEST_SLOT, GREATEST_COLLECTOR}
 use Rattle.cpi_survey.specs.Quote.{QuoteRow, quote_cmp, quote_key}
 use Rattle.cpi_store.specs.declared.registration.Registration.{Registration}
 use Rattle.cpi_sql_rows.specs.Lists.{quote_in, quote_from, number_within, receipt_from, month_from, month_at, month_out}
@@ -76,18 +77,18 @@ pub record HasNumbers (r : Row) (c : ℕ) (q : QuoteRow) : Type 0 where
 
 pub numbers_of : (r : Row) (c : ℕ) (q : QuoteRow) → quote_in r ≡ Some (c, q) → HasNumbers r c q
 numbers_of r c q e =
-    let one = bound_is (number_within 1 9999 (column r 1)) _ _ e in
+    let one = bound_is (number_within 1 GREATEST_COLLECTOR (column r 1)) _ _ e in
     let two = bound_is (quote_from (column r 2) (column r 3) (column r 4) (column r 5) (column r 6)) _ _ one.2 in
     let pair : ◌≡◌ {A = ℕ × QuoteRow} (one.0, two.0) (c, q) = some_is two.2 in
-    let three = bound_is (number_within 1 400 (column r 2)) _ _ two.1 in
+    let three = bound_is (number_within 1 GREATEST_SLOT (column r 2)) _ _ two.1 in
     let four = bound_is (month_from (column r 3)) _ _ three.2 in
     let five = bound_is (mark_in (column r 4) (column r 5)) _ _ four.2 in
     let six = bound_is (receipt_from (column r 6)) _ _ five.2 in
     let made : record { slot = three.0; month = four.0; mark = five.0; receipt = six.0 } ≡ two.0 = some_is six.2 in
     let is_q : two.0 ≡ q = ap (λ (p : ℕ × QuoteRow). p.1) pair in
     record {
-      collector = ranged_is 1 9999 (column r 1) c (one.1 ∙ ap (λ (p : ℕ × QuoteRow). Some p.0) pair);
-      slot = ranged_is 1 400 (column r 2) q.slot (three.1 ∙ ap (λ (w : QuoteRow). Some w.slot) (made ∙ is_q));
+      collector = ranged_is 1 GREATEST_COLLECTOR (column r 1) c (one.1 ∙ ap (λ (p : ℕ × QuoteRow). Some p.0) pair);
+      slot = ranged_is 1 GREATEST_SLOT (column r 2) q.slot (three.1 ∙ ap (λ (w : QuoteRow). Some w.slot) (made ∙ is_q));
       month = month_of (column r 3) q.month (four.1 ∙ ap (λ (w : QuoteRow). Some w.month) (made ∙ is_q));
     }
 

@@ -10,7 +10,8 @@ use Rattle.sqlite.specs.Order.{Row, column}
 use Rattle.sqlite.specs.Tree.{Trees}
 use Rattle.cpi_rows.specs.Keyed.{with_row}
 use Rattle.cpi_rows.specs.Held.{held_by, held_cmp, held_key}
-use Rattle.cpi_codes.specs.declared.limits.TheConstants.{GREATEST_PRICE, LAST_MOMENT}
+use Rattle.cpi_codes.specs.declared.limits.TheConstants.{GREATEST_COLLECTOR, GREATEST_OUTLET, GREATEST_PRICE}
+use Rattle.cpi_codes.specs.declared.limits.TheConstants.{GREATEST_SLOT, LAST_MOMENT}
 use Rattle.cpi_codes.specs.declared.months.MonthFault.{MonthFault}
 use Rattle.cpi_codes.specs.Key.{key_of}
 use Rattle.cpi_codes.specs.ItemCode.{item_code_of}
@@ -121,7 +122,7 @@ item_from v = and_then (text_in v) item_code_of
 
 -- a collector, of number and key
 abbrev pub registration_from : Value → Value → Option Registration
-registration_from number key = and_then (number_within 1 9999 number)
+registration_from number key = and_then (number_within 1 GREATEST_COLLECTOR number)
     (λ n. and_then (and_then (text_in key) key_of) (λ k. Some (record { number = n; key = k })))
 
 -- the collector of a row
@@ -130,7 +131,7 @@ collector_in r = registration_from (column r 0) (column r 2)
 
 -- an outlet, of number and name
 abbrev pub outlet_from : Value → Value → Option Outlet
-outlet_from number name = and_then (number_within 1 999999 number)
+outlet_from number name = and_then (number_within 1 GREATEST_OUTLET number)
     (λ n. and_then (name_from name) (λ t. Some (record { number = n; name = t })))
 
 -- the outlet of a row
@@ -175,13 +176,13 @@ price_or_none (Blob b) = None
 
 -- a series, of collector and slot
 abbrev pub series_from : Value → Value → Option SeriesId
-series_from collector slot = and_then (number_within 1 9999 collector)
-    (λ c. and_then (number_within 1 400 slot) (λ s. Some (record { collector = c; slot = s })))
+series_from collector slot = and_then (number_within 1 GREATEST_COLLECTOR collector)
+    (λ c. and_then (number_within 1 GREATEST_SLOT slot) (λ s. Some (record { collector = c; slot = s })))
 
 -- an assignment, of its columns
 abbrev pub assignment_from : Value → Value → Value → Value → Value → Value → Option Assignment
 assignment_from slot outlet item first last copied =
-    and_then (number_within 1 400 slot) (λ s. and_then (number_within 1 999999 outlet)
+    and_then (number_within 1 GREATEST_SLOT slot) (λ s. and_then (number_within 1 GREATEST_OUTLET outlet)
     (λ o. and_then (item_from item) (λ i.
     and_then (month_from first) (λ f. and_then (month_from last) (λ l. and_then (price_or_none copied) (λ p.
     Some (record { slot = s; outlet = o; item = i; first_month = f; last_month = l; copied = p })))))))
@@ -189,7 +190,7 @@ assignment_from slot outlet item first last copied =
 -- what a slot of a collector was given, with the collector's number
 abbrev pub given_from : Value → Value → Value → Value → Value → Value → Value → Value → Value → Option (ℕ × Given)
 given_from number slot outlet item first last series_collector series_slot copied =
-    and_then (number_within 1 9999 number) (λ n. and_then
+    and_then (number_within 1 GREATEST_COLLECTOR number) (λ n. and_then
     (assignment_from slot outlet item first last copied) (λ a.
     and_then (series_from series_collector series_slot) (λ s. Some (n, record { assignment = a; series = s }))))
 
@@ -230,12 +231,12 @@ receipt_from v = number_within 1 LAST_RECEIPT v
 -- a quote, of its columns
 abbrev pub quote_from : Value → Value → Value → Value → Value → Option QuoteRow
 quote_from slot month mark value receipt =
-    and_then (number_within 1 400 slot) (λ s. and_then (month_from month) (λ m. and_then (mark_in mark value) (λ k.
+    and_then (number_within 1 GREATEST_SLOT slot) (λ s. and_then (month_from month) (λ m. and_then (mark_in mark value) (λ k.
     and_then (receipt_from receipt) (λ n. Some (record { slot = s; month = m; mark = k; receipt = n })))))
 
 -- a quote as an answer shows it, after its collector's number
 abbrev pub shown_quote : Row → Option (ℕ × QuoteRow)
-shown_quote x = and_then (number_within 1 9999 (column x 0))
+shown_quote x = and_then (number_within 1 GREATEST_COLLECTOR (column x 0))
     (λ c. and_then (quote_from (column x 1) (column x 2) (column x 3) (column x 4) (column x 5)) (λ q. Some (c, q)))
 
 -- what an answer shows of an assignment
@@ -245,7 +246,7 @@ shown_given x = given_from (column x 0) (column x 1) (column x 2) (column x 3) (
 
 -- the quote of a row, with its collector's number
 abbrev pub quote_in : Row → Option (ℕ × QuoteRow)
-quote_in r = and_then (number_within 1 9999 (column r 1))
+quote_in r = and_then (number_within 1 GREATEST_COLLECTOR (column r 1))
     (λ c. and_then (quote_from (column r 2) (column r 3) (column r 4) (column r 5) (column r 6)) (λ q. Some (c, q)))
 
 -- ---- lists
@@ -460,7 +461,7 @@ release_from_key month revision =
 -- a frozen quote, of its columns
 abbrev pub frozen_from : Value → Value → Value → Value → Value → Value → Option Frozen
 frozen_from number slot item last mark value =
-    and_then (number_within 1 9999 number) (λ n. and_then (number_within 1 400 slot)
+    and_then (number_within 1 GREATEST_COLLECTOR number) (λ n. and_then (number_within 1 GREATEST_SLOT slot)
     (λ s. and_then (item_from item) (λ i.
     and_then (month_from last) (λ l. and_then (mark_in mark value) (λ k.
     Some (record { series = record { collector = n; slot = s }; item = i; last_month = l; mark = k }))))))
@@ -486,7 +487,7 @@ priced_from ticks knum kden =
 -- a carried price, of its columns
 abbrev pub carried_from : Value → Value → Value → Value → Value → Value → Value → Value → Value → Option Carried
 carried_from number slot item last ticks knum kden observed imputed =
-    and_then (number_within 1 9999 number) (λ n. and_then (number_within 1 400 slot)
+    and_then (number_within 1 GREATEST_COLLECTOR number) (λ n. and_then (number_within 1 GREATEST_SLOT slot)
     (λ s. and_then (item_from item) (λ i.
     and_then (month_from last) (λ l. and_then (priced_from ticks knum kden) (λ p.
     and_then (flag_in_value observed) (λ o. and_then (flag_in_value imputed) (λ u. Some (record {

@@ -3,6 +3,7 @@ ghost use Rattle.std.specs.Prelude.{◌≡◌};
 ghost use Rattle.cpi_codes.specs.Key.{key_of};
 ghost use Rattle.cpi_codes.specs.CodeOf.{spelled_code};
 ghost use Rattle.cpi_codes.specs.ItemCode.{item_code_of};
+ghost use Rattle.cpi_codes.specs.declared.limits.TheConstants.{GREATEST_SLOT, GREATEST_COLLECTOR, GREATEST_OUTLET};
 ghost use Rattle.cpi_sql_rows.specs.Common.{IfOk, Int, OnOk, Some, pos, string_bytes};
 ghost use Rattle.cpi_sql_rows.specs.Lists.{mark_from, mark_word, month_at, name_of, number_within, receipt_from};
 
@@ -37,14 +38,14 @@ pub fn month_number(month: Month) -> u32
 /// The number of the collector.
 pub fn collector_number(collector: CollectorId) -> u32
     ensures value { result ≡ collector }
-    ensures range { number_within 1 9999 (Int (pos collector)) ≡ Some collector }
+    ensures range { number_within 1 GREATEST_COLLECTOR (Int (pos collector)) ≡ Some collector }
 {
     u32::from(collector.number())
 }
 
 /// The number of the outlet.
 pub fn outlet_number(outlet: OutletId) -> u32
-    ensures { number_within 1 999999 (Int (pos result)) ≡ Some outlet }
+    ensures { number_within 1 GREATEST_OUTLET (Int (pos result)) ≡ Some outlet }
 {
     outlet.number()
 }
@@ -52,7 +53,7 @@ pub fn outlet_number(outlet: OutletId) -> u32
 /// The number of the slot.
 pub fn slot_number(slot: Slot) -> u32
     ensures value { result ≡ slot }
-    ensures range { number_within 1 400 (Int (pos slot)) ≡ Some slot }
+    ensures range { number_within 1 GREATEST_SLOT (Int (pos slot)) ≡ Some slot }
 {
     u32::from(slot.number())
 }

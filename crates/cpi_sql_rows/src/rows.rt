@@ -1,6 +1,7 @@
 //! The rows of the tables, as an answer's columns show them.
 ghost use Rattle.std.specs.Prelude.{◌≡◌};
 ghost use Rattle.cpi_codes.specs.CodeOf.{spelled_code};
+ghost use Rattle.cpi_codes.specs.declared.limits.TheConstants.{GREATEST_SLOT, GREATEST_COLLECTOR};
 ghost use Rattle.cpi_sql_rows.specs.Common.{IfSome, Some, column};
 ghost use Rattle.cpi_sql_rows.specs.Lists.{registration_from, calendar_from, code_from, item_from, item_of_values};
 ghost use Rattle.cpi_sql_rows.specs.Lists.{mark_from};
@@ -136,8 +137,9 @@ pub fn read_copied(row: &Row, at: usize) -> Option<Option<Price>>
 
 /// The series of a collector and a slot.
 pub fn read_series(row: &Row, collector: usize, slot: usize) -> Option<SeriesId>
-    ensures collector { IfSome result (λ s. number_within 1 9999 (column row.now collector) ≡ Some s.collector) }
-    ensures slot { IfSome result (λ s. number_within 1 400 (column row.now slot) ≡ Some s.slot) }
+    ensures collector { IfSome result (λ s.
+        number_within 1 GREATEST_COLLECTOR (column row.now collector) ≡ Some s.collector) }
+    ensures slot { IfSome result (λ s. number_within 1 GREATEST_SLOT (column row.now slot) ≡ Some s.slot) }
 {
     let collector = CollectorId::new(number_at(row, collector)?)?;
     let slot = Slot::new(number_at(row, slot)?)?;

@@ -9,6 +9,7 @@ use Rattle.sqlite_rules.specs.Lists.{Has}
 use Rattle.cpi_codes.specs.CodeOrder.{code_cmp}
 use Rattle.cpi_codes.specs.declared.series.SeriesId.{SeriesId}
 use Rattle.cpi_rows.specs.Keyed.{IsInOrder, row_at}
+use Rattle.cpi_codes.specs.declared.limits.TheConstants.{GREATEST_SLOT, GREATEST_COLLECTOR}
 use Rattle.cpi_index.specs.Series.{frozen_serial, carried_serial}
 use Rattle.cpi_release.specs.declared.release.Release.{Release}
 use Rattle.cpi_release.specs.FrozenMonths.{release_cmp, release_key}
@@ -34,8 +35,8 @@ IsReleaseNumber month revision number = release_from_key (Int (pos month)) (Int 
 -- the columns that a row of a series begins with in a release; the code of the item is a text
 pub record AreSeriesColumns (month revision : ℕ) (series : SeriesId) (item : List ℕ) (last_month : ℕ) (columns : Row)
     : Type 0 where
-  pub collector : number_within 1 9999 (Int (pos series.collector)) ≡ Some series.collector
-  pub slot : number_within 1 400 (Int (pos series.slot)) ≡ Some series.slot
+  pub collector : number_within 1 GREATEST_COLLECTOR (Int (pos series.collector)) ≡ Some series.collector
+  pub slot : number_within 1 GREATEST_SLOT (Int (pos series.slot)) ≡ Some series.slot
   pub last : ℕ
   pub last_is : month_at last ≡ Some last_month
   pub columns_are : columns ≡ Int (pos month) ∷ Int (pos revision) ∷ Int (pos series.collector)

@@ -12,6 +12,7 @@ use Rattle.cpi_rows.specs.Held.{held_by, held_cmp, held_key}
 use Rattle.cpi_rows.proofs.Found.{at_key}
 use Rattle.cpi_rows.proofs.Lists.{all_put, all_weaker}
 use Rattle.cpi_codes.specs.declared.series.SeriesId.{SeriesId}
+use Rattle.cpi_codes.specs.declared.limits.TheConstants.{GREATEST_SLOT}
 use Rattle.cpi_survey.specs.Assignment.{is_active}
 use Rattle.cpi_survey.specs.Quote.{QuoteRow}
 use Rattle.cpi_survey.specs.declared.assignment.Assignment.{Assignment}
@@ -64,7 +65,7 @@ pub record IsHandover (rows : List (ℕ × Given)) (quotes : List (ℕ × QuoteR
   pub outlet : h.assigned.assignment.outlet ≡ former.assignment.outlet
   pub new : row_by_number (λ g. g.assignment.slot) h.assigned.assignment.slot (held_by h.taker.number rows) ≡ None
   pub taker : 1 ≤ h.taker.number
-  pub slot : (1 ≤ h.assigned.assignment.slot) × (h.assigned.assignment.slot ≤ 400)
+  pub slot : (1 ≤ h.assigned.assignment.slot) × (h.assigned.assignment.slot ≤ GREATEST_SLOT)
   pub unquoted : list_any (λ q. q.slot == h.ended.assignment.slot && nat_le h.assigned.assignment.first_month q.month)
       (held_by h.former.number quotes) ≡ false
 
@@ -597,7 +598,7 @@ module _ (rows : List (ℕ × Given)) (quotes : List (ℕ × QuoteRow)) (h : Ser
                 ap (λ (g : Given). g.assignment.first_month) over.ended in
                 let low = over.after_first in let end = ends in omega (arith, same, low, end);
             collector = made.collector;
-            slot = subst (λ k. (1 ≤ k) × (k ≤ 400)) former_place made.slot;
+            slot = subst (λ k. (1 ≤ k) × (k ≤ GREATEST_SLOT)) former_place made.slot;
           }
 
       by : (IsTaker c x.assignment.slot × (x ≡ given_over h))

@@ -15,6 +15,7 @@ use Rattle.cpi_index.specs.Frozen.{Frozen}
 use Rattle.cpi_index.specs.Series.{serial, frozen_serial, rises_from, are_by_series}
 use Rattle.std.proofs.lemmas.List.Elements.{All-from_recursion}
 use Rattle.cpi_rows.proofs.Found.{at_key}
+use Rattle.cpi_codes.specs.declared.limits.TheConstants.{GREATEST_SLOT}
 use Rattle.cpi_release.specs.Releasing.{AreConsistent, all_frozen}
 use Rattle.cpi_release.specs.declared.release.Release.{Release}
 use Rattle.cpi_store.specs.declared.given.Given.{Given}
@@ -25,7 +26,7 @@ use Rattle.cpi_store.proofs.Slots.{all_of_found}
 
 -- a series within the limits
 abbrev pub IsSeries : SeriesId → Type 0
-IsSeries s = (1 ≤ s.collector) × (1 ≤ s.slot) × (s.slot ≤ 400)
+IsSeries s = (1 ≤ s.collector) × (1 ≤ s.slot) × (s.slot ≤ GREATEST_SLOT)
 
 -- the numbers rise with the series
 serial_rises : (s t : SeriesId) → IsSeries s → IsSeries t → series_cmp s t ≡ Less → serial s < serial t
@@ -78,7 +79,7 @@ series_of_frozen given all f of =
     f.series.slot of.0 given all of.1 in
     let key : of.0.assignment.slot ≡ f.series.slot = at_key (λ (g : Given). g.assignment.slot) f.series.slot of.0
     (held_by f.series.collector given) of.1 in
-    (made.collector, subst (λ n. 1 ≤ n) key made.slot.0, subst (λ n. n ≤ 400) key made.slot.1)
+    (made.collector, subst (λ n. 1 ≤ n) key made.slot.0, subst (λ n. n ≤ GREATEST_SLOT) key made.slot.1)
 
 pub all_series : (given : List (ℕ × Given)) → AreMade given → (fs : List Frozen) →
     AllByRecursion (IsOfSeries given) fs → AllByRecursion (λ f. IsSeries f.series) fs

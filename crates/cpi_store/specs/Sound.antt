@@ -6,6 +6,7 @@ use Rattle.std.specs.Ordering.{nat_cmp}
 use Rattle.cpi_rows.specs.Keyed.{IsInOrder, row_by_number}
 use Rattle.cpi_rows.specs.Held.{held_cmp, held_key, held_by}
 use Rattle.cpi_codes.specs.CodeOrder.{code_cmp}
+use Rattle.cpi_codes.specs.declared.limits.TheConstants.{GREATEST_SLOT}
 use Rattle.cpi_plan.specs.Plan.{Plan}
 use Rattle.cpi_survey.specs.Quote.{QuoteRow, quote_cmp, quote_key}
 use Rattle.cpi_survey.specs.declared.assignment.Assignment.{Assignment}
@@ -42,7 +43,7 @@ HasItsAssignment given row =
 pub record IsWellMade (row : ℕ × Assignment) : Type 0 where
   pub months : row.1.first_month ≤ row.1.last_month
   pub collector : 1 ≤ row.0
-  pub slot : (1 ≤ row.1.slot) × (row.1.slot ≤ 400)
+  pub slot : (1 ≤ row.1.slot) × (row.1.slot ≤ GREATEST_SLOT)
 
 -- the slot that names an assignment's series is there, names its own series, and prices the same item
 abbrev pub HasItsSeries : List (ℕ × Given) → ℕ × Given → Type 0
