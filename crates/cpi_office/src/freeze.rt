@@ -1,5 +1,6 @@
 //! The desk freezes a month: the freeze is judged, and the month's release is computed and stored.
-ghost use Rattle.std.specs.Prelude.{◌≡◌, ◌≢◌, ◌≤◌, ◌<◌, true, Err, IfOk, IfErr, IfSome, option_map};
+ghost use Rattle.std.specs.Prelude.{◌≡◌, ◌≢◌, ◌≤◌, ◌<◌, true, Ok, Err, IfOk, IfErr, IfSome, MatchResult};
+ghost use Rattle.std.specs.Prelude.{option_map};
 ghost use Rattle.std.specs.Option.{option_copied};
 ghost use Rattle.cpi_codes.specs.Month.{year_of};
 ghost use Rattle.cpi_rows.specs.Keyed.{row_by_number};
@@ -44,30 +45,56 @@ pub fn freeze<B: Book>(
         ServesWhere (B.state book.old) (B.state book.new) (IsSound o) result
         (verdict_reply v) (with_verdict v o) }
 {
-    match judge(book, now, month, carry.as_slice()) {
+    match judge(alloc, book, now, month, carry.as_slice()) {
         Err(StoreFault) => Reply::Refused(Refusal::Unavailable),
         Ok(Err(refusal)) => Reply::Refused(refusal),
-        Ok(Ok(row)) => release(alloc, book, now, row, carry),
+        Ok(Ok(accepted)) => release(alloc, book, now, accepted, carry),
     }
 }
 
-// The calendar row of a month that may be frozen, or the refusal.
+// A month that may be frozen: its calendar row, and the basis of its release; none if there is no memory for it.
+#[derive(Drop)]
+struct Accepted {
+    row: CalendarRow,
+    basis: Option<Basis>,
+}
+
+// The basis of a month's release: a copy of the plan of its year, none for the first release, and the revision that
+// follows. The plan is copied, since a book lends its public part only until its next call.
+#[derive(Drop)]
+struct Basis {
+    plan: Option<YearPlan>,
+    revision: Revision,
+}
+
+// The month, if it may be frozen, or the refusal.
 fn judge<B: Book>(
+    alloc: Global,
     book: &mut B,
     now: Moment,
     month: Month,
     carry: &[Code],
-) -> Result<Result<CalendarRow, Refusal>, StoreFault>
-    ensures { let o = (B.state book.old).held in
+) -> Result<Result<Accepted, Refusal>, StoreFault>
+    ensures { let o = (B.state book.old).held in let frozen = frozen_months o.releases in
         Reads (B.state book.old) (B.state book.new) result (λ judged.
-        judged ≡ freeze_judged_in now month carry.now o) }
+        MatchResult judged (λ accepted. (freeze_judged_in now month carry.now o ≡ Ok accepted.row)
+        × IfSome accepted.basis (λ basis. (basis.plan ≡ plan_for o.plans frozen accepted.row.month)
+        × (revision_to_give accepted.row.month frozen ≤ 9 →
+        basis.revision ≡ revision_to_give accepted.row.month frozen)))
+        (λ refusal. freeze_judged_in now month carry.now o ≡ Err refusal)) }
 {
     let frozen = book.frozen_months()?;
     let public = book.public_part()?;
-    Ok(judge_month(now, month, carry, &frozen, public))
+    match judge_month(now, month, carry, &frozen, public) {
+        Err(refusal) => Ok(Err(refusal)),
+        Ok(row) => Ok(Ok(Accepted {
+            row,
+            basis: basis_in(alloc, &frozen, public, row.month()),
+        })),
+    }
 }
 
-// The same, from the frozen months and the public part.
+// The calendar row of a month that may be frozen, or the refusal, from the frozen months and the public part.
 fn judge_month(
     now: Moment,
     month: Month,
@@ -201,18 +228,20 @@ fn release<B: Book>(
     alloc: Global,
     book: &mut B,
     now: Moment,
-    row: CalendarRow,
+    accepted: Accepted,
     carry: Rows<Code>,
 ) -> Reply
     requires next { (B.state book.old).is_clean →
-        is_next_month row.month (frozen_months (B.state book.old).held.releases) ≡ true }
-    requires few { (B.state book.old).is_clean →
-        revision_to_give row.month (frozen_months (B.state book.old).held.releases) ≤ 9 }
-    ensures { let o = (B.state book.old).held in let v = release_verdict (judged_release now carry o row) in
+        is_next_month accepted.row.month (frozen_months (B.state book.old).held.releases) ≡ true }
+    requires basis { let o = (B.state book.old).held in let frozen = frozen_months o.releases in
+        (B.state book.old).is_clean → IfSome accepted.basis (λ basis.
+        (basis.plan ≡ plan_for o.plans frozen accepted.row.month)
+        × (basis.revision ≡ revision_to_give accepted.row.month frozen)) }
+    ensures { let o = (B.state book.old).held in let v = release_verdict (judged_release now carry o accepted.row) in
         ServesWhere (B.state book.old) (B.state book.new) (IsSound o) result
         (verdict_reply v) (with_verdict v o) }
 {
-    match make(alloc, book, now, row, carry) {
+    match make(alloc, book, now, accepted, carry) {
         Err(fault) => Reply::Refused(refusal_of(fault)),
         Ok(release) => match book.put_release(release) {
             Ok(()) => Reply::Done,
@@ -237,30 +266,31 @@ fn make<B: Book>(
     alloc: Global,
     book: &mut B,
     now: Moment,
-    row: CalendarRow,
+    accepted: Accepted,
     carry: Rows<Code>,
 ) -> Result<Release, FreezeFault>
     requires next { (B.state book.old).is_clean →
-        is_next_month row.month (frozen_months (B.state book.old).held.releases) ≡ true }
-    requires few { (B.state book.old).is_clean →
-        revision_to_give row.month (frozen_months (B.state book.old).held.releases) ≤ 9 }
+        is_next_month accepted.row.month (frozen_months (B.state book.old).held.releases) ≡ true }
+    requires basis { let o = (B.state book.old).held in let frozen = frozen_months o.releases in
+        (B.state book.old).is_clean → IfSome accepted.basis (λ basis.
+        (basis.plan ≡ plan_for o.plans frozen accepted.row.month)
+        × (basis.revision ≡ revision_to_give accepted.row.month frozen)) }
     ensures keeps { Keeps (B.state book.old) (B.state book.new) }
     ensures stays { result ≢ Err Group → StaysClean (B.state book.old) (B.state book.new) }
     ensures count { (B.state book.old).failures ≤ (B.state book.new).failures }
     ensures group { IfErr result (λ f. f ≡ Group → (B.state book.old).failures < (B.state book.new).failures) }
     ensures made { let o = (B.state book.old).held in (B.state book.new).is_clean → IsSound o →
-        IsMade (judged_release now carry o row) result }
-    ensures month { IfOk result (λ release. release.month ≡ row.month) }
+        IsMade (judged_release now carry o accepted.row) result }
+    ensures month { IfOk result (λ release. release.month ≡ accepted.row.month) }
     ensures revision { (B.state book.new).is_clean → IfOk result (λ release.
-        release.revision ≡ revision_to_give row.month (frozen_months (B.state book.old).held.releases)) }
+        release.revision ≡ revision_to_give accepted.row.month (frozen_months (B.state book.old).held.releases)) }
 {
+    let Accepted { row, basis } = accepted;
+    let Some(basis) = basis else {
+        return Err(FreezeFault::Index(IndexFault::NoMemory));
+    };
     let month = row.month();
     let publishes = row.publishes();
-    let basis = match find_basis(alloc, book, month) {
-        Ok(Some(basis)) => basis,
-        Ok(None) => return Err(FreezeFault::Index(IndexFault::NoMemory)),
-        Err(StoreFault) => return Err(FreezeFault::Group),
-    };
     let Ok(rows) = book.month_rows(month) else {
         return Err(FreezeFault::Group);
     };
@@ -278,31 +308,7 @@ fn make<B: Book>(
     )
 }
 
-// The basis of a month's release: a copy of the plan of its year, none for the first release, and the revision that
-// follows. It is read after the judgement, since a book lends its public part only until its next call.
-#[derive(Drop)]
-struct Basis {
-    plan: Option<YearPlan>,
-    revision: Revision,
-}
-
-// Finds the basis of a month's release; none if there is no memory for the copy.
-fn find_basis<B: Book>(
-    alloc: Global,
-    book: &mut B,
-    month: Month,
-) -> Result<Option<Basis>, StoreFault>
-    ensures { let o = (B.state book.old).held in let frozen = frozen_months o.releases in
-        Reads (B.state book.old) (B.state book.new) result (λ found.
-        IfSome found (λ basis. (basis.plan ≡ plan_for o.plans frozen month)
-        × (revision_to_give month frozen ≤ 9 → basis.revision ≡ revision_to_give month frozen))) }
-{
-    let frozen = book.frozen_months()?;
-    let public = book.public_part()?;
-    Ok(basis_in(alloc, &frozen, public, month))
-}
-
-// The same, from the frozen months and the public part.
+// The basis of a month's release, from the frozen months and the public part; none if there is no memory for the copy.
 fn basis_in(alloc: Global, frozen: &[FrozenMonth], public: &Public, month: Month) -> Option<Basis>
     ensures { IfSome result (λ basis. (basis.plan ≡ plan_for public.now.plans frozen.now month)
         × (revision_to_give month frozen.now ≤ 9 →

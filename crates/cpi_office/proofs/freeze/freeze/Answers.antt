@@ -1,4 +1,5 @@
 use Rattle.std.proofs.Common.{◌≡◌, Ok, Err, inl, sym, ap, ◌∙◌, subst}
+use Rattle.std.proofs.lemmas.Option.{IfSome_then}
 use Rattle.cpi_release.specs.FrozenMonths.{frozen_months, is_next_month}
 use Rattle.cpi_store.specs.Sound.{IsSound}
 use Rattle.cpi_office.specs.Freezing.{verdict_of_freeze, freeze_judged_in, freeze_verdict, judged_release}
@@ -13,17 +14,20 @@ release-requires g c = record {
   next = λ clean.
       let reads = c.in-Ok-Ok.ensures in
       let o = (g.B.Book.state c.args.book.now).held in
-      let judged = sym (reads.shown clean) ∙ c.in-Ok-Ok.field-0-is in
+      let judged = (rw c.in-Ok-Ok.field-0-is at (reads.shown clean)).0 in
       let same = judged_month c.args.now c.args.month c.as_slice.result.now o.releases o.calendar o.plans
-      c.in-Ok-Ok.row judged in
+      c.in-Ok-Ok.accepted.row judged in
       rw (reads.keeps.kept clean) (ap (λ k. is_next_month k (frozen_months o.releases)) same
-      ∙ judged_follows c.args.now c.args.month c.as_slice.result.now o.releases o.calendar o.plans c.in-Ok-Ok.row
-      judged);
-  few = λ clean.
+      ∙ judged_follows c.args.now c.args.month c.as_slice.result.now o.releases o.calendar o.plans
+      c.in-Ok-Ok.accepted.row judged);
+  basis = λ clean.
       let reads = c.in-Ok-Ok.ensures in
       let o = (g.B.Book.state c.args.book.now).held in
-      rw (reads.keeps.kept clean) (judged_few c.args.now c.args.month c.as_slice.result.now o.releases o.calendar
-      o.plans c.in-Ok-Ok.row (sym (reads.shown clean) ∙ c.in-Ok-Ok.field-0-is));
+      let judged = rw c.in-Ok-Ok.field-0-is at (reads.shown clean) in
+      let few = judged_few c.args.now c.args.month c.as_slice.result.now o.releases o.calendar o.plans
+      c.in-Ok-Ok.accepted.row judged.0 in
+      rw (reads.keeps.kept clean)
+      (IfSome_then c.in-Ok-Ok.accepted.basis judged.1 (λ basis is. (is.0, is.1 few)));
 }
 
 pub returns-in-Ok-Err : goal.returns-in-Ok-Err
@@ -38,8 +42,8 @@ returns-in-Ok-Err g c =
     refused_where (IsSound o) old (g.B.Book.state c.judge.new.book) refusal (verdict_of_freeze now c.args.month carry o)
     reads.keeps (λ _. reads.stays) reads.count (λ clean _.
     let judged : freeze_judged_in now c.args.month carry o ≡ Err refusal =
-    ap (λ codes. freeze_judged_in now c.args.month codes o) (sym listed) ∙ sym (reads.shown clean)
-    ∙ c.in-Ok-Err.field-0-is in
+    ap (λ codes. freeze_judged_in now c.args.month codes o) (sym listed)
+    ∙ (rw c.in-Ok-Err.field-0-is at (reads.shown clean)) in
     inl (ap (freeze_verdict (judged_release now carry o)) judged))
 
 pub returns-in-Ok-Ok : goal.returns-in-Ok-Ok
@@ -50,7 +54,7 @@ returns-in-Ok-Ok g c =
     let o = old.held in
     let now = c.args.now in
     let carry = c.args.carry in
-    let row = c.in-Ok-Ok.row in
+    let row = c.in-Ok-Ok.accepted.row in
     let reads = c.in-Ok-Ok.ensures in
     let listed : c.as_slice.result.now ≡ carry = c.as_slice.ensures in
     serves_where_after (IsSound o) (IsSound mid.held) old mid new c.release.result
@@ -62,8 +66,8 @@ returns-in-Ok-Ok g c =
     (λ clean.
     let kept = reads.keeps.kept clean in
     let judged : freeze_judged_in now c.args.month carry o ≡ Ok row =
-    ap (λ codes. freeze_judged_in now c.args.month codes o) (sym listed) ∙ sym (reads.shown clean)
-    ∙ c.in-Ok-Ok.field-0-is in
+    ap (λ codes. freeze_judged_in now c.args.month codes o) (sym listed)
+    ∙ (rw c.in-Ok-Ok.field-0-is at (reads.shown clean)).0 in
     let verdict : release_verdict (judged_release now carry o row) ≡ verdict_of_freeze now c.args.month carry o =
     ap (freeze_verdict (judged_release now carry o)) (sym judged) in (
       λ sound. subst IsSound (sym kept) sound,

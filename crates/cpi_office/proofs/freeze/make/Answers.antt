@@ -20,51 +20,39 @@ pub returns : goal.returns
 returns g c =
     let state = g.B.Book.state in
     let old = state c.args.book.now in
-    let first = state c.find_basis.new.book in
     let mid = state c.month_rows.new.self in
     let new = state c.compute_by_group.new.groups in
     let o = old.held in
-    let row = c.args.row in
-    let planned = c.in-Ok-Some.ensures in
+    let row = c.args.accepted.row in
     let stored = c.in-Ok.ensures.reads in
     let groups = c.compute_by_group.ensures in
     let one = g.met.B.Book.groups_are c.month_rows.new.self in
     let two = g.met.B.Book.groups_are c.compute_by_group.new.groups in
-    let read = keeps_more old first mid planned.keeps planned.stays stored.keeps in
-    let read_stays = stays_more old first mid planned.stays stored.keeps stored.stays in
     let made = g.met.B.Book.groups_keep c.month_rows.new.self c.compute_by_group.new.groups groups.keeps in
     let month : c.month-month.result ≡ row.month = c.month-month.ensures in
-    let clean1 = λ (clean : new.is_clean). stored.keeps.was_clean (made.was_clean clean) in
-    let based = λ (clean : new.is_clean). rw (c.in-Ok-Some.field-0-is) at (planned.shown (clean1 clean)) in
-    let revision : new.is_clean → c.in-Ok-Some.basis.revision ≡ revision_to_give row.month (frozen_months o.releases) =
-    λ clean. (based clean).1 (subst (λ m. revision_to_give m (frozen_months o.releases) ≤ 9) (sym month)
-    (c.requires.few (planned.keeps.was_clean (clean1 clean))))
-    ∙ ap (λ m. revision_to_give m (frozen_months o.releases)) month in
+    let clean0 = λ (clean : new.is_clean). stored.keeps.was_clean (made.was_clean clean) in
+    let based = λ (clean : new.is_clean). rw c.in-Some.is at (c.requires.basis (clean0 clean)) in
     record {
-      keeps = keeps_more old mid new read read_stays made;
-      stays = λ apart. stays_more old mid new read_stays made (office_stays one two (groups.stays apart));
-      count = omega (arith, planned.count, stored.count, groups.count, one.failures, two.failures);
+      keeps = keeps_more old mid new stored.keeps stored.stays made;
+      stays = λ apart. stays_more old mid new stored.stays made (office_stays one two (groups.stays apart));
+      count = omega (arith, stored.count, groups.count, one.failures, two.failures);
       group = IfErr-weaker c.compute_by_group.result _ _
-          (λ f less failed. omega (arith, less failed, planned.count, stored.count, one.failures, two.failures))
+          (λ f less failed. omega (arith, less failed, stored.count, one.failures, two.failures))
           groups.group;
       month = rw month at groups.month;
       revision = λ clean. subst (λ v. IfOk c.compute_by_group.result (λ (r : Release). r.revision ≡ v))
-          (revision clean) groups.revision;
+          (based clean).1 groups.revision;
       made = λ clean sound.
           let clean2 = made.was_clean clean in
-          let same1 = planned.keeps.kept (clean1 clean) in
-          let same : mid.held ≡ o = stored.keeps.kept clean2 ∙ same1 in
+          let same : mid.held ≡ o = stored.keeps.kept clean2 in
           let wanted : Option Plan = plan_for o.plans (frozen_months o.releases) row.month in
           let frozen : Freeze = frozen_with c.args.now row c.args.carry o in
-          let plan : option_copied c.as_ref.result ≡ wanted = c.as_ref.ensures.value ∙ (based clean).0
-          ∙ ap (plan_for o.plans (frozen_months o.releases)) month in
+          let plan : option_copied c.as_ref.result ≡ wanted = c.as_ref.ensures.value ∙ (based clean).0 in
           let rows : c.in-Ok.rows.items ≡ quotes_of_month row.month o =
-          stored.shown clean2 (subst (λ (u : Office). are_by_series frozen_serial
-          (quotes_of_month c.month-month.result u) ≡ true) (sym same1) (quotes_by_series o sound c.month-month.result))
-          ∙ ap (λ (u : Office). quotes_of_month c.month-month.result u) same1 ∙ ap (λ m. quotes_of_month m o) month in
+          stored.shown clean2 (quotes_by_series o sound c.month-month.result) ∙ ap (λ m. quotes_of_month m o) month in
           let asks : Freeze = record {
             month = c.month-month.result;
-            revision = c.in-Ok-Some.basis.revision;
+            revision = c.in-Some.basis.revision;
             frozen_at =
                 c.args.now;
             publishes = c.publishes-publishes.result;
@@ -74,7 +62,7 @@ returns g c =
           } in
           let is : asks ≡ frozen = λ n. record {
             month = month n;
-            revision = revision clean n;
+            revision = (based clean).1 n;
             frozen_at =
                 c.args.now;
             publishes = c.publishes-publishes.ensures n;
@@ -87,7 +75,7 @@ returns g c =
           let read : s ≡ office_sources o = g.met.B.Book.sources_are c.month_rows.new.self ∙ ap office_sources same in
           let fit = g.met.B.Book.sound_is c.month_rows.new.self
           (subst (λ u. IsFit (office_sources u)) (sym same) (sources_fit o sound)) in
-          let next = c.requires.next (planned.keeps.was_clean (clean1 clean)) in
+          let next = c.requires.next (clean0 clean) in
           let asked = asked_back s (office_sources o) (option_copied c.as_ref.result) wanted asks frozen read plan is
           (asked_for o sound c.args.now row c.args.carry next) in
           made_is (fault_of wanted o.releases frozen) (release_of_month wanted o.releases frozen)

@@ -14,7 +14,7 @@ returns-in-Err g c =
     let old = g.B.Book.state c.args.book.now in
     let made = c.in-Err.ensures in
     let fault = c.in-Err.fault in
-    let wanted = judged_release c.args.now c.args.carry old.held c.args.row in
+    let wanted = judged_release c.args.now c.args.carry old.held c.args.accepted.row in
     rw c.refusal_of.ensures
     (refused_where (IsSound old.held) old (g.B.Book.state c.make.new.book) (fault_refusal fault)
     (release_verdict wanted) made.keeps (λ told. made.stays (all_read fault told)) made.count
@@ -29,16 +29,16 @@ put_release-requires g c = record {
       let kept = made.keeps.kept clean in
       let ordered : IsInOrder release_cmp release_key o.releases =
       subst (λ (u : Office). IsInOrder release_cmp release_key u.releases) kept sorted in
-      let month : c.in-Ok.release.month ≡ c.args.row.month = search rules in
-      let revision : c.in-Ok.release.revision ≡ revision_to_give c.args.row.month (frozen_months o.releases) =
+      let month : c.in-Ok.release.month ≡ c.args.accepted.row.month = search rules in
+      let revision : c.in-Ok.release.revision ≡ revision_to_give c.args.accepted.row.month (frozen_months o.releases) =
       search rules in
       let none : row_at release_cmp release_key (
-        c.args.row.month,
-        revision_to_give c.args.row.month (frozen_months o.releases),
+        c.args.accepted.row.month,
+        revision_to_give c.args.accepted.row.month (frozen_months o.releases),
       ) o.releases ≡ None =
-      none_follows c.args.row.month o.releases ordered (c.requires.next was) in
+      none_follows c.args.accepted.row.month o.releases ordered (c.requires.next was) in
       subst (λ (u : Office). row_at release_cmp release_key
       (c.in-Ok.release.month, c.in-Ok.release.revision) u.releases ≡ None) (sym kept)
       (ap (λ m. row_at release_cmp release_key (m, c.in-Ok.release.revision) o.releases) month
-      ∙ ap (λ r. row_at release_cmp release_key (c.args.row.month, r) o.releases) revision ∙ none);
+      ∙ ap (λ r. row_at release_cmp release_key (c.args.accepted.row.month, r) o.releases) revision ∙ none);
 }
