@@ -7,7 +7,7 @@ ghost use Rattle.cpi_app.specs.Connection.{ServesFront, GivesUpFront};
 use crate::desk::Desk;
 use crate::service::Service;
 use cpi_codes::Moment;
-use cpi_http::{Served, serve_one};
+use cpi_http::{Routes, Served, serve_one, serve_one_by};
 use cpi_office::Office;
 use cpi_store::Book;
 use cpi_wire::WireFault;
@@ -15,9 +15,11 @@ use std::alloc::Global;
 use std::io::{BufReader, Read, Write};
 
 /// Serves one message of the reader, which it reads through a buffer: bytes after the message may have been read too,
-/// and are thrown away. The errors are those of `serve_one` of `cpi_http`, and a lack of memory for the buffer.
+/// and are thrown away. Without routes, which want memory, it makes them for this message. The errors are those of
+/// `serve_one` of `cpi_http`, and a lack of memory for the buffer.
 pub fn serve_front<R: Read, W: Write, B: Book>(
     alloc: Global,
+    routes: Option<&Routes>,
     reader: &mut R,
     writer: &mut W,
     now: Moment,
@@ -34,20 +36,17 @@ pub fn serve_front<R: Read, W: Write, B: Book>(
     let Ok(mut buffered) = BufReader::new(alloc, reader) else {
         return Err(WireFault::NoMemory);
     };
-    serve_one(
-        alloc,
-        &mut buffered,
-        writer,
-        now,
-        &desk.zone,
-        desk.key,
-        office,
-    )
+    let (reader, zone, key) = (&mut buffered, &desk.zone, desk.key);
+    match routes {
+        Some(routes) => serve_one_by(alloc, routes, reader, writer, now, zone, key, office),
+        None => serve_one(alloc, reader, writer, now, zone, key, office),
+    }
 }
 
-/// The office at a desk. It serves one message of each connection.
+/// The office at a desk. It serves one message of each connection, by routes that it keeps, if it had memory for them.
 pub struct OfficeAtDesk<'a, B: Book> {
     pub alloc: Global,
+    pub routes: Option<Routes>,
     pub desk: &'a Desk,
     pub office: Office<B>,
 }
@@ -65,7 +64,8 @@ impl<B: Book> Service for OfficeAtDesk<'_, B> {
         reader: &mut R,
         writer: &mut W,
     ) -> Result<Served, WireFault> {
-        let desk = self.desk;
-        serve_front(self.alloc, reader, writer, now, desk, &mut self.office)
+        let (desk, routes) = (self.desk, self.routes.as_ref());
+        let office = &mut self.office;
+        serve_front(self.alloc, routes, reader, writer, now, desk, office)
     }
 }

@@ -8,6 +8,7 @@ use crate::desk::Desk;
 use crate::listener::{Listener, NoClock};
 use crate::service::Service;
 use crate::shake::{Shake, shake_of};
+use cpi_http::Routes;
 use cpi_office::Office;
 use cpi_store::Book;
 use std::alloc::Global;
@@ -71,12 +72,14 @@ pub fn serve_book<R: Eprint, L: Listener, B: Book>(
     let office = Office::new(alloc, book);
     let mut service = OfficeAtDesk {
         alloc,
+        routes: Routes::new(alloc).ok(),
         desk,
         office,
     };
     let left = serve_each(rt, listener, limit, &mut service);
     let OfficeAtDesk {
         alloc: _,
+        routes: _,
         desk: _,
         office,
     } = service;

@@ -1,10 +1,13 @@
 //! The routes: a method and a path each.
-ghost use Rattle.std.specs.Prelude.{◌≡◌, IfOk, IsUtf8, Some, None, codes};
+ghost use Rattle.std.specs.Prelude.{◌≡◌, IfOk, IfErr, IsUtf8, Some, None, codes};
+ghost use Rattle.cpi_wire.specs.declared.fault.WireFault.TheVariants.{NoMemory};
 ghost use Rattle.cpi_http.specs.Routes.{all_routes, method_of, word_of_route, route_of};
 
+use cpi_wire::WireFault;
 use http::Method;
 use matchit::{InsertError, Router};
 use std::alloc::Global;
+use std::marker::Model;
 use std::str;
 
 /// A route: what a method and a path ask for.
@@ -50,8 +53,8 @@ impl Route {
     }
 }
 
-/// The router of all routes. The error is that memory ran out: no two routes conflict.
-pub(crate) fn all_routes(alloc: Global) -> Result<Router<Route>, InsertError>
+// The router of all routes. The error is that memory ran out: no two routes conflict.
+fn all_routes(alloc: Global) -> Result<Router<Route>, InsertError>
     ensures { IfOk result (λ router. router ≡ all_routes) }
 {
     let mut router = Router::new(alloc);
@@ -67,17 +70,45 @@ pub(crate) fn all_routes(alloc: Global) -> Result<Router<Route>, InsertError>
     Ok(router)
 }
 
-/// The route of a method and a path; none if there is no such path, or if its method is another.
-pub(crate) fn route_of(router: &Router<Route>, method: &[u8], path: &[u8]) -> Option<Route>
-    requires routes { router.now ≡ all_routes }
-    requires text { IsUtf8 path.now }
-    ensures { result ≡ route_of method.now path.now }
-{
-    let route = *router.at(str::from_utf8(path).unwrap()).ok()?.value;
-    if method != route.method().as_str().as_bytes() {
-        return None;
+/// The routes of the office in a router, which is made once and kept from message to message.
+#[derive(Drop)]
+pub struct Routes {
+    router: Router<Route>,
+}
+
+impl Model for Routes {
+    ghost use Rattle.std.specs.Prelude.{◌≡◌};
+    ghost use Rattle.cpi_http.specs.Routes.{Routes, all_routes};
+
+    ghost Value = { Routes };
+
+    ghost view = { λ r. r.router };
+
+    ghost invariant = { λ r. r.router ≡ all_routes };
+}
+
+impl Routes {
+    /// Makes the router. The error is `NoMemory`.
+    pub fn new(alloc: Global) -> Result<Routes, WireFault>
+        ensures { IfErr result (λ fault. fault ≡ NoMemory) }
+    {
+        match all_routes(alloc) {
+            Ok(router) => Ok(Routes { router }),
+            Err(_) => Err(WireFault::NoMemory),
+        }
     }
-    Some(route)
+
+    /// The route of a method and a path; none if there is no such path, or if its method is another.
+    pub(crate) fn route_of(&self, method: &[u8], path: &[u8]) -> Option<Route>
+        requires text { IsUtf8 path.now }
+        ensures { result ≡ route_of method.now path.now }
+    {
+        let route = *self.router.at(str::from_utf8(path).unwrap()).ok()?.value;
+        if method != route.method().as_str().as_bytes() {
+            return None;
+        }
+        Some(route)
+    }
 }
 
 /// Routes, each computed by the check.

@@ -18,7 +18,7 @@ use crate::framing::framing;
 use crate::head::{HeadEnd, read_head};
 use crate::limits::{MOST_BYTES_WITH_HEAD, MOST_CALLS, MOST_FIELDS};
 use crate::responses::{Response, refusal, respond};
-use crate::routes::{Route, all_routes};
+use crate::routes::{Route, Routes};
 use cpi_codes::{Key, Moment, Zone};
 use cpi_office::{Caller, Office};
 use cpi_store::Book;
@@ -153,9 +153,28 @@ pub fn serve_one<R: Read, W: Write, B: Book>(
         (R.remaining reader.old) (R.remaining reader.new)
         (served_change office.old.book office.new.book (W.contents writer.old) (W.contents writer.new))) }
 {
-    let Ok(routes) = all_routes(alloc) else {
-        return Err(WireFault::NoMemory);
-    };
+    let routes = Routes::new(alloc)?;
+    serve_one_by(alloc, &routes, reader, writer, now, zone, desk_key, office)
+}
+
+/// Does what [`serve_one`] does, by routes that are kept from message to message.
+pub fn serve_one_by<R: Read, W: Write, B: Book>(
+    alloc: Global,
+    routes: &Routes,
+    reader: &mut R,
+    writer: &mut W,
+    now: Moment,
+    zone: &Zone,
+    desk_key: Key,
+    office: &mut Office<B>,
+) -> Result<Served, WireFault>
+    ensures ok { IfOk result (IsServed B.state (messages (setting now zone.now desk_key))
+        (R.remaining reader.old) (R.remaining reader.new)
+        (served_change office.old.book office.new.book (W.contents writer.old) (W.contents writer.new))) }
+    ensures err { IfErr result (GaveUp B.state (messages (setting now zone.now desk_key))
+        (R.remaining reader.old) (R.remaining reader.new)
+        (served_change office.old.book office.new.book (W.contents writer.old) (W.contents writer.new))) }
+{
     let mut calls_left = MOST_CALLS;
     let mut buf = Vec::new(alloc);
     let mut fields = [EMPTY_HEADER_SPAN; MOST_FIELDS];
@@ -167,7 +186,7 @@ pub fn serve_one<R: Read, W: Write, B: Book>(
     let fields = &fields[..spans.headers];
     let path = spans.path.of(&buf);
     let size = framing(&buf, fields);
-    let called = called_of(&routes, desk_key, &buf, fields, spans.method.of(&buf), path);
+    let called = called_of(routes, desk_key, &buf, fields, spans.method.of(&buf), path);
     serve_body(
         alloc,
         reader,

@@ -5,7 +5,7 @@ use Rattle.cpi_wire.specs.Answer.{One}
 use Rattle.cpi_http.specs.Message.{setting}
 use Rattle.cpi_http.specs.Served.{messages}
 use Rattle.cpi_http.proofs.Serving.{sent-ok, sent-err, gives-malformed, are-parts, headed-ok, headed-err}
-use Rattle.cpi_http.proofs.serve.serve_one.Goals as goal
+use Rattle.cpi_http.proofs.serve.serve_one_by.Goals as goal
 
 pub returns-in-Malformed-clause-ok : goal.returns-in-Malformed-clause-ok
 returns-in-Malformed-clause-ok g c =
