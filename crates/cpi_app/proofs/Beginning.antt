@@ -9,19 +9,19 @@ use Rattle.cpi_wire.specs.declared.fault.WireFault.TheVariants.{NoMemory}
 use Rattle.cpi_wire.specs.Records.{GaveUp}
 
 -- no records are the first of any input
-none-first : (input : Option (List ℕ)) → IfSome input (AreFirst [])
-none-first None = tt
-none-first (Some text) = (records_of text, refl)
+none_first : (input : Option (List ℕ)) → IfSome input (AreFirst [])
+none_first None = tt
+none_first (Some text) = (records_of text, refl)
 
 -- without memory nothing is answered and nothing is written
-pub gave-up-at-once : {B : Type 0} (state : B → State Office) (rule : ZoneRule) (input was : Option (List ℕ)) (book : B)
+pub gave_up_at_once : {B : Type 0} (state : B → State Office) (rule : ZoneRule) (input was : Option (List ℕ)) (book : B)
     → GaveUp rule state input book book was was NoMemory
-gave-up-at-once state rule input was book = record {
+gave_up_at_once state rule input was book = record {
   rows = [];
   replies = [];
   mid = book;
   next = None;
-  first = none-first input;
+  first = none_first input;
   few = omega arith;
   answers = refl;
   begun = refl;

@@ -11,12 +11,12 @@ use Rattle.cpi_office.proofs.Tabled.{latest_named}
 -- what is kept passes
 passes : {X : Type 0} (keep : X → Bool) (xs : List X) → AllByRecursion (λ x. keep x ≡ true) (filter keep xs)
 passes keep [] = tt
-passes keep (x ∷ xs) = by (keep x) refl (passes keep xs)
+passes keep (x ∷ xs) = cases (keep x) refl (passes keep xs)
   where
-    by : (k : Bool) → keep x ≡ k → AllByRecursion (λ y. keep y ≡ true) (filter keep xs)
+    cases : (k : Bool) → keep x ≡ k → AllByRecursion (λ y. keep y ≡ true) (filter keep xs)
         → AllByRecursion (λ y. keep y ≡ true) (filter keep (x ∷ xs))
-    by true h rest = rw h (h, rest)
-    by false h rest = rw h rest
+    cases true h rest = rw h (h, rest)
+    cases false h rest = rw h rest
 
 module _ (month revision : ℕ) (tables : List PublishedTable) where
   abbrev named : Option PublishedTable
@@ -25,12 +25,12 @@ module _ (month revision : ℕ) (tables : List PublishedTable) where
   -- the latest table, by its revision
   pub latest_revision : Some revision ≡ option_map (λ (t : PublishedTable). t.revision) (asked_table month None tables)
       → named ≡ asked_table month None tables
-  latest_revision e = by (asked_table month None tables) refl e
+  latest_revision e = cases (asked_table month None tables) refl e
     where
-      by : (o : Option PublishedTable) → asked_table month None tables ≡ o
+      cases : (o : Option PublishedTable) → asked_table month None tables ≡ o
           → Some revision ≡ option_map (λ (t : PublishedTable). t.revision) o → named ≡ o
-      by None f g = cc
-      by (Some t) f g =
+      cases None f g = cc
+      cases (Some t) f g =
           let is : revision ≡ t.revision = cc in
           ap (λ r. asked_table month (Some r) tables) is ∙ latest_named month tables t f
 
@@ -44,9 +44,9 @@ module _ (month revision : ℕ) (tables : List PublishedTable) where
   -- a table whose rows were found
   pub with_levels : (levels : List Level) → Some levels ≡ option_map (λ (t : PublishedTable). t.levels) named
       → (t : PublishedTable) × (named ≡ Some t) × (t.revision ≡ revision) × (levels ≡ t.levels)
-  with_levels levels e = by named refl e
+  with_levels levels e = cases named refl e
     where
-      by : (o : Option PublishedTable) → named ≡ o → Some levels ≡ option_map (λ (t : PublishedTable). t.levels) o
+      cases : (o : Option PublishedTable) → named ≡ o → Some levels ≡ option_map (λ (t : PublishedTable). t.levels) o
           → (t : PublishedTable) × (named ≡ Some t) × (t.revision ≡ revision) × (levels ≡ t.levels)
-      by None f g = let no : Some levels ≡ None = g in cc
-      by (Some t) f g = (t, f, revision_is t f, cc)
+      cases None f g = let no : Some levels ≡ None = g in cc
+      cases (Some t) f g = (t, f, revision_is t f, cc)

@@ -29,46 +29,46 @@ Shows y m d h n t = (y < 10000) × (t.date.year ≡ pos y) × (t.date.month ≡ 
 abbrev Finds : {A : Type 0} → (A → Type 0) → Option A → Type 0
 Finds {A} P found = MatchOption found ((a : A) → P a → ⊥) P
 
-if-below : {B : Type 0} (P : B → Type 0) (end n : ℕ) (f : n < end → Option B) → ((h : n < end) → Finds P (f h)) →
+if_below : {B : Type 0} (P : B → Type 0) (end n : ℕ) (f : n < end → Option B) → ((h : n < end) → Finds P (f h)) →
     ((b : B) → P b → n < end)
     → Finds P (below end n >>= f)
-if-below P end n f there only = by (cases_lt n end)
+if_below P end n f there only = cases (cases_lt n end)
   where
-    by : (o : (n < end) ⊎ (end ≤ n)) → Finds P (first o >>= f)
-    by (inl h) = there h
-    by (inr h) = λ b p. let lt = only b p in absurd (omega arith)
+    cases : (o : (n < end) ⊎ (end ≤ n)) → Finds P (first o >>= f)
+    cases (inl h) = there h
+    cases (inr h) = λ b p. let lt = only b p in absurd (omega arith)
 
-if-within : {B : Type 0} (P : B → Type 0) (low high n : ℕ) (f : IsInRange low high n → Option B) →
+if_within : {B : Type 0} (P : B → Type 0) (low high n : ℕ) (f : IsInRange low high n → Option B) →
     ((h : IsInRange low high n) → Finds P (f h))
     → ((b : B) → P b → IsInRange low high n) → Finds P (within low high n >>= f)
-if-within P low high n f there only = by (cases_lt n low) (cases_lt high n)
+if_within P low high n f there only = cases (cases_lt n low) (cases_lt high n)
   where
-    by : (o : (n < low) ⊎ (low ≤ n)) (q : (high < n) ⊎ (n ≤ high)) → Finds P (range o q >>= f)
-    by (inr h) (inr k) = there (h, k)
-    by (inr h) (inl k) = λ b p. let le = (only b p).1 in absurd (omega arith)
-    by (inl h) q = λ b p. let le = (only b p).0 in absurd (omega arith)
+    cases : (o : (n < low) ⊎ (low ≤ n)) (q : (high < n) ⊎ (n ≤ high)) → Finds P (range o q >>= f)
+    cases (inr h) (inr k) = there (h, k)
+    cases (inr h) (inl k) = λ b p. let le = (only b p).1 in absurd (omega arith)
+    cases (inl h) q = λ b p. let le = (only b p).0 in absurd (omega arith)
 
 -- the date of these numbers has a month of them, and a day
-month-of : (y m d h n : ℕ) (t : DateTime) → Shows y m d h n t → IsInRange 1 12 m
-month-of y m d h n t s = rw (← s.2) t.date.month_in
+month_of : (y m d h n : ℕ) (t : DateTime) → Shows y m d h n t → IsInRange 1 12 m
+month_of y m d h n t s = rw (← s.2) t.date.month_in
 
-day-of : (y m d h n : ℕ) (t : DateTime) → Shows y m d h n t → IsInRange 1 (days_in_month (pos y) m) d
-day-of y m d h n t s =
+day_of : (y m d h n : ℕ) (t : DateTime) → Shows y m d h n t → IsInRange 1 (days_in_month (pos y) m) d
+day_of y m d h n t s =
     subst (λ z. IsInRange 1 (days_in_month z m) d) s.1
     (subst (λ z. IsInRange 1 (days_in_month t.date.year z) d) s.2
     (subst (λ z. IsInRange 1 (days_in_month t.date.year t.date.month) z) s.3 t.date.day_in))
 
-finds-time : (y m d h n : ℕ) → Finds (Shows y m d h n) (time_at y m d h n)
+finds_time : (y m d h n : ℕ) → Finds (Shows y m d h n) (time_at y m d h n)
 unfolding time_at
-finds-time y m d h n =
+finds_time y m d h n =
     let P = Shows y m d h n in
-    if-below P 10000 y _ (λ a. if-within P 1 12 m _
-    (λ b. if-within P 1 (days_in_month (pos y) m) d _ (λ c. if-below P 24 h _ (λ e. if-below P 60 n _
+    if_below P 10000 y _ (λ a. if_within P 1 12 m _
+    (λ b. if_within P 1 (days_in_month (pos y) m) d _ (λ c. if_below P 24 h _ (λ e. if_below P 60 n _
     (λ g. (a, refl, refl, refl, refl, refl, refl, refl))
     (λ t s. rw (← s.5) t.time.minute_in))
     (λ t s. rw (← s.4) t.time.hour_in))
-    (day-of y m d h n))
-    (month-of y m d h n))
+    (day_of y m d h n))
+    (month_of y m d h n))
     (λ t s. s.0)
 
 -- ---- the numbers that a civil text writes
@@ -80,19 +80,19 @@ abbrev AreNumbers : List ℕ → ℕ → ℕ → ℕ → ℕ → ℕ → Type 0
 AreNumbers text y m d h n = (year_in text ≡ y) × (number_of_two_digits text 5 ≡ m) × (number_of_two_digits text 8 ≡ d)
     × (number_of_two_digits text 11 ≡ h) × (number_of_two_digits text 14 ≡ n)
 
-digits-back : (n : ℕ) → (48 + n / 10 - 48) * 10 + (48 + n % 10 - 48) ≡ n
-digits-back n = omega arith
+digits_back : (n : ℕ) → (48 + n / 10 - 48) * 10 + (48 + n % 10 - 48) ≡ n
+digits_back n = omega arith
 
 numbers : (text : List ℕ) (y m d h n : ℕ) → text ≡ civil_text y m d h n → AreNumbers text y m d h n
 numbers text y m d h n e =
     let at : (k : ℕ) → get_or text k 0 ≡ get_or (civil_text y m d h n) k 0 = λ k. ap (λ l. get_or l k 0) e in
-    let century : number_of_two_digits text 0 ≡ y / 100 = rw (at 0, at 1) (digits-back (y / 100)) in
-    let in_century : number_of_two_digits text 2 ≡ y % 100 = rw (at 2, at 3) (digits-back (y % 100)) in (
+    let century : number_of_two_digits text 0 ≡ y / 100 = rw (at 0, at 1) (digits_back (y / 100)) in
+    let in_century : number_of_two_digits text 2 ≡ y % 100 = rw (at 2, at 3) (digits_back (y % 100)) in (
       rw (century, in_century) (omega arith),
-      rw (at 5, at 6) (digits-back m),
-      rw (at 8, at 9) (digits-back d),
-      rw (at 11, at 12) (digits-back h),
-      rw (at 14, at 15) (digits-back n),
+      rw (at 5, at 6) (digits_back m),
+      rw (at 8, at 9) (digits_back d),
+      rw (at 11, at 12) (digits_back h),
+      rw (at 14, at 15) (digits_back n),
     )
 
 -- ---- the time that a text writes
@@ -116,8 +116,8 @@ shows text t is =
           (is.1.four, is.1.year_is, refl, refl, refl, refl, is.1.second, is.1.fraction),
     )
 
-is-of : (text : List ℕ) (y m d h n : ℕ) (t : DateTime) → text ≡ civil_text y m d h n → Shows y m d h n t → IsOf text t
-is-of text y m d h n t e s = (
+is_of : (text : List ℕ) (y m d h n : ℕ) (t : DateTime) → text ≡ civil_text y m d h n → Shows y m d h n t → IsOf text t
+is_of text y m d h n t e s = (
   y,
   record {
     year_is = s.1;
@@ -134,20 +134,20 @@ weaker : {A : Type 0} (P Q : A → Type 0) (o : Option A) → ((a : A) → P a �
 weaker P Q None to from found = λ a q. found a (from a q)
 weaker P Q (Some a) to from found = to a found
 
-pub finds-text : (text : List ℕ) → Finds (IsOf text) (civil_of text)
+pub finds_text : (text : List ℕ) → Finds (IsOf text) (civil_of text)
 unfolding civil_of
-finds-text text = by (bytes_eq text (written text)) (bytes_eq-Decides text (written text))
+finds_text text = cases (bytes_eq text (written text)) (bytes_eq-Decides text (written text))
   where
-    by : (same : Bool) → Decides same (text ≡ written text)
+    cases : (same : Bool) → Decides same (text ≡ written text)
         → Finds (IsOf text) (if same then time_at (year_in text) (number_of_two_digits text 5)
         (number_of_two_digits text 8)
         (number_of_two_digits text 11) (number_of_two_digits text 14) else None)
-    by true is =
+    cases true is =
         weaker (Shows (year_in text) (number_of_two_digits text 5) (number_of_two_digits text 8)
         (number_of_two_digits text 11)
         (number_of_two_digits text 14)) (IsOf text) _
-        (λ t s. is-of text _ _ _ _ _ t (is.0 refl) s) (λ t q. (shows text t q).1) (finds-time _ _ _ _ _)
-    by false is = λ t q. absurd (true≢false (sym (is.1 (shows text t q).0)))
+        (λ t s. is_of text _ _ _ _ _ t (is.0 refl) s) (λ t q. (shows text t q).1) (finds_time _ _ _ _ _)
+    cases false is = λ t q. absurd (true≢false (sym (is.1 (shows text t q).0)))
 
 -- ---- the moment
 
@@ -158,39 +158,39 @@ moment_of zone found = found >>= λ time. if is_office_year time.date.year then 
 abbrev Times : List ℕ → Option DateTime → Type 0
 Times text found = Finds (IsOf text) found
 
-in-office : (y : ℕ) → IsOfficeYear y → is_office_year (pos y) ≡ true
-in-office y h = grind (arith, nat_tests)
+in_office : (y : ℕ) → IsOfficeYear y → is_office_year (pos y) ≡ true
+in_office y h = grind (arith, nat_tests)
 
 outside : (y : ℕ) → ¬ IsOfficeYear y → is_office_year (pos y) ≡ false
-outside y h = by (nat_le 2000 y) (nat_le y 2199) refl refl
+outside y h = cases (nat_le 2000 y) (nat_le y 2199) refl refl
   where
-    by : (a b : Bool) → nat_le 2000 y ≡ a → nat_le y 2199 ≡ b → (a && b) ≡ false
-    by true true e k = absurd (h (grind (arith, nat_tests), grind (arith, nat_tests)))
-    by true false e k = refl
-    by false b e k = refl
+    cases : (a b : Bool) → nat_le 2000 y ≡ a → nat_le y 2199 ≡ b → (a && b) ≡ false
+    cases true true e k = absurd (h (grind (arith, nat_tests), grind (arith, nat_tests)))
+    cases true false e k = refl
+    cases false b e k = refl
 
-same-moment : (zone : ZoneRule) (text : List ℕ) (found : Option DateTime) (r : Result ℕ MomentFault) →
+same_moment : (zone : ZoneRule) (text : List ℕ) (found : Option DateTime) (r : Result ℕ MomentFault) →
     Times text found → ZoneGives zone text r → result_ok r ≡ moment_of zone found
-same-moment zone text (Some t) (Ok s) is g =
+same_moment zone text (Some t) (Ok s) is g =
     let same = one_time text is.0 g.0 t g.1 is.1 g.2 in
     let year : t.date.year ≡ pos g.0 = ap (λ u. u.date.year) same.1 ∙ g.2.year_is in
     let second : second_in zone t ≡ pos s = ap (second_in zone) same.1 ∙ sym g.4 in
-    let known : is_office_year t.date.year ≡ true = ap is_office_year year ∙ in-office g.0 g.3 in
+    let known : is_office_year t.date.year ≡ true = ap is_office_year year ∙ in_office g.0 g.3 in
     rw (known, second) refl
-same-moment zone text None (Ok s) is g = absurd (is g.1 (g.0, g.2))
-same-moment zone text (Some t) (Err Text) is g = absurd (g is.0 t is.1)
-same-moment zone text None (Err Text) is g = refl
-same-moment zone text (Some t) (Err Range) is g =
+same_moment zone text None (Ok s) is g = absurd (is g.1 (g.0, g.2))
+same_moment zone text (Some t) (Err Text) is g = absurd (g is.0 t is.1)
+same_moment zone text None (Err Text) is g = refl
+same_moment zone text (Some t) (Err Range) is g =
     let same = one_time text is.0 g.0 t g.1 is.1 g.2 in
     let year : t.date.year ≡ pos g.0 = ap (λ u. u.date.year) same.1 ∙ g.2.year_is in
     let unknown : is_office_year t.date.year ≡ false = ap is_office_year year ∙ outside g.0 g.3 in
     rw unknown refl
-same-moment zone text None (Err Range) is g = refl
-same-moment zone text found (Err Zone) is g = absurd g
-same-moment zone text found (Err NoMemory) is g = absurd g
+same_moment zone text None (Err Range) is g = refl
+same_moment zone text found (Err Zone) is g = absurd g
+same_moment zone text found (Err NoMemory) is g = absurd g
 
 -- what a text gives is what is computed
 pub gives_moment : (zone : ZoneRule) (text : List ℕ) (r : Result ℕ MomentFault) → ZoneGives zone text r →
     result_ok r ≡ moment_in zone text
 unfolding moment_in
-gives_moment zone text r g = same-moment zone text (civil_of text) r (finds-text text) g
+gives_moment zone text r g = same_moment zone text (civil_of text) r (finds_text text) g

@@ -67,20 +67,20 @@ pub spelled_has_text : (bytes : List ℕ) → IfSome (spelled_code bytes) (λ c.
 unfolding spelled_code
 spelled_has_text bytes =
     after (λ c. code_text c ≡ bytes) (code_in bytes) (λ c. if bytes_eq (code_text c) bytes then Some c else None)
-    (λ c. by c (bytes_eq (code_text c) bytes) (bytes_eq-Decides (code_text c) bytes))
+    (λ c. cases c (bytes_eq (code_text c) bytes) (bytes_eq-Decides (code_text c) bytes))
   where
-    by : (c : Code) (same : Bool) → Decides same (code_text c ≡ bytes) →
+    cases : (c : Code) (same : Bool) → Decides same (code_text c ≡ bytes) →
         IfSome (if same then Some c else None) (λ x. code_text x ≡ bytes)
-    by c true is = is.0 refl
-    by c false is = tt
+    cases c true is = is.0 refl
+    cases c false is = tt
 
 -- ---- so an answer that is a code exactly where the text writes one is that one
 
 pub reads_code : (bytes : List ℕ) (r : Result Code CodeFault) → IfOk r (λ c. code_text c ≡ bytes) →
     ((c : Code) → code_text c ≡ bytes → r ≡ Ok c) → result_ok r ≡ spelled_code bytes
 reads_code bytes (Ok c) is every = sym (there bytes c is)
-reads_code bytes (Err f) is every = by (spelled_code bytes) (spelled_has_text bytes)
+reads_code bytes (Err f) is every = cases (spelled_code bytes) (spelled_has_text bytes)
   where
-    by : (o : Option Code) → IfSome o (λ c. code_text c ≡ bytes) → None ≡ o
-    by None w = refl
-    by (Some c) w = absurd (let no = every c w in (cc no))
+    cases : (o : Option Code) → IfSome o (λ c. code_text c ≡ bytes) → None ≡ o
+    cases None w = refl
+    cases (Some c) w = absurd (let no = every c w in (cc no))

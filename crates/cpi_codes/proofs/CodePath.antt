@@ -12,7 +12,7 @@ use Rattle.cpi_codes.specs.CodeParts.{is_under, two_digits, dot_and_digit, dash_
 use Rattle.cpi_codes.specs.CodeText.{code_text, begins_with, are_one_text, all_items, is_code_at_or_below}
 use Rattle.cpi_codes.specs.declared.codes.Code.{Code}
 use Rattle.cpi_codes.proofs.CodeBytes.{absent_below}
-use Rattle.cpi_codes.proofs.CodeBelow.{fits, begins-parts, begins-two, begins-nil, at_or_below-begins}
+use Rattle.cpi_codes.proofs.CodeBelow.{fits, begins_parts, begins_two, begins_nil, at_or_below_begins}
 
 abbrev pub same_part : Option ℕ → Option ℕ → Bool
 same_part None None = true
@@ -46,32 +46,32 @@ path_sum v d g c s a qd (Some x) None None (Some w) h k u = cc
 path_sum v d g c s a qd (Some x) None (Some z) qa h k u = cc
 path_sum v d g c s a qd (Some x) (Some y) None (Some w) h k u = cc
 
-is_eq-then : (a b : ℕ) (o : Ordering) → is_eq (ordering_then (nat_cmp a b) o) ≡ ((b == a) && is_eq o)
-is_eq-then a b o = grind (arith, nat_tests)
+is_eq_then : (a b : ℕ) (o : Ordering) → is_eq (ordering_then (nat_cmp a b) o) ≡ ((b == a) && is_eq o)
+is_eq_then a b o = grind (arith, nat_tests)
 
-is_eq-part : (x y : Option ℕ) (o : Ordering) → is_eq (ordering_then (option_cmp nat_cmp x y) o) ≡
+is_eq_part : (x y : Option ℕ) (o : Ordering) → is_eq (ordering_then (option_cmp nat_cmp x y) o) ≡
     (same_part y x && is_eq o)
-is_eq-part None None o = refl
-is_eq-part None (Some e) o = refl
-is_eq-part (Some d) None o = refl
-is_eq-part (Some d) (Some e) o = is_eq-then d e o
+is_eq_part None None o = refl
+is_eq_part None (Some e) o = refl
+is_eq_part (Some d) None o = refl
+is_eq_part (Some d) (Some e) o = is_eq_then d e o
 
-is_eq-last : (x y : Option ℕ) → is_eq (option_cmp nat_cmp x y) ≡ same_part y x
-is_eq-last None None = refl
-is_eq-last None (Some e) = refl
-is_eq-last (Some d) None = refl
-is_eq-last (Some d) (Some e) = grind (arith, nat_tests)
+is_eq_last : (x y : Option ℕ) → is_eq (option_cmp nat_cmp x y) ≡ same_part y x
+is_eq_last None None = refl
+is_eq_last None (Some e) = refl
+is_eq_last (Some d) None = refl
+is_eq_last (Some d) (Some e) = grind (arith, nat_tests)
 
 -- codes compare equal where they have the same parts
-pub is_eq-parts : (n q : Code) → is_eq (code_cmp n q) ≡
+pub is_eq_parts : (n q : Code) → is_eq (code_cmp n q) ≡
     ((q.division == n.division) && (same_part q.group n.group
     && (same_part q.class n.class && (same_part q.subclass n.subclass && same_part q.aggregate n.aggregate))))
-is_eq-parts n q =
-    is_eq-then n.division q.division _ ∙ ap (λ b. (q.division == n.division) && b)
-    (is_eq-part n.group q.group _ ∙ ap (λ b. same_part q.group n.group && b)
-    (is_eq-part n.class q.class _ ∙ ap (λ b. same_part q.class n.class && b)
-    (is_eq-part n.subclass q.subclass _ ∙ ap (λ b. same_part q.subclass n.subclass && b)
-    (is_eq-last n.aggregate q.aggregate))))
+is_eq_parts n q =
+    is_eq_then n.division q.division _ ∙ ap (λ b. (q.division == n.division) && b)
+    (is_eq_part n.group q.group _ ∙ ap (λ b. same_part q.group n.group && b)
+    (is_eq_part n.class q.class _ ∙ ap (λ b. same_part q.class n.class && b)
+    (is_eq_part n.subclass q.subclass _ ∙ ap (λ b. same_part q.subclass n.subclass && b)
+    (is_eq_last n.aggregate q.aggregate))))
 
 zero_test : (n : ℕ) (b : Bool) → (n ≡ 0 → b ≡ true) → (((n == 0) && true) && ((0 == n) && b)) ≡ (n == 0)
 zero_test n b h = grind (arith, nat_tests)
@@ -79,8 +79,8 @@ zero_test n b h = grind (arith, nat_tests)
 zero_digits : (n : ℕ) (r : List ℕ) → (n ≡ 0 → r ≡ []) → are_one_text (two_digits n ++ r) all_items ≡ (n == 0)
 zero_digits n r h =
     ap (λ b. b && begins_with all_items (two_digits n ++ r))
-    (begins-two n 0 r [] ∙ ap (λ b. (n == 0) && b) (begins-nil r))
-    ∙ ap (λ b. ((n == 0) && true) && b) (begins-two 0 n [] r)
+    (begins_two n 0 r [] ∙ ap (λ b. (n == 0) && b) (begins_nil r))
+    ∙ ap (λ b. ((n == 0) && true) && b) (begins_two 0 n [] r)
     ∙ zero_test n (begins_with [] r) (λ e. ap (begins_with []) (h e))
 
 alone : (n : ℕ) (g : Option ℕ) → (nat_le 1 n || is_none g) ≡ true → n ≡ 0 → g ≡ None
@@ -102,17 +102,17 @@ no_parts q e =
 
 -- a code is at or below a node where the node is `00`, or its division is the node's and each further part of the
 -- node fits
-pub at_or_below-parts : (q c : Code) → is_code_at_or_below q c ≡
+pub at_or_below_parts : (q c : Code) → is_code_at_or_below q c ≡
     ((q.division == 0) || ((c.division == q.division)
     && (fits q.group c.group && (fits q.class c.class
     && (fits q.subclass c.subclass && fits q.aggregate c.aggregate)))))
-at_or_below-parts q c =
-    at_or_below-begins q c
+at_or_below_parts q c =
+    at_or_below_begins q c
     ∙ ap (λ z. z || begins_with (code_text c) (code_text q))
     (zero_digits q.division (dot_and_digit q.group ++
     (dot_and_digit q.class ++ (dot_and_digit q.subclass ++ dash_and_number q.aggregate)))
     (no_parts q))
-    ∙ ap (λ b. (q.division == 0) || b) (begins-parts c q)
+    ∙ ap (λ b. (q.division == 0) || b) (begins_parts c q)
 
 -- the amount, where a code compares equal to these parts
 abbrev pub amount_at : ℕ → Code → ℕ → Option ℕ → Option ℕ → Option ℕ → Option ℕ → ℕ
@@ -121,14 +121,14 @@ amount_at v q d g c s a = cond (is_eq (ordering_then (nat_cmp d q.division)
     (ordering_then (option_cmp nat_cmp c q.class)
     (ordering_then (option_cmp nat_cmp s q.subclass) (option_cmp nat_cmp a q.aggregate)))))) v 0
 
-amount_at-parts : (v : ℕ) (q : Code) (d : ℕ) (g c s a : Option ℕ) →
+amount_at_parts : (v : ℕ) (q : Code) (d : ℕ) (g c s a : Option ℕ) →
     amount_at v q d g c s a ≡ amount_if v q.division q.group q.class q.subclass q.aggregate d g c s a
-amount_at-parts v q d g c s a =
+amount_at_parts v q d g c s a =
     ap (λ b. cond b v 0)
-    (is_eq-then d q.division _ ∙ ap (λ b. (q.division == d) && b)
-    (is_eq-part g q.group _ ∙ ap (λ b. same_part q.group g && b)
-    (is_eq-part c q.class _ ∙ ap (λ b. same_part q.class c && b)
-    (is_eq-part s q.subclass _ ∙ ap (λ b. same_part q.subclass s && b) (is_eq-last a q.aggregate)))))
+    (is_eq_then d q.division _ ∙ ap (λ b. (q.division == d) && b)
+    (is_eq_part g q.group _ ∙ ap (λ b. same_part q.group g && b)
+    (is_eq_part c q.class _ ∙ ap (λ b. same_part q.class c && b)
+    (is_eq_part s q.subclass _ ∙ ap (λ b. same_part q.subclass s && b) (is_eq_last a q.aggregate)))))
 
 positive_below : (n : ℕ) (g : Option ℕ) → (nat_le 1 n || is_none g) ≡ true → is_some g ≡ true → 1 ≤ n
 positive_below n None h k = cc
@@ -154,12 +154,12 @@ path_total v d (Some g) (Some c) (Some s) (Some a) q h i =
     let valid = numbered_part q.division q.group q.class q.subclass q.aggregate q.valid in
     let low = positive_below d (Some g) (numbered_part d (Some g) (Some c) (Some s) (Some a) h) refl in
     rw (
-      amount_at-parts v q 0 None None None None,
-      amount_at-parts v q d None None None None,
-      amount_at-parts v q d (Some g) None None None,
-      amount_at-parts v q d (Some g) (Some c) None None,
-      amount_at-parts v q d (Some g) (Some c) (Some s) None,
-      amount_at-parts v q d (Some g) (Some c) (Some s)
+      amount_at_parts v q 0 None None None None,
+      amount_at_parts v q d None None None None,
+      amount_at_parts v q d (Some g) None None None,
+      amount_at_parts v q d (Some g) (Some c) None None,
+      amount_at_parts v q d (Some g) (Some c) (Some s) None,
+      amount_at_parts v q d (Some g) (Some c) (Some s)
           (Some a),
     )
     (path_sum v d g c s a q.division q.group q.class q.subclass q.aggregate low

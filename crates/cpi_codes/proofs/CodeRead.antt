@@ -12,7 +12,7 @@ use Rattle.cpi_codes.specs.CodeText.{code_text}
 use Rattle.cpi_codes.specs.CodeSpelling.{spelling, is_numbered, is_nested, IsSpelled}
 use Rattle.cpi_codes.specs.declared.codes.Code.{Code}
 use Rattle.cpi_codes.specs.declared.spelling.Parts.{Parts}
-use Rattle.cpi_codes.proofs.CodeBytes.{parts-cmp, absent_below, empty_under}
+use Rattle.cpi_codes.proofs.CodeBytes.{parts_cmp, absent_below, empty_under}
 use Rattle.cpi_codes.proofs.CodeIs.{same_code_is}
 
 pub part_same : (x y : Option ℕ) → option_cmp nat_cmp x y ≡ Equal → x ≡ y
@@ -50,7 +50,7 @@ nested_below p h = (
 pub same_parts : (p : Parts) (c : Code) → IsTrue (is_nested p) → spelling p ≡ code_text c → (p.division ≡ c.division)
     × (p.group ≡ c.group) × (p.class ≡ c.class) × (p.subclass ≡ c.subclass) × (p.aggregate ≡ c.aggregate)
 same_parts p c h e =
-    let equal = sym (parts-cmp p.division p.group p.class p.subclass p.aggregate c.division c.group c.class c.subclass
+    let equal = sym (parts_cmp p.division p.group p.class p.subclass p.aggregate c.division c.group c.class c.subclass
     c.aggregate (nested_below p h) (absent_below c.division _ _ _ _ c.valid))
     ∙ ap (λ xs. slice_cmp nat_cmp xs (code_text c)) e ∙ same_bytes (code_text c) in
     let rest = then_second (nat_cmp p.division c.division) _ equal in

@@ -15,7 +15,7 @@ use Rattle.cpi_codes.specs.declared.codes.Code.{Code}
 use Rattle.cpi_codes.specs.contracts.codes.CodeOrd.TheImpl.Laws.{total-law}
 use Rattle.cpi_codes.proofs.CodeBytes.{absent_below}
 use Rattle.cpi_codes.proofs.CodeBelow.{fits}
-use Rattle.cpi_codes.proofs.CodePath.{at_or_below-parts, no_group}
+use Rattle.cpi_codes.proofs.CodePath.{at_or_below_parts, no_group}
 use Rattle.cpi_codes.proofs.CodeIs.{same_code_is}
 
 pub same_code_itself : (k : Code) → is_same_code k k ≡ true
@@ -108,17 +108,18 @@ is_zero : (n : ℕ) → (n == 0) ≡ true → n ≡ 0
 is_zero n h = grind (arith, nat_tests)
 
 pub in_path : (k c : Code) → is_code_at_or_below k c ≡ true → list_any (is_same_code k) (path c) ≡ true
-in_path k c h = by (k.division == 0) refl (sym (at_or_below-parts k c) ∙ h)
+in_path k c h = cases (k.division == 0) refl (sym (at_or_below_parts k c) ∙ h)
   where
-    by : (z : Bool) → (k.division == 0) ≡ z → (z ||
+    cases : (z : Bool) → (k.division == 0) ≡ z → (z ||
         ((c.division == k.division) && (fits k.group c.group
         && (fits k.class c.class && (fits k.subclass c.subclass && fits k.aggregate c.aggregate))))) ≡ true →
         list_any (is_same_code k) (path c) ≡ true
-    by true e f =
+    cases true e f =
         let none = is_zero k.division e in
         let g = no_group k none in
         let under = absent_below k.division k.group k.class k.subclass k.aggregate k.valid in
         in_first k (code_with 0 None None None None) (from_division c)
         (made k 0 None None None None none g (under.0 g) (under.1 (under.0 g)) (under.2 (under.1 (under.0 g))))
-    by false e f = in_rest k (code_with 0 None None None None) (from_division c)
-        (by_group k c (number c.division k.division (and_first _ _ f)) k.group refl (and_second (c.division == k.division) _ f))
+    cases false e f = in_rest k (code_with 0 None None None None) (from_division c)
+        (by_group k c (number c.division k.division (and_first _ _ f)) k.group refl
+            (and_second (c.division == k.division) _ f))

@@ -13,8 +13,8 @@ use Rattle.cpi_codes.specs.declared.months.MonthFault.{MonthFault}
 use Rattle.cpi_codes.specs.declared.months.MonthFault.TheVariants.{Shape, Range}
 use Rattle.cpi_codes.specs.Month.{below_hundred, year_of, month_of_year, month_text, month_in, month_of, is_in_calendar}
 use Rattle.cpi_codes.specs.Month.{has_month_shape, months_since_2000}
-use Rattle.cpi_codes.proofs.Digits.{digit-range}
-use Rattle.cpi_codes.proofs.NumberTexts.{model, all-same}
+use Rattle.cpi_codes.proofs.Digits.{digit_range}
+use Rattle.cpi_codes.proofs.NumberTexts.{model, all_same}
 
 chosen : (b : Bool) (r : Result ℕ MonthFault) (f : MonthFault) (n : ℕ) → cond b r (Err f) ≡ Ok n → (b ≡ true)
     × (r ≡ Ok n)
@@ -28,13 +28,13 @@ four true true false d h = absurd cc
 four true false c d h = absurd cc
 four false b c d h = absurd cc
 
-four-listed : (a b c d : Bool) → (a && (b && (c && (d && true)))) ≡ true → (a ≡ true) × (b ≡ true) × (c ≡ true)
+four_listed : (a b c d : Bool) → (a && (b && (c && (d && true)))) ≡ true → (a ≡ true) × (b ≡ true) × (c ≡ true)
     × (d ≡ true)
-four-listed true true true true h = (refl, refl, refl, refl)
-four-listed true true true false h = absurd cc
-four-listed true true false d h = absurd cc
-four-listed true false c d h = absurd cc
-four-listed false b c d h = absurd cc
+four_listed true true true true h = (refl, refl, refl, refl)
+four_listed true true true false h = absurd cc
+four_listed true true false d h = absurd cc
+four_listed true false c d h = absurd cc
+four_listed false b c d h = absurd cc
 
 -- the year and the month of the year of a month that was found
 found : (year number month : ℕ) → month_in year number ≡ Ok month → (2000 ≤ year) × (year ≤ 2199)
@@ -50,27 +50,27 @@ found year number month h =
     (first, last, omega arith, omega arith)
 
 -- four digits from 2000 on are what is printed of their number
-printed-year : (a b c d : ℕ) → list_all is_ascii_digit (a ∷ b ∷ c ∷ d ∷ []) ≡ true →
+printed_year : (a b c d : ℕ) → list_all is_ascii_digit (a ∷ b ∷ c ∷ d ∷ []) ≡ true →
     2000 ≤ digits_value 10 (a ∷ b ∷ c ∷ d ∷ []) → digits_value 10 (a ∷ b ∷ c ∷ d ∷ []) ≤ 2199 →
     decimal (digits_value 10 (a ∷ b ∷ c ∷ d ∷ [])) ≡ a ∷ b ∷ c ∷ d ∷ []
-printed-year a b c d digits low high =
+printed_year a b c d digits low high =
     let ds = a ∷ b ∷ c ∷ d ∷ [] in
-    let tests = four-listed (is_ascii_digit a) (is_ascii_digit b) (is_ascii_digit c) (is_ascii_digit d) digits in
-    let wa = digit_value_digit a (digit-range a tests.0) in
-    let wb = digit_value_digit b (digit-range b tests.1) in
-    let rb = digit-range b tests.1 in
-    let wc = digit_value_digit c (digit-range c tests.2) in
-    let rc = digit-range c tests.2 in
-    let rd = digit-range d tests.3 in
+    let tests = four_listed (is_ascii_digit a) (is_ascii_digit b) (is_ascii_digit c) (is_ascii_digit d) digits in
+    let wa = digit_value_digit a (digit_range a tests.0) in
+    let wb = digit_value_digit b (digit_range b tests.1) in
+    let rb = digit_range b tests.1 in
+    let wc = digit_value_digit c (digit_range c tests.2) in
+    let rc = digit_range c tests.2 in
+    let rd = digit_range d tests.3 in
     let wd = digit_value_digit d rd in
     let one : get_or ds 0 0 ≡ 48 → length ds ≡ 1 = λ (e : a ≡ 48). absurd (omega arith) in
-    decimal-digits_value model ds (sym (all-same ds) ∙ digits) (omega arith) one (omega arith)
+    decimal-digits_value model ds (sym (all_same ds) ∙ digits) (omega arith) one (omega arith)
 
-two-printed : (e f : ℕ) → is_ascii_digit e ≡ true → is_ascii_digit f ≡ true →
+two_printed : (e f : ℕ) → is_ascii_digit e ≡ true → is_ascii_digit f ≡ true →
     below_hundred (digits_value 10 (e ∷ f ∷ [])) ≡ e ∷ f ∷ []
-two-printed e f he hf =
-    let re = digit-range e he in
-    let rf = digit-range f hf in
+two_printed e f he hf =
+    let re = digit_range e he in
+    let rf = digit_range f hf in
     let we = digit_value_digit e re in
     let wf = digit_value_digit f rf in
     let n = (0 * 10 + digit_value e) * 10 + digit_value f in
@@ -80,15 +80,15 @@ two-printed e f he hf =
     let tf : 48 + (f - 48) ≡ f = omega arith in
     rw (tens, ones, decimal_digit (e - 48) (omega arith), decimal_digit (f - 48) (omega arith), te, tf) refl
 
-pub one-spelling : (month : ℕ) (text : List ℕ) → month_of text ≡ Ok month → text ≡ month_text month
-one-spelling month [] h = absurd cc
-one-spelling month (a ∷ []) h = absurd cc
-one-spelling month (a ∷ b ∷ []) h = absurd cc
-one-spelling month (a ∷ b ∷ c ∷ []) h = absurd cc
-one-spelling month (a ∷ b ∷ c ∷ d ∷ []) h = absurd cc
-one-spelling month (a ∷ b ∷ c ∷ d ∷ s ∷ []) h = absurd cc
-one-spelling month (a ∷ b ∷ c ∷ d ∷ s ∷ e ∷ []) h = absurd cc
-one-spelling month (a ∷ b ∷ c ∷ d ∷ s ∷ e ∷ f ∷ []) h =
+pub one_spelling : (month : ℕ) (text : List ℕ) → month_of text ≡ Ok month → text ≡ month_text month
+one_spelling month [] h = absurd cc
+one_spelling month (a ∷ []) h = absurd cc
+one_spelling month (a ∷ b ∷ []) h = absurd cc
+one_spelling month (a ∷ b ∷ c ∷ []) h = absurd cc
+one_spelling month (a ∷ b ∷ c ∷ d ∷ []) h = absurd cc
+one_spelling month (a ∷ b ∷ c ∷ d ∷ s ∷ []) h = absurd cc
+one_spelling month (a ∷ b ∷ c ∷ d ∷ s ∷ e ∷ []) h = absurd cc
+one_spelling month (a ∷ b ∷ c ∷ d ∷ s ∷ e ∷ f ∷ []) h =
     let text = a ∷ b ∷ c ∷ d ∷ s ∷ e ∷ f ∷ [] in
     let year = digits_value 10 (a ∷ b ∷ c ∷ d ∷ []) in
     let number = digits_value 10 (e ∷ f ∷ []) in
@@ -99,10 +99,10 @@ one-spelling month (a ∷ b ∷ c ∷ d ∷ s ∷ e ∷ f ∷ []) h =
     let digits = and_both (is_ascii_digit e) (is_ascii_digit f && true) shape.3 in
     let last = and_both (is_ascii_digit f) true digits.1 in
     let is = found year number month read.1 in
-    let front = printed-year a b c d shape.1 is.0 is.1 in
-    let back = two-printed e f digits.0 last.0 in
+    let front = printed_year a b c d shape.1 is.0 is.1 in
+    let back = two_printed e f digits.0 last.0 in
     sym (rw (← is.2, ← is.3, front, back, dash) refl)
-one-spelling month (a ∷ b ∷ c ∷ d ∷ s ∷ e ∷ f ∷ g ∷ rest) h =
+one_spelling month (a ∷ b ∷ c ∷ d ∷ s ∷ e ∷ f ∷ g ∷ rest) h =
     let text = a ∷ b ∷ c ∷ d ∷ s ∷ e ∷ f ∷ g ∷ rest in
     let read = chosen (has_month_shape text) (month_in (digits_value 10 (take 4 text)) (digits_value 10 (drop 5 text)))
     Shape month h in

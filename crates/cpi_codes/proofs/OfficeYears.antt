@@ -12,8 +12,8 @@ use Rattle.jiff_core.proofs.MarchLemmas.{day_count-early}
 use Rattle.cpi_codes.specs.Civil.{IsCivilText}
 use Rattle.cpi_codes.specs.Zone.{IsOfficeYear, ZoneRule, second_in}
 
-day_count-end : day_count (pos 2200) 1 1 ≡ 4_455_959
-day_count-end = day_count-early (pos 2200) 12199 1 1 refl (omega arith) (omega arith) (omega arith)
+day_count_end : day_count (pos 2200) 1 1 ≡ 4_455_959
+day_count_end = day_count-early (pos 2200) 12199 1 1 refl (omega arith) (omega arith) (omega arith)
 
 -- the days from 2000 to 2199 lie between the second of 1970 and 2200
 days : (date : Date) (year : ℕ) → date.year ≡ pos year → IsOfficeYear year → (pos 2 ≤ℤ epoch_day date)
@@ -26,7 +26,7 @@ days date year is office =
     let high = day_count-lt_year date.year date.month date.day (pos 2200) 1 1 civil (omega arith)
     (omega (arith, signed_arith)) in
     let number = days_from_civil-day_count date.year date.month date.day in
-    (omega (arith, signed_arith, day_count-epoch), omega (arith, signed_arith, day_count-end))
+    (omega (arith, signed_arith, day_count-epoch), omega (arith, signed_arith, day_count_end))
 
 pub is_moment : (zone : ZoneRule) (text : List ℕ) (year : ℕ) (time : DateTime) → IsCivilText text year time →
     IsOfficeYear year → (pos 0 ≤ℤ second_in zone time) × (second_in zone time ≤ℤ pos 9_999_999_999)

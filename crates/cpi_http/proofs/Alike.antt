@@ -12,16 +12,16 @@ use Rattle.cpi_office.proofs.RebuiltProjections.{rebuilt, sound_runs}
 use Rattle.cpi_wire.specs.Answer.{Answer}
 use Rattle.cpi_wire.specs.Laws.{requests_of_asks, replies_of_asks}
 use Rattle.cpi_wire.specs.Lines.{moment_of}
-use Rattle.cpi_wire.proofs.Alike.{record-alike, record-clean}
-use Rattle.cpi_wire.proofs.Runs.{asks-are-a-run}
+use Rattle.cpi_wire.proofs.Alike.{record_alike, record_clean}
+use Rattle.cpi_wire.proofs.Runs.{asks_are_a_run}
 use Rattle.cpi_http.specs.Laws.{AreMessagesOfARun, IsLastAnswer, ResponsesAreAlike, seen_before}
 use Rattle.cpi_http.specs.Message.{MessageAsks, Setting}
 use Rattle.cpi_http.specs.Response.{ask_in, response_to, body_bytes}
-use Rattle.cpi_http.proofs.Unique.{message-unique}
+use Rattle.cpi_http.proofs.Unique.{message_unique}
 
 module _ {B : Type 0} (state : B → State Office) where
   pub messages_are_a_run : AreMessagesOfARun state
-  messages_are_a_run old new asks answers a = asks-are-a-run state old new asks answers a
+  messages_are_a_run old new asks answers a = asks_are_a_run state old new asks answers a
 
   -- the office that a caller's message meets, and what it shows the caller
   pub meets : (s : Setting) (k : Caller) (start : B) (taken : List ℕ) (m : MessageAsks) (answered : Answer)
@@ -31,7 +31,7 @@ module _ {B : Type 0} (state : B → State Office) where
       ≡ build (view k (moment_of (ask_in m)) (state start).held) (seen_before state s k start taken m answered is))
   meets s k start taken m answered is =
       let ran = messages_are_a_run start is.mid is.asks is.answers is.before in
-      let run = ran.run (record-clean state is.mid is.end (ask_in m) answered is.one is.clean) is.sound in
+      let run = ran.run (record_clean state is.mid is.end (ask_in m) answered is.one is.clean) is.sound in
       let front = all_served (requests_of_asks is.asks) (replies_of_asks is.asks is.answers) in (
         subst IsSound (sym run.office) (sound_runs front (state start).held is.sound),
         ap (view k (moment_of (ask_in m))) run.office
@@ -39,17 +39,17 @@ module _ {B : Type 0} (state : B → State Office) where
       )
 
 -- the same message over two books
-answers-are-alike : {B C : Type 0} (state : B → State Office) (state' : C → State Office)
+answers_are_alike : {B C : Type 0} (state : B → State Office) (state' : C → State Office)
     (s : Setting) (k : Caller) (taken : List ℕ) (m : MessageAsks) (answered answered' : Answer) (start : B) (start' : C)
     (is : IsLastAnswer state s k start taken m answered) (is' : IsLastAnswer state' s k start' taken m answered')
     → k ≢ Desk
     → view k (moment_of (ask_in m)) (state start).held ≡ view k (moment_of (ask_in m)) (state' start').held
     → seen_before state s k start taken m answered is ≡ seen_before state' s k start' taken m answered' is'
     → answered ≡ answered'
-answers-are-alike state state' s k taken m answered answered' start start' is is' other same shown =
+answers_are_alike state state' s k taken m answered answered' start start' is is' other same shown =
     let here = meets state s k start taken m answered is in
     let there = meets state' s k start' taken m answered' is' in
-    record-alike state state' k other (ask_in m) is.mid is.end is'.mid is'.end answered answered' is.caller is.one
+    record_alike state state' k other (ask_in m) is.mid is.end is'.mid is'.end answered answered' is.caller is.one
     is'.one is.clean is'.clean here.0 there.0
     (here.1 ∙ ap₂ build same shown ∙ sym there.1) is.served is'.served
 
@@ -59,7 +59,7 @@ responses_are_alike state state' s k taken m n answered answered' start start' i
     subst (λ x. (i : IsLastAnswer state' s k start' taken x answered')
     → seen_before state s k start taken m answered is ≡ seen_before state' s k start' taken x answered' i
     → body_bytes (response_to m answered) ≡ body_bytes (response_to x answered'))
-    (message-unique s taken taken [] [] m n refl is.message is'.message)
+    (message_unique s taken taken [] [] m n refl is.message is'.message)
     (λ i z. ap (λ t. body_bytes (response_to m t))
-    (answers-are-alike state state' s k taken m answered answered' start start' is i other same z))
+    (answers_are_alike state state' s k taken m answered answered' start start' is i other same z))
     is' shown

@@ -15,26 +15,26 @@ use Rattle.cpi_wire.specs.Line.{line_of_reply}
 use Rattle.cpi_http.specs.declared.responses.Response.{Response}
 use Rattle.cpi_http.specs.Response.{IsCarriedOut, SaysResponse, form_asked, in_json, said_of}
 
-or-false : (b : Bool) → b ≡ (b || false)
-or-false true = refl
-or-false false = refl
+or_false : (b : Bool) → b ≡ (b || false)
+or_false true = refl
+or_false false = refl
 
 module _ {B : Type 0} (state : B → State Office) where
-  pub bad-carried : (old : B) (r : Response) → SaysResponse (in_json 400 (line_of_reply (Refused BadRequest))) false r
+  pub bad_carried : (old : B) (r : Response) → SaysResponse (in_json 400 (line_of_reply (Refused BadRequest))) false r
       → IsCarriedOut state (Ok ask.Bad) old old r
-  bad-carried old r says = (answer.One (Refused BadRequest), (refl, refl), says)
+  bad_carried old r says = (answer.One (Refused BadRequest), (refl, refl), says)
 
-  pub refused-carried : (status : ℕ) (old : B) (r : Response)
+  pub refused_carried : (status : ℕ) (old : B) (r : Response)
       → SaysResponse (in_json status (line_of_reply (Refused BadRequest))) false r
       → IsCarriedOut state (Err status) old old r
-  refused-carried status old r says = (answer.One (Refused BadRequest), (refl, refl), says)
+  refused_carried status old r says = (answer.One (Refused BadRequest), (refl, refl), says)
 
-  pub one-carried : (now : ℕ) (caller : Caller) (request : Request) (reply : Reply) (old new : B) (r : Response)
+  pub one_carried : (now : ℕ) (caller : Caller) (request : Request) (reply : Reply) (old new : B) (r : Response)
       → IsServed state now caller old request reply new
       → SaysResponse (said_of (form_asked request) reply) (is_failure_of reply) r
       → IsCarriedOut state (Ok (ask.One now caller request)) old new r
-  one-carried now caller request reply old new r served says = (
+  one_carried now caller request reply old new r served says = (
     answer.One reply,
     served,
-    subst (λ b. SaysResponse (said_of (form_asked request) reply) b r) (or-false (is_failure_of reply)) says,
+    subst (λ b. SaysResponse (said_of (form_asked request) reply) b r) (or_false (is_failure_of reply)) says,
   )

@@ -15,7 +15,7 @@ use Rattle.cpi_wire.specs.Answer.{Answer}
 use Rattle.cpi_wire.specs.Answer as answer
 use Rattle.cpi_wire.specs.Answers.{Answers, Begins, some_fails}
 use Rattle.cpi_wire.specs.Lines.{all_replies}
-use Rattle.cpi_wire.proofs.Importing.{one-begun}
+use Rattle.cpi_wire.proofs.Importing.{one_begun}
 use Rattle.cpi_http.specs.declared.responses.Response.{Response}
 use Rattle.cpi_http.specs.declared.serve.Served.{Served}
 use Rattle.cpi_http.specs.declared.serve.Served.TheVariants.{Answered, Cut}
@@ -31,21 +31,21 @@ use Rattle.cpi_http.specs.Response.{Said, SaysResponse, ask_in, response_to, bod
 use Rattle.cpi_http.specs.Served.{Framing, ServedChange, StreamGives, IsServed, GaveUp, SendFails, bodies, messages}
 
 -- the bytes of a response
-pub said-bytes : (said : Said) (failed : Bool) (r : Response) → SaysResponse said failed r
+pub said_bytes : (said : Said) (failed : Bool) (r : Response) → SaysResponse said failed r
     → http_of r.status r.content r.body.items ≡ body_bytes said
-said-bytes said failed r is =
+said_bytes said failed r is =
     ap₂ (λ s t. http_of s t r.body.items) is.0 is.1 ∙ ap (http_of said.status said.content) is.2
 
 module _ {B : Type 0} (state : B → State Office) where
   -- a request that was carried out was begun
-  pub answered-begun : (old new : B) (asked : Ask) (answered : Answer) → Answers state old asked answered new
+  pub answered_begun : (old new : B) (asked : Ask) (answered : Answer) → Answers state old asked answered new
       → Begins state old asked new
-  answered-begun old new ask.Bad (answer.One reply) a = a.1
-  answered-begun old new ask.Bad (answer.Rows replies) a = absurd a
-  answered-begun old new (ask.One t k r) (answer.One reply) a = one-begun state t k old new r reply a
-  answered-begun old new (ask.One t k r) (answer.Rows replies) a = absurd a
-  answered-begun old new (ask.Import t k rows) (answer.One reply) a = absurd a
-  answered-begun old new (ask.Import t k rows) (answer.Rows replies) a = record {
+  answered_begun old new ask.Bad (answer.One reply) a = a.1
+  answered_begun old new ask.Bad (answer.Rows replies) a = absurd a
+  answered_begun old new (ask.One t k r) (answer.One reply) a = one_begun state t k old new r reply a
+  answered_begun old new (ask.One t k r) (answer.Rows replies) a = absurd a
+  answered_begun old new (ask.Import t k rows) (answer.One reply) a = absurd a
+  answered_begun old new (ask.Import t k rows) (answer.Rows replies) a = record {
     front = rows;
     rest = [];
     replies = replies;
@@ -54,14 +54,14 @@ module _ {B : Type 0} (state : B → State Office) where
   }
 
   module _ (f : Framing) (old new : Option (List ℕ)) (c : ServedChange B) where
-    pub sent-ok : (m : MessageAsks) (answered : Answer) (r : Result Served WireFault) (bytes : List ℕ) (status : ℕ)
+    pub sent_ok : (m : MessageAsks) (answered : Answer) (r : Result Served WireFault) (bytes : List ℕ) (status : ℕ)
         (failed : Bool)
         → StreamGives f old new m → Answers state c.before (ask_in m) answered c.now
         → bytes ≡ body_bytes (response_to m answered) → status ≡ (response_to m answered).status
         → failed ≡ some_fails (all_replies answered)
         → IfOk r (λ served. served ≡ Answered status failed) → OnOk r (Appends c.written c.writing bytes)
         → IfOk r (IsServed state f old new c)
-    sent-ok m answered (Ok served) bytes status failed gives answers same st fa is sent =
+    sent_ok m answered (Ok served) bytes status failed gives answers same st fa is sent =
         subst (IsServed state f old new c) (sym is) (record {
           asked = m;
           answered = answered;
@@ -71,14 +71,14 @@ module _ {B : Type 0} (state : B → State Office) where
           status_is = st;
           failed_is = fa;
         })
-    sent-ok m answered (Err e) bytes status failed gives answers same st fa is sent = tt
+    sent_ok m answered (Err e) bytes status failed gives answers same st fa is sent = tt
 
-    send-failed : (m : MessageAsks) (answered : Answer) (bytes : List ℕ) (e : WireFault)
+    send_failed : (m : MessageAsks) (answered : Answer) (bytes : List ℕ) (e : WireFault)
         → StreamGives f old new m → Answers state c.before (ask_in m) answered c.now
         → bytes ≡ body_bytes (response_to m answered)
         → SendFails c.written c.writing bytes e → GaveUp state f old new c e
-    send-failed m answered bytes fault.Read gives answers same h = absurd h
-    send-failed m answered bytes fault.Write gives answers same h = record {
+    send_failed m answered bytes fault.Read gives answers same h = absurd h
+    send_failed m answered bytes fault.Write gives answers same h = record {
       asked = m;
       answered = answered;
       count = h.0;
@@ -87,52 +87,52 @@ module _ {B : Type 0} (state : B → State Office) where
       short = subst (λ l. h.0 < length l) same h.1;
       written = subst (λ l. Appends c.written c.writing (take h.0 l)) same h.2;
     }
-    send-failed m answered bytes fault.NoMemory gives answers same h =
-        (inr (m, gives, answered-begun c.before c.now (ask_in m) answered answers), h)
+    send_failed m answered bytes fault.NoMemory gives answers same h =
+        (inr (m, gives, answered_begun c.before c.now (ask_in m) answered answers), h)
 
-    pub sent-err : (m : MessageAsks) (answered : Answer) (r : Result Served WireFault) (bytes : List ℕ)
+    pub sent_err : (m : MessageAsks) (answered : Answer) (r : Result Served WireFault) (bytes : List ℕ)
         → StreamGives f old new m → Answers state c.before (ask_in m) answered c.now
         → bytes ≡ body_bytes (response_to m answered)
         → IfErr r (SendFails c.written c.writing bytes) → IfErr r (GaveUp state f old new c)
-    sent-err m answered (Ok served) bytes gives answers same h = tt
-    sent-err m answered (Err e) bytes gives answers same h = send-failed m answered bytes e gives answers same h
+    sent_err m answered (Ok served) bytes gives answers same h = tt
+    sent_err m answered (Err e) bytes gives answers same h = send_failed m answered bytes e gives answers same h
 
     -- memory ran out while the message was carried out
-    pub gave-up-memory : (m : MessageAsks) → StreamGives f old new m → Begins state c.before (ask_in m) c.now
+    pub gave_up_memory : (m : MessageAsks) → StreamGives f old new m → Begins state c.before (ask_in m) c.now
         → Keeps c.written c.writing
         → GaveUp state f old new c fault.NoMemory
-    gave-up-memory m gives begun kept = (inr (m, gives, begun), kept)
+    gave_up_memory m gives begun kept = (inr (m, gives, begun), kept)
 
     -- a fault of reading
-    pub gave-up-reading : (e : WireFault) → IsFaultOfReading e → c.now ≡ c.before → Keeps c.written c.writing
+    pub gave_up_reading : (e : WireFault) → IsFaultOfReading e → c.now ≡ c.before → Keeps c.written c.writing
         → GaveUp state f old new c e
-    gave-up-reading fault.Read is same kept = (same, kept)
-    gave-up-reading fault.Write is same kept = absurd is
-    gave-up-reading fault.NoMemory is same kept = (inl same, kept)
+    gave_up_reading fault.Read is same kept = (same, kept)
+    gave_up_reading fault.Write is same kept = absurd is
+    gave_up_reading fault.NoMemory is same kept = (inl same, kept)
 
 -- a head that is refused before its body
-pub gives-refused : (now : ℕ) (zone : ZoneRule) (size : Result ℕ ℕ) (called : Called) (path : List ℕ) (status : ℕ)
+pub gives_refused : (now : ℕ) (zone : ZoneRule) (size : Result ℕ ℕ) (called : Called) (path : List ℕ) (status : ℕ)
     (input : Option (List ℕ))
     → size ≡ Err status → StreamGives (bodies now zone size called path) input input (Err status)
-gives-refused now zone size called path status input is = ([], Consumes-nil input, refused status is refl)
+gives_refused now zone size called path status input is = ([], Consumes-nil input, refused status is refl)
 
 -- a head and its whole body
-pub gives-whole : (now : ℕ) (zone : ZoneRule) (size : Result ℕ ℕ) (called : Called) (path body : List ℕ)
+pub gives_whole : (now : ℕ) (zone : ZoneRule) (size : Result ℕ ℕ) (called : Called) (path body : List ℕ)
     (old new : Option (List ℕ)) (n : ℕ)
     → size ≡ Ok n → length body ≡ n → Consumes old new body
     → StreamGives (bodies now zone size called path) old new (asked_by now zone called path body)
-gives-whole now zone size called path body old new n is sized taken = (body, taken, whole (is ∙ ap Ok (sym sized)))
+gives_whole now zone size called path body old new n is sized taken = (body, taken, whole (is ∙ ap Ok (sym sized)))
 
 -- a head that none could become
-pub gives-malformed : (s : Setting) (taken : List ℕ) (old new : Option (List ℕ)) → NeverHasHead taken
+pub gives_malformed : (s : Setting) (taken : List ℕ) (old new : Option (List ℕ)) → NeverHasHead taken
     → Consumes old new taken
     → StreamGives (messages s) old new (Err 400)
-gives-malformed s taken old new never is = (taken, is, malformed never)
+gives_malformed s taken old new never is = (taken, is, malformed never)
 
 -- ---- a head and what follows it
 
-reads-more : (head body : List ℕ) (h : RequestHead) → ReadsHead head h [] → ReadsHead (head ++ body) h body
-reads-more head body h r = record {
+reads_more : (head body : List ℕ) (h : RequestHead) → ReadsHead head h [] → ReadsHead (head ++ body) h body
+reads_more head body h r = record {
   reads = (r.reads.0, ap (λ l. l ++ body) (r.reads.1 ∙ append-nil (print_request h)));
   short = r.short;
   few = r.few;
@@ -145,11 +145,11 @@ pub record AreParts (s : Setting) (h : RequestHead) (size : Result ℕ ℕ) (cal
   pub path_is : path ≡ h.target
 
 -- the parts of the head, from its fields
-pub are-parts : (s : Setting) (h : RequestHead) (headers : List Header) (method path : List ℕ) (size : Result ℕ ℕ)
+pub are_parts : (s : Setting) (h : RequestHead) (headers : List Header) (method path : List ℕ) (size : Result ℕ ℕ)
     (called : Called)
     → headers ≡ headers_of h → method ≡ h.method → path ≡ h.target
     → size ≡ framing_of headers → called ≡ called_of s.desk_key headers method path → AreParts s h size called path
-are-parts s h headers method path size called hs ms ps sized calls = record {
+are_parts s h headers method path size called hs ms ps sized calls = record {
   size_is = sized ∙ ap framing_of hs;
   called_is =
       calls ∙ ap (λ l. called_of s.desk_key l method path) hs ∙ ap (λ l. called_of s.desk_key (headers_of h) l path) ms
@@ -160,67 +160,67 @@ are-parts s h headers method path size called hs ms ps sized calls = record {
 module _ (s : Setting) (head : List ℕ) (h : RequestHead) (size : Result ℕ ℕ) (called : Called) (path : List ℕ)
     (old mid new : Option (List ℕ)) (reads : ReadsHead head h []) (parts : AreParts s h size called path)
     (taken : Consumes old mid head) where
-  body-after : (body : List ℕ) (m : MessageAsks) → IsBody s.now s.zone size called path body m → IsBodyAfter s h body m
-  body-after body m is =
+  body_after : (body : List ℕ) (m : MessageAsks) → IsBody s.now s.zone size called path body m → IsBodyAfter s h body m
+  body_after body m is =
       subst (λ x. IsBody s.now s.zone x (called_of s.desk_key (headers_of h) h.method h.target) h.target body m)
       parts.size_is
       (subst (λ x. IsBody s.now s.zone size x h.target body m) parts.called_is
       (subst (λ x. IsBody s.now s.zone size called x body m) parts.path_is is))
 
-  gives-headed : (m : MessageAsks) → StreamGives (bodies s.now s.zone size called path) mid new m
+  gives_headed : (m : MessageAsks) → StreamGives (bodies s.now s.zone size called path) mid new m
       → StreamGives (messages s) old new m
-  gives-headed m gives = (
+  gives_headed m gives = (
     head ++ gives.0,
     Consumes-trans old mid new head gives.0 taken gives.1,
-    headed h gives.0 m (reads-more head gives.0 h reads) (body-after gives.0 m gives.2),
+    headed h gives.0 m (reads_more head gives.0 h reads) (body_after gives.0 m gives.2),
   )
 
   module _ {B : Type 0} (state : B → State Office) (c : ServedChange B) where
-    served-headed : (r : Served) → IsServed state (bodies s.now s.zone size called path) mid new c r
+    served_headed : (r : Served) → IsServed state (bodies s.now s.zone size called path) mid new c r
         → IsServed state (messages s) old new c r
-    served-headed Cut is = (
+    served_headed Cut is = (
       (
         head ++ is.0.0,
         Consumes-trans old mid new head is.0.0 taken is.0.1,
         is.0.2,
-        of_body h is.0.0 is.0.3.0 (reads-more head is.0.0 h reads) (sym parts.size_is ∙ is.0.3.1) is.0.3.2,
+        of_body h is.0.0 is.0.3.0 (reads_more head is.0.0 h reads) (sym parts.size_is ∙ is.0.3.1) is.0.3.2,
       ),
       is.1,
       is.2,
     )
-    served-headed (Answered status failed) is = record {
+    served_headed (Answered status failed) is = record {
       asked = is.asked;
       answered = is.answered;
-      gives = gives-headed is.asked is.gives;
+      gives = gives_headed is.asked is.gives;
       answers = is.answers;
       written = is.written;
       status_is = is.status_is;
       failed_is = is.failed_is;
     }
 
-    gave-up-headed : (e : WireFault) → GaveUp state (bodies s.now s.zone size called path) mid new c e
+    gave_up_headed : (e : WireFault) → GaveUp state (bodies s.now s.zone size called path) mid new c e
         → GaveUp state (messages s) old new c e
-    gave-up-headed fault.Read is = is
-    gave-up-headed fault.Write is = record {
+    gave_up_headed fault.Read is = is
+    gave_up_headed fault.Write is = record {
       asked = is.asked;
       answered = is.answered;
       count = is.count;
-      gives = gives-headed is.asked is.gives;
+      gives = gives_headed is.asked is.gives;
       answers = is.answers;
       short = is.short;
       written = is.written;
     }
-    gave-up-headed fault.NoMemory (inl same, kept) = (inl same, kept)
-    gave-up-headed fault.NoMemory (inr begun, kept) = (inr (begun.0, gives-headed begun.0 begun.1, begun.2), kept)
+    gave_up_headed fault.NoMemory (inl same, kept) = (inl same, kept)
+    gave_up_headed fault.NoMemory (inr begun, kept) = (inr (begun.0, gives_headed begun.0 begun.1, begun.2), kept)
 
-    pub headed-ok : (r : Result Served WireFault)
+    pub headed_ok : (r : Result Served WireFault)
         → IfOk r (IsServed state (bodies s.now s.zone size called path) mid new c)
         → IfOk r (IsServed state (messages s) old new c)
-    headed-ok (Ok x) is = served-headed x is
-    headed-ok (Err e) is = tt
+    headed_ok (Ok x) is = served_headed x is
+    headed_ok (Err e) is = tt
 
-    pub headed-err : (r : Result Served WireFault)
+    pub headed_err : (r : Result Served WireFault)
         → IfErr r (GaveUp state (bodies s.now s.zone size called path) mid new c)
         → IfErr r (GaveUp state (messages s) old new c)
-    headed-err (Ok x) is = tt
-    headed-err (Err e) is = gave-up-headed e is
+    headed_err (Ok x) is = tt
+    headed_err (Err e) is = gave_up_headed e is

@@ -19,37 +19,37 @@ longer taken body rest h r = record {
   few = r.few;
 }
 
-front-same : (a b r s : List ℕ) → a ++ r ≡ b ++ s → length a ≡ length b → a ≡ b
-front-same a b r s e n = sym (take-append_seam a r) ∙ ap (take (length a)) e ∙ ap (λ k. take k (b ++ s)) n
+front_same : (a b r s : List ℕ) → a ++ r ≡ b ++ s → length a ≡ length b → a ≡ b
+front_same a b r s e n = sym (take-append_seam a r) ∙ ap (take (length a)) e ∙ ap (λ k. take k (b ++ s)) n
     ∙ take-append_seam b s
 
-ok-same : {a b : ℕ} → ◌≡◌ {A = Result ℕ ℕ} (Ok a) (Ok b) → a ≡ b
-ok-same e = cc
+ok_same : {a b : ℕ} → ◌≡◌ {A = Result ℕ ℕ} (Ok a) (Ok b) → a ≡ b
+ok_same e = cc
 
 -- two bodies of one head
-bodies-same : (now : ℕ) (zone : ZoneRule) (size : Result ℕ ℕ) (called : Called) (path a b r s : List ℕ)
+bodies_same : (now : ℕ) (zone : ZoneRule) (size : Result ℕ ℕ) (called : Called) (path a b r s : List ℕ)
     (m n : MessageAsks)
     → a ++ r ≡ b ++ s
     → IsBody now zone size called path a m → IsBody now zone size called path b n → m ≡ n
-bodies-same now zone size called path a b r s _ _ e (refused x p nil) (refused y q nil') = let same = sym p ∙ q in cc
-bodies-same now zone size called path a b r s _ _ e (refused x p nil) (whole q) = let same = sym p ∙ q in cc
-bodies-same now zone size called path a b r s _ _ e (whole p) (refused y q nil) = let same = sym p ∙ q in cc
-bodies-same now zone size called path a b r s _ _ e (whole p) (whole q) =
-    ap (asked_by now zone called path) (front-same a b r s e (ok-same (sym p ∙ q)))
+bodies_same now zone size called path a b r s _ _ e (refused x p nil) (refused y q nil') = let same = sym p ∙ q in cc
+bodies_same now zone size called path a b r s _ _ e (refused x p nil) (whole q) = let same = sym p ∙ q in cc
+bodies_same now zone size called path a b r s _ _ e (whole p) (refused y q nil) = let same = sym p ∙ q in cc
+bodies_same now zone size called path a b r s _ _ e (whole p) (whole q) =
+    ap (asked_by now zone called path) (front_same a b r s e (ok_same (sym p ∙ q)))
 
 -- two messages at the front of one stream are the same
-pub message-unique : (s : Setting) (taken other left rest : List ℕ) (m n : MessageAsks) → taken ++ left ≡ other ++ rest
+pub message_unique : (s : Setting) (taken other left rest : List ℕ) (m n : MessageAsks) → taken ++ left ≡ other ++ rest
     → IsMessage s taken m → IsMessage s other n → m ≡ n
-message-unique s taken other left rest _ _ e (malformed p) (malformed q) = refl
-message-unique s taken other left rest _ _ e (malformed p) (headed h body n reads is) =
+message_unique s taken other left rest _ _ e (malformed p) (malformed q) = refl
+message_unique s taken other left rest _ _ e (malformed p) (headed h body n reads is) =
     absurd (p left h (body ++ rest)
     (subst (λ l. ReadsHead l h (body ++ rest)) (sym e) (longer other body rest h reads)))
-message-unique s taken other left rest _ _ e (headed h body m reads is) (malformed q) =
+message_unique s taken other left rest _ _ e (headed h body m reads is) (malformed q) =
     absurd (q rest h (body ++ left) (subst (λ l. ReadsHead l h (body ++ left)) e (longer taken body left h reads)))
-message-unique s taken other left rest _ _ e (headed h body m reads is) (headed k text n reads' is') =
+message_unique s taken other left rest _ _ e (headed h body m reads is) (headed k text n reads' is') =
     let same = request_unique (other ++ rest) h k (body ++ left) (text ++ rest)
     (subst (λ l. ReadsRequest l h (body ++ left)) e (longer taken body left h reads).reads)
     (longer other text rest k reads').reads in
-    bodies-same s.now s.zone (framing_of (headers_of k)) (called_of s.desk_key (headers_of k) k.method k.target)
+    bodies_same s.now s.zone (framing_of (headers_of k)) (called_of s.desk_key (headers_of k) k.method k.target)
     k.target
     body text left rest m n same.1 (subst (λ x. IsBodyAfter s x body m) same.0 is) is'

@@ -22,12 +22,13 @@ use Rattle.cpi_index.proofs.Merge.{Rise, head_of, from_head, weaker}
 found : (n : ℕ) (b : Carried) (xs : List Carried) → carried_serial b ≡ n →
     carried_serial (unwrap_or (element_at carried_serial n xs) b) ≡ n
 found n b [] e = e
-found n b (x ∷ xs) e = by (eqb (carried_serial x) n) refl (found n b xs e)
+found n b (x ∷ xs) e = cases (eqb (carried_serial x) n) refl (found n b xs e)
   where
-    by : (t : Bool) → eqb (carried_serial x) n ≡ t → carried_serial (unwrap_or (element_at carried_serial n xs) b) ≡ n →
+    cases : (t : Bool) → eqb (carried_serial x) n ≡ t →
+        carried_serial (unwrap_or (element_at carried_serial n xs) b) ≡ n →
         carried_serial (unwrap_or (cond t (Some x) (element_at carried_serial n xs)) b) ≡ n
-    by true s rest = grind (arith, nat_tests)
-    by false s rest = rest
+    cases true s rest = grind (arith, nat_tests)
+    cases false s rest = rest
 
 -- a carried price stays with its series
 same_series : (now before : ℕ) (c : Carried) (m : Option Mark) →

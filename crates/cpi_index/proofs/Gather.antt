@@ -51,30 +51,30 @@ module _ (a : Code) (c : Carried) (own : Weight → List Carried) where
   none_here : (ws : List Weight) → list_any (λ w. is_same_code w.code a) ws ≡ false → flat_map with_one ws ≡
       flat_map own ws
   none_here [] h = refl
-  none_here (w ∷ ws) h = by (is_same_code w.code a) refl h (none_here ws)
+  none_here (w ∷ ws) h = cases (is_same_code w.code a) refl h (none_here ws)
     where
-      by : (b : Bool) → is_same_code w.code a ≡ b → (b || list_any (λ w. is_same_code w.code a) ws) ≡ false →
+      cases : (b : Bool) → is_same_code w.code a ≡ b → (b || list_any (λ w. is_same_code w.code a) ws) ≡ false →
           (list_any (λ w. is_same_code w.code a) ws ≡ false → flat_map with_one ws ≡ flat_map own ws) →
           flat_map with_one (w ∷ ws) ≡ flat_map own (w ∷ ws)
-      by true t h rest = cc
-      by false t h rest =
+      cases true t h rest = cc
+      cases false t h rest =
           flat_map-cons with_one w ws ∙ ap (λ b. cond b (c ∷ own w) (own w) ++ flat_map with_one ws) t
           ∙ ap (λ z. own w ++ z) (rest h) ∙ sym (flat_map-cons own w ws)
 
   one_here : (ws : List Weight) → AreInCodeOrder ws → list_any (λ w. is_same_code w.code a) ws ≡ true →
       IsPermutation (flat_map with_one ws) (c ∷ flat_map own ws)
   one_here [] s h = cc
-  one_here (w ∷ ws) s h = by (is_same_code w.code a) refl h (one_here ws (sorted_tail by_code w ws s))
+  one_here (w ∷ ws) s h = cases (is_same_code w.code a) refl h (one_here ws (sorted_tail by_code w ws s))
     where
-      by : (b : Bool) → is_same_code w.code a ≡ b → (b || list_any (λ w. is_same_code w.code a) ws) ≡ true →
+      cases : (b : Bool) → is_same_code w.code a ≡ b → (b || list_any (λ w. is_same_code w.code a) ws) ≡ true →
           (list_any (λ w. is_same_code w.code a) ws ≡ true → IsPermutation (flat_map with_one ws)
           (c ∷ flat_map own ws)) →
           IsPermutation (flat_map with_one (w ∷ ws)) (c ∷ flat_map own (w ∷ ws))
-      by true t h rest =
+      cases true t h rest =
           same_list _ _ (flat_map-cons with_one w ws ∙ ap (λ b. cond b (c ∷ own w) (own w) ++ flat_map with_one ws) t
           ∙ ap (λ z. c ∷ (own w ++ z)) (none_here ws (none_more w ws a s t))
           ∙ ap (λ z. c ∷ z) (sym (flat_map-cons own w ws)))
-      by false t h rest =
+      cases false t h rest =
           IsPermutation-trans _ _ _
           (same_list _ _ (flat_map-cons with_one w ws ∙ ap (λ b. cond b (c ∷ own w) (own w) ++ flat_map with_one ws) t))
           (IsPermutation-trans _ _ _

@@ -60,20 +60,20 @@ module _ (plan : Plan) (e : Code) (all : List Row) where
   carried_same : (rows : List Row) → KeepItems rows →
       sample plan e (filter_map (carried_price plan all) rows) ≡ map carry (sample_rows plan e rows)
   carried_same [] keep = refl
-  carried_same (r ∷ rows) keep = by (aggregate_of plan r.link.item) refl (carried_same rows keep.1)
+  carried_same (r ∷ rows) keep = cases (aggregate_of plan r.link.item) refl (carried_same rows keep.1)
     where
-      by : (o : Option Code) → aggregate_of plan r.link.item ≡ o →
+      cases : (o : Option Code) → aggregate_of plan r.link.item ≡ o →
           sample plan e (filter_map (carried_price plan all) rows) ≡ map carry (sample_rows plan e rows) →
           sample plan e (cons_option (option_map (carried_in_group plan all r) (aggregate_of plan r.link.item))
           (filter_map (carried_price plan all) rows)) ≡ map carry
           (cond (is_placed plan e r.link.item) (r ∷ sample_rows plan e rows) (sample_rows plan e rows))
-      by None is h =
+      cases None is h =
           ap (λ o. sample plan e (cons_option (option_map (carried_in_group plan all r) o)
           (filter_map (carried_price plan all) rows))) is
           ∙ h
           ∙ sym (ap (λ o. map carry (cond (option_map_or (λ a. is_same_code e a) o false) (r ∷ sample_rows plan e rows)
           (sample_rows plan e rows))) is)
-      by (Some a) is h =
+      cases (Some a) is h =
           let own_movement = sample_rows plan a all in
           let item : (carried_in_group plan all r a).item ≡ r.link.item =
           item_kept (movement_now own_movement) (movement_before own_movement) r.before r.mark ∙ keep.0 in

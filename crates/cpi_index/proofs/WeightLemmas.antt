@@ -54,12 +54,12 @@ are_moved link reference (w ∷ ws) = rw (ap is_eq (tied_itself total-law w.code
 
 pub are_in_use : (link reference : Code → Option ℕ) (plan : Plan) →
     are_weights_in plan.weights (weights_in_use link reference plan) ≡ true
-are_in_use link reference plan = by plan.reference
+are_in_use link reference plan = cases plan.reference
   where
-    by : (o : Option ℕ) → are_weights_in plan.weights
+    cases : (o : Option ℕ) → are_weights_in plan.weights
         (cond (is_some o) (moved_weights (map (with_levels link reference) plan.weights)) plan.weights) ≡ true
-    by None = are_own plan.weights
-    by (Some m) = are_moved link reference plan.weights
+    cases None = are_own plan.weights
+    cases (Some m) = are_moved link reference plan.weights
 
 -- the first of two lists has the second's code in front, and the rest goes on so
 code_is : (w x : Weight) (ws xs : List Weight) → are_weights_in (w ∷ ws) (x ∷ xs) ≡ true → w.code ≡ x.code
@@ -143,14 +143,14 @@ first_kept p [] [] h = refl
 first_kept p [] (x ∷ xs) h = cc
 first_kept p (w ∷ ws) [] h = cc
 first_kept p (w ∷ ws) (x ∷ xs) h =
-    by (p w.code) (first_kept p ws xs (rest_is w x ws xs h))
+    cases (p w.code) (first_kept p ws xs (rest_is w x ws xs h))
     ∙ ap (λ c. option_map (λ w. w.code) (cond (p c) (Some x) (find (λ w. p w.code) xs))) (code_is w x ws xs h)
   where
-    by : (b : Bool) → first_code p ws ≡ first_code p xs →
+    cases : (b : Bool) → first_code p ws ≡ first_code p xs →
         option_map (λ w. w.code) (cond b (Some w) (find (λ w. p w.code) ws)) ≡ option_map (λ w. w.code)
         (cond b (Some x) (find (λ w. p w.code) xs))
-    by true r = ap Some (code_is w x ws xs h)
-    by false r = r
+    cases true r = ap Some (code_is w x ws xs h)
+    cases false r = r
 
 -- the indices of a plan's aggregates are those of the plan with other weights
 module _ (plan : Plan) (bases carried : List Carried) where
@@ -243,12 +243,13 @@ own_effective plan kept = own_parts plan.weights kept.positive (omega (arith, ke
 
 moved_effective : (rows : List WeightLevels) → find is_moved_out rows ≡ None → are_effective (moved_weights rows) ≡ true
 moved_effective [] h = refl
-moved_effective (r ∷ rows) h = by (is_moved_out r) refl (moved_effective rows)
+moved_effective (r ∷ rows) h = cases (is_moved_out r) refl (moved_effective rows)
   where
-    by : (b : Bool) → is_moved_out r ≡ b → (find is_moved_out rows ≡ None → are_effective (moved_weights rows) ≡ true)
+    cases : (b : Bool) → is_moved_out r ≡ b → (find is_moved_out rows ≡ None →
+        are_effective (moved_weights rows) ≡ true)
         → are_effective (moved_weights (r ∷ rows)) ≡ true
-    by true e rest = let no : Some r ≡ None = sym (ap (λ b. cond b (Some r) (find is_moved_out rows)) e) ∙ h in cc
-    by false e rest =
+    cases true e rest = let no : Some r ≡ None = sym (ap (λ b. cond b (Some r) (find is_moved_out rows)) e) ∙ h in cc
+    cases false e rest =
         rw (not_false (is_effective (moved_parts r)) e)
         (rest (sym (ap (λ b. cond b (Some r) (find is_moved_out rows)) e) ∙ h))
 
@@ -260,13 +261,13 @@ none_out (Some x) g b h = cc
 
 pub effective_of : (link reference : Code → Option ℕ) (plan : Plan) → IsPlan plan →
     weights_fault link reference plan ≡ None → are_effective (weights_in_use link reference plan) ≡ true
-effective_of link reference plan kept = by plan.reference
+effective_of link reference plan kept = cases plan.reference
   where
-    by : (o : Option ℕ) → cond (is_some o) (moving_fault (map (with_levels link reference) plan.weights)) None ≡ None
+    cases : (o : Option ℕ) → cond (is_some o) (moving_fault (map (with_levels link reference) plan.weights)) None ≡ None
         → are_effective (cond (is_some o) (moved_weights (map (with_levels link reference) plan.weights))
         plan.weights) ≡ true
-    by None h = own_effective plan kept
-    by (Some m) h = moved_effective (map (with_levels link reference) plan.weights)
+    cases None h = own_effective plan kept
+    cases (Some m) h = moved_effective (map (with_levels link reference) plan.weights)
         (none_out _ _ (find is_moved_out (map (with_levels link reference) plan.weights)) h)
 
 not_zero : (n : ℕ) → 1 ≤ n → eqb n 0 ≡ false
@@ -343,15 +344,15 @@ module _ (index : Code → ℕ) (q : Code) where
   weighted_least (w ∷ ws) h =
       let rest = weighted_least ws (λ k d l. h (suc k) d (omega (arith, l))) in
       let one = product_least w.parts (index w.code) (h 0 w (omega arith)).0 in
-      by (is_code_at_or_below q w.code) (under_cons q w ws (is_code_at_or_below q w.code) refl)
+      cases (is_code_at_or_below q w.code) (under_cons q w ws (is_code_at_or_below q w.code) refl)
       (weighted_cons w ws (is_code_at_or_below q w.code) refl) rest one
     where
-      by : (b : Bool) → weight_under q (w ∷ ws) ≡ cond b w.parts 0 + weight_under q ws →
+      cases : (b : Bool) → weight_under q (w ∷ ws) ≡ cond b w.parts 0 + weight_under q ws →
           weighted_under index q (w ∷ ws) ≡ cond b (product w) 0 + weighted_under index q ws →
           weight_under q ws ≤ weighted_under index q ws → w.parts ≤ product w →
           weight_under q (w ∷ ws) ≤ weighted_under index q (w ∷ ws)
-      by true e f r o = omega arith
-      by false e f r o = omega arith
+      cases true e f r o = omega arith
+      cases false e f r o = omega arith
 
   pub weighted_most : (ws : List Weight) → ((k : ℕ) (d : Weight) → k < length ws →
       IsIndex (index (get_or ws k d).code)) → weighted_under index q ws ≤ MOST_INDEX * weight_under q ws
@@ -359,12 +360,12 @@ module _ (index : Code → ℕ) (q : Code) where
   weighted_most (w ∷ ws) h =
       let rest = weighted_most ws (λ k d l. h (suc k) d (omega (arith, l))) in
       let one = product_most w.parts (index w.code) (h 0 w (omega arith)).1 in
-      by (is_code_at_or_below q w.code) (under_cons q w ws (is_code_at_or_below q w.code) refl)
+      cases (is_code_at_or_below q w.code) (under_cons q w ws (is_code_at_or_below q w.code) refl)
       (weighted_cons w ws (is_code_at_or_below q w.code) refl) rest one
     where
-      by : (b : Bool) → weight_under q (w ∷ ws) ≡ cond b w.parts 0 + weight_under q ws →
+      cases : (b : Bool) → weight_under q (w ∷ ws) ≡ cond b w.parts 0 + weight_under q ws →
           weighted_under index q (w ∷ ws) ≡ cond b (product w) 0 + weighted_under index q ws →
           weighted_under index q ws ≤ MOST_INDEX * weight_under q ws → product w ≤ MOST_INDEX * w.parts →
           weighted_under index q (w ∷ ws) ≤ MOST_INDEX * weight_under q (w ∷ ws)
-      by true e f r o = omega arith
-      by false e f r o = omega arith
+      cases true e f r o = omega arith
+      cases false e f r o = omega arith

@@ -14,12 +14,12 @@ use Rattle.cpi_office.specs.declared.reply.Reply.TheVariants.{Refused}
 
 -- what is answered after a read lasts as it does without the read
 lasts_after : (old mid new : State Office) → Keeps old mid → old.is_clean → mid.is_clean → Lasts mid new → Lasts old new
-lasts_after old mid new keeps was clean lasts o left = by (lasts o left)
+lasts_after old mid new keeps was clean lasts o left = cases (lasts o left)
   where
-    by : (o ≡ new.held) ⊎ ((new.held ≡ mid.held) × mid.may_leave o) → (o ≡ new.held)
+    cases : (o ≡ new.held) ⊎ ((new.held ≡ mid.held) × mid.may_leave o) → (o ≡ new.held)
         ⊎ ((new.held ≡ old.held) × old.may_leave o)
-    by (inl is) = inl is
-    by (inr h) = inr (h.0 ∙ keeps.kept clean, keeps.crash was (mid.clean_is_kept clean) o h.1)
+    cases (inl is) = inl is
+    cases (inr h) = inr (h.0 ∙ keeps.kept clean, keeps.crash was (mid.clean_is_kept clean) o h.1)
 
 endures_after : (old mid new : State Office) (reply : Reply) → Keeps old mid → StaysClean old mid →
     (new.is_clean → mid.is_clean) → Endures mid new reply → Endures old new reply
@@ -36,11 +36,11 @@ crashes_after old mid new made after keeps stays was_kept crash was kept o left 
     let mid_kept = was_kept kept in
     let clean = stays was mid_kept in
     let h = crash clean in
-    by (h.0 clean kept o left) was mid_kept h.1
+    cases (h.0 clean kept o left) was mid_kept h.1
   where
-    by : mid.may_leave o ⊎ (o ≡ made) → old.is_clean → mid.is_kept → made ≡ after → old.may_leave o ⊎ (o ≡ after)
-    by (inl left) was kept same = inl (keeps.crash was kept o left)
-    by (inr is) was kept same = inr (is ∙ same)
+    cases : mid.may_leave o ⊎ (o ≡ made) → old.is_clean → mid.is_kept → made ≡ after → old.may_leave o ⊎ (o ≡ after)
+    cases (inl left) was kept same = inl (keeps.crash was kept o left)
+    cases (inr is) was kept same = inr (is ∙ same)
 
 -- after a read, a crash leaves what it could leave before it
 pub read_endures : (old new : State Office) (reply : Reply) → Keeps old new → StaysClean old new → Endures old new reply
@@ -59,16 +59,16 @@ pub serves_after : {T F : Type 0} {result : Result T F} {Shown : T → Type 0} (
     (mid.is_clean → (said ≡ wanted) × (made ≡ after)) → Serves old new reply wanted after
 serves_after old mid new reply said wanted made after reads stays serves same = record {
   was_clean = λ clean. reads.keeps.was_clean (serves.was_clean clean);
-  served = λ clean. by clean (serves.served clean);
+  served = λ clean. cases clean (serves.served clean);
   count = omega (arith, reads.count, serves.count);
   endures = endures_after old mid new reply reads.keeps stays serves.was_clean serves.endures;
   crash = crashes_after old mid new made after reads.keeps stays serves.endures.was_kept
       (λ clean. (serves.crash, (same clean).1));
 }
   where
-    by : new.is_clean → IsServed reply said mid.held new.held made → IsServed reply wanted old.held new.held after
-    by clean (inl h) = let s = same (serves.was_clean clean) in inl (h.0 ∙ s.0, h.1 ∙ s.1)
-    by clean (inr h) = inr (h.0, h.1 ∙ reads.keeps.kept (serves.was_clean clean))
+    cases : new.is_clean → IsServed reply said mid.held new.held made → IsServed reply wanted old.held new.held after
+    cases clean (inl h) = let s = same (serves.was_clean clean) in inl (h.0 ∙ s.0, h.1 ∙ s.1)
+    cases clean (inr h) = inr (h.0, h.1 ∙ reads.keeps.kept (serves.was_clean clean))
 
 -- the same under premises, the later of which follows from the earlier
 pub serves_where_after : {T F : Type 0} {result : Result T F} {Shown : T → Type 0} (P Q : Type 0)
@@ -77,7 +77,7 @@ pub serves_where_after : {T F : Type 0} {result : Result T F} {Shown : T → Typ
     (mid.is_clean → (P → Q) × (said ≡ wanted) × (made ≡ after)) → ServesWhere old new P reply wanted after
 serves_where_after P Q old mid new reply said wanted made after reads stays serves same = record {
   was_clean = λ clean. reads.keeps.was_clean (serves.was_clean clean);
-  served = λ clean p. by clean (serves.served clean ((same (serves.was_clean clean)).0 p));
+  served = λ clean p. cases clean (serves.served clean ((same (serves.was_clean clean)).0 p));
   refused = λ clean refused. serves.refused clean refused ∙ reads.keeps.kept (serves.was_clean clean);
   count = omega (arith, reads.count, serves.count);
   endures = endures_after old mid new reply reads.keeps stays serves.was_clean serves.endures;
@@ -85,9 +85,9 @@ serves_where_after P Q old mid new reply said wanted made after reads stays serv
       (λ clean. let s = same clean in (serves.crash (s.0 p), s.2));
 }
   where
-    by : new.is_clean → IsServed reply said mid.held new.held made → IsServed reply wanted old.held new.held after
-    by clean (inl h) = let s = same (serves.was_clean clean) in inl (h.0 ∙ s.1, h.1 ∙ s.2)
-    by clean (inr h) = inr (h.0, h.1 ∙ reads.keeps.kept (serves.was_clean clean))
+    cases : new.is_clean → IsServed reply said mid.held new.held made → IsServed reply wanted old.held new.held after
+    cases clean (inl h) = let s = same (serves.was_clean clean) in inl (h.0 ∙ s.1, h.1 ∙ s.2)
+    cases clean (inr h) = inr (h.0, h.1 ∙ reads.keeps.kept (serves.was_clean clean))
 
 -- a refusal after reads: it is the one that is wanted, or that the office is unavailable
 pub refused_where : (premise : Type 0) (old new : State Office) (refusal : Refusal) (v : Verdict) → Keeps old new →
@@ -96,7 +96,7 @@ pub refused_where : (premise : Type 0) (old new : State Office) (refusal : Refus
     ServesWhere old new premise (Refused refusal) (verdict_reply v) (with_verdict v old.held)
 refused_where premise old new refusal v keeps stays count wanted = record {
   was_clean = keeps.was_clean;
-  served = λ clean p. by clean (wanted clean p);
+  served = λ clean p. cases clean (wanted clean p);
   refused = λ clean _. keeps.kept clean;
   count = count;
   endures = record {
@@ -110,10 +110,11 @@ refused_where premise old new refusal v keeps stays count wanted = record {
   crash = λ _ was kept o left. inl (keeps.crash was kept o left);
 }
   where
-    by : new.is_clean → (v ≡ Refuses refusal) ⊎ (refusal ≡ Unavailable) →
+    cases : new.is_clean → (v ≡ Refuses refusal) ⊎ (refusal ≡ Unavailable) →
         IsServed (Refused refusal) (verdict_reply v) old.held new.held (with_verdict v old.held)
-    by clean (inl is) = inl (ap verdict_reply (sym is), keeps.kept clean ∙ ap (λ w. with_verdict w old.held) (sym is))
-    by clean (inr is) = inr (ap Refused is, keeps.kept clean)
+    cases clean (inl is) = inl
+        (ap verdict_reply (sym is), keeps.kept clean ∙ ap (λ w. with_verdict w old.held) (sym is))
+    cases clean (inr is) = inr (ap Refused is, keeps.kept clean)
 
 module _ (premise : Type 0) (old new : State Office) (reply : Reply) where
   -- what is served whether the premise holds or not; a verdict that refuses changes nothing
@@ -122,18 +123,18 @@ module _ (premise : Type 0) (old new : State Office) (reply : Reply) where
   serves_where v serves = record {
     was_clean = serves.was_clean;
     served = λ clean p. serves.served clean;
-    refused = λ clean refused. by v (serves.served clean) refused;
+    refused = λ clean refused. cases v (serves.served clean) refused;
     count = serves.count;
     endures = serves.endures;
     crash = λ p. serves.crash;
   }
     where
-      by : (v : Verdict) → IsServed reply (verdict_reply v) old.held new.held (with_verdict v old.held) →
+      cases : (v : Verdict) → IsServed reply (verdict_reply v) old.held new.held (with_verdict v old.held) →
           IsTrue (is_refused reply) → new.held ≡ old.held
-      by v (inr h) refused = h.1
-      by (Refuses f) (inl h) refused = h.1
-      by (Stands c) (inl h) refused = h.1
-      by (Makes c) (inl h) refused = absurd (false≢true (ap is_refused (sym h.0) ∙ refused))
+      cases v (inr h) refused = h.1
+      cases (Refuses f) (inl h) refused = h.1
+      cases (Stands c) (inl h) refused = h.1
+      cases (Makes c) (inl h) refused = absurd (false≢true (ap is_refused (sym h.0) ∙ refused))
 
   -- what is served whether the premise holds or not, where the refusals that are wanted change nothing
   pub serves_weaker : (wanted : Reply) (after : Office) → Serves old new reply wanted after →
@@ -141,12 +142,12 @@ module _ (premise : Type 0) (old new : State Office) (reply : Reply) where
   serves_weaker wanted after serves stays = record {
     was_clean = serves.was_clean;
     served = λ clean p. serves.served clean;
-    refused = λ clean refused. by (serves.served clean) refused;
+    refused = λ clean refused. cases (serves.served clean) refused;
     count = serves.count;
     endures = serves.endures;
     crash = λ p. serves.crash;
   }
     where
-      by : IsServed reply wanted old.held new.held after → IsTrue (is_refused reply) → new.held ≡ old.held
-      by (inr h) refused = h.1
-      by (inl h) refused = h.1 ∙ stays (ap is_refused (sym h.0) ∙ refused)
+      cases : IsServed reply wanted old.held new.held after → IsTrue (is_refused reply) → new.held ≡ old.held
+      cases (inr h) refused = h.1
+      cases (inl h) refused = h.1 ∙ stays (ap is_refused (sym h.0) ∙ refused)

@@ -36,13 +36,13 @@ module _ (now month : ℕ) (form : Form) (revision : Option ℕ) (o : Office) (s
       reply_to now k (Table month form revision) o ≡ computed_reply now month form revision o
   table_told Public known = computed
   table_told Desk known = computed
-  table_told (Collector key) known = by (registration_of key o.collectors) known ∙ computed
+  table_told (Collector key) known = cases (registration_of key o.collectors) known ∙ computed
     where
-      by : (w : Option Registration) → IsSome w →
+      cases : (w : Option Registration) → IsSome w →
           known_answer now (Table month form revision) (view (Collector key) now o) (option_map (own_view o) w)
           ≡ among o.releases
-      by None known = absurd (false≢true known)
-      by (Some b) known = refl
+      cases None known = absurd (false≢true known)
+      cases (Some b) known = refl
 
 pub tables_are_told : TablesAreTold
 tables_are_told a o s month form revision is known =

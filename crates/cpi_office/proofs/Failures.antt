@@ -84,11 +84,11 @@ decision_own (Ok (Again receipt)) = (refl, refl)
 decision_own (Ok (Put quote)) = (refl, refl)
 
 pub work_own : (month : ℕ) (p : PublicPart) (own : OwnPart) → IsOwn (work_reply (work month p own))
-work_own month p own = by (calendar_of month p)
+work_own month p own = cases (calendar_of month p)
   where
-    by : (row : Option CalendarPart) → IsOwn (work_reply (in_calendar row (work_rows month p own)))
-    by None = (refl, refl)
-    by (Some row) = (refl, refl)
+    cases : (row : Option CalendarPart) → IsOwn (work_reply (in_calendar row (work_rows month p own)))
+    cases None = (refl, refl)
+    cases (Some row) = (refl, refl)
 
 pub once_judges : (c : Change) (s : Standing) → Judges (put_once c s)
 once_judges c Free = (refl, refl)
@@ -149,11 +149,11 @@ assigned_judges a i u (Some b) Same = (refl, refl)
 assigned_judges a i u b Other = (refl, refl)
 assigned_judges a i u b Free =
     if_holds Judges (is_none i) _ _ (λ e. (refl, refl)) (λ e.
-    if_holds Judges (is_none u) _ _ (λ e. (refl, refl)) (λ e. by b))
+    if_holds Judges (is_none u) _ _ (λ e. (refl, refl)) (λ e. cases b))
   where
-    by : (b : Option Registration) → Judges (to_collector a b)
-    by None = (refl, refl)
-    by (Some b) = (refl, refl)
+    cases : (b : Option Registration) → Judges (to_collector a b)
+    cases None = (refl, refl)
+    cases (Some b) = (refl, refl)
 
 pub placed_judges : (n : ℕ) (p : NewAssignment) (v : Verdict) → Judges v → Judges (if_assignable n p v)
 placed_judges n p v own = if_holds Judges (may_be_assigned n p) _ _ (λ e. own) (λ e. (refl, refl))

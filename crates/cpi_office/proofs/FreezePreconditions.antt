@@ -39,22 +39,23 @@ module _ (plans : List Plan) (n : ℕ) where
       let here : Some (frozen_month x) ≡ Some last = e in
       let is : frozen_month x ≡ last = cc in
       let same : x.month ≡ last.month = ap (λ (l : FrozenMonth). l.month) is in
-      by (eqb_tells x.month n) (omega (arith, low, high, same))
+      cases (eqb_tells x.month n) (omega (arith, low, high, same))
     where
-      by : ((eqb x.month n ≡ true) × (x.month ≡ n)) ⊎ ((eqb x.month n ≡ false) × (x.month ≢ n)) → x.month ≡ n →
+      cases : ((eqb x.month n ≡ true) × (x.month ≡ n)) ⊎ ((eqb x.month n ≡ false) × (x.month ≢ n)) → x.month ≡ n →
           IsSome (latest_release (x ∷ []) n)
-      by (inl same) is = rw same.0 refl
-      by (inr apart) is = absurd (apart.1 is)
-  reached before x (y ∷ rs) all low last e high = by (eqb_tells x.month n) (reached (before ++ x ∷ []) y rs all.1)
+      cases (inl same) is = rw same.0 refl
+      cases (inr apart) is = absurd (apart.1 is)
+  reached before x (y ∷ rs) all low last e high = cases (eqb_tells x.month n) (reached (before ++ x ∷ []) y rs all.1)
     where
       step : (y.month ≡ x.month) ⊎ (y.month ≡ x.month + 1)
       step = again_or_next plans x.month y.month (sym (next_after plans y.month before x) ∙ all.1.0.follows)
 
-      by : ((eqb x.month n ≡ true) × (x.month ≡ n)) ⊎ ((eqb x.month n ≡ false) × (x.month ≢ n)) →
+      cases : ((eqb x.month n ≡ true) × (x.month ≡ n)) ⊎ ((eqb x.month n ≡ false) × (x.month ≢ n)) →
           (y.month ≤ n → (last : FrozenMonth) → last_frozen (frozen_months (y ∷ rs)) ≡ Some last → n ≤ last.month →
           IsSome (latest_release (y ∷ rs) n)) → IsSome (latest_release (x ∷ y ∷ rs) n)
-      by (inl same) rest = some_or (latest_release (y ∷ rs) n) (if x.month == n then Some x else None) (rw same.0 refl)
-      by (inr apart) rest =
+      cases (inl same) rest = some_or (latest_release (y ∷ rs) n) (if x.month == n then Some x else None)
+          (rw same.0 refl)
+      cases (inr apart) rest =
           let below : y.month ≤ n = elim step [
             | inl again ↦ omega (arith, again, low)
             | inr next ↦ omega
@@ -101,11 +102,11 @@ module _ (plans : List Plan) (month : ℕ) where
   -- with a plan, an earlier month was frozen
   later : (x : Release) (rs : List Release) → IsInOrder release_cmp release_key (x ∷ rs) →
       IsSome (asked_plan (x ∷ rs)) → x.month < month
-  later x rs sorted some = by (cases_lt x.month month)
+  later x rs sorted some = cases (cases_lt x.month month)
     where
-      by : (x.month < month) ⊎ (month ≤ x.month) → x.month < month
-      by (inl less) = less
-      by (inr more) =
+      cases : (x.month < month) ⊎ (month ≤ x.month) → x.month < month
+      cases (inl less) = less
+      cases (inr more) =
           let none : asked_plan (x ∷ rs) ≡ None = ap (λ b. if b then row_by_number (λ (y : Plan). y.year)
           (year_of month) plans else None) (none_there x rs sorted month more) in
           absurd (false≢true (subst IsSome none some))
@@ -115,7 +116,7 @@ module _ (plans : List Plan) (month : ℕ) where
   next_meets_preconditions [] sorted all e = record { plan_is = refl; after = λ some. absurd (false≢true some) }
   next_meets_preconditions (x ∷ rs) sorted all e = record {
     plan_is = sym (plan_same plans month (x ∷ rs));
-    after = λ some. by (last_frozen (frozen_months (x ∷ rs))) refl (later x rs sorted some);
+    after = λ some. cases (last_frozen (frozen_months (x ∷ rs))) refl (later x rs sorted some);
   }
     where
       before : month - 1 + 1 ≡ month → IsSome (latest_release (x ∷ rs) (month - 1)) → FollowsRelease (x ∷ rs) month
@@ -129,14 +130,14 @@ module _ (plans : List Plan) (month : ℕ) where
       december : x.month % 12 ≡ 11
       december = eqb-true (x.month % 12) 11 all.0.follows
 
-      by : (o : Option FrozenMonth) → last_frozen (frozen_months (x ∷ rs)) ≡ o → x.month < month →
+      cases : (o : Option FrozenMonth) → last_frozen (frozen_months (x ∷ rs)) ≡ o → x.month < month →
           FollowsRelease (x ∷ rs) month × (12 ≤ month)
-      by None f less = absurd (nothing x rs f)
+      cases None f less = absurd (nothing x rs f)
         where
           nothing : (x : Release) (rs : List Release) → last_frozen (frozen_months (x ∷ rs)) ≡ None → ⊥
           nothing x [] f = let no : Some (frozen_month x) ≡ None = f in cc
           nothing x (y ∷ rs) f = nothing y rs f
-      by (Some last) f less =
+      cases (Some last) f less =
           let up = last_least x rs sorted last f in
           let high : month ≤ last.month + 1 = elim (again_or_next plans last.month month
           (subst (λ o. follows month o ≡ true) f e)) [

@@ -34,16 +34,16 @@ last_among month (x ∷ []) last e same =
     let here : Some x ≡ Some last = e in
     let is : x ≡ last = cc in
     rw (ap (λ (l : FrozenMonth). l.month == month) is ∙ same) refl
-last_among month (x ∷ y ∷ frozen) last e same = by (x.month == month) (last_among month (y ∷ frozen) last e same)
+last_among month (x ∷ y ∷ frozen) last e same = cases (x.month == month) (last_among month (y ∷ frozen) last e same)
   where
-    by : (w : Bool) → is_month_frozen month (y ∷ frozen) ≡ true → (w || is_month_frozen month (y ∷ frozen)) ≡ true
-    by true rest = refl
-    by false rest = rest
+    cases : (w : Bool) → is_month_frozen month (y ∷ frozen) ≡ true → (w || is_month_frozen month (y ∷ frozen)) ≡ true
+    cases true rest = refl
+    cases false rest = rest
 
 -- a month that doesn't stay frozen has fewer than nine revisions
 pub few_revisions : (month : ℕ) (publishes : Option ℕ) (frozen : List FrozenMonth) →
     keeps_frozen month publishes frozen ≡ false → revision_to_give month frozen ≤ 9
-few_revisions month publishes frozen free = by (last_frozen frozen) refl
+few_revisions month publishes frozen free = cases (last_frozen frozen) refl
   where
     reopened : (w : Bool) → (true && not w) ≡ false → w ≡ true
     reopened true e = refl
@@ -59,9 +59,9 @@ few_revisions month publishes frozen free = by (last_frozen frozen) refl
     few last (Some p) e = let less = ltb-true last.revision 9
         (three (last.month == month) (nat_lt last.revision 9) (nat_lt last.publishes p) e) in omega (arith, less)
 
-    by : (w : Option FrozenMonth) → last_frozen frozen ≡ w → revision_to_give month frozen ≤ 9
-    by None e = rw e (omega arith)
-    by (Some last) e = again (eqb_tells last.month month)
+    cases : (w : Option FrozenMonth) → last_frozen frozen ≡ w → revision_to_give month frozen ≤ 9
+    cases None e = rw e (omega arith)
+    cases (Some last) e = again (eqb_tells last.month month)
       where
         again : ((eqb last.month month ≡ true) × (last.month ≡ month))
             ⊎ ((eqb last.month month ≡ false) × (last.month ≢ month)) → revision_to_give month frozen ≤ 9
@@ -116,11 +116,11 @@ module _ (now month : ℕ) (carry : List Code) (rs : List Release) (calendar : L
 
   -- the month is the next one
   pub judged_follows : is_next_month month (frozen_months rs) ≡ true
-  judged_follows = by (is_next_month month (frozen_months rs)) follows.0
+  judged_follows = cases (is_next_month month (frozen_months rs)) follows.0
     where
-      by : (w : Bool) → not w ≡ false → w ≡ true
-      by true e = refl
-      by false e = absurd (false≢true (sym e))
+      cases : (w : Bool) → not w ≡ false → w ≡ true
+      cases true e = refl
+      cases false e = absurd (false≢true (sym e))
 
   -- it has fewer than nine revisions
   pub judged_few : revision_to_give row.month (frozen_months rs) ≤ 9

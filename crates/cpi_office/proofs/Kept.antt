@@ -17,9 +17,9 @@ use Rattle.cpi_store.specs.Sound.{IsSound, HasItsRows, HasItsAssignment, HasNode
 use Rattle.cpi_rows.proofs.Held.{held_total}
 use Rattle.cpi_rows.proofs.Lists.{all_put, all_weaker}
 use Rattle.cpi_rows.proofs.Places.{put_in_order}
-use Rattle.cpi_rows.proofs.Puts.{at-put_some}
+use Rattle.cpi_rows.proofs.Puts.{at_put_some}
 use Rattle.cpi_survey.proofs.Latest.{quote_order}
-use Rattle.cpi_office.proofs.Registrations.{keys-put}
+use Rattle.cpi_office.proofs.Registrations.{keys_put}
 use Rattle.cpi_release.specs.FrozenMonths.{release_cmp, release_key}
 use Rattle.cpi_store.proofs.Released.{release_total, newly_frozen, released_more, replanned}
 use Rattle.cpi_store.proofs.Changes.{IsNewlyGiven, sound_given, given_assigned, quoted_assigned, frozen_assigned}
@@ -31,7 +31,7 @@ pub stays_sound : (c : Change) (o : Office) → IsSound o → Fits c o → IsSou
 stays_sound (PutsItem i) o s h = assumption (
   put_in_order nat_cmp_total (λ (i : Item). i.code) o.items i s.items,
   all_weaker (HasItsRows o) (HasItsRows (office_with (PutsItem i) o))
-      (λ row has. (has.0, has.1, at-put_some (λ i. i.code) i o.items s.items h row.1.assignment.item has.2))
+      (λ row has. (has.0, has.1, at_put_some (λ i. i.code) i o.items s.items h row.1.assignment.item has.2))
       o.assignments s.assigned,
 )
 stays_sound (PutsPlan p) o s h = assumption (
@@ -43,15 +43,15 @@ stays_sound (PutsCalendar r) o s h =
     assumption (put_in_order nat_cmp_total (λ (r : CalendarPart). r.month) o.calendar r s.calendar)
 stays_sound (Registers b) o s h = assumption (
   put_in_order nat_cmp_total (λ (b : Registration). b.number) o.collectors b s.collectors,
-  keys-put b o.collectors s.collectors h.0 s.keys h.1,
+  keys_put b o.collectors s.collectors h.0 s.keys h.1,
   all_weaker (HasItsRows o) (HasItsRows (office_with (Registers b) o))
-      (λ row has. (at-put_some (λ b. b.number) b o.collectors s.collectors h.0 row.0 has.0, has.1, has.2))
+      (λ row has. (at_put_some (λ b. b.number) b o.collectors s.collectors h.0 row.0 has.0, has.1, has.2))
       o.assignments s.assigned,
 )
 stays_sound (PutsOutlet u) o s h = assumption (
   put_in_order nat_cmp_total (λ (u : Outlet). u.number) o.outlets u s.outlets,
   all_weaker (HasItsRows o) (HasItsRows (office_with (PutsOutlet u) o))
-      (λ row has. (has.0, at-put_some (λ u. u.number) u o.outlets s.outlets h row.1.assignment.outlet has.1, has.2))
+      (λ row has. (has.0, at_put_some (λ u. u.number) u o.outlets s.outlets h row.1.assignment.outlet has.1, has.2))
       o.assignments s.assigned,
 )
 stays_sound (Assigns b a) o s h =

@@ -16,26 +16,26 @@ some_more n x bs false e some = rw e some
 pub registration_some : (key : ℕ) (b : Registration) (bs : List Registration) → registration_of key bs ≡ Some b →
     IsSome (row_by_number (λ b. b.number) b.number bs)
 registration_some key b [] known = let no : None ≡ Some b = known in cc
-registration_some key b (x ∷ bs) known = by (eqb x.key key) refl (registration_some key b bs)
+registration_some key b (x ∷ bs) known = cases (eqb x.key key) refl (registration_some key b bs)
   where
-    by : (t : Bool) → eqb x.key key ≡ t →
+    cases : (t : Bool) → eqb x.key key ≡ t →
         (registration_of key bs ≡ Some b → IsSome (row_by_number (λ b. b.number) b.number bs)) →
         IsSome (row_by_number (λ b. b.number) b.number (x ∷ bs))
-    by true e rest =
+    cases true e rest =
         let here : Some x ≡ Some b = rw e at known in
         let is : x ≡ b = cc in
         rw (← is, ap is_eq (tied_itself nat_cmp_total x.number)) refl
-    by false e rest = some_more b.number x bs (is_eq (nat_cmp x.number b.number)) refl (rest (rw e at known))
+    cases false e rest = some_more b.number x bs (is_eq (nat_cmp x.number b.number)) refl (rest (rw e at known))
 
 -- and the registration has the key
 pub registration_key : (key : ℕ) (b : Registration) (bs : List Registration) → registration_of key bs ≡ Some b →
     b.key ≡ key
 registration_key key b [] known = let no : None ≡ Some b = known in cc
-registration_key key b (x ∷ bs) known = by (eqb x.key key) refl (registration_key key b bs)
+registration_key key b (x ∷ bs) known = cases (eqb x.key key) refl (registration_key key b bs)
   where
-    by : (t : Bool) → eqb x.key key ≡ t → (registration_of key bs ≡ Some b → b.key ≡ key) → b.key ≡ key
-    by true e rest =
+    cases : (t : Bool) → eqb x.key key ≡ t → (registration_of key bs ≡ Some b → b.key ≡ key) → b.key ≡ key
+    cases true e rest =
         let here : Some x ≡ Some b = rw e at known in
         let is : x ≡ b = cc in
         ap (λ (b : Registration). b.key) (sym is) ∙ eqb-true x.key key e
-    by false e rest = rest (rw e at known)
+    cases false e rest = rest (rw e at known)

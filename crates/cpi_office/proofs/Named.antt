@@ -29,17 +29,18 @@ pub standing_named : (us : List Outlet) (a : Assignment) (slot : ℕ) (rows : Li
     (map (with_name us) (map (λ g. g.assignment) rows))) ≡
     standing same_content a (row_by_number (λ g. g.assignment.slot) slot rows)
 standing_named us a slot [] = refl
-standing_named us a slot (r ∷ rows) = by (is_eq (nat_cmp r.assignment.slot slot)) refl (standing_named us a slot rows)
+standing_named us a slot (r ∷ rows) = cases (is_eq (nat_cmp r.assignment.slot slot)) refl
+    (standing_named us a slot rows)
   where
-    by : (t : Bool) → is_eq (nat_cmp r.assignment.slot slot) ≡ t →
+    cases : (t : Bool) → is_eq (nat_cmp r.assignment.slot slot) ≡ t →
         standing same_assigned a (row_by_number (λ a. a.assignment.slot) slot
         (map (with_name us) (map (λ g. g.assignment) rows))) ≡ standing same_content a
         (row_by_number (λ g. g.assignment.slot) slot rows) →
         standing same_assigned a (row_by_number (λ a. a.assignment.slot) slot
         (map (with_name us) (map (λ g. g.assignment) (r ∷ rows)))) ≡ standing same_content a
         (row_by_number (λ g. g.assignment.slot) slot (r ∷ rows))
-    by true e rest = rw e refl
-    by false e rest = rw e rest
+    cases true e rest = rw e refl
+    cases false e rest = rw e rest
 
 -- what stands with the same content stands so where the slot names its series
 abbrev pub as_first : Bool → Standing → Standing
@@ -51,17 +52,17 @@ standing_first : (collector : ℕ) (a : Assignment) (w : Option Given) →
     standing same_given (first_of_series collector a) w ≡ as_first (is_first_series collector a.slot w)
     (standing same_content a w)
 standing_first collector a None = refl
-standing_first collector a (Some g) = by (same_assignment g.assignment a) refl
+standing_first collector a (Some g) = cases (same_assignment g.assignment a) refl
     (same_series g.series (own_series collector a.slot)) refl
   where
-    by : (s : Bool) → same_assignment g.assignment a ≡ s → (t : Bool) →
+    cases : (s : Bool) → same_assignment g.assignment a ≡ s → (t : Bool) →
         same_series g.series (own_series collector a.slot) ≡ t →
         standing same_given (first_of_series collector a) (Some g) ≡ as_first
         (is_first_series collector a.slot (Some g))
         (standing same_content a (Some g))
-    by true e true f = rw (e, f) refl
-    by true e false f = rw (e, f) refl
-    by false e t f = rw e refl
+    cases true e true f = rw (e, f) refl
+    cases true e false f = rw (e, f) refl
+    cases false e t f = rw e refl
 
 -- a slot is given by what stands there by its content, and by whether the slot names its series
 pub slot_given_is : (collector : ℕ) (a : Assignment) (o : Office) →
@@ -98,20 +99,20 @@ again_is collector a o e =
 
 pub is_free : {X Y : Type 0} (same : Y → X → Bool) (x : X) (w : Option Y) → Free ≡ standing same x w → w ≡ None
 is_free same x None e = refl
-is_free same x (Some old) e = by (same old x) refl
+is_free same x (Some old) e = cases (same old x) refl
   where
-    by : (t : Bool) → same old x ≡ t → Some old ≡ None
-    by true f = let no = rw f at e in cc
-    by false f = let no = rw f at e in cc
+    cases : (t : Bool) → same old x ≡ t → Some old ≡ None
+    cases true f = let no = rw f at e in cc
+    cases false f = let no = rw f at e in cc
 
 -- the assignment with the name of its outlet, where there is one
 pub named_is : (us : List Outlet) (a : Assignment) (x : Assigned) → IsNamed us a (Some x) → x ≡ with_name us a
-named_is us a x e = by (row_by_number (λ (u : Outlet). u.number) a.outlet us) refl e
+named_is us a x e = cases (row_by_number (λ (u : Outlet). u.number) a.outlet us) refl e
   where
-    by : (w : Option Outlet) → row_by_number (λ (u : Outlet). u.number) a.outlet us ≡ w →
+    cases : (w : Option Outlet) → row_by_number (λ (u : Outlet). u.number) a.outlet us ≡ w →
         Some x ≡ option_map (λ (u : Outlet). record { assignment = a; outlet_name = u.name })
         (row_by_number (λ (u : Outlet). u.number) a.outlet us) → x ≡ with_name us a
-    by None f e = let no = rw f at e in cc
-    by (Some u) f e = let is = rw f at e in rw f
+    cases None f e = let no = rw f at e in cc
+    cases (Some u) f e = let is = rw f at e in rw f
         (let same : x ≡ record { assignment = a; outlet_name = u.name } =
         cc in same)

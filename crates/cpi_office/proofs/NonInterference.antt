@@ -156,13 +156,13 @@ module _ (key : ℕ) where
   step now caller.Desk r asks rest none o u agrees =
       rest none.1 _ _ (both_go (record { now = now; caller = caller.Desk; request = r }) o u agrees
       (sym (commanded_bare now r o none.0) ∙ ap (command_verdict now r) agrees.rest ∙ commanded_bare now r u none.0))
-  step now (caller.Collector k) r asks rest none o u agrees = by (eqb_tells k key)
+  step now (caller.Collector k) r asks rest none o u agrees = cases (eqb_tells k key)
     where
       a : Ask
       a = record { now = now; caller = caller.Collector k; request = r }
 
-      mine : k ≡ key → Agrees (next a o) (next a u)
-      mine same =
+      same_key : k ≡ key → Agrees (next a o) (next a u)
+      same_key same =
           let views : view (caller.Collector k) now o ≡ view (caller.Collector k) now u =
           ap (λ x. view (caller.Collector x) now o) same ∙ agrees.sees now
           ∙ ap (λ x. view (caller.Collector x) now u) (sym same) in
@@ -175,13 +175,13 @@ module _ (key : ℕ) where
           ∙ ap (λ x. view (caller.Collector x) now u) (sym same) in
           ap (answer now (caller.Collector k) r) views
 
-      by : ((eqb k key ≡ true) × (k ≡ key)) ⊎ ((eqb k key ≡ false) × (k ≢ key)) →
+      cases : ((eqb k key ≡ true) × (k ≡ key)) ⊎ ((eqb k key ≡ false) × (k ≢ key)) →
           collector_replies key (a ∷ asks) o ≡ collector_replies key (requests_without key (a ∷ asks)) u
-      by (inl same) =
+      cases (inl same) =
           rw (same.0, same.0)
           (ap (λ x. x ∷ collector_replies key asks (next a o)) (said same.1)
-          ∙ ap (λ xs. reply_to now (caller.Collector k) r u ∷ xs) (rest none.1 _ _ (mine same.1)))
-      by (inr apart) = rw apart.0 (rest none.1 _ _ (one_goes k apart.0 now r o u agrees))
+          ∙ ap (λ xs. reply_to now (caller.Collector k) r u ∷ xs) (rest none.1 _ _ (same_key same.1)))
+      cases (inr apart) = rw apart.0 (rest none.1 _ _ (one_goes k apart.0 now r o u agrees))
 
   alike : (asks : List Ask) → Alike asks
   alike [] none o u agrees = refl

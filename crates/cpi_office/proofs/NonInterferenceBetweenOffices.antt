@@ -25,13 +25,13 @@ module _ (old mid new : State Office) (asks : List Ask) (rs : List Reply) (t : �
   reply_is other asked =
       let before = asked.serves.was_clean asked.clean in
       let run = asked.ran.run before asked.sound in
-      by (asked.serves.served asked.clean (run_sound old.held mid.held asks rs run asked.sound))
+      cases (asked.serves.served asked.clean (run_sound old.held mid.held asks rs run asked.sound))
       ∙ told t k r mid.held other ∙ ap (λ o. answer t k r (view k t o)) run.office
     where
-      by : IsServed reply (reply_to t k r mid.held) mid.held new.held (after_one t k r mid.held) →
+      cases : IsServed reply (reply_to t k r mid.held) mid.held new.held (after_one t k r mid.held) →
           reply ≡ reply_to t k r mid.held
-      by (inl h) = h.0
-      by (inr h) = absurd (false≢true (sym asked.told ∙ ap is_failure_of h.0))
+      cases (inl h) = h.0
+      cases (inr h) = absurd (false≢true (sym asked.told ∙ ap is_failure_of h.0))
 
 pub replies_are_alike : {B C : Type 0} (state : B → State Office) (state' : C → State Office) →
     RepliesAreAlike state state'

@@ -38,12 +38,12 @@ told_is key (a ∷ asks) o =
 none_served : (asks : List Ask) (rs : List Reply) → NonePassesOn asks → NonePassesOn (all_served asks rs)
 none_served [] rs none = tt
 none_served (a ∷ asks) [] none = tt
-none_served (a ∷ asks) (r ∷ rs) none = by (is_failure_of r) refl (none_served asks rs none.1)
+none_served (a ∷ asks) (r ∷ rs) none = cases (is_failure_of r) refl (none_served asks rs none.1)
   where
-    by : (w : Bool) → is_failure_of r ≡ w → NonePassesOn (all_served asks rs) →
+    cases : (w : Bool) → is_failure_of r ≡ w → NonePassesOn (all_served asks rs) →
         NonePassesOn (all_served (a ∷ asks) (r ∷ rs))
-    by true e rest = rw e rest
-    by false e rest = rw e (none.0, rest)
+    cases true e rest = rw e rest
+    cases false e rest = rw e (none.0, rest)
 
 pub run_is_non_interfering : (o u : Office) (asks : List Ask) (rs : List Reply) → IsSound o → IsRun o asks rs u →
     IsNonInterfering o asks rs
@@ -86,35 +86,35 @@ runs_tell_alike state state' key asks others rs ss old new old' new' whole whole
 pub serves_sound : (old new : State Office) (reply wanted : Reply) (a : Ask) →
     ServesWhere old new (IsSound old.held) reply wanted (next a old.held) → new.is_clean → IsSound old.held →
     IsSound new.held
-serves_sound old new reply wanted a serves clean s = by (serves.served clean s)
+serves_sound old new reply wanted a serves clean s = cases (serves.served clean s)
   where
-    by : IsServed reply wanted old.held new.held (next a old.held) → IsSound new.held
-    by (inl done) = rw done.1 (next_sound a old.held s)
-    by (inr failed) = rw failed.1 s
+    cases : IsServed reply wanted old.held new.held (next a old.held) → IsSound new.held
+    cases (inl done) = rw done.1 (next_sound a old.held s)
+    cases (inr failed) = rw failed.1 s
 
 -- a request that is served shows to each caller what was accepted of it
 pub serves_views : (old new : State Office) (reply : Reply) (a : Ask) →
     ServesWhere old new (IsSound old.held) reply (reply_to a.now a.caller a.request old.held) (next a old.held) →
     new.is_clean →
     IsSound old.held → IsRebuilt old.held a reply new.held
-serves_views old new reply a serves clean s k t = by (serves.served clean s)
+serves_views old new reply a serves clean s k t = cases (serves.served clean s)
   where
-    by : IsServed reply (reply_to a.now a.caller a.request old.held) old.held new.held (next a old.held)
+    cases : IsServed reply (reply_to a.now a.caller a.request old.held) old.held new.held (next a old.held)
         → view k t new.held ≡ build (view k t old.held) (sights_of k t (trace (served_requests a reply) old.held))
-    by (inl done) =
+    cases (inl done) =
         let fair : is_failure_of reply ≡ false = ap is_failure_of done.0 ∙ never_failure a.now a.caller a.request
         old.held in
         rw fair (ap (view k t) done.1 ∙ rebuilt (a ∷ []) old.held k t s)
-    by (inr failed) = rw failed.0 (ap (view k t) failed.1)
+    cases (inr failed) = rw failed.0 (ap (view k t) failed.1)
 
 -- a request for a table that is served is told the one that is computed
 pub serves_table : (old new : State Office) (reply : Reply) (a : Ask) →
     ServesWhere old new (IsSound old.held) reply (reply_to a.now a.caller a.request old.held) (next a old.held) →
     new.is_clean →
     IsSound old.held → IsFalse (is_failure_of reply) → TellsTable a old.held reply
-serves_table old new reply a serves clean s fine month form revision is known = by (serves.served clean s)
+serves_table old new reply a serves clean s fine month form revision is known = cases (serves.served clean s)
   where
-    by : IsServed reply (reply_to a.now a.caller a.request old.held) old.held new.held (next a old.held)
+    cases : IsServed reply (reply_to a.now a.caller a.request old.held) old.held new.held (next a old.held)
         → reply ≡ computed_reply a.now month form revision old.held
-    by (inl done) = done.0 ∙ tables_are_told a old.held s month form revision is known
-    by (inr failed) = absurd (false≢true (sym fine ∙ ap is_failure_of failed.0))
+    cases (inl done) = done.0 ∙ tables_are_told a old.held s month form revision is known
+    cases (inr failed) = absurd (false≢true (sym fine ∙ ap is_failure_of failed.0))

@@ -74,10 +74,10 @@ planned_known year b p h =
 -- the same of a plan that was judged
 pub judged_known : (year : ℕ) (b : Body) (plans : List Plan) (p : Plan) (s : Standing) →
     plan_standing plans (plan_or_fault year b) ≡ Ok (p, s) → has_unknown_item b.known p.places ≡ false
-judged_known year b plans p s h = by (plan_or_fault year b) refl h
+judged_known year b plans p s h = cases (plan_or_fault year b) refl h
   where
-    by : (r : Result Plan PlanFault) → plan_or_fault year b ≡ r → plan_standing plans r ≡ Ok (p, s) →
+    cases : (r : Result Plan PlanFault) → plan_or_fault year b ≡ r → plan_standing plans r ≡ Ok (p, s) →
         has_unknown_item b.known p.places ≡ false
-    by (Err f) e h = let no : plan_standing plans (Err f) ≡ Ok (p, s) = h in cc
-    by (Ok q) e h = let is : q ≡ p = ap (λ (r : Result (Plan × Standing) PlanFault). (value_or (p, s) r).0) h in
+    cases (Err f) e h = let no : plan_standing plans (Err f) ≡ Ok (p, s) = h in cc
+    cases (Ok q) e h = let is : q ≡ p = ap (λ (r : Result (Plan × Standing) PlanFault). (value_or (p, s) r).0) h in
         planned_known year b p (e ∙ ap Ok is)

@@ -36,11 +36,11 @@ use Rattle.cpi_survey.specs.declared.assignment.Assignment.{Assignment}
 use Rattle.cpi_office.specs.declared.caller.Caller.{Caller}
 use Rattle.cpi_office.specs.declared.caller.Caller.TheVariants.{Public, Collector, Desk}
 use Rattle.cpi_rows.proofs.Held.{puts_own, puts_other}
-use Rattle.cpi_rows.proofs.Puts.{map-put, filter-put, filter-put_out}
+use Rattle.cpi_rows.proofs.Puts.{map_put, filter_put, filter_put_out}
 use Rattle.cpi_release.specs.FrozenMonths.{release_cmp, release_key}
 use Rattle.cpi_release.specs.PublishedTables.{PublishedTable, published_table, published_key, published_until}
 use Rattle.cpi_release.specs.declared.release.Release.{Release}
-use Rattle.cpi_office.proofs.Registrations.{numbers_apart, registration-put_own, registration-put_other, none_held}
+use Rattle.cpi_office.proofs.Registrations.{numbers_apart, registration_put_own, registration_put_other, none_held}
 use Rattle.cpi_office.proofs.Registrations.{none_quoted}
 use Rattle.cpi_office.proofs.Registrations.{names_stay}
 
@@ -78,37 +78,37 @@ module _ (key t : ℕ) (o : Office) (sorted : IsInOrder nat_cmp (λ b. b.number)
   registered same = ap (λ k. registration_of k o.collectors) (sym same) ∙ keys b.number b found
 
   -- a list of rows of each collector's own is changed for one collector
-  module _ (part : Registration → OwnView) (f : OwnView → OwnView) (mine : part b ≡ f (own_view o b))
+  module _ (part : Registration → OwnView) (f : OwnView → OwnView) (own_part_changes : part b ≡ f (own_view o b))
       (others : (c : Registration) → c.number ≢ b.number → part c ≡ own_view o c) where
     own_mine : b.key ≡ key → option_map part (registration_of key o.collectors) ≡ option_map f
         (option_map (own_view o) (registration_of key o.collectors))
-    own_mine same = rw (registered same) (ap Some mine)
+    own_mine same = rw (registered same) (ap Some own_part_changes)
 
     own_other : b.key ≢ key → option_map part (registration_of key o.collectors) ≡ option_map (own_view o)
         (registration_of key o.collectors)
-    own_other apart = by (registration_of key o.collectors) refl
+    own_other apart = cases (registration_of key o.collectors) refl
       where
-        by : (w : Option Registration) → registration_of key o.collectors ≡ w →
+        cases : (w : Option Registration) → registration_of key o.collectors ≡ w →
             option_map part (registration_of key o.collectors) ≡ option_map (own_view o)
             (registration_of key o.collectors)
-        by None e = rw e refl
-        by (Some c) e = rw e (ap Some (others c (numbers_apart key b c o.collectors sorted found apart e)))
+        cases None e = rw e refl
+        cases (Some c) e = rw e (ap Some (others c (numbers_apart key b c o.collectors sorted found apart e)))
 
     -- with these own parts, the view is the one before with this row if the caller is the collector
     shows_own_row : (row : Sight) → ((v : View) → view_with row v ≡ with_own v (option_map f v.own)) →
         with_own (view (Collector key) t o) (option_map part (registration_of key o.collectors)) ≡
         build (view (Collector key) t o) (seen_if (is_registration_of (Collector key) b) row)
-    shows_own_row row changes = by (eqb_tells b.key key)
+    shows_own_row row changes = cases (eqb_tells b.key key)
       where
-        by : ((eqb b.key key ≡ true) × (b.key ≡ key)) ⊎ ((eqb b.key key ≡ false) × (b.key ≢ key)) →
+        cases : ((eqb b.key key ≡ true) × (b.key ≡ key)) ⊎ ((eqb b.key key ≡ false) × (b.key ≢ key)) →
             with_own (view (Collector key) t o) (option_map part (registration_of key o.collectors)) ≡
             build (view (Collector key) t o) (seen_if (is_registration_of (Collector key) b) row)
-        by (inl same) = rw same.0
+        cases (inl same) = rw same.0
             (ap (with_own (view (Collector key) t o)) (own_mine same.1) ∙ sym (changes (view (Collector key) t o)))
-        by (inr apart) = rw apart.0 (ap (with_own (view (Collector key) t o)) (own_other apart.1))
+        cases (inr apart) = rw apart.0 (ap (with_own (view (Collector key) t o)) (own_other apart.1))
 
   shows_own_quote : (q : QuoteRow) → Shows (Collector key) t o (Quotes b q)
-  shows_own_quote q = shows_own_row part (with_quote q) mine others (HasQuoted q) (λ v. refl)
+  shows_own_quote q = shows_own_row part (with_quote q) own_part_changes others (HasQuoted q) (λ v. refl)
     where
       part : Registration → OwnView
       part c = record {
@@ -120,8 +120,8 @@ module _ (key t : ℕ) (o : Office) (sorted : IsInOrder nat_cmp (λ b. b.number)
         };
       }
 
-      mine : part b ≡ with_quote q (own_view o b)
-      mine = ap (λ qs. record {
+      own_part_changes : part b ≡ with_quote q (own_view o b)
+      own_part_changes = ap (λ qs. record {
         number = b.number;
         part =
             record { assignments = map (with_name o.outlets) (assignments_by b.number o); quotes = qs };
@@ -172,7 +172,7 @@ module _ (key t : ℕ) (o : Office) (sorted : IsInOrder nat_cmp (λ b. b.number)
       ShowsGiven (put_given b.number (record { assignment = a.assignment; series = series }) o.assignments)
       (IsAssigned a)
   shows_own_given a series named =
-      shows_own_row (part_with rows) (with_assigned a) mine others (IsAssigned a) (λ v. refl)
+      shows_own_row (part_with rows) (with_assigned a) own_part_changes others (IsAssigned a) (λ v. refl)
     where
       g : Given
       g = record { assignment = a.assignment; series = series }
@@ -183,12 +183,12 @@ module _ (key t : ℕ) (o : Office) (sorted : IsInOrder nat_cmp (λ b. b.number)
       own_rows : List Given
       own_rows = held_by b.number o.assignments
 
-      mine : part_with rows b ≡ with_assigned a (own_view o b)
-      mine = own_part_is rows b _
+      own_part_changes : part_with rows b ≡ with_assigned a (own_view o b)
+      own_part_changes = own_part_is rows b _
           (ap with_names (puts_own nat_cmp (λ (g : Given). g.assignment.slot) b.number g o.assignments)
-          ∙ ap (map (with_name o.outlets)) (map-put nat_cmp (λ (x : Assignment). x.slot)
+          ∙ ap (map (with_name o.outlets)) (map_put nat_cmp (λ (x : Assignment). x.slot)
           (λ (g : Given). g.assignment) g own_rows)
-          ∙ map-put nat_cmp (λ (x : Assigned). x.assignment.slot) (with_name o.outlets) a.assignment
+          ∙ map_put nat_cmp (λ (x : Assigned). x.assignment.slot) (with_name o.outlets) a.assignment
           (map (λ (g : Given). g.assignment) own_rows)
           ∙ ap (λ x. put_by (λ (x : Assigned). x.assignment.slot) x
           (map (with_name o.outlets) (map (λ (g : Given). g.assignment) own_rows))) (sym named))
@@ -199,13 +199,13 @@ module _ (key t : ℕ) (o : Office) (sorted : IsInOrder nat_cmp (λ b. b.number)
 
   shows_own_end : (slot last : ℕ) → ShowsGiven (end_given b.number slot last o.assignments) (HasEnded slot last)
   shows_own_end slot last =
-      shows_own_row (part_with rows) (with_end slot last) mine others (HasEnded slot last) (λ v. refl)
+      shows_own_row (part_with rows) (with_end slot last) own_part_changes others (HasEnded slot last) (λ v. refl)
     where
       rows : List (ℕ × Given)
       rows = end_given b.number slot last o.assignments
 
-      mine : part_with rows b ≡ with_end slot last (own_view o b)
-      mine = own_part_is rows b _ (ap with_names (held_ended_own b.number slot last o.assignments)
+      own_part_changes : part_with rows b ≡ with_end slot last (own_view o b)
+      own_part_changes = own_part_is rows b _ (ap with_names (held_ended_own b.number slot last o.assignments)
           ∙ shown_ended o.outlets slot last (held_by b.number o.assignments))
 
       others : (c : Registration) → c.number ≢ b.number → part_with rows c ≡ own_view o c
@@ -281,11 +281,12 @@ pub shows_outlet : (k : Caller) (t : ℕ) (o : Office) → IsSound o → (u : Ou
 shows_outlet Public t o s u new = refl
 shows_outlet Desk t o s u new = refl
 shows_outlet (Collector key) t o s u new = ap (with_own (view (Collector key) t o))
-    (by (registration_of key o.collectors))
+    (cases (registration_of key o.collectors))
   where
-    by : (w : Option Registration) → option_map (own_view (office_with (PutsOutlet u) o)) w ≡ option_map (own_view o) w
-    by None = refl
-    by (Some c) = ap Some (own_names o s u new c)
+    cases : (w : Option Registration) →
+        option_map (own_view (office_with (PutsOutlet u) o)) w ≡ option_map (own_view o) w
+    cases None = refl
+    cases (Some c) = ap Some (own_names o s u new c)
 
 -- ---- a collector who is registered
 
@@ -307,21 +308,21 @@ pub shows_registered : (k : Caller) (t : ℕ) (o : Office) → IsSound o → (b 
     (Registers b)
 shows_registered Public t o s b new free = refl
 shows_registered Desk t o s b new free = refl
-shows_registered (Collector key) t o s b new free = by (eqb_tells b.key key)
+shows_registered (Collector key) t o s b new free = cases (eqb_tells b.key key)
   where
-    by : ((eqb b.key key ≡ true) × (b.key ≡ key)) ⊎ ((eqb b.key key ≡ false) × (b.key ≢ key)) →
+    cases : ((eqb b.key key ≡ true) × (b.key ≡ key)) ⊎ ((eqb b.key key ≡ false) × (b.key ≢ key)) →
         Shows (Collector key) t o (Registers b)
-    by (inl same) =
+    cases (inl same) =
         let nobody : registration_of key o.collectors ≡ None = ap (λ k. registration_of k o.collectors) (sym same.1)
         ∙ free in
         rw (
           same.0,
-          registration-put_own b o.collectors s.collectors new key same.0 nobody,
+          registration_put_own b o.collectors s.collectors new key same.0 nobody,
           nobody,
           no_assignments o s b new,
           no_quotes o s b new,
         ) refl
-    by (inr apart) = rw (apart.0, registration-put_other b o.collectors s.collectors new key apart.0) refl
+    cases (inr apart) = rw (apart.0, registration_put_other b o.collectors s.collectors new key apart.0) refl
 
 -- ---- a release
 
@@ -336,23 +337,23 @@ module _ (t : ℕ) (o : Office) (s : IsSound o) (r : Release)
       published_until t (put_release r o.releases) ≡ with_row release_cmp published_key (published_table r)
       (published_until t o.releases)
   tables_published e =
-      ap (map published_table) (filter-put release_cmp release_key (λ r. nat_le r.publishes t) r o.releases e)
-      ∙ map-put release_cmp published_key published_table r (filter (λ r. nat_le r.publishes t) o.releases)
+      ap (map published_table) (filter_put release_cmp release_key (λ r. nat_le r.publishes t) r o.releases e)
+      ∙ map_put release_cmp published_key published_table r (filter (λ r. nat_le r.publishes t) o.releases)
 
   tables_embargoed : nat_le r.publishes t ≡ false →
       published_until t (put_release r o.releases) ≡ published_until t o.releases
   tables_embargoed e = ap (map published_table)
-      (filter-put_out release_total release_key (λ r. nat_le r.publishes t) r o.releases s.releases new e)
+      (filter_put_out release_total release_key (λ r. nat_le r.publishes t) r o.releases s.releases new e)
 
 pub shows_release : (k : Caller) (t : ℕ) (o : Office) → IsSound o → (r : Release) →
     row_at release_cmp release_key (release_key r) o.releases ≡ None → Shows k t o (Freezes r)
-shows_release k t o s r new = by (nat_le r.publishes t) refl
+shows_release k t o s r new = cases (nat_le r.publishes t) refl
   where
     with_tables : Option OwnView → List PublishedTable → View
     with_tables w is = record { public = public_part o; own = w; tables = is }
 
-    by : (w : Bool) → nat_le r.publishes t ≡ w → Shows k t o (Freezes r)
-    by true e = rw e (ap (λ w. with_tables w (published_until t (put_release r o.releases)))
+    cases : (w : Bool) → nat_le r.publishes t ≡ w → Shows k t o (Freezes r)
+    cases true e = rw e (ap (λ w. with_tables w (published_until t (put_release r o.releases)))
         (same_own k o (put_release r o.releases)) ∙ ap (with_tables (own k o)) (tables_published t o s r new e))
-    by false e = rw e (ap (λ w. with_tables w (published_until t (put_release r o.releases)))
+    cases false e = rw e (ap (λ w. with_tables w (published_until t (put_release r o.releases)))
         (same_own k o (put_release r o.releases)) ∙ ap (with_tables (own k o)) (tables_embargoed t o s r new e))

@@ -24,7 +24,7 @@ use Rattle.cpi_office.proofs.ProjectedChanges.{build_append}
 use Rattle.cpi_store.proofs.Released.{release_total}
 use Rattle.cpi_office.proofs.Stood.{stood_shows}
 use Rattle.cpi_rows.specs.Keyed.{row_at}
-use Rattle.cpi_rows.proofs.Puts.{row_at-put_found}
+use Rattle.cpi_rows.proofs.Puts.{row_at_put_found}
 use Rattle.cpi_release.specs.FrozenMonths.{ReleaseKey, release_cmp, release_key}
 use Rattle.cpi_release.specs.declared.release.Release.{Release}
 use Rattle.cpi_office.proofs.Kept.{stays_sound}
@@ -130,7 +130,7 @@ module _ (o : Office) (s : IsSound o) (key : ReleaseKey) (r : Release)
   stays_after (Assigns b a) h = there
   stays_after (HandsOver n) h = there
   stays_after (Quotes b q) h = there
-  stays_after (Freezes n) h = row_at-put_found release_total release_key n o.releases s.releases
+  stays_after (Freezes n) h = row_at_put_found release_total release_key n o.releases s.releases
       (h.0 s.releases) key r there
 
   stays_next : (v : Option Verdict) → Holds v o →

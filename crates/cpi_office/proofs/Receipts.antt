@@ -67,8 +67,8 @@ module _ (entry : EntryRow) (own : OwnPart) (has : IsSome
 -- a new quote has a receipt above all of its collector's, and its slot is the collector's
 pub decided_new : (now : ℕ) (entry : EntryRow) (public : PublicPart) (own : OwnPart) →
     IsNewReceipt (entry_decision now entry public own) own
-decided_new now entry public own = by (assignment_of entry.slot own) refl
+decided_new now entry public own = cases (assignment_of entry.slot own) refl
   where
-    by : (a : Option Assigned) → assignment_of entry.slot own ≡ a → IsNewReceipt (in_slot now entry public a own) own
-    by None e = tt
-    by (Some a) e = over_new entry own (subst IsSome (sym e) refl) now _ a.assignment _ _
+    cases : (a : Option Assigned) → assignment_of entry.slot own ≡ a → IsNewReceipt (in_slot now entry public a own) own
+    cases None e = tt
+    cases (Some a) e = over_new entry own (subst IsSome (sym e) refl) now _ a.assignment _ _

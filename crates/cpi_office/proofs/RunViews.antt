@@ -44,19 +44,22 @@ pub reply_in : (o : Office) (asks : List Ask) (rs : List Reply) → replies (all
     r ≡ reply_to a.now a.caller a.request (after (all_served (take n asks) (take n rs)) o)
 reply_in o [] rs run n a r asked said fine = none_is a asked
 reply_in o (b ∷ asks) [] run n a r asked said fine = none_is r said
-reply_in o (b ∷ asks) (s ∷ rs) run n a r asked said fine = by (is_failure_of s) refl n asked said (reply_in o asks rs)
+reply_in o (b ∷ asks) (s ∷ rs) run n a r asked said fine = cases (is_failure_of s) refl n asked said
+    (reply_in o asks rs)
     (reply_in (next b o) asks rs)
   where
-    by : (w : Bool) → is_failure_of s ≡ w → (n : ℕ) → slice_get (b ∷ asks) n ≡ Some a → slice_get (s ∷ rs) n ≡ Some r →
+    cases : (w : Bool) → is_failure_of s ≡ w → (n : ℕ) → slice_get (b ∷ asks) n ≡ Some a →
+        slice_get (s ∷ rs) n ≡ Some r →
         RepliesIn asks rs o → RepliesIn asks rs (next b o) →
         r ≡ reply_to a.now a.caller a.request (after (all_served (take n (b ∷ asks)) (take n (s ∷ rs))) o)
-    by true e zero asked said same on = absurd (false≢true (sym fine ∙ ap is_failure_of (sym (some_is s r said)) ∙ e))
-    by false e zero asked said same on =
+    cases true e zero asked said same on = absurd
+        (false≢true (sym fine ∙ ap is_failure_of (sym (some_is s r said)) ∙ e))
+    cases false e zero asked said same on =
         let first = same_heads (reply_to b.now b.caller b.request o) s (replies (all_served asks rs) (next b o))
         (all_told rs) (rw e at run) in
         sym (some_is s r said) ∙ sym first.0 ∙ ap (λ (x : Ask). reply_to x.now x.caller x.request o) (some_is b a asked)
-    by true e (suc m) asked said same on = rw e (same (rw e at run) m a r asked said fine)
-    by false e (suc m) asked said same on =
+    cases true e (suc m) asked said same on = rw e (same (rw e at run) m a r asked said fine)
+    cases false e (suc m) asked said same on =
         let first = same_heads (reply_to b.now b.caller b.request o) s (replies (all_served asks rs) (next b o))
         (all_told rs) (rw e at run) in
         rw e (on first.1 m a r asked said fine)

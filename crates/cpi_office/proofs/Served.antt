@@ -17,13 +17,13 @@ use Rattle.cpi_office.specs.declared.reply.Reply.TheVariants.{Refused}
 use Rattle.cpi_office.specs.declared.refusal.Refusal.TheVariants.{Unavailable}
 use Rattle.std.specs.Prelude.{◌⊎◌, IsFalse}
 
-pub after-append : (xs ys : List Ask) (o : Office) → after (xs ++ ys) o ≡ after ys (after xs o)
-after-append [] ys o = refl
-after-append (x ∷ xs) ys o = after-append xs ys (next x o)
+pub after_append : (xs ys : List Ask) (o : Office) → after (xs ++ ys) o ≡ after ys (after xs o)
+after_append [] ys o = refl
+after_append (x ∷ xs) ys o = after_append xs ys (next x o)
 
-pub replies-append : (xs ys : List Ask) (o : Office) → replies (xs ++ ys) o ≡ replies xs o ++ replies ys (after xs o)
-replies-append [] ys o = refl
-replies-append (x ∷ xs) ys o = ap (λ rs. reply_to x.now x.caller x.request o ∷ rs) (replies-append xs ys (next x o))
+pub replies_append : (xs ys : List Ask) (o : Office) → replies (xs ++ ys) o ≡ replies xs o ++ replies ys (after xs o)
+replies_append [] ys o = refl
+replies_append (x ∷ xs) ys o = ap (λ rs. reply_to x.now x.caller x.request o ∷ rs) (replies_append xs ys (next x o))
 
 served_more : (front : List Ask) (rs : List Reply) (a : Ask) (r : Reply) → length rs ≡ length front →
     all_served (front ++ a ∷ []) (rs ++ r ∷ []) ≡ all_served front rs ++ served_requests a r
@@ -45,7 +45,7 @@ module _ (o u w : Office) (front : List Ask) (rs : List Reply) (a : Ask) (r : Re
   run_more same so_far reply office = record {
     answers =
         ap (λ xs. replies xs o) (served_more front rs a r same)
-        ∙ replies-append (all_served front rs) (served_requests a r) o
+        ∙ replies_append (all_served front rs) (served_requests a r) o
         ∙ ap (λ x. replies (all_served front rs) o ++ replies (served_requests a r) x) (sym so_far.office)
         ∙ ap (λ ys. replies (all_served front rs) o ++ ys) reply
         ∙ ap (λ ys. ys ++ served_replies r) so_far.answers
@@ -53,7 +53,7 @@ module _ (o u w : Office) (front : List Ask) (rs : List Reply) (a : Ask) (r : Re
     office =
         office
         ∙ ap (after (served_requests a r)) so_far.office
-        ∙ sym (after-append (all_served front rs) (served_requests a r) o)
+        ∙ sym (after_append (all_served front rs) (served_requests a r) o)
         ∙ ap (λ xs. after xs o) (sym (served_more front rs a r same));
   }
 
@@ -79,17 +79,17 @@ none_before (s ∷ rs) r none = let rest = none_before rs r none.1 in ((none.0, 
 
 -- what lasts after a call that followed others
 lasts_more : (old mid new : State Office) → Lasts old mid → Lasts mid new → Lasts old new
-lasts_more old mid new first then o left = by (then o left)
+lasts_more old mid new first then o left = cases (then o left)
   where
     before : new.held ≡ mid.held → (o ≡ mid.held) ⊎ ((mid.held ≡ old.held) × old.may_leave o) → (o ≡ new.held)
         ⊎ ((new.held ≡ old.held) × old.may_leave o)
     before same (inl is) = inl (is ∙ sym same)
     before same (inr h) = inr (same ∙ h.0, h.1)
 
-    by : (o ≡ new.held) ⊎ ((new.held ≡ mid.held) × mid.may_leave o) → (o ≡ new.held)
+    cases : (o ≡ new.held) ⊎ ((new.held ≡ mid.held) × mid.may_leave o) → (o ≡ new.held)
         ⊎ ((new.held ≡ old.held) × old.may_leave o)
-    by (inl is) = inl is
-    by (inr h) = before h.0 (first o h.1)
+    cases (inl is) = inl is
+    cases (inr h) = before h.0 (first o h.1)
 
 pub ran_more : (old mid new : State Office) (front : List Ask) (rs : List Reply) (a : Ask) (r : Reply) →
     length rs ≡ length front → RunOverBook old mid front rs →
@@ -99,16 +99,16 @@ ran_more old mid new front rs a r same ran serves = record {
   was_clean = λ clean. ran.was_clean (serves.was_clean clean);
   run = λ clean s.
       let so_far = ran.run (serves.was_clean clean) s in
-      by (serves.served clean (run_sound old.held mid.held front rs so_far s)) so_far;
+      cases (serves.served clean (run_sound old.held mid.held front rs so_far s)) so_far;
   lasts = λ clean s none.
       let was = serves.was_clean clean in
       let each = none_before rs r none in
       lasts_more old mid new (ran.lasts was s each.0) (serves.endures.answered each.1 clean);
 }
   where
-    by : IsServed r (reply_to a.now a.caller a.request mid.held) mid.held new.held (next a mid.held) →
+    cases : IsServed r (reply_to a.now a.caller a.request mid.held) mid.held new.held (next a mid.held) →
         IsRun old.held front rs mid.held → IsRun old.held (front ++ a ∷ []) (rs ++ r ∷ []) new.held
-    by (inl h) so_far = let one = run_one a r mid.held new.held h.0 h.1 in
+    cases (inl h) so_far = let one = run_one a r mid.held new.held h.0 h.1 in
         run_more old.held mid.held new.held front rs a r same so_far one.0 one.1
-    by (inr h) so_far = let none = run_none a r mid.held new.held h.0 h.1 in
+    cases (inr h) so_far = let none = run_none a r mid.held new.held h.0 h.1 in
         run_more old.held mid.held new.held front rs a r same so_far none.0 none.1

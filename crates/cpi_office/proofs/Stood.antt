@@ -39,12 +39,12 @@ registered_stands : (k : Caller) (t : ℕ) (o : Office) → IsSound o → (b : R
     (sights k t (Registers b))
 registered_stands Public t o s b found = refl
 registered_stands Desk t o s b found = refl
-registered_stands (Collector key) t o s b found = by (eqb_tells b.key key)
+registered_stands (Collector key) t o s b found = cases (eqb_tells b.key key)
   where
-    by : ((eqb b.key key ≡ true) × (b.key ≡ key)) ⊎ ((eqb b.key key ≡ false) × (b.key ≢ key)) →
+    cases : ((eqb b.key key ≡ true) × (b.key ≡ key)) ⊎ ((eqb b.key key ≡ false) × (b.key ≢ key)) →
         view (Collector key) t o ≡ build (view (Collector key) t o) (sights (Collector key) t (Registers b))
-    by (inl same) = rw (same.0, ap (λ k. registration_of k o.collectors) (sym same.1) ∙ s.keys b.number b found) refl
-    by (inr apart) = rw apart.0 refl
+    cases (inl same) = rw (same.0, ap (λ k. registration_of k o.collectors) (sym same.1) ∙ s.keys b.number b found) refl
+    cases (inr apart) = rw apart.0 refl
 
 pub stood_shows : (k : Caller) (t : ℕ) (o : Office) → IsSound o → (c : Change) → Stood c o →
     view k t o ≡ build (view k t o) (sights k t c)

@@ -38,32 +38,32 @@ module _ {X : Type 0} (month_of : X → ℕ) (month : ℕ) (p : X → Bool) wher
 
   none_passes : (xs : List X) → latest_row month_of month xs ≡ None → latest_row month_of month (filter p xs) ≡ None
   none_passes [] e = refl
-  none_passes (x ∷ xs) e = by (p x) refl (none_passes xs (no_first (latest_row month_of month xs) (own x) e))
+  none_passes (x ∷ xs) e = cases (p x) refl (none_passes xs (no_first (latest_row month_of month xs) (own x) e))
     where
-      by : (b : Bool) → p x ≡ b → latest_row month_of month (filter p xs) ≡ None →
+      cases : (b : Bool) → p x ≡ b → latest_row month_of month (filter p xs) ≡ None →
           latest_row month_of month (filter p (x ∷ xs)) ≡ None
-      by true f rest = rw f (ap (λ o. option_or o (own x)) rest ∙ no_last (latest_row month_of month xs) (own x) e)
-      by false f rest = rw f rest
+      cases true f rest = rw f (ap (λ o. option_or o (own x)) rest ∙ no_last (latest_row month_of month xs) (own x) e)
+      cases false f rest = rw f rest
 
   pub latest_passes : (xs : List X) (t : X) → latest_row month_of month xs ≡ Some t → p t ≡ true →
       latest_row month_of month (filter p xs) ≡ Some t
   latest_passes [] t e passes = cc
-  latest_passes (x ∷ xs) t e passes = by (latest_row month_of month xs) refl (p x) refl
+  latest_passes (x ∷ xs) t e passes = cases (latest_row month_of month xs) refl (p x) refl
       (λ f. latest_passes xs t f passes)
     where
-      by : (o : Option X) → latest_row month_of month xs ≡ o → (b : Bool) → p x ≡ b →
+      cases : (o : Option X) → latest_row month_of month xs ≡ o → (b : Bool) → p x ≡ b →
           (latest_row month_of month xs ≡ Some t → latest_row month_of month (filter p xs) ≡ Some t) →
           latest_row month_of month (filter p (x ∷ xs)) ≡ Some t
-      by (Some z) f true g rest =
+      cases (Some z) f true g rest =
           let is : Some z ≡ Some t = sym (ap (λ o. option_or o (own x)) f) ∙ e in
           rw g (ap (λ o. option_or o (own x)) (rest (f ∙ is)))
-      by (Some z) f false g rest =
+      cases (Some z) f false g rest =
           let is : Some z ≡ Some t = sym (ap (λ o. option_or o (own x)) f) ∙ e in
           rw g (rest (f ∙ is))
-      by None f true g rest =
+      cases None f true g rest =
           let here : own x ≡ Some t = sym (ap (λ o. option_or o (own x)) f) ∙ e in
           rw g (ap (λ o. option_or o (own x)) (none_passes xs f) ∙ here)
-      by None f false g rest = absurd (other (eqb_tells (month_of x) month))
+      cases None f false g rest = absurd (other (eqb_tells (month_of x) month))
         where
           other : ((eqb (month_of x) month ≡ true) × (month_of x ≡ month))
               ⊎ ((eqb (month_of x) month ≡ false) × (month_of x ≢ month)) → ⊥
@@ -78,12 +78,12 @@ module _ {X : Type 0} (month_of : X → ℕ) (month : ℕ) (p : X → Bool) wher
 
   all_pass : (xs : List X) → AllByRecursion (λ x. p x ≡ true) (filter p xs)
   all_pass [] = tt
-  all_pass (x ∷ xs) = by (p x) refl (all_pass xs)
+  all_pass (x ∷ xs) = cases (p x) refl (all_pass xs)
     where
-      by : (b : Bool) → p x ≡ b → AllByRecursion (λ x. p x ≡ true) (filter p xs) →
+      cases : (b : Bool) → p x ≡ b → AllByRecursion (λ x. p x ≡ true) (filter p xs) →
           AllByRecursion (λ x. p x ≡ true) (filter p (x ∷ xs))
-      by true f rest = rw f (f, rest)
-      by false f rest = rw f rest
+      cases true f rest = rw f (f, rest)
+      cases false f rest = rw f rest
 
 -- ---- tables
 
@@ -104,13 +104,13 @@ module _ (month : ℕ) (tables : List PublishedTable) where
       option_map (printed_bytes form month revision)
       (option_map (λ (t : PublishedTable). t.levels) (asked_table month (Some revision) tables)) ≡ option_map
       (table_bytes form month) (asked_table month (Some revision) tables)
-  named_bytes form revision = by (asked_table month (Some revision) tables) refl
+  named_bytes form revision = cases (asked_table month (Some revision) tables) refl
     where
-      by : (o : Option PublishedTable) → asked_table month (Some revision) tables ≡ o →
+      cases : (o : Option PublishedTable) → asked_table month (Some revision) tables ≡ o →
           option_map (printed_bytes form month revision) (option_map (λ (t : PublishedTable). t.levels) o) ≡
           option_map (table_bytes form month) o
-      by None e = refl
-      by (Some t) e =
+      cases None e = refl
+      cases (Some t) e =
           let asked : PublishedTable → Bool = λ x. is_asked (Some revision) x.revision in
           let passed = latest_all (λ (x : PublishedTable). x.month) month (λ x. asked x ≡ true)
           (filter asked tables) t (all_pass (λ (x : PublishedTable). x.month) month asked tables) e in
@@ -121,25 +121,25 @@ module _ (month : ℕ) (tables : List PublishedTable) where
   pub latest_bytes : (form : Form) (revision : ℕ) → Some revision ≡ option_map (λ (t : PublishedTable). t.revision)
       (asked_table month None tables) → option_map (table_bytes form month)
       (asked_table month (Some revision) tables) ≡ option_map (table_bytes form month) (asked_table month None tables)
-  latest_bytes form revision is = by (asked_table month None tables) refl is
+  latest_bytes form revision is = cases (asked_table month None tables) refl is
     where
-      by : (o : Option PublishedTable) → asked_table month None tables ≡ o →
+      cases : (o : Option PublishedTable) → asked_table month None tables ≡ o →
           Some revision ≡ option_map (λ (t : PublishedTable). t.revision) o →
           option_map (table_bytes form month) (asked_table month (Some revision) tables) ≡ option_map
           (table_bytes form month) o
-      by None e is = cc
-      by (Some t) e is =
+      cases None e is = cc
+      cases (Some t) e is =
           let same : revision ≡ t.revision = cc in
           ap (option_map (table_bytes form month)) (ap (λ r. asked_table month (Some r) tables) same ∙ latest_named t e)
 
   pub none_bytes : (form : Form) → None ≡ option_map (λ (t : PublishedTable). t.revision)
       (asked_table month None tables) → None ≡ option_map (table_bytes form month) (asked_table month None tables)
-  none_bytes form is = by (asked_table month None tables) is
+  none_bytes form is = cases (asked_table month None tables) is
     where
-      by : (o : Option PublishedTable) → None ≡ option_map (λ (t : PublishedTable). t.revision) o →
+      cases : (o : Option PublishedTable) → None ≡ option_map (λ (t : PublishedTable). t.revision) o →
           None ≡ option_map (table_bytes form month) o
-      by None is = refl
-      by (Some t) is = cc
+      cases None is = refl
+      cases (Some t) is = cc
 
 -- ---- one read after another
 

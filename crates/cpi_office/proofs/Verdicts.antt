@@ -8,7 +8,7 @@ use Rattle.std.proofs.lemmas.Map.Lookups.{exact_pairs, exact_unsigned}
 use Rattle.cpi_rows.proofs.Truth.{and_both, not_false}
 use Rattle.cpi_rows.specs.Keyed.{row_by_number, row_at}
 use Rattle.cpi_rows.specs.Held.{held_by}
-use Rattle.cpi_rows.proofs.Found.{row_key, at_key, at-map}
+use Rattle.cpi_rows.proofs.Found.{row_key, at_key, at_map}
 use Rattle.cpi_survey.specs.Quote.{QuoteRow, quote_cmp, quote_key}
 use Rattle.cpi_survey.specs.Entry.{EntryRow}
 use Rattle.cpi_survey.specs.Assignment.{is_active}
@@ -85,20 +85,20 @@ module _ (o : Office) where
 
   item_fair : (i : Item) (w : Option Item) → row_by_number (λ i. i.code) i.code o.items ≡ w → Fair (item_put i w)
   item_fair i None e = e
-  item_fair i (Some old) e = by (same_item old i) refl
+  item_fair i (Some old) e = cases (same_item old i) refl
     where
-      by : (t : Bool) → same_item old i ≡ t → Fair (item_put i (Some old))
-      by true f = rw f (e ∙ ap Some (item_equal old i f))
-      by false f = rw f tt
+      cases : (t : Bool) → same_item old i ≡ t → Fair (item_put i (Some old))
+      cases true f = rw f (e ∙ ap Some (item_equal old i f))
+      cases false f = rw f tt
 
   outlet_fair : (u : Outlet) (w : Option Outlet) → row_by_number (λ u. u.number) u.number o.outlets ≡ w → Fair
       (outlet_put u w)
   outlet_fair u None e = e
-  outlet_fair u (Some old) e = by (same_outlet old u) refl
+  outlet_fair u (Some old) e = cases (same_outlet old u) refl
     where
-      by : (t : Bool) → same_outlet old u ≡ t → Fair (outlet_put u (Some old))
-      by true f = rw f tt
-      by false f = rw f tt
+      cases : (t : Bool) → same_outlet old u ≡ t → Fair (outlet_put u (Some old))
+      cases true f = rw f tt
+      cases false f = rw f tt
 
   -- what may be put unless it was frozen
   unless_fair : (frozen : Bool) (f : Refusal) (c : Change) → (frozen ≡ false → Fair (Makes c)) →
@@ -109,24 +109,24 @@ module _ (o : Office) where
   calendar_fair : (r : CalendarPart) (w : Option CalendarPart) → row_by_number (λ r. r.month) r.month o.calendar ≡ w →
       Fair (calendar_put (frozen_months o.releases) r w)
   calendar_fair r None e = unless_fair _ _ _ (λ free. tt)
-  calendar_fair r (Some old) e = by (same_calendar old r) refl
+  calendar_fair r (Some old) e = cases (same_calendar old r) refl
     where
-      by : (t : Bool) → same_calendar old r ≡ t → Fair (calendar_put (frozen_months o.releases) r (Some old))
-      by true f = rw f (e ∙ ap Some (calendar_equal old r f))
-      by false f = rw f (unless_fair (keeps_frozen r.month (Some r.publishes) (frozen_months o.releases)) MonthFrozen
+      cases : (t : Bool) → same_calendar old r ≡ t → Fair (calendar_put (frozen_months o.releases) r (Some old))
+      cases true f = rw f (e ∙ ap Some (calendar_equal old r f))
+      cases false f = rw f (unless_fair (keeps_frozen r.month (Some r.publishes) (frozen_months o.releases)) MonthFrozen
           (PutsCalendar r) (λ free. tt))
 
   plan_fair : (p : Plan) (w : Option Plan) → HasNodesInOrder p → row_by_number (λ y. y.year) p.year o.plans ≡ w →
       Fair (replacement_verdict (has_year_frozen p.year (frozen_months o.releases)) PlanFrozen (PutsPlan p)
       (standing same_plan p w))
   plan_fair p None nodes e = unless_fair _ _ _ (λ free. (free, nodes))
-  plan_fair p (Some old) nodes e = by (same_plan old p) refl
+  plan_fair p (Some old) nodes e = cases (same_plan old p) refl
     where
-      by : (t : Bool) → same_plan old p ≡ t → Fair
+      cases : (t : Bool) → same_plan old p ≡ t → Fair
           (replacement_verdict (has_year_frozen p.year (frozen_months o.releases))
           PlanFrozen (PutsPlan p) (standing same_plan p (Some old)))
-      by true f = rw f (e ∙ ap Some ((plan_decides old p).0 f))
-      by false f = rw f (unless_fair (has_year_frozen p.year (frozen_months o.releases)) PlanFrozen (PutsPlan p)
+      cases true f = rw f (e ∙ ap Some ((plan_decides old p).0 f))
+      cases false f = rw f (unless_fair (has_year_frozen p.year (frozen_months o.releases)) PlanFrozen (PutsPlan p)
           (λ free. (free, nodes)))
 
   planned_fair : (r : Result Plan PlanFault) → ((p : Plan) → r ≡ Ok p → HasNodesInOrder p) →
@@ -193,13 +193,13 @@ module _ (o : Office) where
         if_holds Fair (is_none (row_by_number (λ u. u.number) x.outlet o.outlets)) _ _ (λ miss. tt) (λ outlet.
         to_collector_fair w e free (known (row_by_number (λ u. u.number) x.outlet o.outlets) outlet)
         (known (row_by_number (λ i. i.code) x.item o.items) item)))
-    assigned_fair w (Some old) e there = by (same_given old (first_of_series n x)) refl
+    assigned_fair w (Some old) e there = cases (same_given old (first_of_series n x)) refl
       where
-        by : (t : Bool) → same_given old (first_of_series n x) ≡ t →
+        cases : (t : Bool) → same_given old (first_of_series n x) ≡ t →
             Fair (assignment_verdict (with_name o.outlets x) (row_by_number (λ i. i.code) x.item o.items)
             (row_by_number (λ u. u.number) x.outlet o.outlets) w (standing same_given (first_of_series n x) (Some old)))
-        by true f = rw f (standing_fair w e (there ∙ ap Some (given_equal old (first_of_series n x) f)))
-        by false f = rw f tt
+        cases true f = rw f (standing_fair w e (there ∙ ap Some (given_equal old (first_of_series n x) f)))
+        cases false f = rw f tt
 
   -- ---- an assignment that is sent
 
@@ -326,14 +326,14 @@ module _ (o : Office) where
     release_fair : (row : CalendarPart) → is_next_month row.month (frozen_months o.releases) ≡ true →
         lacks_plan o.plans (frozen_months o.releases) row.month ≡ false →
         Fair (release_verdict (judged_release now carry o row))
-    release_fair row follows planned = by (fault_of (plan_for o.plans (frozen_months o.releases) row.month)
+    release_fair row follows planned = cases (fault_of (plan_for o.plans (frozen_months o.releases) row.month)
         o.releases
         (frozen_with now row carry o)) refl
       where
-        by : (w : Option IndexFault) → fault_of (plan_for o.plans (frozen_months o.releases) row.month) o.releases
+        cases : (w : Option IndexFault) → fault_of (plan_for o.plans (frozen_months o.releases) row.month) o.releases
             (frozen_with now row carry o) ≡ w → Fair (release_verdict (judged_release now carry o row))
-        by (Some fault) e = rw e tt
-        by None e = rw e (
+        cases (Some fault) e = rw e tt
+        cases None e = rw e (
           λ sorted. none_follows row.month o.releases sorted follows,
           record { follows = follows; revision = refl; planned = planned; faultless = e; computed = refl },
           refl,
@@ -436,19 +436,19 @@ module _ (o : Office) where
       where
         named : row_by_number (λ a. a.assignment.slot) entry.slot (own_part b.number o).assignments ≡ option_map
             (with_name o.outlets) (option_map (λ (g : Given). g.assignment) (in_slot_of b.number entry.slot))
-        named = at-map (with_name o.outlets) (λ (a : Assigned). a.assignment.slot) entry.slot
+        named = at_map (with_name o.outlets) (λ (a : Assigned). a.assignment.slot) entry.slot
             (assignments_by b.number o)
-            ∙ ap (option_map (with_name o.outlets)) (at-map (λ (g : Given). g.assignment)
+            ∙ ap (option_map (with_name o.outlets)) (at_map (λ (g : Given). g.assignment)
             (λ (a : Assignment). a.slot) entry.slot (held_by b.number o.assignments))
 
 entered_holds : (o : Office) → IsSound o → (key now : ℕ) (entry : EntryRow) →
     Holds (of_collector key now (request.Submit entry) (view (caller.Collector key) now o)) o
-entered_holds o s key now entry = by (registration_of key o.collectors) refl
+entered_holds o s key now entry = cases (registration_of key o.collectors) refl
   where
-    by : (w : Option Registration) → registration_of key o.collectors ≡ w →
+    cases : (w : Option Registration) → registration_of key o.collectors ≡ w →
         Holds (entry_verdict key now entry (view (caller.Collector key) now o) (option_map (own_view o) w)) o
-    by None e = tt
-    by (Some b) e =
+    cases None e = tt
+    cases (Some b) e =
         let listed = registration_listed key b o.collectors s.collectors e in
         subst (λ k. Holds (Some (decision_verdict (record { number = b.number; key = k }) entry
         (entry_decision now entry (public_part o) (own_part b.number o)))) o) listed.key_is

@@ -7,7 +7,7 @@ use Rattle.cpi_codes.specs.CodeOrder.{code_cmp, is_same_code}
 use Rattle.cpi_codes.specs.declared.codes.Code.{Code}
 use Rattle.cpi_codes.specs.contracts.codes.CodeOrd.TheImpl.Laws.{total-law}
 use Rattle.cpi_codes.proofs.CodeIs.{same_code_is}
-use Rattle.cpi_codes.proofs.CodePath.{same_part, is_eq-parts}
+use Rattle.cpi_codes.proofs.CodePath.{same_part, is_eq_parts}
 use Rattle.cpi_rows.proofs.Truth.{and_first, and_second, no_true_false, same_of_equal}
 use Rattle.cpi_plan.specs.declared.plan_faults.PlanFault.{PlanFault}
 use Rattle.cpi_plan.specs.declared.plan_faults.PlanFault.TheVariants.{DuplicateCode, NotElementary, ZeroWeight}
@@ -20,7 +20,7 @@ use Rattle.cpi_plan.proofs.UnderLemmas.{part_is}
 -- codes that compare equal are one code
 pub equal_is : (n q : Code) → is_same_code n q ≡ true → n ≡ q
 equal_is n q h =
-    let parts = sym (is_eq-parts n q) ∙ h in
+    let parts = sym (is_eq_parts n q) ∙ h in
     let rest = and_second (q.division == n.division) _ parts in
     let third = and_second (same_part q.group n.group) _ rest in
     let fourth = and_second (same_part q.class n.class) _ third in

@@ -33,14 +33,14 @@ positive n b h = grind (arith, nat_tests)
 found_above : (k q : Code) (es : List (Code × ℕ)) → AllByRecursion (λ y. code_cmp k y ≡ Less) (keys_of es) →
     0 < unwrap_or (lookup (λ y. is_eq (code_cmp q y)) es) 0 → code_cmp k q ≡ Less
 found_above k q [] above h = absurd (omega arith)
-found_above k q (e ∷ es) above h = by (code_cmp q e.0) refl h (λ t. found_above k q es above.1 t)
+found_above k q (e ∷ es) above h = cases (code_cmp q e.0) refl h (λ t. found_above k q es above.1 t)
   where
-    by : (s : Ordering) → code_cmp q e.0 ≡ s → 0 < unwrap_or
+    cases : (s : Ordering) → code_cmp q e.0 ≡ s → 0 < unwrap_or
         (cond (is_eq s) (Some e.1) (lookup (λ y. is_eq (code_cmp q y)) es)) 0 →
         (0 < unwrap_or (lookup (λ y. is_eq (code_cmp q y)) es) 0 → code_cmp k q ≡ Less) → code_cmp k q ≡ Less
-    by Less p h rest = rest h
-    by Equal p h rest = alike_right total-law q e.0 k p ∙ above.0
-    by Greater p h rest = rest h
+    cases Less p h rest = rest h
+    cases Equal p h rest = alike_right total-law q e.0 k p ∙ above.0
+    cases Greater p h rest = rest h
 
 pub same_sum : (sums : BTreeMap Code ℕ) (q k : Code) → code_cmp q k ≡ Equal → sum_at sums q ≡ sum_at sums k
 same_sum sums q k p = ap (λ o. unwrap_or o 0)
@@ -63,24 +63,24 @@ pub first_at : (sums : BTreeMap Code ℕ) (titles : List Title) (k : Code) (v : 
     IsStrictlySortedBy code_cmp (keys_of ((k, v) ∷ es)) → Ahead sums titles ((k, v) ∷ es) →
     is_without sums titles k ≡ true → IsFirstCode (is_without sums titles) k
 first_at sums titles k v es rising ahead here =
-    (here, λ other wanted. by other wanted (code_cmp other k) refl (ahead other wanted))
+    (here, λ other wanted. cases other wanted (code_cmp other k) refl (ahead other wanted))
   where
-    by : (other : Code) → is_without sums titles other ≡ true → (s : Ordering) → code_cmp other k ≡ s →
+    cases : (other : Code) → is_without sums titles other ≡ true → (s : Ordering) → code_cmp other k ≡ s →
         unwrap_or (cond (is_eq s) (Some v) (lookup (λ y. is_eq (code_cmp other y)) es)) 0 ≡ sum_at sums other →
         is_gt (code_cmp k other) ≡ false
-    by other wanted Equal p h = ap is_gt (total-law.antisymm k other ∙ ap ordering_reverse p)
-    by other wanted Less p h = ap is_gt (found_above k other es (sorted_head code_cmp k (keys_of es) rising)
+    cases other wanted Equal p h = ap is_gt (total-law.antisymm k other ∙ ap ordering_reverse p)
+    cases other wanted Less p h = ap is_gt (found_above k other es (sorted_head code_cmp k (keys_of es) rising)
         (omega (arith, h, positive (sum_at sums other) _ wanted)))
-    by other wanted Greater p h = ap is_gt (found_above k other es (sorted_head code_cmp k (keys_of es) rising)
+    cases other wanted Greater p h = ap is_gt (found_above k other es (sorted_head code_cmp k (keys_of es) rising)
         (omega (arith, h, positive (sum_at sums other) _ wanted)))
 
 pub ahead_after : (sums : BTreeMap Code ℕ) (titles : List Title) (k : Code) (v : ℕ) (es : List (Code × ℕ)) →
     Ahead sums titles ((k, v) ∷ es) → is_without sums titles k ≡ false → Ahead sums titles es
-ahead_after sums titles k v es ahead here = λ q wanted. by q wanted (code_cmp q k) refl (ahead q wanted)
+ahead_after sums titles k v es ahead here = λ q wanted. cases q wanted (code_cmp q k) refl (ahead q wanted)
   where
-    by : (q : Code) → is_without sums titles q ≡ true → (s : Ordering) → code_cmp q k ≡ s →
+    cases : (q : Code) → is_without sums titles q ≡ true → (s : Ordering) → code_cmp q k ≡ s →
         unwrap_or (cond (is_eq s) (Some v) (lookup (λ y. is_eq (code_cmp q y)) es)) 0 ≡ sum_at sums q →
         unwrap_or (lookup (λ y. is_eq (code_cmp q y)) es) 0 ≡ sum_at sums q
-    by q wanted Equal p h = absurd (no_true_false (sym wanted ∙ same_without sums titles q k p ∙ here))
-    by q wanted Less p h = h
-    by q wanted Greater p h = h
+    cases q wanted Equal p h = absurd (no_true_false (sym wanted ∙ same_without sums titles q k p ∙ here))
+    cases q wanted Less p h = h
+    cases q wanted Greater p h = h

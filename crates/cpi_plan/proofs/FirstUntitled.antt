@@ -36,21 +36,21 @@ module _ (p : Code → Bool) where
   lesser_passes : (c : Code) (o : Option Code) (m : Code) → p c ≡ true → ((d : Code) → o ≡ Some d → p d ≡ true) →
       lesser c o ≡ m → p m ≡ true
   lesser_passes c None m pc po e = ap p (sym e) ∙ pc
-  lesser_passes c (Some d) m pc po e = by (is_gt (code_cmp c d)) e
+  lesser_passes c (Some d) m pc po e = cases (is_gt (code_cmp c d)) e
     where
-      by : (b : Bool) → cond b d c ≡ m → p m ≡ true
-      by true e = ap p (sym e) ∙ po d refl
-      by false e = ap p (sym e) ∙ pc
+      cases : (b : Bool) → cond b d c ≡ m → p m ≡ true
+      cases true e = ap p (sym e) ∙ po d refl
+      cases false e = ap p (sym e) ∙ pc
 
   first_passes : (cs : List Code) (m : Code) → first_of (filter p cs) ≡ Some m → p m ≡ true
   first_passes [] m e = cc
-  first_passes (c ∷ cs) m e = by (p c) refl (λ d f. first_passes cs d f) e
+  first_passes (c ∷ cs) m e = cases (p c) refl (λ d f. first_passes cs d f) e
     where
-      by : (b : Bool) → p c ≡ b → ((d : Code) → first_of (filter p cs) ≡ Some d → p d ≡ true) →
+      cases : (b : Bool) → p c ≡ b → ((d : Code) → first_of (filter p cs) ≡ Some d → p d ≡ true) →
           first_of (cond b (c ∷ filter p cs) (filter p cs)) ≡ Some m → p m ≡ true
-      by true pc rest e = let least : lesser c (first_of (filter p cs)) ≡ m = cc in
+      cases true pc rest e = let least : lesser c (first_of (filter p cs)) ≡ m = cc in
           lesser_passes c (first_of (filter p cs)) m pc rest least
-      by false pc rest e = rest m e
+      cases false pc rest e = rest m e
 
 gt_self : (c : Code) → is_gt (code_cmp c c) ≡ false
 gt_self c = ap is_gt (tied_itself total-law c)
@@ -79,7 +79,7 @@ not_after_trans c d k g h = at_most (code_cmp c d) (code_cmp d k) (code_cmp c k)
 
 not_later : (k : Code) (cs : List Code) → list_any (is_same_code k) cs ≡ true → NotAfter k (first_of cs)
 not_later k [] h = cc
-not_later k (c ∷ cs) h = by (is_same_code k c) refl (λ t. not_later k cs t) h
+not_later k (c ∷ cs) h = cases (is_same_code k c) refl (λ t. not_later k cs t) h
   where
     here : (o : Option Code) → k ≡ c → is_gt (code_cmp (lesser c o) k) ≡ false
     here None e = subst (λ z. is_gt (code_cmp c z) ≡ false) (sym e) (gt_self c)
@@ -99,10 +99,10 @@ not_later k (c ∷ cs) h = by (is_same_code k c) refl (λ t. not_later k cs t) h
         least d n true g = n
         least d n false g = not_after_trans c d k g n
 
-    by : (b : Bool) → is_same_code k c ≡ b → (list_any (is_same_code k) cs ≡ true → NotAfter k (first_of cs)) →
+    cases : (b : Bool) → is_same_code k c ≡ b → (list_any (is_same_code k) cs ≡ true → NotAfter k (first_of cs)) →
         (b || list_any (is_same_code k) cs) ≡ true → NotAfter k (first_of (c ∷ cs))
-    by true e rest h = here (first_of cs) (equal_is k c e)
-    by false e rest h = there (first_of cs) (rest h)
+    cases true e rest h = here (first_of cs) (equal_is k c e)
+    cases false e rest h = there (first_of cs) (rest h)
 
 module _ (p : Code → Bool) (k : Code) (f : IsFirstCode p k) (cs : List Code)
     (among : list_any (is_same_code k) cs ≡ true) where
@@ -110,11 +110,11 @@ module _ (p : Code → Bool) (k : Code) (f : IsFirstCode p k) (cs : List Code)
   kept = any-filter_same (is_same_code k) p true (λ x e. ap p (sym (equal_is k x e)) ∙ f.0) cs ∙ among
 
   pub first_is_least : first_of (filter p cs) ≡ Some k
-  first_is_least = by (first_of (filter p cs)) refl (not_later k (filter p cs) kept)
+  first_is_least = cases (first_of (filter p cs)) refl (not_later k (filter p cs) kept)
     where
-      by : (o : Option Code) → first_of (filter p cs) ≡ o → NotAfter k o → o ≡ Some k
-      by None e n = absurd n
-      by (Some m) e n = ap (λ c. Some c) (equal_is m k
+      cases : (o : Option Code) → first_of (filter p cs) ≡ o → NotAfter k o → o ≡ Some k
+      cases None e n = absurd n
+      cases (Some m) e n = ap (λ c. Some c) (equal_is m k
           (level (code_cmp m k) (code_cmp k m) (total-law.antisymm m k) n (f.1 m (first_passes p cs m e))))
 
 -- a node is on the path of a code with weight
@@ -122,14 +122,14 @@ node_among : (k : Code) (ws : List Weight) → is_node ws k ≡ true →
     list_any (is_same_code k) (flat_map (λ w. path w.code) ws) ≡ true
 node_among k [] h = h
 node_among k (w ∷ ws) h = list_any-append (is_same_code k) (path w.code) (flat_map (λ x. path x.code) ws)
-    ∙ by (is_code_at_or_below k w.code) refl (λ t. node_among k ws t) h
+    ∙ cases (is_code_at_or_below k w.code) refl (λ t. node_among k ws t) h
   where
-    by : (b : Bool) → is_code_at_or_below k w.code ≡ b →
+    cases : (b : Bool) → is_code_at_or_below k w.code ≡ b →
         (is_node ws k ≡ true → list_any (is_same_code k) (flat_map (λ x. path x.code) ws) ≡ true) →
         (b || is_node ws k) ≡ true → (list_any (is_same_code k) (path w.code) || list_any (is_same_code k)
         (flat_map (λ x. path x.code) ws)) ≡ true
-    by true e rest h = or_of_first (list_any (is_same_code k) (path w.code)) _ (in_path k w.code e)
-    by false e rest h = or_of_second (list_any (is_same_code k) (path w.code)) _ (rest h)
+    cases true e rest h = or_of_first (list_any (is_same_code k) (path w.code)) _ (in_path k w.code e)
+    cases false e rest h = or_of_second (list_any (is_same_code k) (path w.code)) _ (rest h)
 
 pub first_untitled_is : (titles : List Title) (weights : List Weight) (k : Code) →
     IsFirstCode (is_untitled titles weights) k → first_untitled titles weights ≡ Some k

@@ -8,7 +8,7 @@ use Rattle.std.specs.List.{list_any, AllByRecursion, IsDistinct}
 use Rattle.std.proofs.lemmas.Cmp.{alike_right}
 use Rattle.cpi_rows.specs.Keyed.{row_at, with_row, IsInOrder}
 use Rattle.cpi_rows.proofs.Places.{put_in_order, none_in_order}
-use Rattle.cpi_rows.proofs.Puts.{row_at-put_same, row_at-put_apart}
+use Rattle.cpi_rows.proofs.Puts.{row_at_put_same, row_at_put_apart}
 use Rattle.cpi_plan.specs.Planned.{are_distinct, rows_in_order}
 
 module _ {X K : Type 0} {R : K → K → Ordering} (o : IsTotalOrder R) (key : X → K) where
@@ -24,14 +24,14 @@ module _ {X K : Type 0} {R : K → K → Ordering} (o : IsTotalOrder R) (key : X
 
   pub row_in_order : (k : K) (xs : List X) → row_at R key k (rows_in_order R key xs) ≡ row_at R key k xs
   row_in_order k [] = refl
-  row_in_order k (x ∷ xs) = by (R (key x) k) refl (row_in_order k xs)
+  row_in_order k (x ∷ xs) = cases (R (key x) k) refl (row_in_order k xs)
     where
-      by : (s : Ordering) → R (key x) k ≡ s → row_at R key k (rows_in_order R key xs) ≡ row_at R key k xs →
+      cases : (s : Ordering) → R (key x) k ≡ s → row_at R key k (rows_in_order R key xs) ≡ row_at R key k xs →
           row_at R key k (with_row R key x (rows_in_order R key xs)) ≡ cond (is_eq s) (Some x) (row_at R key k xs)
-      by Equal e h = tied_rows (key x) k e (with_row R key x (rows_in_order R key xs))
-          ∙ row_at-put_same o key x (rows_in_order R key xs)
-      by Less e h = row_at-put_apart o key k x (rows_in_order R key xs) (is_in_order xs) (ap is_eq e) ∙ h
-      by Greater e h = row_at-put_apart o key k x (rows_in_order R key xs) (is_in_order xs) (ap is_eq e) ∙ h
+      cases Equal e h = tied_rows (key x) k e (with_row R key x (rows_in_order R key xs))
+          ∙ row_at_put_same o key x (rows_in_order R key xs)
+      cases Less e h = row_at_put_apart o key k x (rows_in_order R key xs) (is_in_order xs) (ap is_eq e) ∙ h
+      cases Greater e h = row_at_put_apart o key k x (rows_in_order R key xs) (is_in_order xs) (ap is_eq e) ∙ h
 
 module _ {X : Type 0} (same : X → X → Bool) where
   none_later : (x : X) (xs : List X) → AllByRecursion (λ y. same x y ≡ false) xs → list_any (same x) xs ≡ false
@@ -62,8 +62,8 @@ module _ {X : Type 0} (same : X → X → Bool) where
       (all_later x xs both.0, from_distinct xs both.1)
 
   pub not_distinct : (xs : List X) → (IsDistinct same xs → ⊥) → are_distinct same xs ≡ false
-  not_distinct xs h = by (are_distinct same xs) refl
+  not_distinct xs h = cases (are_distinct same xs) refl
     where
-      by : (b : Bool) → are_distinct same xs ≡ b → b ≡ false
-      by true e = absurd (h (from_distinct xs e))
-      by false e = refl
+      cases : (b : Bool) → are_distinct same xs ≡ b → b ≡ false
+      cases true e = absurd (h (from_distinct xs e))
+      cases false e = refl

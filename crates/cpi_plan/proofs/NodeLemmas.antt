@@ -173,29 +173,29 @@ fit_alone year (month ∷ other ∷ months) h = cc
 module _ {X K : Type 0} {R : K → K → Ordering} (o : IsTotalOrder R) (key : X → K) (k : K) where
   contained : (xs : List X) (x : X) → row_at R key k xs ≡ Some x → Contains xs x × (R (key x) k ≡ Equal)
   contained [] x e = cc
-  contained (y ∷ ys) x e = by (R (key y) k) refl e (λ t. contained ys x t)
+  contained (y ∷ ys) x e = cases (R (key y) k) refl e (λ t. contained ys x t)
     where
       later : Contains ys x → Contains (y ∷ ys) x
       later c = (suc c.0, omega (arith, c.1), c.2)
 
-      by : (s : Ordering) → R (key y) k ≡ s → cond (is_eq s) (Some y) (row_at R key k ys) ≡ Some x →
+      cases : (s : Ordering) → R (key y) k ≡ s → cond (is_eq s) (Some y) (row_at R key k ys) ≡ Some x →
           (row_at R key k ys ≡ Some x → Contains ys x × (R (key x) k ≡ Equal)) → Contains (y ∷ ys) x
           × (R (key x) k ≡ Equal)
-      by Equal p e rest = let same : y ≡ x = cc in ((0, omega arith, same), ap (λ z. R (key z) k) (sym same) ∙ p)
-      by Less p e rest = let r = rest e in (later r.0, r.1)
-      by Greater p e rest = let r = rest e in (later r.0, r.1)
+      cases Equal p e rest = let same : y ≡ x = cc in ((0, omega arith, same), ap (λ z. R (key z) k) (sym same) ∙ p)
+      cases Less p e rest = let r = rest e in (later r.0, r.1)
+      cases Greater p e rest = let r = rest e in (later r.0, r.1)
 
   pub row_moved : (xs ys : List X) → IsPermutation xs ys → IsInOrder R key ys → row_at R key k ys ≡ row_at R key k xs
-  row_moved xs ys m sorted = by (row_at R key k xs) refl
+  row_moved xs ys m sorted = cases (row_at R key k xs) refl
     where
       nothing : (r : Option X) → is_some r ≡ false → r ≡ None
       nothing None h = refl
       nothing (Some x) h = cc
 
-      by : (r : Option X) → row_at R key k xs ≡ r → row_at R key k ys ≡ r
-      by None e = nothing (row_at R key k ys) (found R key k ys
+      cases : (r : Option X) → row_at R key k xs ≡ r → row_at R key k ys ≡ r
+      cases None e = nothing (row_at R key k ys) (found R key k ys
           ∙ sym (list_any-IsPermutation (λ x. is_eq (R (key x) k)) xs ys m) ∙ sym (found R key k xs) ∙ ap is_some e)
-      by (Some x) e =
+      cases (Some x) e =
           let has = contained xs x e in
           let there = Contains-permutation xs ys x m has.0 in
           row_found o key ys sorted k there.0 x there.1 (ap (λ z. R (key z) k) there.2 ∙ has.1)

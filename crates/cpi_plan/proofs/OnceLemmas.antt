@@ -69,9 +69,9 @@ among_found {cmp = cmp} o xs x sorted (Ok at) in_range equal =
     sym (list_any_at (λ v. is_eq (cmp v x)) xs at x in_range (ap is_eq (equal x)))
 among_found {T = T} {cmp = cmp} o xs x sorted (Err at) in_range parted =
     let facts = parted (searchable_from_sorted o (λ y. y) xs x sorted) in
-    sym (none_at (λ v. is_eq (cmp v x)) xs (λ j d lt. by j d lt facts (cases_lt j at)))
+    sym (none_at (λ v. is_eq (cmp v x)) xs (λ j d lt. cases j d lt facts (cases_lt j at)))
   where
-    by : (j : ℕ) (d : T) → j < length xs → IsPartitionPoint (λ y. cmp y x ≡ Less) (λ y. cmp y x ≡ Greater) xs at →
+    cases : (j : ℕ) (d : T) → j < length xs → IsPartitionPoint (λ y. cmp y x ≡ Less) (λ y. cmp y x ≡ Greater) xs at →
         (j < at) ⊎ (at ≤ j) → is_eq (cmp (get_or xs j d) x) ≡ false
-    by j d lt facts (inl below) = ap is_eq (facts.0 j d (omega arith) below)
-    by j d lt facts (inr above) = ap is_eq (facts.1 j d above lt)
+    cases j d lt facts (inl below) = ap is_eq (facts.0 j d (omega arith) below)
+    cases j d lt facts (inr above) = ap is_eq (facts.1 j d above lt)

@@ -45,22 +45,22 @@ codes_once titles weights h = rw (
 
 codes_twice : (titles : List Title) (weights : List Weight) → (CodesOnce titles weights → ⊥) →
     are_codes_once titles weights ≡ false
-codes_twice titles weights h = by (are_codes_once titles weights) refl
+codes_twice titles weights h = cases (are_codes_once titles weights) refl
   where
-    by : (b : Bool) → are_codes_once titles weights ≡ b → b ≡ false
-    by false e = refl
-    by true e = absurd (h (
+    cases : (b : Bool) → are_codes_once titles weights ≡ b → b ≡ false
+    cases false e = refl
+    cases true e = absurd (h (
       from_distinct (λ s t. is_same_code s.code t.code) titles (and_first _ _ e),
       from_distinct (λ v w. is_same_code v.code w.code) weights
           (and_second (are_distinct (λ s t. is_same_code s.code t.code) titles) _ e),
     ))
 
 not_whole : (n : ℕ) → n ≢ ALL_PARTS → (n == ALL_PARTS) ≡ false
-not_whole n h = by (n == ALL_PARTS) refl
+not_whole n h = cases (n == ALL_PARTS) refl
   where
-    by : (b : Bool) → (n == ALL_PARTS) ≡ b → b ≡ false
-    by false e = refl
-    by true e = let whole : n ≡ ALL_PARTS = grind (arith, nat_tests) in absurd (h whole)
+    cases : (b : Bool) → (n == ALL_PARTS) ≡ b → b ≡ false
+    cases false e = refl
+    cases true e = let whole : n ≡ ALL_PARTS = grind (arith, nat_tests) in absurd (h whole)
 
 is_whole : (n : ℕ) → n ≡ ALL_PARTS → (n == ALL_PARTS) ≡ true
 is_whole n h = rw h refl

@@ -14,13 +14,13 @@ module _ {X K : Type 0} {R : K → K → Ordering} (o : IsTotalOrder R) (key : X
   above_none : (j k : K) (ys : List X) → AllByRecursion (λ y. R j (key y) ≡ Less) ys → R j k ≡ Equal →
       row_at R key k ys ≡ None
   above_none j k [] above e = refl
-  above_none j k (y ∷ ys) above e = by (R (key y) k) refl (above_none j k ys above.1 e)
+  above_none j k (y ∷ ys) above e = cases (R (key y) k) refl (above_none j k ys above.1 e)
     where
-      by : (s : Ordering) → R (key y) k ≡ s → row_at R key k ys ≡ None →
+      cases : (s : Ordering) → R (key y) k ≡ s → row_at R key k ys ≡ None →
           cond (is_eq s) (Some y) (row_at R key k ys) ≡ None
-      by Less p h = h
-      by Greater p h = h
-      by Equal p h = let clash : Less ≡ Equal = sym above.0 ∙ o.congr j k (key y) e ∙ tied_back o (key y) k p in cc
+      cases Less p h = h
+      cases Greater p h = h
+      cases Equal p h = let clash : Less ≡ Equal = sym above.0 ∙ o.congr j k (key y) e ∙ tied_back o (key y) k p in cc
 
   above_trans : (j k : K) (ys : List X) → R j k ≡ Less → AllByRecursion (λ y. R k (key y) ≡ Less) ys →
       AllByRecursion (λ y. R j (key y) ≡ Less) ys

@@ -21,7 +21,7 @@ code_decides : (c d : Code) → Decides (is_same_code c d) (c ≡ d)
 code_decides c d = (equal_is c d, λ e. subst (λ x. is_same_code c x ≡ true) e (ap is_eq (tied_itself total-law c)))
 
 node_decides : (a b : Node) → Decides (same_node a b) (a ≡ b)
-node_decides a b = (is, by)
+node_decides a b = (is, cases)
   where
     is : same_node a b ≡ true → a ≡ b
     is e =
@@ -34,15 +34,15 @@ node_decides a b = (is, by)
         (and_second (is_same_code a.code b.code && same_text a.title b.title) (a.weight == b.weight) e) in
         λ n. record { code = code n; title = title n; weight = weight n }
 
-    by : a ≡ b → same_node a b ≡ true
-    by e = and_true (is_same_code a.code b.code && same_text a.title b.title) (a.weight == b.weight)
+    cases : a ≡ b → same_node a b ≡ true
+    cases e = and_true (is_same_code a.code b.code && same_text a.title b.title) (a.weight == b.weight)
         (and_true (is_same_code a.code b.code) (same_text a.title b.title)
         ((code_decides a.code b.code).1 (ap (λ x. x.code) e))
         ((bytes_decides a.title b.title).1 (ap (λ x. x.title) e)))
         ((Decides-eqb a.weight b.weight).1 (ap (λ x. x.weight) e))
 
 weight_decides : (a b : Weight) → Decides (same_weight a b) (a ≡ b)
-weight_decides a b = (is, by)
+weight_decides a b = (is, cases)
   where
     is : same_weight a b ≡ true → a ≡ b
     is e =
@@ -52,13 +52,13 @@ weight_decides a b = (is, by)
         (and_second (is_same_code a.code b.code) (a.parts == b.parts) e) in
         λ n. record { code = code n; parts = parts n }
 
-    by : a ≡ b → same_weight a b ≡ true
-    by e = and_true (is_same_code a.code b.code) (a.parts == b.parts)
+    cases : a ≡ b → same_weight a b ≡ true
+    cases e = and_true (is_same_code a.code b.code) (a.parts == b.parts)
         ((code_decides a.code b.code).1 (ap (λ x. x.code) e))
         ((Decides-eqb a.parts b.parts).1 (ap (λ x. x.parts) e))
 
 place_decides : (a b : Place) → Decides (same_place a b) (a ≡ b)
-place_decides a b = (is, by)
+place_decides a b = (is, cases)
   where
     is : same_place a b ≡ true → a ≡ b
     is e =
@@ -68,8 +68,8 @@ place_decides a b = (is, by)
         (and_second (a.item == b.item) (is_same_code a.aggregate b.aggregate) e) in
         λ n. record { item = item n; aggregate = aggregate n }
 
-    by : a ≡ b → same_place a b ≡ true
-    by e = and_true (a.item == b.item) (is_same_code a.aggregate b.aggregate)
+    cases : a ≡ b → same_place a b ≡ true
+    cases e = and_true (a.item == b.item) (is_same_code a.aggregate b.aggregate)
         ((Decides-eqb a.item b.item).1 (ap (λ x. x.item) e))
         ((code_decides a.aggregate b.aggregate).1 (ap (λ x. x.aggregate) e))
 

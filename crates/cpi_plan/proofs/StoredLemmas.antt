@@ -9,7 +9,7 @@ use Rattle.cpi_codes.specs.CodeText.{is_code_at_or_below}
 use Rattle.cpi_codes.specs.CodePath.{path, code_with, code_if}
 use Rattle.cpi_codes.specs.CodeParts.{are_parts}
 use Rattle.cpi_codes.specs.declared.codes.Code.{Code}
-use Rattle.cpi_codes.proofs.CodePath.{at_or_below-parts}
+use Rattle.cpi_codes.proofs.CodePath.{at_or_below_parts}
 use Rattle.cpi_codes.proofs.CodeBelow.{fits}
 use Rattle.cpi_codes.proofs.CodeIs.{code}
 use Rattle.cpi_rows.proofs.Truth.{and_first, and_second, and_true, or_of_first, or_of_second, equal_itself}
@@ -31,7 +31,7 @@ fitting false e a b d f p q r s t = rw (p, q, r, s, t) refl
 
 -- a code is at or below itself
 pub below_itself : (c : Code) → is_code_at_or_below c c ≡ true
-below_itself c = at_or_below-parts c c ∙ fitting (c.division == 0) _ _ _ _ _ (equal_itself c.division)
+below_itself c = at_or_below_parts c c ∙ fitting (c.division == 0) _ _ _ _ _ (equal_itself c.division)
     (fits_itself c.group) (fits_itself c.class) (fits_itself c.subclass) (fits_itself c.aggregate)
 
 -- ---- completeness
@@ -58,7 +58,7 @@ module _ (p : Code → Bool) where
   both_all xs ys h k = list_all-append p xs ys ∙ and_true (list_all p xs) (list_all p ys) h k
 
 below_parts : (n c : Code) → (n.division == 0) ≡ true → is_code_at_or_below n c ≡ true
-below_parts n c e = at_or_below-parts n c ∙ (rw e refl)
+below_parts n c e = at_or_below_parts n c ∙ (rw e refl)
 
 -- what holds of each code that a code is at or below, holds on its path
 path_all : (p : Code → Bool) (c : Code) → ((n : Code) → is_code_at_or_below n c ≡ true → p n ≡ true) →
@@ -69,23 +69,23 @@ path_all p c h =
     (below_parts (code 0 None None None None v) c refl)))
     (both_all p (code_with c.division None None None None) _
     (with_all p c.division None None None None (λ v. h (code c.division None None None None v)
-    (at_or_below-parts (code c.division None None None None v) c
+    (at_or_below_parts (code c.division None None None None v) c
     ∙ fitting (c.division == 0) _ _ _ _ _ (equal_itself c.division) refl refl refl refl)))
     (both_all p (code_with c.division c.group None None None) _
     (with_all p c.division c.group None None None
     (λ v. h (code c.division c.group None None None v)
-    (at_or_below-parts (code c.division c.group None None None v) c
+    (at_or_below_parts (code c.division c.group None None None v) c
     ∙ fitting (c.division == 0) _ _ _ _ _ (equal_itself c.division) (fits_itself c.group) refl refl refl)))
     (both_all p (code_with c.division c.group c.class None None) _
     (with_all p c.division c.group c.class None None
     (λ v. h (code c.division c.group c.class None None v)
-    (at_or_below-parts (code c.division c.group c.class None None v) c
+    (at_or_below_parts (code c.division c.group c.class None None v) c
     ∙ fitting (c.division == 0) _ _ _ _ _ (equal_itself c.division) (fits_itself c.group)
     (fits_itself c.class) refl refl)))
     (both_all p (code_with c.division c.group c.class c.subclass None) (c ∷ [])
     (with_all p c.division c.group c.class c.subclass None
     (λ v. h (code c.division c.group c.class c.subclass None v)
-    (at_or_below-parts (code c.division c.group c.class c.subclass None v) c
+    (at_or_below_parts (code c.division c.group c.class c.subclass None v) c
     ∙ fitting (c.division == 0) _ _ _ _ _ (equal_itself c.division) (fits_itself c.group) (fits_itself c.class)
     (fits_itself c.subclass) refl)))
     (rw (h c (below_itself c)) refl)))))
@@ -121,7 +121,8 @@ module _ (p : Plan) (v : IsPlan p) where
   weighed : list_all (is_weighed p.weights) p.nodes ≡ true
   weighed =
       all_both (λ n. is_node p.weights n.code) (λ n. n.weight == weight_under n.code p.weights) p.nodes
-      (all_among (λ m n. is_same_code m.code n.code) (λ n. same_code_itself n.code) (λ n. is_node p.weights n.code) p.nodes
+      (all_among (λ m n. is_same_code m.code n.code) (λ n. same_code_itself n.code) (λ n. is_node p.weights n.code)
+          p.nodes
       (λ n h. v.complete n.code ∙ h))
       v.weighed
 

@@ -8,7 +8,7 @@ use Rattle.std.specs.List.{list_any}
 use Rattle.cpi_codes.specs.CodeText.{is_code_at_or_below}
 use Rattle.cpi_codes.specs.CodeOrder.{is_same_code}
 use Rattle.cpi_codes.specs.declared.codes.Code.{Code}
-use Rattle.cpi_codes.proofs.CodePath.{same_part, is_eq-parts, at_or_below-parts}
+use Rattle.cpi_codes.proofs.CodePath.{same_part, is_eq_parts, at_or_below_parts}
 use Rattle.cpi_codes.proofs.CodeBelow.{fits}
 use Rattle.cpi_rows.proofs.Truth.{or_false_first, or_false_second, same_of_equal}
 pub use Rattle.cpi_rows.proofs.Truth.{and_first, and_second, same_of_equal as number_is}
@@ -52,18 +52,18 @@ below_parts_agree c d e g h k l s t a b p1 p2 p3 p4 p5 = rw (p1, p2, p3, p4, p5)
 -- a code at or below another is at or below each that compares equal to it
 pub same_below : (n q : Code) → is_same_code n q ≡ true → (c : Code) → is_code_at_or_below n c ≡ is_code_at_or_below q c
 same_below n q h c =
-    let parts = sym (is_eq-parts n q) ∙ h in
+    let parts = sym (is_eq_parts n q) ∙ h in
     let rest = and_second (q.division == n.division) _ parts in
     let third = and_second (same_part q.group n.group) _ rest in
     let fourth = and_second (same_part q.class n.class) _ third in
-    at_or_below-parts n c ∙ sym (below_parts_agree c n.division q.division n.group q.group n.class q.class n.subclass
+    at_or_below_parts n c ∙ sym (below_parts_agree c n.division q.division n.group q.group n.class q.class n.subclass
     q.subclass n.aggregate q.aggregate
     (same_of_equal q.division n.division (and_first (q.division == n.division) _ parts))
     (part_is q.group n.group (and_first (same_part q.group n.group) _ rest))
     (part_is q.class n.class (and_first (same_part q.class n.class) _ third))
     (part_is q.subclass n.subclass (and_first (same_part q.subclass n.subclass) _ fourth))
     (part_is q.aggregate n.aggregate (and_second (same_part q.subclass n.subclass) _ fourth)))
-    ∙ sym (at_or_below-parts q c)
+    ∙ sym (at_or_below_parts q c)
 
 filter_agree : {X : Type 0} (p q : X → Bool) → ((x : X) → p x ≡ q x) → (xs : List X) → filter p xs ≡ filter q xs
 filter_agree p q h [] = refl

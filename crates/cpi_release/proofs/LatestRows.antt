@@ -26,24 +26,24 @@ module _ {X : Type 0} (month_of : X → ℕ) (month : ℕ) where
       ∙ or_assoc (own x) (latest_row month_of month ys) (own y)
 
   pub latest_own : (xs : List X) (x : X) → month_of x ≡ month → latest_row month_of month (xs ++ x ∷ []) ≡ Some x
-  latest_own xs x is = by (eqb_tells (month_of x) month)
+  latest_own xs x is = cases (eqb_tells (month_of x) month)
     where
-      by : ((eqb (month_of x) month ≡ true) × (month_of x ≡ month))
+      cases : ((eqb (month_of x) month ≡ true) × (month_of x ≡ month))
           ⊎ ((eqb (month_of x) month ≡ false) × (month_of x ≢ month)) → latest_row month_of month
           (xs ++ x ∷ []) ≡ Some x
-      by (inl same) = latest_behind xs x ∙ ap (λ b. option_or (cond b (Some x) None)
+      cases (inl same) = latest_behind xs x ∙ ap (λ b. option_or (cond b (Some x) None)
           (latest_row month_of month xs)) same.0
-      by (inr apart) = absurd (apart.1 is)
+      cases (inr apart) = absurd (apart.1 is)
 
   pub latest_other : (xs : List X) (x : X) → month_of x ≢ month →
       latest_row month_of month (xs ++ x ∷ []) ≡ latest_row month_of month xs
-  latest_other xs x apart = by (eqb_tells (month_of x) month)
+  latest_other xs x apart = cases (eqb_tells (month_of x) month)
     where
-      by : ((eqb (month_of x) month ≡ true) × (month_of x ≡ month))
+      cases : ((eqb (month_of x) month ≡ true) × (month_of x ≡ month))
           ⊎ ((eqb (month_of x) month ≡ false) × (month_of x ≢ month)) →
           latest_row month_of month (xs ++ x ∷ []) ≡ latest_row month_of month xs
-      by (inl same) = absurd (apart same.1)
-      by (inr other) = latest_behind xs x ∙ ap (λ b. option_or (cond b (Some x) None) (latest_row month_of month xs))
+      cases (inl same) = absurd (apart same.1)
+      cases (inr other) = latest_behind xs x ∙ ap (λ b. option_or (cond b (Some x) None) (latest_row month_of month xs))
           other.0
 
   -- a fact about all rows is one about the latest
@@ -51,34 +51,37 @@ module _ {X : Type 0} (month_of : X → ℕ) (month : ℕ) where
       ≡ Some x →
       P x × (month_of x ≡ month)
   latest_all P [] x all e = cc
-  latest_all P (y ∷ ys) x all e = by (latest_row month_of month ys) refl (eqb_tells (month_of y) month)
+  latest_all P (y ∷ ys) x all e = cases (latest_row month_of month ys) refl (eqb_tells (month_of y) month)
       (latest_all P ys x all.1)
     where
-      by : (o : Option X) → latest_row month_of month ys ≡ o → ((eqb (month_of y) month ≡ true) × (month_of y ≡ month))
+      cases : (o : Option X) → latest_row month_of month ys ≡ o →
+          ((eqb (month_of y) month ≡ true) × (month_of y ≡ month))
           ⊎ ((eqb (month_of y) month ≡ false) × (month_of y ≢ month)) →
           (latest_row month_of month ys ≡ Some x → P x × (month_of x ≡ month)) → P x × (month_of x ≡ month)
-      by (Some z) f tells rest = rest (let is : Some z ≡ Some x = sym (ap (λ o. option_or o (own y)) f) ∙ e in f ∙ is)
-      by None f (inl same) rest =
+      cases (Some z) f tells rest = rest
+          (let is : Some z ≡ Some x = sym (ap (λ o. option_or o (own y)) f) ∙ e in f ∙ is)
+      cases None f (inl same) rest =
           let is : Some y ≡ Some x = sym (ap (λ o. option_or o (own y)) f ∙ ap (λ b. cond b (Some y) None) same.0)
           ∙ e in
           let here : y ≡ x = cc in
           (subst P here all.0, subst (λ z. month_of z ≡ month) here same.1)
-      by None f (inr other) rest =
+      cases None f (inr other) rest =
           let no : None ≡ Some x = sym (ap (λ o. option_or o (own y)) f ∙ ap (λ b. cond b (Some y) None) other.0)
           ∙ e in cc
 
   pub latest_place : (xs : List X) (x : X) → latest_row month_of month xs ≡ Some x → (k : ℕ)
       × (k < length (map month_of xs)) × (get_or (map month_of xs) k 0 ≡ month)
   latest_place [] x e = cc
-  latest_place (y ∷ ys) x e = by (latest_row month_of month ys) refl (eqb_tells (month_of y) month) (latest_place ys)
+  latest_place (y ∷ ys) x e = cases (latest_row month_of month ys) refl (eqb_tells (month_of y) month) (latest_place ys)
     where
-      by : (o : Option X) → latest_row month_of month ys ≡ o → ((eqb (month_of y) month ≡ true) × (month_of y ≡ month))
+      cases : (o : Option X) → latest_row month_of month ys ≡ o →
+          ((eqb (month_of y) month ≡ true) × (month_of y ≡ month))
           ⊎ ((eqb (month_of y) month ≡ false) × (month_of y ≢ month)) →
           ((z : X) → latest_row month_of month ys ≡ Some z → (k : ℕ) × (k < length (map month_of ys))
           × (get_or (map month_of ys) k 0 ≡ month)) → (k : ℕ) × (k < length (map month_of (y ∷ ys)))
           × (get_or (map month_of (y ∷ ys)) k 0 ≡ month)
-      by (Some z) f tells rest = let found = rest z f in (suc found.0, omega (arith, found.1), found.2)
-      by None f (inl same) rest = (zero, omega arith, same.1)
-      by None f (inr other) rest =
+      cases (Some z) f tells rest = let found = rest z f in (suc found.0, omega (arith, found.1), found.2)
+      cases None f (inl same) rest = (zero, omega arith, same.1)
+      cases None f (inr other) rest =
           let no : None ≡ Some x = sym (ap (λ o. option_or o (own y)) f ∙ ap (λ b. cond b (Some y) None) other.0)
           ∙ e in cc

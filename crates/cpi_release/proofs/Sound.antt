@@ -28,20 +28,20 @@ use Rattle.cpi_release.specs.declared.release.Release.{Release}
 module _ (releases : List Release) (ordered : (month : ℕ) (r : Release) → latest_release releases month ≡ Some r →
     IsOrdered r) where
   carried_in_order : (month : ℕ) → are_by_series carried_serial (carried_of releases month) ≡ true
-  carried_in_order month = by (latest_release releases month) refl
+  carried_in_order month = cases (latest_release releases month) refl
     where
-      by : (o : Option Release) → latest_release releases month ≡ o →
+      cases : (o : Option Release) → latest_release releases month ≡ o →
           are_by_series carried_serial (option_map_or (λ r. r.carried) o []) ≡ true
-      by None e = refl
-      by (Some r) e = (ordered month r e).carried
+      cases None e = refl
+      cases (Some r) e = (ordered month r e).carried
 
   frozen_in_order : (month : ℕ) → are_by_series frozen_serial (frozen_of releases month) ≡ true
-  frozen_in_order month = by (latest_release releases month) refl
+  frozen_in_order month = cases (latest_release releases month) refl
     where
-      by : (o : Option Release) → latest_release releases month ≡ o →
+      cases : (o : Option Release) → latest_release releases month ≡ o →
           are_by_series frozen_serial (option_map_or (λ r. r.frozen) o []) ≡ true
-      by None e = refl
-      by (Some r) e = (ordered month r e).frozen
+      cases None e = refl
+      cases (Some r) e = (ordered month r e).frozen
 
   bases_in_order : (plan : Plan) (month : ℕ) → are_by_series carried_serial (bases_in plan releases month) ≡ true
   bases_in_order plan month = bases_rise plan (carried_of releases (link_month month))
@@ -61,12 +61,12 @@ module _ (releases : List Release) (order : AreInOrder releases) where
 
   pub levels_ordered : (month : ℕ) → IsInOrder code_cmp (λ l. l.code) (levels_of releases month)
   unfolding IsStrictlySortedBy
-  levels_ordered month = by (latest_release releases month) refl
+  levels_ordered month = cases (latest_release releases month) refl
     where
-      by : (o : Option Release) → latest_release releases month ≡ o →
+      cases : (o : Option Release) → latest_release releases month ≡ o →
           IsInOrder code_cmp (λ l. l.code) (option_map_or (λ r. r.levels) o [])
-      by None e = tt
-      by (Some r) e = (order.ordered month r e).levels
+      cases None e = tt
+      cases (Some r) e = (order.ordered month r e).levels
 
   pub carry_ordered : (plan : Plan) (month : ℕ) (frozen : List Frozen) →
       are_by_series carried_serial (carried_in_month plan (rows_of_bases plan releases month frozen)) ≡ true
@@ -80,11 +80,11 @@ module _ (releases : List Release) (order : AreInOrder releases) where
 -- the plan of a month after the first release is that of its year
 pub year_plan : (plans : List Plan) (releases : List Release) (month : ℕ) (p : Plan) →
     Some p ≡ plan_in plans releases month → row_by_number (λ p. p.year) (year_of month) plans ≡ Some p
-year_plan plans releases month p e = by (has_an_earlier releases month) refl
+year_plan plans releases month p e = cases (has_an_earlier releases month) refl
   where
-    by : (b : Bool) → has_an_earlier releases month ≡ b → row_by_number (λ p. p.year) (year_of month) plans ≡ Some p
-    by true h = sym (ap (λ b. cond b (row_by_number (λ p. p.year) (year_of month) plans) None) h) ∙ sym e
-    by false h = let no : Some p ≡ None = e ∙ ap (λ b. cond b (row_by_number (λ p. p.year) (year_of month) plans)
+    cases : (b : Bool) → has_an_earlier releases month ≡ b → row_by_number (λ p. p.year) (year_of month) plans ≡ Some p
+    cases true h = sym (ap (λ b. cond b (row_by_number (λ p. p.year) (year_of month) plans) None) h) ∙ sym e
+    cases false h = let no : Some p ≡ None = e ∙ ap (λ b. cond b (row_by_number (λ p. p.year) (year_of month) plans)
         None) h in cc
 
 -- the groups that are read are the samples of the month

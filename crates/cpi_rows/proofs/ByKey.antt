@@ -26,39 +26,39 @@ module _ {X K : Type 0} {R : K → K → Ordering} (o : IsTotalOrder R) (key : X
   pub lookup_row : (k : K) (es : List (K × X)) → AreUnderKeys R key es →
       lookup (is_at (R k)) es ≡ row_at R key k (values_of es)
   lookup_row k [] under = refl
-  lookup_row k (e ∷ es) under = by (R (key e.1) k) refl (lookup_row k es under.1)
+  lookup_row k (e ∷ es) under = cases (R (key e.1) k) refl (lookup_row k es under.1)
     where
       Finds : List (K × X) → Type 0
       Finds es = lookup (is_at (R k)) es ≡ row_at R key k (values_of es)
 
-      by : (s : Ordering) → R (key e.1) k ≡ s → Finds es → Finds (e ∷ es)
-      by Less p rest = rw (turned k e under.0, p) rest
-      by Equal p rest = rw (turned k e under.0, p) refl
-      by Greater p rest = rw (turned k e under.0, p) rest
+      cases : (s : Ordering) → R (key e.1) k ≡ s → Finds es → Finds (e ∷ es)
+      cases Less p rest = rw (turned k e under.0, p) rest
+      cases Equal p rest = rw (turned k e under.0, p) refl
+      cases Greater p rest = rw (turned k e under.0, p) rest
 
   -- a key above the last one is nowhere
   pub past_last : (last k : K) (es : List (K × X)) →
       ((q : K) → IsSome (lookup (is_at (R q)) es) → is_lt (R last q) ≡ false) →
       is_lt (R last k) ≡ true → lookup (is_at (R k)) es ≡ None
-  past_last last k es upper above = by (lookup (is_at (R k)) es) refl
+  past_last last k es upper above = cases (lookup (is_at (R k)) es) refl
     where
-      by : (w : Option X) → lookup (is_at (R k)) es ≡ w → lookup (is_at (R k)) es ≡ None
-      by None e = e
-      by (Some x) e = absurd (false≢true (sym (upper k (subst IsSome (sym e) refl)) ∙ above))
+      cases : (w : Option X) → lookup (is_at (R k)) es ≡ w → lookup (is_at (R k)) es ≡ None
+      cases None e = e
+      cases (Some x) e = absurd (false≢true (sym (upper k (subst IsSome (sym e) refl)) ∙ above))
 
   module _ (row : X) where
     pub stay_under : (es : List (K × X)) → AreUnderKeys R key es →
         AreUnderKeys R key (insert_entry R es (key row) row)
     stay_under [] under = (tied_itself o (key row), tt)
-    stay_under (e ∷ es) under = by (R (key row) e.0) refl (stay_under es under.1)
+    stay_under (e ∷ es) under = cases (R (key row) e.0) refl (stay_under es under.1)
       where
         Stays : List (K × X) → Type 0
         Stays es = AreUnderKeys R key (insert_entry R es (key row) row)
 
-        by : (s : Ordering) → R (key row) e.0 ≡ s → Stays es → Stays (e ∷ es)
-        by Less p rest = rw p (tied_itself o (key row), under)
-        by Equal p rest = rw p (o.antisymm e.0 (key row) ∙ ap ordering_reverse p, under.1)
-        by Greater p rest = rw p (under.0, rest)
+        cases : (s : Ordering) → R (key row) e.0 ≡ s → Stays es → Stays (e ∷ es)
+        cases Less p rest = rw p (tied_itself o (key row), under)
+        cases Equal p rest = rw p (o.antisymm e.0 (key row) ∙ ap ordering_reverse p, under.1)
+        cases Greater p rest = rw p (under.0, rest)
 
     -- rows of which the first is above the row
     above : (x : X) (xs : List X) → IsInOrder R key (x ∷ xs) → R (key x) (key row) ≡ Greater →
@@ -75,17 +75,17 @@ module _ {X K : Type 0} {R : K → K → Ordering} (o : IsTotalOrder R) (key : X
         values_of (insert_entry R es (key row) row) ≡ with_row R key row (values_of es)
     insert_puts [] under sorted = refl
     insert_puts (e ∷ es) under sorted =
-        by (R (key e.1) (key row)) refl (insert_puts es under.1 (sorted_tail c e.1 (values_of es) sorted))
+        cases (R (key e.1) (key row)) refl (insert_puts es under.1 (sorted_tail c e.1 (values_of es) sorted))
       where
         Puts : List (K × X) → Type 0
         Puts es = values_of (insert_entry R es (key row) row) ≡ with_row R key row (values_of es)
 
-        by : (s : Ordering) → R (key e.1) (key row) ≡ s → Puts es → Puts (e ∷ es)
-        by Less p rest = rw (turned (key row) e under.0, p) (ap (λ xs. e.1 ∷ xs) rest)
-        by Equal p rest =
+        cases : (s : Ordering) → R (key e.1) (key row) ≡ s → Puts es → Puts (e ∷ es)
+        cases Less p rest = rw (turned (key row) e under.0, p) (ap (λ xs. e.1 ∷ xs) rest)
+        cases Equal p rest =
             let placed = put_at_row o key (e.1 ∷ values_of es) sorted row 0 (omega arith, λ d. p) in
             rw (turned (key row) e under.0, p) (rw p at placed)
-        by Greater p rest =
+        cases Greater p rest =
             let higher = above e.1 (values_of es) sorted p in
             let placed =
             put_at_gap o key (e.1 ∷ values_of es) row 0 (omega arith, λ j d lt. absurd (omega arith), higher) in

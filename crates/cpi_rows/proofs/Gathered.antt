@@ -48,19 +48,19 @@ module _ {G X K : Type 0} (cmp : K → K → Ordering) (key : X → K) (number :
   held_gathered c [] sorted = refl
   held_gathered c (g ∷ gs) sorted =
       held_append cmp key c (named g) (rows_with_holders number rows gs)
-      ∙ by (eqb_tells (number g) c) (held_gathered c gs (sorted_tail _ g gs sorted)) (sorted_head _ g gs sorted)
+      ∙ cases (eqb_tells (number g) c) (held_gathered c gs (sorted_tail _ g gs sorted)) (sorted_head _ g gs sorted)
     where
-      by : ((eqb (number g) c ≡ true) × (number g ≡ c)) ⊎ ((eqb (number g) c ≡ false) × (number g ≢ c)) →
+      cases : ((eqb (number g) c ≡ true) × (number g ≡ c)) ⊎ ((eqb (number g) c ≡ false) × (number g ≢ c)) →
           held_by c (rows_with_holders number rows gs) ≡ rows_in rows (row_at nat_cmp number c gs) →
           AllByRecursion (λ h. nat_cmp (number g) (number h) ≡ Less) gs →
           held_by c (named g) ++ held_by c (rows_with_holders number rows gs) ≡ rows_in rows
           (row_at nat_cmp number c (g ∷ gs))
-      by (inl same) rest above =
+      cases (inl same) rest above =
           let none : row_at nat_cmp number c gs ≡ None = missing_above number c gs (rw (sym same.1) above) in
           let here : nat_cmp (number g) c ≡ Equal = rw same.1 (tied_itself nat_cmp_total c) in
           let mine : held_by c (named g) ≡ rows g = rw same.1 (held_mine c (rows g)) in
           rw (ap is_eq here, mine, rest, none) (append-nil (rows g))
-      by (inr apart) rest above =
+      cases (inr apart) rest above =
           let other = different (number g) c apart.1 in
           rw (other, held_theirs c (number g) (rows g) apart.0) rest
 

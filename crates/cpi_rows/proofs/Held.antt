@@ -24,10 +24,10 @@ module _ {X K : Type 0} (cmp : K → K → Ordering) (key : X → K) where
     Tested rs = held_by c (filter (λ r. test (held_cmp cmp (held_key key r) (c, k))) rs) ≡ filter
         (λ x. test (cmp (key x) k)) (held_by c rs)
 
-    mine : eqb r.0 c ≡ true → nat_cmp r.0 c ≡ Equal → (t : Bool) → test (cmp (key r.1) k) ≡ t → Tested rows →
+    of_this_row : eqb r.0 c ≡ true → nat_cmp r.0 c ≡ Equal → (t : Bool) → test (cmp (key r.1) k) ≡ t → Tested rows →
         Tested (r ∷ rows)
-    mine e f true p rest = rw (f, p, e, p) (ap (λ ys. r.1 ∷ ys) rest)
-    mine e f false p rest = rw (f, p, e, p) rest
+    of_this_row e f true p rest = rw (f, p, e, p) (ap (λ ys. r.1 ∷ ys) rest)
+    of_this_row e f false p rest = rw (f, p, e, p) rest
 
     other : eqb r.0 c ≡ false → (t : Bool) → test (held_cmp cmp (held_key key r) (c, k)) ≡ t → Tested rows →
         Tested (r ∷ rows)
@@ -35,7 +35,7 @@ module _ {X K : Type 0} (cmp : K → K → Ordering) (key : X → K) where
     other e false p rest = rw (p, e) rest
 
     tested_more : ((eqb r.0 c ≡ true) × (r.0 ≡ c)) ⊎ ((eqb r.0 c ≡ false) × (r.0 ≢ c)) → Tested rows → Tested (r ∷ rows)
-    tested_more (inl same) rest = mine same.0 (rw same.1 (tied_itself nat_cmp_total c))
+    tested_more (inl same) rest = of_this_row same.0 (rw same.1 (tied_itself nat_cmp_total c))
         (test (cmp (key r.1) k)) refl rest
     tested_more (inr apart) rest = other apart.0 (test (held_cmp cmp (held_key key r) (c, k))) refl rest
 
@@ -102,11 +102,11 @@ module _ {X K : Type 0} (cmp : K → K → Ordering) (key : X → K) where
       (test (held_cmp cmp (held_key key r) (n, k))) refl (none_pass test c n k differ fails rows)
 
   held_other : (c n : ℕ) (x : X) (rows : List (ℕ × X)) → c ≢ n → held_by c ((n, x) ∷ rows) ≡ held_by c rows
-  held_other c n x rows differ = by (eqb_tells n c)
+  held_other c n x rows differ = cases (eqb_tells n c)
     where
-      by : ((eqb n c ≡ true) × (n ≡ c)) ⊎ ((eqb n c ≡ false) × (n ≢ c)) → held_by c ((n, x) ∷ rows) ≡ held_by c rows
-      by (inl same) = absurd (differ (sym same.1))
-      by (inr apart) = rw apart.0 refl
+      cases : ((eqb n c ≡ true) × (n ≡ c)) ⊎ ((eqb n c ≡ false) × (n ≢ c)) → held_by c ((n, x) ∷ rows) ≡ held_by c rows
+      cases (inl same) = absurd (differ (sym same.1))
+      cases (inr apart) = rw apart.0 refl
 
   -- another holder's row changes nothing for this one
   pub puts_other : (c n : ℕ) (row : X) (rows : List (ℕ × X)) → c ≢ n →
@@ -116,17 +116,17 @@ module _ {X K : Type 0} (cmp : K → K → Ordering) (key : X → K) where
       ((n, row) ∷ filter (λ r. is_gt (held_cmp cmp (held_key key r) (n, key row))) rows)
       ∙ ap (λ ys. held_by c (filter (λ r. is_lt (held_cmp cmp (held_key key r) (n, key row))) rows) ++ ys)
       (held_other c n row (filter (λ r. is_gt (held_cmp cmp (held_key key r) (n, key row))) rows) differ)
-      ∙ by (nat_cmp c n) refl
+      ∙ cases (nat_cmp c n) refl
     where
-      by : (s : Ordering) → nat_cmp c n ≡ s → held_by c
+      cases : (s : Ordering) → nat_cmp c n ≡ s → held_by c
           (filter (λ r. is_lt (held_cmp cmp (held_key key r) (n, key row))) rows)
           ++ held_by c (filter (λ r. is_gt (held_cmp cmp (held_key key r) (n, key row))) rows) ≡ held_by c rows
-      by Less e = rw (
+      cases Less e = rw (
         all_pass is_lt c n (key row) differ (ap is_lt e) rows,
         none_pass is_gt c n (key row) differ (ap is_gt e) rows,
       ) (append-nil (held_by c rows))
-      by Equal e = absurd (differ (ranked c n Equal (sym e)))
-      by Greater e = rw (
+      cases Equal e = absurd (differ (ranked c n Equal (sym e)))
+      cases Greater e = rw (
         none_pass is_lt c n (key row) differ (ap is_lt e) rows,
         all_pass is_gt c n (key row) differ (ap is_gt e) rows,
       ) refl

@@ -16,11 +16,11 @@ all_weaker P Q f (x ∷ xs) all = (f x all.0, all_weaker P Q f xs all.1)
 pub all_filtered : {X : Type 0} (P : X → Type 0) (p : X → Bool) (xs : List X) → AllByRecursion P xs →
     AllByRecursion P (filter p xs)
 all_filtered P p [] all = tt
-all_filtered P p (x ∷ xs) all = by (p x) refl (all_filtered P p xs all.1)
+all_filtered P p (x ∷ xs) all = cases (p x) refl (all_filtered P p xs all.1)
   where
-    by : (s : Bool) → p x ≡ s → AllByRecursion P (filter p xs) → AllByRecursion P (filter p (x ∷ xs))
-    by true e rest = rw e (all.0, rest)
-    by false e rest = rw e rest
+    cases : (s : Bool) → p x ≡ s → AllByRecursion P (filter p xs) → AllByRecursion P (filter p (x ∷ xs))
+    cases true e rest = rw e (all.0, rest)
+    cases false e rest = rw e rest
 
 pub all_joined : {X : Type 0} (P : X → Type 0) (xs ys : List X) → AllByRecursion P xs → AllByRecursion P ys →
     AllByRecursion P (xs ++ ys)

@@ -20,20 +20,20 @@ module _ {X K : Type 0} {R : K → K → Ordering} (o : IsTotalOrder R) (key : X
 
   -- of two rows in order, the later one's key stands no lower against k
   rises : (a b k : K) → R a b ≡ Less → ordering_index (R a k) ≤ ordering_index (R b k)
-  rises a b k less = by (R a k) (R b k) refl refl
+  rises a b k less = cases (R a k) (R b k) refl refl
     where
-      by : (s t : Ordering) → R a k ≡ s → R b k ≡ t → ordering_index s ≤ ordering_index t
-      by Less Less p q = omega arith
-      by Less Equal p q = omega arith
-      by Less Greater p q = omega arith
-      by Equal Less p q = let e : Less ≡ Greater = sym less ∙ o.congr a k b p ∙ o.antisymm k b
+      cases : (s t : Ordering) → R a k ≡ s → R b k ≡ t → ordering_index s ≤ ordering_index t
+      cases Less Less p q = omega arith
+      cases Less Equal p q = omega arith
+      cases Less Greater p q = omega arith
+      cases Equal Less p q = let e : Less ≡ Greater = sym less ∙ o.congr a k b p ∙ o.antisymm k b
           ∙ ap ordering_reverse q in cc
-      by Equal Equal p q = omega arith
-      by Equal Greater p q = omega arith
-      by Greater Less p q = let e : Less ≡ Greater = sym (o.trans a b k less q) ∙ p in cc
-      by Greater Equal p q = let e : Greater ≡ Less = sym (o.antisymm b a ∙ ap ordering_reverse less)
+      cases Equal Equal p q = omega arith
+      cases Equal Greater p q = omega arith
+      cases Greater Less p q = let e : Less ≡ Greater = sym (o.trans a b k less q) ∙ p in cc
+      cases Greater Equal p q = let e : Greater ≡ Less = sym (o.antisymm b a ∙ ap ordering_reverse less)
           ∙ o.congr b k a q ∙ o.antisymm k a ∙ ap ordering_reverse p in cc
-      by Greater Greater p q = omega arith
+      cases Greater Greater p q = omega arith
 
   module _ (rows : List X) (sorted : IsInOrder R key rows) (k : K) where
     comparisons_rise : IsNonDecreasingBy (λ row. ordering_index (R (key row) k)) rows
@@ -141,25 +141,25 @@ module _ {X K : Type 0} {R : K → K → Ordering} (o : IsTotalOrder R) (key : X
 
   lower : (k : K) (xs : List X) → AllByRecursion (λ x. R (key x) k ≡ Less) (filter (λ x. is_lt (R (key x) k)) xs)
   lower k [] = tt
-  lower k (x ∷ xs) = by (R (key x) k) refl (lower k xs)
+  lower k (x ∷ xs) = cases (R (key x) k) refl (lower k xs)
     where
-      by : (s : Ordering) → R (key x) k ≡ s → AllByRecursion (λ x. R (key x) k ≡ Less)
+      cases : (s : Ordering) → R (key x) k ≡ s → AllByRecursion (λ x. R (key x) k ≡ Less)
           (filter (λ x. is_lt (R (key x) k)) xs) → AllByRecursion (λ x. R (key x) k ≡ Less)
           (filter (λ x. is_lt (R (key x) k)) (x ∷ xs))
-      by Less p rest = rw (ap is_lt p) (p, rest)
-      by Equal p rest = rw (ap is_lt p) rest
-      by Greater p rest = rw (ap is_lt p) rest
+      cases Less p rest = rw (ap is_lt p) (p, rest)
+      cases Equal p rest = rw (ap is_lt p) rest
+      cases Greater p rest = rw (ap is_lt p) rest
 
   higher : (k : K) (xs : List X) → AllByRecursion (λ x. R k (key x) ≡ Less) (filter (λ x. is_gt (R (key x) k)) xs)
   higher k [] = tt
-  higher k (x ∷ xs) = by (R (key x) k) refl (higher k xs)
+  higher k (x ∷ xs) = cases (R (key x) k) refl (higher k xs)
     where
-      by : (s : Ordering) → R (key x) k ≡ s → AllByRecursion (λ x. R k (key x) ≡ Less)
+      cases : (s : Ordering) → R (key x) k ≡ s → AllByRecursion (λ x. R k (key x) ≡ Less)
           (filter (λ x. is_gt (R (key x) k)) xs) → AllByRecursion (λ x. R k (key x) ≡ Less)
           (filter (λ x. is_gt (R (key x) k)) (x ∷ xs))
-      by Less p rest = rw (ap is_gt p) rest
-      by Equal p rest = rw (ap is_gt p) rest
-      by Greater p rest = rw (ap is_gt p) (o.antisymm k (key x) ∙ ap ordering_reverse p, rest)
+      cases Less p rest = rw (ap is_gt p) rest
+      cases Equal p rest = rw (ap is_gt p) rest
+      cases Greater p rest = rw (ap is_gt p) (o.antisymm k (key x) ∙ ap ordering_reverse p, rest)
 
   above_too : (a b : X) (ys : List X) → R (key a) (key b) ≡ Less → AllByRecursion (λ y. R (key b) (key y) ≡ Less) ys →
       AllByRecursion (λ y. R (key a) (key y) ≡ Less) ys

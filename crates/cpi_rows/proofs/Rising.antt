@@ -19,9 +19,9 @@ by_key_total o key = record {
   congr = λ x y z. o.congr (key x) (key y) (key z);
 }
 
-pub Falters-at : {X K : Type 0} (cmp : K → K → Ordering) (key : X → K) (xs : List X) (i j : ℕ) (x y : X) → j + 1 ≡ i →
+pub Falters_at : {X K : Type 0} (cmp : K → K → Ordering) (key : X → K) (xs : List X) (i j : ℕ) (x y : X) → j + 1 ≡ i →
     i < length xs → x ≡ get_or xs j x → y ≡ get_or xs i y → is_lt (cmp (key x) (key y)) ≡ false → Falters cmp key xs
-Falters-at cmp key xs i j x y e h at_j at_i f = (
+Falters_at cmp key xs i j x y e h at_j at_i f = (
   j,
   omega arith,
   pair_read xs (λ a b. is_lt (cmp (key a) (key b)) ≡ false) j (j + 1) x y (omega arith)

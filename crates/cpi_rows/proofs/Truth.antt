@@ -81,12 +81,12 @@ equal_of_order m n e = ranked m n Equal (sym e)
 
 -- two different numbers don't tie
 pub different : (m n : ℕ) → m ≢ n → is_eq (nat_cmp m n) ≡ false
-different m n h = by (nat_cmp m n) refl
+different m n h = cases (nat_cmp m n) refl
   where
-    by : (o : Ordering) → nat_cmp m n ≡ o → is_eq (nat_cmp m n) ≡ false
-    by Less e = ap is_eq e
-    by Equal e = absurd (h (ranked m n Equal (sym e)))
-    by Greater e = ap is_eq e
+    cases : (o : Ordering) → nat_cmp m n ≡ o → is_eq (nat_cmp m n) ≡ false
+    cases Less e = ap is_eq e
+    cases Equal e = absurd (h (ranked m n Equal (sym e)))
+    cases Greater e = ap is_eq e
 
 pub same_of_equal : (m n : ℕ) → (m == n) ≡ true → m ≡ n
 same_of_equal m n h = grind (arith, nat_tests)

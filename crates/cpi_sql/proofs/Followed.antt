@@ -8,7 +8,7 @@ use Rattle.sqlite.specs.Tree.{Trees}
 use Rattle.sqlite.specs.Effect.{Database}
 use Rattle.cpi_sql_rows.specs.declared.release_rows.Header.{Header}
 use Rattle.cpi_rows.specs.Keyed.{with_row, row_at}
-use Rattle.cpi_rows.proofs.Puts.{row_at-put_found, row_at-put_same}
+use Rattle.cpi_rows.proofs.Puts.{row_at_put_found, row_at_put_same}
 use Rattle.cpi_release.specs.FrozenMonths.{ReleaseKey, release_cmp, release_key}
 use Rattle.cpi_release.specs.declared.release.Release.{Release}
 use Rattle.cpi_store.specs.Office.{Office, Change, Freezes, office_with}
@@ -140,12 +140,12 @@ module _ (old new : Trees) (r : Release) (none : IsNewRevision r (office_in old)
     (put_in : releases_in new ≡ with_row release_cmp release_key r (releases_in old)) where
   put_still : StillThere old new
   put_still key s there = ap (row_at release_cmp release_key key) put_in
-      ∙ row_at-put_found release_total release_key r (releases_in old) (releases_ordered old) none key s there
+      ∙ row_at_put_found release_total release_key r (releases_in old) (releases_ordered old) none key s there
 
   put_there : ListsStand r new → IsThere new r
   put_there stand = record {
     release = ap (row_at release_cmp release_key (release_key r)) put_in
-        ∙ row_at-put_same release_total release_key r (releases_in old);
+        ∙ row_at_put_same release_total release_key r (releases_in old);
     frozen = stand.frozen;
     carried = stand.carried;
     levels = stand.levels;
@@ -180,7 +180,8 @@ module _ {change : Change} {fits : Office → Type 0} {A E F : Type 0} {u : A} {
               };
           headers = λ t. headers_stand old.now.trees new.now.trees done.made.rows same c.headers (st.cached.headers t);
           lists = lists_stand old.now.trees new.now.trees done.made.rows
-              (λ key r. subst (λ rs. row_at release_cmp release_key key rs ≡ Some r) (sym same)) c.lists st.cached.lists;
+              (λ key r. subst (λ rs. row_at release_cmp release_key key rs ≡ Some r) (sym same)) c.lists
+                  st.cached.lists;
           samples = tt;
         };
       }

@@ -24,12 +24,12 @@ pub table_stands : (trees : Trees) (month revision : ℕ) (tables : List (Releas
     → IsSome (row_at release_cmp list_key (month, revision) tables)
     → AllStandOf level_in_row (release_number month revision) (trees table_of_levels_2.tree)
 table_stands trees month revision tables cached some =
-    by (row_at release_cmp list_key (month, revision) tables) refl some
+    cases (row_at release_cmp list_key (month, revision) tables) refl some
   where
-    by : (o : Option (ReleaseList Level)) → row_at release_cmp list_key (month, revision) tables ≡ o → IsSome o
+    cases : (o : Option (ReleaseList Level)) → row_at release_cmp list_key (month, revision) tables ≡ o → IsSome o
         → AllStandOf level_in_row (release_number month revision) (trees table_of_levels_2.tree)
-    by None e some = absurd (let no = some in cc)
-    by (Some l) e some =
+    cases None e some = absurd (let no = some in cc)
+    cases (Some l) e some =
         let it = cached_is level_table (λ (r : Release). r.levels) trees tables month revision l cached e in
         subst (λ (k : ReleaseKey). AllStandOf level_in_row (release_number k.0 k.1) (trees table_of_levels_2.tree))
         it.1 it.0.stand

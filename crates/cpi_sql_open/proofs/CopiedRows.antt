@@ -141,15 +141,15 @@ put_more : (new : Row) (rows : List Row) → is_taken rows new ≡ false → IsP
 put_more new [] free = IsPermutation-refl (new ∷ [])
 put_more new (r ∷ rows) free =
     let parts = or_parts _ _ free in
-    go (value_cmp (rowid r) (rowid new)) parts.0 (put_more new rows parts.1)
+    at_this_order (value_cmp (rowid r) (rowid new)) parts.0 (put_more new rows parts.1)
   where
-    go : (o : Ordering) → is_eq o ≡ false → IsPermutation (new ∷ rows) (put_row new rows)
+    at_this_order : (o : Ordering) → is_eq o ≡ false → IsPermutation (new ∷ rows) (put_row new rows)
         → IsPermutation (new ∷ r ∷ rows) (match_ordering o (r ∷ put_row new rows) (new ∷ rows) (new ∷ r ∷ rows))
-    go Less other later = IsPermutation-trans _ _ _
+    at_this_order Less other later = IsPermutation-trans _ _ _
         (IsPermutation-append_left rows (new ∷ r ∷ []) (r ∷ new ∷ [])
         (IsPermutation-append_comm (new ∷ []) (r ∷ []))) (IsPermutation-cons r _ _ later)
-    go Equal other later = absurd (true≢false other)
-    go Greater other later = IsPermutation-refl _
+    at_this_order Equal other later = absurd (true≢false other)
+    at_this_order Greater other later = IsPermutation-refl _
 
 -- and so are rows at rowids that are free in turn
 put_all_more : (news rows : List Row) → are_fresh rows news ≡ true → IsPermutation (news ++ rows) (put_all rows news)

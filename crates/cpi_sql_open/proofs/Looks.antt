@@ -65,14 +65,14 @@ scanned text a b asked tree = looked_over (λ s. AsksRowids s text tree) text a 
 
 -- a statement with no tables of its own reads those of the database
 pub overlay_none : (db : Trees) (tree : ℕ) → overlay db [] tree ≡ db tree
-overlay_none db tree = go (nat_le (2 ^ 31) tree)
+overlay_none db tree = late_or_not (nat_le (2 ^ 31) tree)
   where
     none : List (List Row)
     none = []
 
-    go : (late : Bool) → unwrap_or (if late then slice_get none (tree - 2 ^ 31) else None) (db tree) ≡ db tree
-    go true = refl
-    go false = refl
+    late_or_not : (late : Bool) → unwrap_or (if late then slice_get none (tree - 2 ^ 31) else None) (db tree) ≡ db tree
+    late_or_not true = refl
+    late_or_not false = refl
 
 -- ---- texts that are asked in turn, each for the rows of one table
 

@@ -181,14 +181,14 @@ module _ (trees : Trees) where
       ≡ latest_revision month until headers
   revision_is month until =
       ap (option_map (λ (t : PublishedTable). t.revision)) (table_made month None until)
-      ∙ by (latest_header month (asked_headers None until headers))
+      ∙ cases (latest_header month (asked_headers None until headers))
       ∙ ap (λ hs. option_map (λ (h : Header). h.revision) (latest_header month hs))
       (all_kept (headers_until until headers))
     where
-      by : (o : Option Header) → option_map (λ (t : PublishedTable). t.revision) (option_map shown o)
+      cases : (o : Option Header) → option_map (λ (t : PublishedTable). t.revision) (option_map shown o)
           ≡ option_map (λ (h : Header). h.revision) o
-      by None = refl
-      by (Some h) = refl
+      cases None = refl
+      cases (Some h) = refl
 
   -- ---- the releases are in order
 
@@ -225,22 +225,22 @@ module _ (trees : Trees) where
       then Some (levels_at (releases_in trees) (month, revision)) else None)
   table_is month revision until =
       ap (option_map (λ (t : PublishedTable). t.levels)) (table_made month (Some revision) until)
-      ∙ by (latest_header month (asked_headers (Some revision) until headers)) refl
+      ∙ cases (latest_header month (asked_headers (Some revision) until headers)) refl
       (is_header_there month revision until headers) refl
     where
-      by : (o : Option Header) → latest_header month (asked_headers (Some revision) until headers) ≡ o
+      cases : (o : Option Header) → latest_header month (asked_headers (Some revision) until headers) ≡ o
           → (b : Bool) → is_header_there month revision until headers ≡ b
           → option_map (λ (t : PublishedTable). t.levels) (option_map shown o)
           ≡ (if b then Some (levels_at (releases_in trees) (month, revision)) else None)
-      by None e false is = refl
-      by None e true is =
+      cases None e false is = refl
+      cases None e true is =
           let it = some_has _ headers is in
           let both = and_parts (it.0.month == month) _ it.2 in
           let due = and_parts (it.0.revision == revision) _ both.1 in
           absurd (latest_is (λ (h : Header). h.month) month (asked_headers (Some revision) until headers) it.0
           (has_kept _ (headers_until until headers) it.0 (has_kept _ headers it.0 it.1 due.1) due.0)
           (eqb-true it.0.month month both.0) e)
-      by (Some h) e b is =
+      cases (Some h) e b is =
           let found = latest_has month (asked_headers (Some revision) until headers) h e in
           let asked = has_filtered _ (headers_until until headers) h found.0 in
           let due = has_filtered _ headers h asked.0 in
@@ -340,16 +340,16 @@ pub table_shown : (trees : Trees) (month revision until : ℕ) (tables : List (R
     (row_at release_cmp list_key (month, revision) tables) else None)
     ≡ option_map (λ (t : PublishedTable). t.levels) (table_until month (Some revision) until (releases_in trees))
 table_shown trees month revision until tables is told stand there =
-    by is (row_at release_cmp list_key (month, revision) tables) refl there
+    cases is (row_at release_cmp list_key (month, revision) tables) refl there
     ∙ sym (table_is trees month revision until
     ∙ ap (λ b. if b then Some (levels_at (releases_in trees) (month, revision)) else None) (sym told))
   where
-    by : (b : Bool) (o : Option (ReleaseList Level)) → row_at release_cmp list_key (month, revision) tables ≡ o
+    cases : (b : Bool) (o : Option (ReleaseList Level)) → row_at release_cmp list_key (month, revision) tables ≡ o
         → (IsTrue b → IsSome o) → (if b then option_map (λ (l : ReleaseList Level). l.rows) o else None)
         ≡ (if b then Some (levels_at (releases_in trees) (month, revision)) else None)
-    by false o e some = refl
-    by true None e some = absurd (let no = some refl in cc)
-    by true (Some l) e some =
+    cases false o e some = refl
+    cases true None e some = absurd (let no = some refl in cc)
+    cases true (Some l) e some =
         let it = cached_is level_table (λ (r : Release). r.levels) trees tables month revision l stand e in
         ap Some (it.0.rows ∙ ap (λ o. option_map_or (λ (r : Release). r.levels) o []) (sym it.0.there)
         ∙ ap (levels_at (releases_in trees)) it.1)

@@ -15,7 +15,7 @@ use Rattle.cpi_codes.specs.CodeText.{code_text}
 use Rattle.cpi_codes.specs.ItemCode.{item_code_of}
 use Rattle.cpi_codes.specs.declared.codes.Code.{Code}
 use Rattle.cpi_codes.proofs.CodeIs.{same_code_is}
-use Rattle.cpi_codes.proofs.ItemOrder.{codes-are-one}
+use Rattle.cpi_codes.proofs.ItemOrder.{codes_are_one}
 use Rattle.cpi_rows.specs.Held.{held_cmp, held_key}
 use Rattle.cpi_rows.proofs.Truth.{equal_of_order, then_first, then_second}
 use Rattle.cpi_codes.proofs.CodeRead.{part_same}
@@ -137,7 +137,7 @@ place_tells = record {
       let b = place_parts s y.0 y.1 f in
       let same = held_tied nat_cmp (x.0, x.1.item) (y.0, y.1.item) tie in
       let item = equal_of_order x.1.item y.1.item same.1 in
-      let bytes = codes-are-one y.1.item a.bytes b.bytes (a.item ∙ ap (λ (n : ℕ). Some n) item) b.item in
+      let bytes = codes_are_one y.1.item a.bytes b.bytes (a.item ∙ ap (λ (n : ℕ). Some n) item) b.item in
       λ i. Int (pos (same.0 i)) ∷ Text (bytes i) ∷ [];
 }
 

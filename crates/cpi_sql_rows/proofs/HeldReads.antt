@@ -66,11 +66,11 @@ module _ {X K : Type 0} {R : K → K → Ordering} (o : IsTotalOrder R) (key : X
       → IsSome (row_with_holder holder t.after r)
   some r e is =
       subst (λ n. IsSome {T = ℕ × X} (and_then n (λ k. and_then (t.after r) (λ x. Some (k, x))))) (sym e)
-      (by (t.after r) (subst (λ n. IsSome (and_then n (λ _. t.after r))) e (subst (λ a. IsSome a) (law.same r) is)))
+      (cases (t.after r) (subst (λ n. IsSome (and_then n (λ _. t.after r))) e (subst (λ a. IsSome a) (law.same r) is)))
     where
-      by : (a : Option X) → IsSome a → IsSome {T = ℕ × X} (and_then a (λ x. Some (number, x)))
-      by (Some x) is = refl
-      by None is = absurd (let no = is in cc)
+      cases : (a : Option X) → IsSome a → IsSome {T = ℕ × X} (and_then a (λ x. Some (number, x)))
+      cases (Some x) is = refl
+      cases None is = absurd (let no = is in cc)
 
   module _ (old new : State) (rows : List Row) (xs : List X) (has : HasTables old)
       (h : Shown t.text params old new rows) (read : AreRead stands rows xs) where

@@ -36,17 +36,17 @@ pub went : {B E R : Type 0} {b : B} {Stops : E → Type 0} → ((stop : E) × St
 went (inl stopped) = absurd (let e = stopped.2 in cc)
 went (inr on) = on
 
-either : (b : Bool) (x : Value) → cond b x x ≡ x
-either true x = refl
-either false x = refl
+both_are_one : (b : Bool) (x : Value) → cond b x x ≡ x
+both_are_one true x = refl
+both_are_one false x = refl
 
 pub cast_int : (n : ℤ) → cast Integer (Int n) ≡ Int n
 unfolding unary
-cast_int n = either _ (Int n)
+cast_int n = both_are_one _ (Int n)
 
 pub cast_null : cast Integer Null ≡ Null
 unfolding unary
-cast_null = either _ Null
+cast_null = both_are_one _ Null
 
 -- the table with its columns, keys and foreign keys, and nothing else
 abbrev pub as_plain : Table → Table

@@ -44,16 +44,16 @@ key = held_key slot_of
 row_ends_or_stays : (n slot last : ℕ) (r : ℕ × Given)
     → ((r.0 ≡ n) × (slot_of r.1 ≡ slot) × (row_until n slot last r ≡ (r.0, given_until last r.1)))
     ⊎ (((r.0 ≡ n) × (slot_of r.1 ≡ slot) → ⊥) × (row_until n slot last r ≡ r))
-row_ends_or_stays n slot last r = by (eqb_tells r.0 n) (eqb_tells (slot_of r.1) slot)
+row_ends_or_stays n slot last r = cases (eqb_tells r.0 n) (eqb_tells (slot_of r.1) slot)
   where
-    by : ((eqb r.0 n ≡ true) × (r.0 ≡ n)) ⊎ ((eqb r.0 n ≡ false) × (r.0 ≢ n))
+    cases : ((eqb r.0 n ≡ true) × (r.0 ≡ n)) ⊎ ((eqb r.0 n ≡ false) × (r.0 ≢ n))
         → ((eqb (slot_of r.1) slot ≡ true) × (slot_of r.1 ≡ slot))
         ⊎ ((eqb (slot_of r.1) slot ≡ false) × (slot_of r.1 ≢ slot))
         → ((r.0 ≡ n) × (slot_of r.1 ≡ slot) × (row_until n slot last r ≡ (r.0, given_until last r.1)))
         ⊎ (((r.0 ≡ n) × (slot_of r.1 ≡ slot) → ⊥) × (row_until n slot last r ≡ r))
-    by (inl a) (inl b) = inl (a.1, b.1, rw (a.0, b.0) refl)
-    by (inl a) (inr b) = inr (λ both. b.1 both.1, rw (a.0, b.0) refl)
-    by (inr a) b = inr (λ both. a.1 both.0, rw a.0 refl)
+    cases (inl a) (inl b) = inl (a.1, b.1, rw (a.0, b.0) refl)
+    cases (inl a) (inr b) = inr (λ both. b.1 both.1, rw (a.0, b.0) refl)
+    cases (inr a) b = inr (λ both. a.1 both.0, rw a.0 refl)
 
 record IsThere (n slot last : ℕ) (g : Given) (rows : List (ℕ × Given)) : Type 0 where
   pub found : Given
@@ -63,12 +63,13 @@ record IsThere (n slot last : ℕ) (g : Given) (rows : List (ℕ × Given)) : Ty
 
 there : (n slot last : ℕ) (g : Given) (rows : List (ℕ × Given))
     → option_map (given_until last) (row_by_number slot_of slot (held_by n rows)) ≡ Some g → IsThere n slot last g rows
-there n slot last g rows e = by (row_by_number slot_of slot (held_by n rows)) refl e
+there n slot last g rows e = cases (row_by_number slot_of slot (held_by n rows)) refl e
   where
-    by : (o : Option Given) → row_by_number slot_of slot (held_by n rows) ≡ o → option_map (given_until last) o ≡ Some g
+    cases : (o : Option Given) → row_by_number slot_of slot (held_by n rows) ≡ o →
+        option_map (given_until last) o ≡ Some g
         → IsThere n slot last g rows
-    by None f e = absurd (let no : ◌≡◌ {A = Option Given} None (Some g) = e in cc)
-    by (Some x) f e = record {
+    cases None f e = absurd (let no : ◌≡◌ {A = Option Given} None (Some g) = e in cc)
+    cases (Some x) f e = record {
       found = x;
       has = held_has nat_cmp_total slot_of n x rows (has_row nat_cmp slot_of slot (held_by n rows) x f);
       slot_is = at_key slot_of slot x (held_by n rows) f;
@@ -135,11 +136,11 @@ module _ (n : ℕ) (g : Given) (rows : List (ℕ × Given)) (sorted : AreInOrder
 
 none_of : (n slot : ℕ) (rows : List (ℕ × Given)) → ((g : Given) → Has rows (n, g) → slot_of g ≡ slot → ⊥)
     → IsNumberFree n slot rows
-none_of n slot rows none = by (row_by_number slot_of slot (held_by n rows)) refl
+none_of n slot rows none = cases (row_by_number slot_of slot (held_by n rows)) refl
   where
-    by : (o : Option Given) → row_by_number slot_of slot (held_by n rows) ≡ o → IsNumberFree n slot rows
-    by None e = e
-    by (Some g) e = absurd (none g
+    cases : (o : Option Given) → row_by_number slot_of slot (held_by n rows) ≡ o → IsNumberFree n slot rows
+    cases None e = e
+    cases (Some g) e = absurd (none g
         (held_has nat_cmp_total slot_of n g rows (has_row nat_cmp slot_of slot (held_by n rows) g e))
         (at_key slot_of slot g (held_by n rows) e))
 

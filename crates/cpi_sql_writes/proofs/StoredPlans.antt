@@ -17,7 +17,7 @@ use Rattle.cpi_codes.specs.CodeOrder.{code_cmp, is_same_code, is_code_elementary
 use Rattle.cpi_codes.specs.CodeText.{is_code_at_or_below}
 use Rattle.cpi_codes.specs.declared.codes.Code.{Code}
 use Rattle.cpi_codes.specs.contracts.codes.CodeOrd.TheImpl.Laws.{total-law}
-use Rattle.cpi_codes.proofs.CodePath.{at_or_below-parts, no_group}
+use Rattle.cpi_codes.proofs.CodePath.{at_or_below_parts, no_group}
 use Rattle.cpi_codes.proofs.CodeBytes.{absent_below}
 use Rattle.cpi_codes.proofs.CodeBelow.{fits}
 use Rattle.cpi_codes.proofs.CodeIs.{same_code_is}
@@ -53,7 +53,7 @@ fits_same (Some d) (Some e) some h = ap (λ n. Some n) (sym (number_is e d h))
 
 -- nothing but an elementary aggregate is at or below it
 below_elementary : (c d : Code) → is_code_elementary c ≡ true → is_code_at_or_below c d ≡ true → c ≡ d
-below_elementary c d e h = at (c.division == 0) refl (sym (at_or_below-parts c d) ∙ h)
+below_elementary c d e h = at (c.division == 0) refl (sym (at_or_below_parts c d) ∙ h)
   where
     under : (c.group ≡ None → c.class ≡ None) × (c.class ≡ None → c.subclass ≡ None)
         × (c.subclass ≡ None → c.aggregate ≡ None)

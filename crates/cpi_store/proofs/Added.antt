@@ -9,8 +9,8 @@ use Rattle.std.specs.List.{AllByRecursion}
 use Rattle.std.proofs.lemmas.Cmp.{nat_cmp_total, tied_itself}
 use Rattle.std.proofs.lemmas.Bool.Decides.{eqb_tells}
 use Rattle.cpi_rows.specs.Keyed.{row_by_number, put_by, IsInOrder}
-use Rattle.cpi_rows.proofs.Puts.{parted, map-put, different}
-use Rattle.cpi_rows.proofs.Found.{at-map}
+use Rattle.cpi_rows.proofs.Puts.{parted, map_put, different}
+use Rattle.cpi_rows.proofs.Found.{at_map}
 use Rattle.cpi_rows.proofs.Lists.{flat_map_passes}
 use Rattle.cpi_survey.specs.declared.assignment.Assigned.{Assigned}
 use Rattle.cpi_store.specs.declared.registration.Registration.{Registration}
@@ -37,23 +37,24 @@ own_assignments h = h.own.assignments
 pub registration_new : (key : ℕ) (b : Registration) (xs ys : List Registration) → eqb b.key key ≡ true →
     registration_of key (xs ++ ys) ≡ None → registration_of key (xs ++ b ∷ ys) ≡ Some b
 registration_new key b [] ys e none = rw e refl
-registration_new key b (x ∷ xs) ys e none = by (eqb x.key key) refl (registration_new key b xs ys e)
+registration_new key b (x ∷ xs) ys e none = cases (eqb x.key key) refl (registration_new key b xs ys e)
   where
-    by : (s : Bool) → eqb x.key key ≡ s → (registration_of key (xs ++ ys) ≡ None → registration_of key (xs ++ b ∷ ys) ≡
+    cases : (s : Bool) → eqb x.key key ≡ s → (registration_of key (xs ++ ys) ≡ None →
+        registration_of key (xs ++ b ∷ ys) ≡
         Some b) →
         registration_of key (x ∷ xs ++ b ∷ ys) ≡ Some b
-    by true f rest = let no : Some x ≡ None = rw f at none in cc
-    by false f rest = rw f (rest (rw f at none))
+    cases true f rest = let no : Some x ≡ None = rw f at none in cc
+    cases false f rest = rw f (rest (rw f at none))
 
 pub registration_passed : (key : ℕ) (b : Registration) (xs ys : List Registration) → eqb b.key key ≡ false →
     registration_of key (xs ++ b ∷ ys) ≡ registration_of key (xs ++ ys)
 registration_passed key b [] ys e = rw e refl
-registration_passed key b (x ∷ xs) ys e = by (eqb x.key key) refl (registration_passed key b xs ys e)
+registration_passed key b (x ∷ xs) ys e = cases (eqb x.key key) refl (registration_passed key b xs ys e)
   where
-    by : (s : Bool) → eqb x.key key ≡ s → registration_of key (xs ++ b ∷ ys) ≡ registration_of key (xs ++ ys) →
+    cases : (s : Bool) → eqb x.key key ≡ s → registration_of key (xs ++ b ∷ ys) ≡ registration_of key (xs ++ ys) →
         registration_of key (x ∷ xs ++ b ∷ ys) ≡ registration_of key (x ∷ xs ++ ys)
-    by true f rest = rw f refl
-    by false f rest = rw f rest
+    cases true f rest = rw f refl
+    cases false f rest = rw f rest
 
 module _ (b : Registration) (bs : List Registration) (sorted : IsInOrder nat_cmp number bs)
     (none : row_by_number number b.number bs ≡ None) where
@@ -61,28 +62,28 @@ module _ (b : Registration) (bs : List Registration) (sorted : IsInOrder nat_cmp
       ++ filter (λ r. is_gt (nat_cmp r.number b.number)) bs ≡ bs
   all_others = parted nat_cmp_total number b.number bs sorted none
 
-  pub registration-put_own : (key : ℕ) → eqb b.key key ≡ true → registration_of key bs ≡ None →
+  pub registration_put_own : (key : ℕ) → eqb b.key key ≡ true → registration_of key bs ≡ None →
       registration_of key (put_by number b bs) ≡ Some b
-  registration-put_own key e free = registration_new key b _ _ e (ap (registration_of key) all_others ∙ free)
+  registration_put_own key e free = registration_new key b _ _ e (ap (registration_of key) all_others ∙ free)
 
-  pub registration-put_other : (key : ℕ) → eqb b.key key ≡ false → registration_of key (put_by number b bs) ≡
+  pub registration_put_other : (key : ℕ) → eqb b.key key ≡ false → registration_of key (put_by number b bs) ≡
       registration_of key bs
-  registration-put_other key e = registration_passed key b _ _ e ∙ ap (registration_of key) all_others
+  registration_put_other key e = registration_passed key b _ _ e ∙ ap (registration_of key) all_others
 
   -- a map from key to registration goes along
   pub registration_added : registration_of b.key bs ≡ None → (key : ℕ) (before after : Option Registration) →
       before ≡ registration_of key bs → after ≡ cond (is_eq (nat_cmp b.key key)) (Some b) before →
       after ≡ registration_of key (put_by number b bs)
-  registration_added free key before after was is = by (eqb_tells b.key key)
+  registration_added free key before after was is = cases (eqb_tells b.key key)
     where
-      by : ((eqb b.key key ≡ true) × (b.key ≡ key)) ⊎ ((eqb b.key key ≡ false) × (b.key ≢ key)) →
+      cases : ((eqb b.key key ≡ true) × (b.key ≡ key)) ⊎ ((eqb b.key key ≡ false) × (b.key ≢ key)) →
           after ≡ registration_of key (put_by number b bs)
-      by (inl same) =
+      cases (inl same) =
           let test : is_eq (nat_cmp b.key key) ≡ true = rw (← same.1) (ap is_eq (tied_itself nat_cmp_total b.key)) in
           is ∙ ap (λ t. cond t (Some b) before) test ∙ sym
-          (registration-put_own key same.0 (ap (λ k. registration_of k bs) (sym same.1) ∙ free))
-      by (inr apart) = is ∙ ap (λ t. cond t (Some b) before) (different b.key key apart.1) ∙ was
-          ∙ sym (registration-put_other key apart.0)
+          (registration_put_own key same.0 (ap (λ k. registration_of k bs) (sym same.1) ∙ free))
+      cases (inr apart) = is ∙ ap (λ t. cond t (Some b) before) (different b.key key apart.1) ∙ was
+          ∙ sym (registration_put_other key apart.0)
 
 -- ---- what the holders have, after one was added
 
@@ -102,14 +103,14 @@ fixed_more g f h (x ∷ xs) ys here all =
 -- a number that no collector has, no holder has
 pub no_holder : (n : ℕ) (hs : List Holder) → row_by_number number n (collectors_of hs) ≡ None →
     row_by_number (λ (h : Holder). h.number) n hs ≡ None
-no_holder n hs none = by (row_by_number (λ (h : Holder). h.number) n hs) refl
-    (sym (at-map collector_of_holder number n hs) ∙ none)
+no_holder n hs none = cases (row_by_number (λ (h : Holder). h.number) n hs) refl
+    (sym (at_map collector_of_holder number n hs) ∙ none)
   where
-    by : (w : Option Holder) → row_by_number (λ (h : Holder). h.number) n hs ≡ w →
+    cases : (w : Option Holder) → row_by_number (λ (h : Holder). h.number) n hs ≡ w →
         option_map collector_of_holder (row_by_number (λ (h : Holder). h.number) n hs) ≡ None →
         row_by_number (λ (h : Holder). h.number) n hs ≡ None
-    by None e f = e
-    by (Some h) e f = let no : Some (collector_of_holder h) ≡ None = rw e at f in cc
+    cases None e f = e
+    cases (Some h) e f = let no : Some (collector_of_holder h) ≡ None = rw e at f in cc
 
 all_above : (n : ℕ) (hs : List Holder) → AllByRecursion (λ h. nat_cmp n h.number ≡ Less) hs →
     AllByRecursion (λ b. nat_cmp n b.number ≡ Less) (collectors_of hs)
@@ -138,7 +139,7 @@ module _ (h : Holder) (hs : List Holder) (sorted : IsInOrder nat_cmp (λ h. h.nu
   others = parted nat_cmp_total (λ (h : Holder). h.number) h.number hs sorted none
 
   pub collectors_added : collectors_of after ≡ put_by number (collector_of_holder h) (collectors_of hs)
-  collectors_added = map-put nat_cmp number collector_of_holder h hs
+  collectors_added = map_put nat_cmp number collector_of_holder h hs
 
   module _ (no_assignments : h.own.assignments ≡ []) where
     pub assignments_added : all_assignments after ≡ all_assignments hs

@@ -4,7 +4,7 @@ use Rattle.std.proofs.Common.{ap, ◌∙◌}
 use Rattle.std.specs.Ordering.{nat_cmp}
 use Rattle.std.specs.List.{AllByRecursion}
 use Rattle.cpi_rows.specs.Keyed.{with_row}
-use Rattle.cpi_rows.proofs.Puts.{map-put}
+use Rattle.cpi_rows.proofs.Puts.{map_put}
 use Rattle.cpi_rows.proofs.Lists.{all_filtered, all_joined}
 use Rattle.cpi_store.specs.Outlet.{with_name}
 use Rattle.cpi_store.specs.declared.outlet.Outlet.{Outlet}
@@ -57,9 +57,9 @@ module _ (us : List Outlet) (a : Assigned) (hs : List Holder) (i : ℕ) (h after
       (λ old.
       let before : map (with_name us) (map (λ x. x.assignment) h.own.assignments) ≡ h.own.assignments = rw found old in
       ap (λ xs. map (with_name us) (map (λ (x : Assigned). x.assignment) xs)) e
-      ∙ ap (map (with_name us)) (map-put nat_cmp (λ (x : Assignment). x.slot)
+      ∙ ap (map (with_name us)) (map_put nat_cmp (λ (x : Assignment). x.slot)
       (λ (x : Assigned). x.assignment) a h.own.assignments)
-      ∙ map-put nat_cmp slot (with_name us) a.assignment (map (λ x. x.assignment) h.own.assignments)
+      ∙ map_put nat_cmp slot (with_name us) a.assignment (map (λ x. x.assignment) h.own.assignments)
       ∙ ap (λ x. with_row nat_cmp slot x (map (with_name us) (map (λ x. x.assignment) h.own.assignments))) (sym named)
       ∙ ap (with_row nat_cmp slot a) before ∙ sym e) all
 

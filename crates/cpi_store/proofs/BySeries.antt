@@ -34,15 +34,15 @@ series f = f.series
 
 pub placed_moved : (f : Frozen) (rows : List Frozen) → IsPermutation (f ∷ rows) (put_by_series f rows)
 placed_moved f [] = IsPermutation-refl (f ∷ [])
-placed_moved f (g ∷ rows) = by (is_gt (series_cmp f.series g.series)) refl (placed_moved f rows)
+placed_moved f (g ∷ rows) = cases (is_gt (series_cmp f.series g.series)) refl (placed_moved f rows)
   where
-    by : (t : Bool) → is_gt (series_cmp f.series g.series) ≡ t → IsPermutation (f ∷ rows) (put_by_series f rows) →
+    cases : (t : Bool) → is_gt (series_cmp f.series g.series) ≡ t → IsPermutation (f ∷ rows) (put_by_series f rows) →
         IsPermutation (f ∷ g ∷ rows) (put_by_series f (g ∷ rows))
-    by true e rest =
+    cases true e rest =
         rw e (IsPermutation-trans (f ∷ g ∷ rows) (g ∷ f ∷ rows) (g ∷ put_by_series f rows)
         (IsPermutation-sym (g ∷ f ∷ rows) (f ∷ g ∷ rows) (IsPermutation-middle (g ∷ []) f rows))
         (IsPermutation-cons g (f ∷ rows) (put_by_series f rows) rest))
-    by false e rest = rw e (IsPermutation-refl (f ∷ g ∷ rows))
+    cases false e rest = rw e (IsPermutation-refl (f ∷ g ∷ rows))
 
 pub by_series_moved : (rows : List Frozen) → IsPermutation rows (by_series rows)
 by_series_moved [] = IsPermutation-refl []
@@ -65,51 +65,51 @@ before_all : (f g : Frozen) (rows : List Frozen) → is_gt (series_cmp f.series 
     NoneBefore f rows
 before_all f g [] e all = tt
 before_all f g (h ∷ rows) e all = (
-  by (series_cmp f.series g.series) (series_cmp g.series h.series) refl refl e all.0,
+  cases (series_cmp f.series g.series) (series_cmp g.series h.series) refl refl e all.0,
   before_all f g rows e all.1,
 )
   where
-    by : (s t : Ordering) → series_cmp f.series g.series ≡ s → series_cmp g.series h.series ≡ t →
+    cases : (s t : Ordering) → series_cmp f.series g.series ≡ s → series_cmp g.series h.series ≡ t →
         is_gt (series_cmp f.series g.series) ≡ false → is_gt (series_cmp g.series h.series) ≡ false →
         is_gt (series_cmp f.series h.series) ≡ false
-    by Less Less p q e1 e2 = ap is_gt (series_cmp_total.trans f.series g.series h.series p q)
-    by Less Equal p q e1 e2 =
+    cases Less Less p q e1 e2 = ap is_gt (series_cmp_total.trans f.series g.series h.series p q)
+    cases Less Equal p q e1 e2 =
         let back : series_cmp h.series f.series ≡ series_cmp g.series f.series =
         sym (series_cmp_total.congr g.series h.series f.series q) in
         ap is_gt (series_cmp_total.antisymm f.series h.series ∙ ap ordering_reverse back
         ∙ sym (series_cmp_total.antisymm f.series g.series) ∙ p)
-    by Less Greater p q e1 e2 = let no : true ≡ false = sym (ap is_gt q) ∙ e2 in cc
-    by Equal t p q e1 e2 = ap is_gt (series_cmp_total.congr f.series g.series h.series p) ∙ e2
-    by Greater t p q e1 e2 = let no : true ≡ false = sym (ap is_gt p) ∙ e1 in cc
+    cases Less Greater p q e1 e2 = let no : true ≡ false = sym (ap is_gt q) ∙ e2 in cc
+    cases Equal t p q e1 e2 = ap is_gt (series_cmp_total.congr f.series g.series h.series p) ∙ e2
+    cases Greater t p q e1 e2 = let no : true ≡ false = sym (ap is_gt p) ∙ e1 in cc
 
 -- what is after both is after what is put among those
 placed_after : (f g : Frozen) (rows : List Frozen) → is_gt (series_cmp g.series f.series) ≡ false →
     NoneBefore g rows → NoneBefore g (put_by_series f rows)
 placed_after f g [] e all = (e, tt)
-placed_after f g (h ∷ rows) e all = by (is_gt (series_cmp f.series h.series)) refl (placed_after f g rows e all.1)
+placed_after f g (h ∷ rows) e all = cases (is_gt (series_cmp f.series h.series)) refl (placed_after f g rows e all.1)
   where
-    by : (t : Bool) → is_gt (series_cmp f.series h.series) ≡ t → NoneBefore g (put_by_series f rows) →
+    cases : (t : Bool) → is_gt (series_cmp f.series h.series) ≡ t → NoneBefore g (put_by_series f rows) →
         NoneBefore g (put_by_series f (h ∷ rows))
-    by true p rest = rw p (all.0, rest)
-    by false p rest = rw p (e, all)
+    cases true p rest = rw p (all.0, rest)
+    cases false p rest = rw p (e, all)
 
 other_way : (f g : Frozen) → is_gt (series_cmp f.series g.series) ≡ true → is_gt (series_cmp g.series f.series) ≡ false
-other_way f g e = by (series_cmp f.series g.series) refl e
+other_way f g e = cases (series_cmp f.series g.series) refl e
   where
-    by : (s : Ordering) → series_cmp f.series g.series ≡ s → is_gt (series_cmp f.series g.series) ≡ true →
+    cases : (s : Ordering) → series_cmp f.series g.series ≡ s → is_gt (series_cmp f.series g.series) ≡ true →
         is_gt (series_cmp g.series f.series) ≡ false
-    by Less p e = let no : false ≡ true = sym (ap is_gt p) ∙ e in cc
-    by Equal p e = let no : false ≡ true = sym (ap is_gt p) ∙ e in cc
-    by Greater p e = ap is_gt (series_cmp_total.antisymm g.series f.series ∙ ap ordering_reverse p)
+    cases Less p e = let no : false ≡ true = sym (ap is_gt p) ∙ e in cc
+    cases Equal p e = let no : false ≡ true = sym (ap is_gt p) ∙ e in cc
+    cases Greater p e = ap is_gt (series_cmp_total.antisymm g.series f.series ∙ ap ordering_reverse p)
 
 placed_never_falls : (f : Frozen) (rows : List Frozen) → NeverFall rows → NeverFall (put_by_series f rows)
 placed_never_falls f [] up = (tt, tt)
-placed_never_falls f (g ∷ rows) up = by (is_gt (series_cmp f.series g.series)) refl (placed_never_falls f rows up.1)
+placed_never_falls f (g ∷ rows) up = cases (is_gt (series_cmp f.series g.series)) refl (placed_never_falls f rows up.1)
   where
-    by : (t : Bool) → is_gt (series_cmp f.series g.series) ≡ t → NeverFall (put_by_series f rows) →
+    cases : (t : Bool) → is_gt (series_cmp f.series g.series) ≡ t → NeverFall (put_by_series f rows) →
         NeverFall (put_by_series f (g ∷ rows))
-    by true e rest = rw e (placed_after f g rows (other_way f g e) up.0, rest)
-    by false e rest = rw e ((e, before_all f g rows e up.0), up)
+    cases true e rest = rw e (placed_after f g rows (other_way f g e) up.0, rest)
+    cases false e rest = rw e ((e, before_all f g rows e up.0), up)
 
 pub by_series_never_falls : (rows : List Frozen) → NeverFall (by_series rows)
 by_series_never_falls [] = tt
@@ -123,32 +123,32 @@ by_number xs h = rises_whole nat_cmp_total frozen_serial xs
 
 -- level series have one number
 one_number : (s t : SeriesId) → series_cmp s t ≡ Equal → serial s ≡ serial t
-one_number s t e = by (nat_cmp s.collector t.collector) refl e
+one_number s t e = cases (nat_cmp s.collector t.collector) refl e
   where
-    by : (w : Ordering) → nat_cmp s.collector t.collector ≡ w → ordering_then w (nat_cmp s.slot t.slot) ≡ Equal →
+    cases : (w : Ordering) → nat_cmp s.collector t.collector ≡ w → ordering_then w (nat_cmp s.slot t.slot) ≡ Equal →
         serial s ≡ serial t
-    by Less p e = let no : Less ≡ Equal = e in cc
-    by Equal p e =
+    cases Less p e = let no : Less ≡ Equal = e in cc
+    cases Equal p e =
         let collector : s.collector ≡ t.collector = ranked s.collector t.collector Equal (sym p) in
         let slot : s.slot ≡ t.slot = ranked s.slot t.slot Equal (sym e) in
         rw (collector, slot) refl
-    by Greater p e = let no : Greater ≡ Equal = e in cc
+    cases Greater p e = let no : Greater ≡ Equal = e in cc
 
 strictly : (f : Frozen) (gs : List Frozen) → NoneBefore f gs →
     AllByRecursion (λ g. nat_cmp (frozen_serial f) (frozen_serial g) ≡ Less) gs →
     AllByRecursion (λ g. series_cmp f.series g.series ≡ Less) gs
 strictly f [] up below = tt
-strictly f (g ∷ gs) up below = (by (series_cmp f.series g.series) refl up.0 below.0, strictly f gs up.1 below.1)
+strictly f (g ∷ gs) up below = (cases (series_cmp f.series g.series) refl up.0 below.0, strictly f gs up.1 below.1)
   where
-    by : (s : Ordering) → series_cmp f.series g.series ≡ s → is_gt (series_cmp f.series g.series) ≡ false →
+    cases : (s : Ordering) → series_cmp f.series g.series ≡ s → is_gt (series_cmp f.series g.series) ≡ false →
         nat_cmp (frozen_serial f) (frozen_serial g) ≡ Less → series_cmp f.series g.series ≡ Less
-    by Less p e l = p
-    by Equal p e l =
+    cases Less p e l = p
+    cases Equal p e l =
         let same : frozen_serial f ≡ frozen_serial g = one_number f.series g.series p in
         let no : Less ≡ Equal = sym l ∙ ap (λ n. nat_cmp n (frozen_serial g)) same
         ∙ tied_itself nat_cmp_total (frozen_serial g) in
         cc
-    by Greater p e l = let no : true ≡ false = sym (ap is_gt p) ∙ e in cc
+    cases Greater p e l = let no : true ≡ false = sym (ap is_gt p) ∙ e in cc
 
 both_orders : (xs : List Frozen) → NeverFall xs → IsInOrder nat_cmp frozen_serial xs → IsInOrder series_cmp series xs
 unfolding IsStrictlySortedBy
@@ -175,17 +175,17 @@ sorted_rises xs ys moved order sorted = rises_whole series_cmp_total series ys s
 
     step : (k : ℕ) (d : Frozen) → k + 1 < length ys →
         series_cmp (series (get_or ys k d)) (series (get_or ys (k + 1) d)) ≡ Less
-    step k d l = by (series_cmp (series (get_or ys k d)) (series (get_or ys (k + 1) d))) refl
+    step k d l = cases (series_cmp (series (get_or ys k d)) (series (get_or ys (k + 1) d))) refl
       where
-        by : (s : Ordering) → series_cmp (series (get_or ys k d)) (series (get_or ys (k + 1) d)) ≡ s →
+        cases : (s : Ordering) → series_cmp (series (get_or ys k d)) (series (get_or ys (k + 1) d)) ≡ s →
             series_cmp (series (get_or ys k d)) (series (get_or ys (k + 1) d)) ≡ Less
-        by Less p = p
-        by Equal p =
+        cases Less p = p
+        cases Equal p =
             let differ = apart_from_distinct (λ (a : Frozen) (b : Frozen). is_eq (series_cmp a.series b.series)) ys k
             (k + 1) d apart (omega arith) l in
             let no : true ≡ false = sym (ap is_eq p) ∙ differ in
             cc
-        by Greater p =
+        cases Greater p =
             let fell : is_lt (series_cmp (series (get_or ys (k + 1) d)) (series (get_or ys k d))) ≡ false =
             sorted k d (omega arith) l in
             let back : series_cmp (series (get_or ys (k + 1) d)) (series (get_or ys k d)) ≡ Less =

@@ -29,15 +29,15 @@ use Rattle.cpi_store.proofs.GivenRows.{put_given_in_order, at_put_same, at_put_f
 
 -- two series are the same or not
 pub same_series_tells : (s t : SeriesId) → ((same_series s t ≡ true) × (s ≡ t)) ⊎ ((same_series s t ≡ false) × (s ≢ t))
-same_series_tells s t = by (eqb_tells s.collector t.collector) (eqb_tells s.slot t.slot)
+same_series_tells s t = cases (eqb_tells s.collector t.collector) (eqb_tells s.slot t.slot)
   where
-    by : ((eqb s.collector t.collector ≡ true) × (s.collector ≡ t.collector))
+    cases : ((eqb s.collector t.collector ≡ true) × (s.collector ≡ t.collector))
         ⊎ ((eqb s.collector t.collector ≡ false) × (s.collector ≢ t.collector)) →
         ((eqb s.slot t.slot ≡ true) × (s.slot ≡ t.slot)) ⊎ ((eqb s.slot t.slot ≡ false) × (s.slot ≢ t.slot)) →
         ((same_series s t ≡ true) × (s ≡ t)) ⊎ ((same_series s t ≡ false) × (s ≢ t))
-    by (inl same) (inl here) = inl (rw (same.0, here.0) refl, λ n. record { collector = same.1 n; slot = here.1 n })
-    by (inl same) (inr there) = inr (rw (same.0, there.0) refl, λ e. there.1 (ap (λ (u : SeriesId). u.slot) e))
-    by (inr apart) tells = inr (rw apart.0 refl, λ e. apart.1 (ap (λ (u : SeriesId). u.collector) e))
+    cases (inl same) (inl here) = inl (rw (same.0, here.0) refl, λ n. record { collector = same.1 n; slot = here.1 n })
+    cases (inl same) (inr there) = inr (rw (same.0, there.0) refl, λ e. there.1 (ap (λ (u : SeriesId). u.slot) e))
+    cases (inr apart) tells = inr (rw apart.0 refl, λ e. apart.1 (ap (λ (u : SeriesId). u.collector) e))
 
 -- what a sound office's assignments have by themselves
 pub record AreGiven (rows : List (ℕ × Given)) : Type 0 where
@@ -82,18 +82,19 @@ apart_turned a b apart same month x y = apart (sym same) month y x
 last_least : (s : SeriesId) (m : ℕ) (rows : List (ℕ × Given)) →
     AllByRecursion (λ row. row.1.series ≡ s → row.1.assignment.last_month ≤ m) rows → last_of_series s rows ≤ m
 last_least s m [] all = omega arith
-last_least s m (r ∷ rows) all = by (same_series_tells r.1.series s) (last_least s m rows all.1)
+last_least s m (r ∷ rows) all = cases (same_series_tells r.1.series s) (last_least s m rows all.1)
   where
-    by : ((same_series r.1.series s ≡ true) × (r.1.series ≡ s))
+    cases : ((same_series r.1.series s ≡ true) × (r.1.series ≡ s))
         ⊎ ((same_series r.1.series s ≡ false) × (r.1.series ≢ s)) → last_of_series s rows ≤ m →
         last_of_series s (r ∷ rows) ≤ m
-    by (inl same) rest = let one : r.1.assignment.last_month ≤ m = all.0 same.1 in rw same.0 (omega (arith, one, rest))
-    by (inr apart) rest = rw apart.0 rest
+    cases (inl same) rest = let one : r.1.assignment.last_month ≤ m = all.0 same.1 in rw same.0
+        (omega (arith, one, rest))
+    cases (inr apart) rest = rw apart.0 rest
 
 last_covers : (s : SeriesId) (rows : List (ℕ × Given)) →
     AllByRecursion (λ row. row.1.series ≡ s → row.1.assignment.last_month ≤ last_of_series s rows) rows
 last_covers s [] = tt
-last_covers s (r ∷ rows) = by (same_series_tells r.1.series s) (last_covers s rows)
+last_covers s (r ∷ rows) = cases (same_series_tells r.1.series s) (last_covers s rows)
   where
     more : last_of_series s rows ≤ last_of_series s (r ∷ rows) → (rs : List (ℕ × Given)) →
         AllByRecursion (λ row. row.1.series ≡ s → row.1.assignment.last_month ≤ last_of_series s rows) rs →
@@ -101,12 +102,12 @@ last_covers s (r ∷ rows) = by (same_series_tells r.1.series s) (last_covers s 
     more up [] all = tt
     more up (q ∷ rs) all = (λ same. le_trans (all.0 same) up, more up rs all.1)
 
-    by : ((same_series r.1.series s ≡ true) × (r.1.series ≡ s))
+    cases : ((same_series r.1.series s ≡ true) × (r.1.series ≡ s))
         ⊎ ((same_series r.1.series s ≡ false) × (r.1.series ≢ s)) →
         AllByRecursion (λ row. row.1.series ≡ s → row.1.assignment.last_month ≤ last_of_series s rows) rows →
         AllByRecursion (λ row. row.1.series ≡ s → row.1.assignment.last_month ≤ last_of_series s (r ∷ rows)) (r ∷ rows)
-    by (inl same) rest = (λ e. rw same.0 (omega arith), more (rw same.0 (omega arith)) rows rest)
-    by (inr apart) rest = (λ e. absurd (apart.1 e), more (rw apart.0 (omega arith)) rows rest)
+    cases (inl same) rest = (λ e. rw same.0 (omega arith), more (rw same.0 (omega arith)) rows rest)
+    cases (inr apart) rest = (λ e. absurd (apart.1 e), more (rw apart.0 (omega arith)) rows rest)
 
 -- ---- a new assignment
 
@@ -156,13 +157,13 @@ module _ (rows : List (ℕ × Given)) (n : ℕ) (a : Assignment) (all : AreGiven
       upper : (c : ℕ) (x : Given) → row_by_number (λ g. g.assignment.slot) x.assignment.slot (held_by c more_rows)
           ≡ Some x →
           x.series ≡ s → x.assignment.last_month ≤ last_of_series s rows
-      upper c x found same = by (more_found c x.assignment.slot x found)
+      upper c x found same = cases (more_found c x.assignment.slot x found)
         where
-          by : ((c ≡ n) × (x.assignment.slot ≡ a.slot) × (x ≡ one))
+          cases : ((c ≡ n) × (x.assignment.slot ≡ a.slot) × (x ≡ one))
               ⊎ (row_by_number (λ g. g.assignment.slot) x.assignment.slot (held_by c rows) ≡ Some x) →
               x.assignment.last_month ≤ last_of_series s rows
-          by (inl is) = absurd (apart (sym same ∙ ap (λ (g : Given). g.series) is.2))
-          by (inr stood) = all_of_found (λ g. g.assignment.slot)
+          cases (inl is) = absurd (apart (sym same ∙ ap (λ (g : Given). g.series) is.2))
+          cases (inr stood) = all_of_found (λ g. g.assignment.slot)
               (λ row. row.1.series ≡ s → row.1.assignment.last_month ≤ last_of_series s rows) c x.assignment.slot x
               rows (last_covers s rows) stood same
 
@@ -175,27 +176,27 @@ module _ (rows : List (ℕ × Given)) (n : ℕ) (a : Assignment) (all : AreGiven
   more_made : (c : ℕ) (x : Given) → row_by_number (λ g. g.assignment.slot) x.assignment.slot (held_by c more_rows)
       ≡ Some x →
       IsWellMade (c, x.assignment)
-  more_made c x found = by (more_found c x.assignment.slot x found)
+  more_made c x found = cases (more_found c x.assignment.slot x found)
     where
-      by : ((c ≡ n) × (x.assignment.slot ≡ a.slot) × (x ≡ one))
+      cases : ((c ≡ n) × (x.assignment.slot ≡ a.slot) × (x ≡ one))
           ⊎ (row_by_number (λ g. g.assignment.slot) x.assignment.slot (held_by c rows) ≡ Some x) → IsWellMade
           (c, x.assignment)
-      by (inl is) = subst (λ m. IsWellMade (m, x.assignment)) (sym is.0)
+      cases (inl is) = subst (λ m. IsWellMade (m, x.assignment)) (sym is.0)
           (subst (λ (g : Given). IsWellMade (n, g.assignment)) (sym is.2) new.made)
-      by (inr stood) = all_of_found (λ g. g.assignment.slot) (λ row. IsWellMade (row.0, row.1.assignment)) c
+      cases (inr stood) = all_of_found (λ g. g.assignment.slot) (λ row. IsWellMade (row.0, row.1.assignment)) c
           x.assignment.slot x rows all.made stood
 
   more_series : (c : ℕ) (x : Given) → row_by_number (λ g. g.assignment.slot) x.assignment.slot (held_by c more_rows)
       ≡ Some x →
       HasItsSeries more_rows (c, x)
-  more_series c x found = by (more_found c x.assignment.slot x found)
+  more_series c x found = cases (more_found c x.assignment.slot x found)
     where
-      by : ((c ≡ n) × (x.assignment.slot ≡ a.slot) × (x ≡ one))
+      cases : ((c ≡ n) × (x.assignment.slot ≡ a.slot) × (x ≡ one))
           ⊎ (row_by_number (λ g. g.assignment.slot) x.assignment.slot (held_by c rows) ≡ Some x) → HasItsSeries
           more_rows (c, x)
-      by (inl is) = subst (λ (g : Given). HasItsSeries more_rows (c, g)) (sym is.2)
+      cases (inl is) = subst (λ (g : Given). HasItsSeries more_rows (c, g)) (sym is.2)
           (one, at_put_same n one rows, refl, refl)
-      by (inr stood) =
+      cases (inr stood) =
           let has = all_of_found (λ g. g.assignment.slot) (HasItsSeries rows) c x.assignment.slot x rows all.series
           stood in
           (has.0, still_found x.series.collector x.series.slot has.0 has.1, has.2, has.3)
@@ -203,19 +204,19 @@ module _ (rows : List (ℕ × Given)) (n : ℕ) (a : Assignment) (all : AreGiven
   more_apart : (p q : ℕ × Given) → row_by_number (λ g. g.assignment.slot) p.1.assignment.slot
       (held_by p.0 more_rows) ≡ Some p.1 → row_by_number (λ g. g.assignment.slot) q.1.assignment.slot
       (held_by q.0 more_rows) ≡ Some q.1 → AreTwo (λ g. g.assignment.slot) p q → AreApart p q
-  more_apart p q here there two = by (more_found p.0 p.1.assignment.slot p.1 here)
+  more_apart p q here there two = cases (more_found p.0 p.1.assignment.slot p.1 here)
       (more_found q.0 q.1.assignment.slot q.1 there)
     where
-      by : ((p.0 ≡ n) × (p.1.assignment.slot ≡ a.slot) × (p.1 ≡ one))
+      cases : ((p.0 ≡ n) × (p.1.assignment.slot ≡ a.slot) × (p.1 ≡ one))
           ⊎ (row_by_number (λ g. g.assignment.slot) p.1.assignment.slot (held_by p.0 rows) ≡ Some p.1) →
           ((q.0 ≡ n) × (q.1.assignment.slot ≡ a.slot) × (q.1 ≡ one))
           ⊎ (row_by_number (λ g. g.assignment.slot) q.1.assignment.slot (held_by q.0 rows) ≡ Some q.1) → AreApart p q
-      by (inl is) (inl too) = absurd (two (is.0 ∙ sym too.0, is.1 ∙ sym too.1))
-      by (inl is) (inr stood) = λ same month x y. none_of_new q.0 q.1.assignment.slot q.1 stood
+      cases (inl is) (inl too) = absurd (two (is.0 ∙ sym too.0, is.1 ∙ sym too.1))
+      cases (inl is) (inr stood) = λ same month x y. none_of_new q.0 q.1.assignment.slot q.1 stood
           (sym same ∙ ap (λ (g : Given). g.series) is.2)
-      by (inr stood) (inl too) = λ same month x y. none_of_new p.0 p.1.assignment.slot p.1 stood
+      cases (inr stood) (inl too) = λ same month x y. none_of_new p.0 p.1.assignment.slot p.1 stood
           (same ∙ ap (λ (g : Given). g.series) too.2)
-      by (inr stood) (inr stands) = pairs_of_found (λ g. g.assignment.slot) AreApart apart_turned rows all.apart p.0
+      cases (inr stood) (inr stands) = pairs_of_found (λ g. g.assignment.slot) AreApart apart_turned rows all.apart p.0
           p.1.assignment.slot p.1 stood q.0 q.1.assignment.slot q.1 stands two
 
   pub given_assigned : AreGiven (put_given n (first_of_series n a) rows)
@@ -259,16 +260,16 @@ rows_assigned o n a rows has all = all_put (HasItsRows o) (held_cmp nat_cmp)
 
 active_tells : (month : ℕ) (a : Assignment) → is_active month a ≡ true → (a.first_month ≤ month)
     × (month ≤ a.last_month)
-active_tells month a active = by (leb_tells a.first_month month) (leb_tells month a.last_month)
+active_tells month a active = cases (leb_tells a.first_month month) (leb_tells month a.last_month)
   where
-    by : ((leb a.first_month month ≡ true) × (a.first_month ≤ month))
+    cases : ((leb a.first_month month ≡ true) × (a.first_month ≤ month))
         ⊎ ((leb a.first_month month ≡ false) × (month < a.first_month)) →
         ((leb month a.last_month ≡ true) × (month ≤ a.last_month))
         ⊎ ((leb month a.last_month ≡ false) × (a.last_month < month)) → (a.first_month ≤ month)
         × (month ≤ a.last_month)
-    by (inl from) (inl to) = (from.1, to.1)
-    by (inl from) (inr past) = absurd (false≢true (rw (from.0, past.0) at active))
-    by (inr early) tells = absurd (false≢true (rw early.0 at active))
+    cases (inl from) (inl to) = (from.1, to.1)
+    cases (inl from) (inr past) = absurd (false≢true (rw (from.0, past.0) at active))
+    cases (inr early) tells = absurd (false≢true (rw early.0 at active))
 
 active_within : (month : ℕ) (a : Assignment) → a.first_month ≤ month → month ≤ a.last_month → is_active month a ≡ true
 active_within month a from to = rw (le-leb a.first_month month from, le-leb month a.last_month to) refl
@@ -280,7 +281,7 @@ all_earlier : (n slot month : ℕ) (quotes : List (ℕ × QuoteRow)) →
     list_any (λ q. q.slot == slot && nat_le month q.month) (held_by n quotes) ≡ false →
     AllByRecursion (λ (row : ℕ × QuoteRow). row.0 ≡ n → row.1.slot ≡ slot → row.1.month < month) quotes
 all_earlier n slot month [] none = tt
-all_earlier n slot month (row ∷ quotes) none = by (eqb_tells row.0 n) (eqb_tells row.1.slot slot)
+all_earlier n slot month (row ∷ quotes) none = cases (eqb_tells row.0 n) (eqb_tells row.1.slot slot)
     (leb_tells month row.1.month) (all_earlier n slot month quotes)
   where
     None_of : List (ℕ × QuoteRow) → Type 0
@@ -289,20 +290,20 @@ all_earlier n slot month (row ∷ quotes) none = by (eqb_tells row.0 n) (eqb_tel
     All_of : List (ℕ × QuoteRow) → Type 0
     All_of rows = AllByRecursion (λ (row : ℕ × QuoteRow). row.0 ≡ n → row.1.slot ≡ slot → row.1.month < month) rows
 
-    by : ((eqb row.0 n ≡ true) × (row.0 ≡ n)) ⊎ ((eqb row.0 n ≡ false) × (row.0 ≢ n)) →
+    cases : ((eqb row.0 n ≡ true) × (row.0 ≡ n)) ⊎ ((eqb row.0 n ≡ false) × (row.0 ≢ n)) →
         ((eqb row.1.slot slot ≡ true) × (row.1.slot ≡ slot)) ⊎ ((eqb row.1.slot slot ≡ false) × (row.1.slot ≢ slot)) →
         ((leb month row.1.month ≡ true) × (month ≤ row.1.month))
         ⊎ ((leb month row.1.month ≡ false) × (row.1.month < month)) → (None_of quotes → All_of quotes) →
         All_of (row ∷ quotes)
-    by (inr other) tells late rest = (λ same here. absurd (other.1 same), rest (rw other.0 at none))
-    by (inl mine) (inr there) late rest = (
+    cases (inr other) tells late rest = (λ same here. absurd (other.1 same), rest (rw other.0 at none))
+    cases (inl mine) (inr there) late rest = (
       λ same here. absurd (there.1 here),
       rest
           (rw (mine.0, there.0) at none),
     )
-    by (inl mine) (inl here) (inl late) rest = absurd
+    cases (inl mine) (inl here) (inl late) rest = absurd
         (false≢true (sym (rw (mine.0, here.0, late.0) at none)))
-    by (inl mine) (inl here) (inr early) rest = (
+    cases (inl mine) (inl here) (inr early) rest = (
       λ same place. early.1,
       rest
           (rw (mine.0, here.0, early.0) at none),
@@ -364,12 +365,13 @@ module _ (rows : List (ℕ × Given)) (quotes : List (ℕ × QuoteRow)) (h : Ser
       cc
 
   still_new : row_by_number place h.assigned.assignment.slot (held_by h.taker.number ended_rows) ≡ None
-  still_new = by (row_by_number place h.assigned.assignment.slot (held_by h.taker.number ended_rows)) refl
+  still_new = cases (row_by_number place h.assigned.assignment.slot (held_by h.taker.number ended_rows)) refl
     where
-      by : (w : Option Given) → row_by_number place h.assigned.assignment.slot (held_by h.taker.number ended_rows) ≡ w →
+      cases : (w : Option Given) →
+          row_by_number place h.assigned.assignment.slot (held_by h.taker.number ended_rows) ≡ w →
           row_by_number place h.assigned.assignment.slot (held_by h.taker.number ended_rows) ≡ None
-      by None e = e
-      by (Some x) e = some (found_ended h.former.number h.ended.assignment.slot h.ended.assignment.last_month rows
+      cases None e = e
+      cases (Some x) e = some (found_ended h.former.number h.ended.assignment.slot h.ended.assignment.last_month rows
           h.taker.number h.assigned.assignment.slot x e)
         where
           some : ((h.taker.number ≡ h.former.number) × (h.assigned.assignment.slot ≡ h.ended.assignment.slot)
@@ -387,7 +389,7 @@ module _ (rows : List (ℕ × Given)) (quotes : List (ℕ × QuoteRow)) (h : Ser
   handed_found : (c k : ℕ) (x : Given) → row_by_number place k (held_by c handed_rows) ≡ Some x →
       (IsTaker c k × (x ≡ given_over h)) ⊎ ((IsFormer c k × (x ≡ h.ended))
       ⊎ ((row_by_number place k (held_by c rows) ≡ Some x) × (IsFormer c k → ⊥)))
-  handed_found c k x found = by (found_put h.taker.number (given_over h) ended_rows ended_in_order c k x found)
+  handed_found c k x found = cases (found_put h.taker.number (given_over h) ended_rows ended_in_order c k x found)
     where
       before : ((c ≡ h.former.number) × (k ≡ h.ended.assignment.slot)
           × (option_map (given_until h.ended.assignment.last_month)
@@ -401,12 +403,12 @@ module _ (rows : List (ℕ × Given)) (quotes : List (ℕ × QuoteRow)) (h : Ser
           inr (inl ((former.0, former.1), is))
       before (inr other) = inr (inr other)
 
-      by : ((c ≡ h.taker.number) × (k ≡ h.assigned.assignment.slot) × (x ≡ given_over h))
+      cases : ((c ≡ h.taker.number) × (k ≡ h.assigned.assignment.slot) × (x ≡ given_over h))
           ⊎ (row_by_number place k (held_by c ended_rows) ≡ Some x) →
           (IsTaker c k × (x ≡ given_over h)) ⊎ ((IsFormer c k × (x ≡ h.ended))
           ⊎ ((row_by_number place k (held_by c rows) ≡ Some x) × (IsFormer c k → ⊥)))
-      by (inl new) = inl ((new.0, new.1), new.2)
-      by (inr stood) = before (found_ended h.former.number h.ended.assignment.slot h.ended.assignment.last_month rows
+      cases (inl new) = inl ((new.0, new.1), new.2)
+      cases (inr stood) = before (found_ended h.former.number h.ended.assignment.slot h.ended.assignment.last_month rows
           c k x stood)
 
   found_taker : row_by_number place h.assigned.assignment.slot (held_by h.taker.number handed_rows) ≡ Some
@@ -425,25 +427,25 @@ module _ (rows : List (ℕ × Given)) (quotes : List (ℕ × QuoteRow)) (h : Ser
   -- the former slot's row is what that slot was given; another slot's row is still there
   stood_before : (c k : ℕ) (x : Given) → row_by_number place k (held_by c rows) ≡ Some x →
       (IsFormer c k × (x ≡ over.former)) ⊎ (row_by_number place k (held_by c handed_rows) ≡ Some x)
-  stood_before c k x found = by (eqb_tells c h.former.number) (eqb_tells k h.ended.assignment.slot)
+  stood_before c k x found = cases (eqb_tells c h.former.number) (eqb_tells k h.ended.assignment.slot)
     where
-      by : ((eqb c h.former.number ≡ true) × (c ≡ h.former.number))
+      cases : ((eqb c h.former.number ≡ true) × (c ≡ h.former.number))
           ⊎ ((eqb c h.former.number ≡ false) × (c ≢ h.former.number)) →
           ((eqb k h.ended.assignment.slot ≡ true) × (k ≡ h.ended.assignment.slot))
           ⊎ ((eqb k h.ended.assignment.slot ≡ false) × (k ≢ h.ended.assignment.slot)) →
           (IsFormer c k × (x ≡ over.former)) ⊎ (row_by_number place k (held_by c handed_rows) ≡ Some x)
-      by (inl same) (inl here) =
+      cases (inl same) (inl here) =
           let both : Some over.former ≡ Some x = sym over.found
           ∙ sym (ap (λ n. row_by_number place k (held_by n rows)) same.1
           ∙ ap (λ j. row_by_number place j (held_by h.former.number rows)) here.1) ∙ found in
           let is : x ≡ over.former = cc in
           inl ((same.1, here.1), is)
-      by (inl same) (inr there) = inr (still_ended c k x (
+      cases (inl same) (inr there) = inr (still_ended c k x (
           ap (λ n. row_by_number place k (held_by n ended_rows)) same.1
           ∙ at_ended_other h.former.number h.ended.assignment.slot h.ended.assignment.last_month k rows there.1
           ∙ ap (λ n. row_by_number place k (held_by n rows)) (sym same.1) ∙ found
           ))
-      by (inr apart) tells = inr (still_ended c k x
+      cases (inr apart) tells = inr (still_ended c k x
           (ap (row_by_number place k) (held_ended_other c h.former.number h.ended.assignment.slot
           h.ended.assignment.last_month
           rows apart.1) ∙ found))
@@ -456,17 +458,18 @@ module _ (rows : List (ℕ × Given)) (quotes : List (ℕ × QuoteRow)) (h : Ser
     pub item : now.assignment.item ≡ x.assignment.item
 
   kept : (c k : ℕ) (x : Given) → row_by_number place k (held_by c rows) ≡ Some x → IsKept c k x
-  kept c k x found = by (stood_before c k x found)
+  kept c k x found = cases (stood_before c k x found)
     where
-      by : (IsFormer c k × (x ≡ over.former)) ⊎ (row_by_number place k (held_by c handed_rows) ≡ Some x) → IsKept c k x
-      by (inl former) = record {
+      cases : (IsFormer c k × (x ≡ over.former)) ⊎ (row_by_number place k (held_by c handed_rows) ≡ Some x) →
+          IsKept c k x
+      cases (inl former) = record {
         now = h.ended;
         found = ap (λ n. row_by_number place k (held_by n handed_rows)) former.0.0
             ∙ ap (λ j. row_by_number place j (held_by h.former.number handed_rows)) former.0.1 ∙ found_ended_one;
         series = ap (λ (g : Given). g.series) over.ended ∙ ap (λ (g : Given). g.series) (sym former.1);
         item = ap (λ (g : Given). g.assignment.item) over.ended ∙ ap (λ (g : Given). g.assignment.item) (sym former.1);
       }
-      by (inr stands) = record { now = x; found = stands; series = refl; item = refl }
+      cases (inr stands) = record { now = x; found = stands; series = refl; item = refl }
 
   -- each row comes from a row that was there before: it has its series, item and outlet, and its months
   record ComesFrom (x : Given) : Type 0 where
@@ -524,15 +527,15 @@ module _ (rows : List (ℕ × Given)) (quotes : List (ℕ × QuoteRow)) (h : Ser
   }
 
   comes : (c : ℕ) (x : Given) → row_by_number place x.assignment.slot (held_by c handed_rows) ≡ Some x → ComesFrom x
-  comes c x found = by (handed_found c x.assignment.slot x found)
+  comes c x found = cases (handed_found c x.assignment.slot x found)
     where
-      by : (IsTaker c x.assignment.slot × (x ≡ given_over h))
+      cases : (IsTaker c x.assignment.slot × (x ≡ given_over h))
           ⊎ ((IsFormer c x.assignment.slot × (x ≡ h.ended))
           ⊎ ((row_by_number place x.assignment.slot (held_by c rows) ≡ Some x) × (IsFormer c x.assignment.slot → ⊥))) →
           ComesFrom x
-      by (inl new) = subst ComesFrom (sym new.1) new_comes
-      by (inr (inl former)) = subst ComesFrom (sym former.1) ended_comes
-      by (inr (inr other)) = stays_comes c x other.0
+      cases (inl new) = subst ComesFrom (sym new.1) new_comes
+      cases (inr (inl former)) = subst ComesFrom (sym former.1) ended_comes
+      cases (inr (inr other)) = stays_comes c x other.0
 
   -- ---- what is kept
 
@@ -554,7 +557,7 @@ module _ (rows : List (ℕ × Given)) (quotes : List (ℕ × QuoteRow)) (h : Ser
 
       lower : (c : ℕ) (x : Given) → row_by_number place x.assignment.slot (held_by c rows) ≡ Some x → x.series ≡ s →
           x.assignment.last_month ≤ last_of_series s handed_rows
-      lower c x found same = by (stood_before c x.assignment.slot x found)
+      lower c x found same = cases (stood_before c x.assignment.slot x found)
         where
           covered : (d k : ℕ) (y : Given) → row_by_number place k (held_by d handed_rows) ≡ Some y → y.series ≡ s →
               y.assignment.last_month ≤ last_of_series s handed_rows
@@ -562,20 +565,20 @@ module _ (rows : List (ℕ × Given)) (quotes : List (ℕ × QuoteRow)) (h : Ser
               row.1.assignment.last_month ≤ last_of_series s handed_rows) d k y handed_rows
               (last_covers s handed_rows) there
 
-          by : (IsFormer c x.assignment.slot × (x ≡ over.former))
+          cases : (IsFormer c x.assignment.slot × (x ≡ over.former))
               ⊎ (row_by_number place x.assignment.slot (held_by c handed_rows) ≡ Some x) →
               x.assignment.last_month ≤ last_of_series s handed_rows
-          by (inl former) =
+          cases (inl former) =
               let below = covered h.taker.number h.assigned.assignment.slot (given_over h) found_taker
               (series_over ∙ ap (λ (g : Given). g.series) (sym former.1) ∙ same) in
               let equal : x.assignment.last_month ≡ h.assigned.assignment.last_month =
               ap (λ (g : Given). g.assignment.last_month) former.1 ∙ sym over.last in
               subst (λ m. m ≤ last_of_series s handed_rows) (sym equal) below
-          by (inr stands) = covered c x.assignment.slot x stands same
+          cases (inr stands) = covered c x.assignment.slot x stands same
 
   handed_made : (c : ℕ) (x : Given) → row_by_number place x.assignment.slot (held_by c handed_rows) ≡ Some x →
       IsWellMade (c, x.assignment)
-  handed_made c x found = by (handed_found c x.assignment.slot x found)
+  handed_made c x found = cases (handed_found c x.assignment.slot x found)
     where
       made_before : (d k : ℕ) (y : Given) → row_by_number place k (held_by d rows) ≡ Some y → IsWellMade
           (d, y.assignment)
@@ -601,15 +604,15 @@ module _ (rows : List (ℕ × Given)) (quotes : List (ℕ × QuoteRow)) (h : Ser
             slot = subst (λ k. (1 ≤ k) × (k ≤ GREATEST_SLOT)) former_place made.slot;
           }
 
-      by : (IsTaker c x.assignment.slot × (x ≡ given_over h))
+      cases : (IsTaker c x.assignment.slot × (x ≡ given_over h))
           ⊎ ((IsFormer c x.assignment.slot × (x ≡ h.ended))
           ⊎ ((row_by_number place x.assignment.slot (held_by c rows) ≡ Some x) × (IsFormer c x.assignment.slot → ⊥))) →
           IsWellMade (c, x.assignment)
-      by (inl new) = subst (λ n. IsWellMade (n, x.assignment)) (sym new.0.0)
+      cases (inl new) = subst (λ n. IsWellMade (n, x.assignment)) (sym new.0.0)
           (subst (λ (g : Given). IsWellMade (h.taker.number, g.assignment)) (sym new.1) new_made)
-      by (inr (inl former)) = subst (λ n. IsWellMade (n, x.assignment)) (sym former.0.0)
+      cases (inr (inl former)) = subst (λ n. IsWellMade (n, x.assignment)) (sym former.0.0)
           (subst (λ (g : Given). IsWellMade (h.former.number, g.assignment)) (sym former.1) ended_made)
-      by (inr (inr other)) = made_before c x.assignment.slot x other.0
+      cases (inr (inr other)) = made_before c x.assignment.slot x other.0
 
   handed_series : (c : ℕ) (x : Given) → row_by_number place x.assignment.slot (held_by c handed_rows) ≡ Some x →
       HasItsSeries handed_rows (c, x)
@@ -700,11 +703,11 @@ module _ (rows : List (ℕ × Given)) (quotes : List (ℕ × QuoteRow)) (h : Ser
   one_quoted : (row : ℕ × QuoteRow) → HasItsAssignment rows row →
       (row.0 ≡ h.former.number → row.1.slot ≡ h.ended.assignment.slot → row.1.month < month) →
       HasItsAssignment handed_rows row
-  one_quoted row has early = by (stood_before row.0 row.1.slot has.0 has.1)
+  one_quoted row has early = cases (stood_before row.0 row.1.slot has.0 has.1)
     where
-      by : (IsFormer row.0 row.1.slot × (has.0 ≡ over.former))
+      cases : (IsFormer row.0 row.1.slot × (has.0 ≡ over.former))
           ⊎ (row_by_number place row.1.slot (held_by row.0 handed_rows) ≡ Some has.0) → HasItsAssignment handed_rows row
-      by (inl former) =
+      cases (inl former) =
           let active = active_tells row.1.month has.0.assignment has.2 in
           let below = early former.0.0 former.0.1 in
           let end = ends in
@@ -716,7 +719,7 @@ module _ (rows : List (ℕ × Given)) (quotes : List (ℕ × QuoteRow)) (h : Ser
                 ∙ ap (λ k. row_by_number place k (held_by h.former.number handed_rows)) former.0.1 ∙ found_ended_one,
             active_within row.1.month h.ended.assignment (omega (arith, same, active.0)) (omega (arith, below, end)),
           )
-      by (inr stands) = (has.0, stands, has.2)
+      cases (inr stands) = (has.0, stands, has.2)
 
   pub quoted_handed : AllByRecursion (HasItsAssignment rows) quotes →
       AllByRecursion (HasItsAssignment (hand_over h rows)) quotes
@@ -750,17 +753,17 @@ module _ (rows : List (ℕ × Given)) (quotes : List (ℕ × QuoteRow)) (h : Ser
       each c x found =
           let from = comes c x found in
           let old = before from.number from.before.assignment.slot from.before from.found in (
-            by (handed_found c x.assignment.slot x found),
+            cases (handed_found c x.assignment.slot x found),
             subst (λ n. IsSome (row_by_number (λ u. u.number) n o.outlets)) (sym from.outlet) old.1,
             subst (λ n. IsSome (row_by_number (λ i. i.code) n o.items)) (sym from.item) old.2,
           )
         where
-          by : (IsTaker c x.assignment.slot × (x ≡ given_over h))
+          cases : (IsTaker c x.assignment.slot × (x ≡ given_over h))
               ⊎ ((IsFormer c x.assignment.slot × (x ≡ h.ended))
               ⊎ ((row_by_number place x.assignment.slot (held_by c rows) ≡ Some x) ×
               (IsFormer c x.assignment.slot → ⊥))) →
               IsSome (row_by_number (λ b. b.number) c o.collectors)
-          by (inl new) = subst (λ n. IsSome (row_by_number (λ b. b.number) n o.collectors)) (sym new.0.0) taker
-          by (inr (inl former)) = subst (λ n. IsSome (row_by_number (λ b. b.number) n o.collectors)) (sym former.0.0)
+          cases (inl new) = subst (λ n. IsSome (row_by_number (λ b. b.number) n o.collectors)) (sym new.0.0) taker
+          cases (inr (inl former)) = subst (λ n. IsSome (row_by_number (λ b. b.number) n o.collectors)) (sym former.0.0)
               (before h.former.number h.ended.assignment.slot over.former over.found).0
-          by (inr (inr other)) = (before c x.assignment.slot x other.0).0
+          cases (inr (inr other)) = (before c x.assignment.slot x other.0).0

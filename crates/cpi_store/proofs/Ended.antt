@@ -21,11 +21,11 @@ use Rattle.cpi_store.specs.Holders.{all_assignments, assignment_until, assignmen
 use Rattle.cpi_store.proofs.Assigned.{all_set, fixed_set}
 
 not_same : (m n : ℕ) → (m ≡ n → ⊥) → eqb m n ≡ false
-not_same m n differ = by (eqb_tells m n)
+not_same m n differ = cases (eqb_tells m n)
   where
-    by : ((eqb m n ≡ true) × (m ≡ n)) ⊎ ((eqb m n ≡ false) × (m ≢ n)) → eqb m n ≡ false
-    by (inl same) = absurd (differ same.1)
-    by (inr apart) = apart.0
+    cases : ((eqb m n ≡ true) × (m ≡ n)) ⊎ ((eqb m n ≡ false) × (m ≢ n)) → eqb m n ≡ false
+    cases (inl same) = absurd (differ same.1)
+    cases (inr apart) = apart.0
 
 less_apart : (m n : ℕ) → nat_cmp m n ≡ Less → eqb m n ≡ false
 less_apart m n less = let below : m < n = ranked m n Less (sym less) in
@@ -50,17 +50,17 @@ module _ (c slot last_month : ℕ) where
       map ending (map (λ a. (n, a)) (map (λ a. a.assignment) rows)) ≡ map (λ a. (n, a))
       (map (λ a. a.assignment) (with_last_month slot last_month rows))
   own_ends n same [] = refl
-  own_ends n same (a ∷ rows) = rw same (by (eqb a.assignment.slot slot) refl (own_ends n same rows))
+  own_ends n same (a ∷ rows) = rw same (cases (eqb a.assignment.slot slot) refl (own_ends n same rows))
     where
-      by : (t : Bool) → eqb a.assignment.slot slot ≡ t →
+      cases : (t : Bool) → eqb a.assignment.slot slot ≡ t →
           map ending (map (λ a. (n, a)) (map (λ a. a.assignment) rows)) ≡ map (λ a. (n, a))
           (map (λ a. a.assignment) (with_last_month slot last_month rows)) →
           (if eqb a.assignment.slot slot then (n, until last_month a.assignment) else (n, a.assignment)) ∷ map ending
           (map (λ a. (n, a)) (map (λ a. a.assignment) rows))
           ≡ (n, (ended_one slot last_month a).assignment) ∷ map (λ a. (n, a))
           (map (λ a. a.assignment) (with_last_month slot last_month rows))
-      by true e rest = rw e (ap (λ ys. (n, until last_month a.assignment) ∷ ys) rest)
-      by false e rest = rw e (ap (λ ys. (n, a.assignment) ∷ ys) rest)
+      cases true e rest = rw e (ap (λ ys. (n, until last_month a.assignment) ∷ ys) rest)
+      cases false e rest = rw e (ap (λ ys. (n, a.assignment) ∷ ys) rest)
 
   -- if no collector has the number, all stay
   pub all_stay : (hs : List Holder) → AllByRecursion (λ h. eqb h.number c ≡ false) hs →
@@ -79,16 +79,16 @@ module _ (c slot last_month : ℕ) where
   pub none_apart : (hs : List Holder) → row_at nat_cmp (λ h. h.number) c hs ≡ None →
       AllByRecursion (λ h. eqb h.number c ≡ false) hs
   none_apart [] none = tt
-  none_apart (h ∷ hs) none = by (nat_cmp h.number c) refl none (none_apart hs)
+  none_apart (h ∷ hs) none = cases (nat_cmp h.number c) refl none (none_apart hs)
     where
       Apart : List Holder → Type 0
       Apart gs = AllByRecursion (λ (h : Holder). eqb h.number c ≡ false) gs
 
-      by : (s : Ordering) → nat_cmp h.number c ≡ s → row_at nat_cmp (λ (h : Holder). h.number) c (h ∷ hs) ≡ None →
+      cases : (s : Ordering) → nat_cmp h.number c ≡ s → row_at nat_cmp (λ (h : Holder). h.number) c (h ∷ hs) ≡ None →
           (row_at nat_cmp (λ (h : Holder). h.number) c hs ≡ None → Apart hs) → Apart (h ∷ hs)
-      by Less e none rest = (less_apart h.number c e, rest (rw (ap is_eq e) at none))
-      by Equal e none rest = let no : Some h ≡ None = rw (ap is_eq e) at none in cc
-      by Greater e none rest =
+      cases Less e none rest = (less_apart h.number c e, rest (rw (ap is_eq e) at none))
+      cases Equal e none rest = let no : Some h ≡ None = rw (ap is_eq e) at none in cc
+      cases Greater e none rest =
           let above : c < h.number = ranked h.number c Greater (sym e) in
           (not_same h.number c (λ same. absurd (omega (arith, above, same))), rest (rw (ap is_eq e) at none))
 
@@ -113,11 +113,11 @@ module _ (c slot last_month : ℕ) where
       ∙ sym (map-append ending (map (λ a. (h.number, a)) (assignments_of h)) (all_assignments hs))
     where
       is_same : (n : ℕ) → eqb n n ≡ true
-      is_same n = by (eqb_tells n n)
+      is_same n = cases (eqb_tells n n)
         where
-          by : ((eqb n n ≡ true) × (n ≡ n)) ⊎ ((eqb n n ≡ false) × (n ≢ n)) → eqb n n ≡ true
-          by (inl same) = same.0
-          by (inr apart) = absurd (apart.1 refl)
+          cases : ((eqb n n ≡ true) × (n ≡ n)) ⊎ ((eqb n n ≡ false) × (n ≢ n)) → eqb n n ≡ true
+          cases (inl same) = same.0
+          cases (inr apart) = absurd (apart.1 refl)
   all_ended (h ∷ hs) (suc i) after d sorted in_range at_c is_c ends =
       let less : nat_cmp h.number (get_or hs i d).number ≡ Less =
       Less-from_sorted (λ (a : Holder) (b : Holder). nat_cmp a.number b.number) (h ∷ hs) 0 (suc i) d sorted
@@ -133,11 +133,11 @@ module _ (c slot last_month : ℕ) where
 
 module _ (us : List Outlet) (slot last_month : ℕ) where
   has_ended : (a : Assigned) → HasOutlet us a → HasOutlet us (ended_one slot last_month a)
-  has_ended a has = by (eqb a.assignment.slot slot) refl
+  has_ended a has = cases (eqb a.assignment.slot slot) refl
     where
-      by : (t : Bool) → eqb a.assignment.slot slot ≡ t → HasOutlet us (ended_one slot last_month a)
-      by true e = rw e has
-      by false e = rw e has
+      cases : (t : Bool) → eqb a.assignment.slot slot ≡ t → HasOutlet us (ended_one slot last_month a)
+      cases true e = rw e has
+      cases false e = rw e has
 
   all_have_ended : (own : List Assigned) → AllByRecursion (HasOutlet us) own →
       AllByRecursion (HasOutlet us) (with_last_month slot last_month own)
@@ -146,12 +146,12 @@ module _ (us : List Outlet) (slot last_month : ℕ) where
 
   name_ended : (a : Assigned) → with_name us a.assignment ≡ a →
       with_name us (ended_one slot last_month a).assignment ≡ ended_one slot last_month a
-  name_ended a named = by (eqb a.assignment.slot slot) refl
+  name_ended a named = cases (eqb a.assignment.slot slot) refl
     where
-      by : (t : Bool) → eqb a.assignment.slot slot ≡ t →
+      cases : (t : Bool) → eqb a.assignment.slot slot ≡ t →
           with_name us (ended_one slot last_month a).assignment ≡ ended_one slot last_month a
-      by true e = rw e (ap (λ (x : Assigned). record x { assignment = until last_month a.assignment }) named)
-      by false e = rw e named
+      cases true e = rw e (ap (λ (x : Assigned). record x { assignment = until last_month a.assignment }) named)
+      cases false e = rw e named
 
   all_names_ended : (own : List Assigned) → map (with_name us) (map (λ a. a.assignment) own) ≡ own →
       map (with_name us) (map (λ a. a.assignment) (with_last_month slot last_month own)) ≡ with_last_month slot

@@ -11,7 +11,7 @@ use Rattle.cpi_rows.specs.Keyed.{with_row, row_at, IsInOrder}
 use Rattle.cpi_rows.specs.Held.{held_by, held_cmp, held_key}
 use Rattle.cpi_rows.specs.Gathered.{rows_in}
 use Rattle.cpi_rows.proofs.Places.{row_found, put_at_row, put_in_order}
-use Rattle.cpi_rows.proofs.Puts.{map-put}
+use Rattle.cpi_rows.proofs.Puts.{map_put}
 use Rattle.cpi_survey.specs.declared.assignment.Assigned.{Assigned}
 use Rattle.cpi_rows.proofs.Gathered.{held_gathered, put_gathered}
 use Rattle.cpi_survey.specs.Quote.{QuoteRow, quote_cmp, quote_key}
@@ -79,7 +79,7 @@ module _ (hs : List Holder) (sorted : IsInOrder nat_cmp (λ h. h.number) hs) (c 
     assignments_put a e =
         put_gathered nat_cmp (λ (x : Assignment). x.slot) (λ g. g.number) assignments_of a.assignment after hs at h
         sorted in_range same_at
-        (ap (map (λ (x : Assigned). x.assignment)) e ∙ map-put nat_cmp (λ (x : Assignment). x.slot)
+        (ap (map (λ (x : Assigned). x.assignment)) e ∙ map_put nat_cmp (λ (x : Assignment). x.slot)
         (λ (x : Assigned). x.assignment) a h.own.assignments
         ∙ ap (λ (g : Holder). with_row nat_cmp (λ (x : Assignment). x.slot) a.assignment (assignments_of g)) found)
         ∙ ap (λ n. with_row (held_cmp nat_cmp) (held_key (λ (x : Assignment). x.slot)) (n, a.assignment)
@@ -105,16 +105,16 @@ module _ (hs : List Holder) (sorted : IsInOrder nat_cmp (λ h. h.number) hs) (c 
 pub known_holder : (c : ℕ) (hs : List Holder) → IsSome (row_at nat_cmp (λ k. k.number) c (collectors_of hs)) →
     IsSome (row_at nat_cmp (λ (h : Holder). h.number) c hs)
 known_holder c [] some = some
-known_holder c (h ∷ hs) some = by (nat_cmp h.number c) refl some (known_holder c hs)
+known_holder c (h ∷ hs) some = cases (nat_cmp h.number c) refl some (known_holder c hs)
   where
-    by : (s : Ordering) → nat_cmp h.number c ≡ s →
+    cases : (s : Ordering) → nat_cmp h.number c ≡ s →
         IsSome (row_at nat_cmp (λ k. k.number) c (collectors_of (h ∷ hs))) →
         (IsSome (row_at nat_cmp (λ k. k.number) c (collectors_of hs)) →
         IsSome (row_at nat_cmp (λ (g : Holder). g.number) c hs)) →
         IsSome (row_at nat_cmp (λ (g : Holder). g.number) c (h ∷ hs))
-    by Less p some rest = rw (ap is_eq p) (rest (rw (ap is_eq p) at some))
-    by Equal p some rest = rw (ap is_eq p) refl
-    by Greater p some rest = rw (ap is_eq p) (rest (rw (ap is_eq p) at some))
+    cases Less p some rest = rw (ap is_eq p) (rest (rw (ap is_eq p) at some))
+    cases Equal p some rest = rw (ap is_eq p) refl
+    cases Greater p some rest = rw (ap is_eq p) (rest (rw (ap is_eq p) at some))
 
 found_more : (outlets : List Outlet) (c : ℕ) (h g : Holder) (hs : List Holder) → (s : Ordering) →
     nat_cmp g.number c ≡ s → named_by outlets (map (λ (x : Holder). x.own.assignments) (g ∷ hs)) ≡ map

@@ -33,21 +33,21 @@ use Rattle.cpi_store.specs.declared.series_ends.SeriesEnds.{SeriesEnds}
 use Rattle.cpi_store.specs.declared.taken_over.TakenOver.{TakenOver}
 use Rattle.cpi_store.proofs.BySeries.{by_series_in_order, by_series_moved, series_cmp_total}
 use Rattle.cpi_store.proofs.HandedSeries.{collectors_are, ends_at, is_one, names_own, slots_are}
-use Rattle.cpi_store.proofs.Lasts.{IsCovered, last_of_series-covers, same_series-own}
+use Rattle.cpi_store.proofs.Lasts.{IsCovered, last_of_series_covers, same_series_own}
 
 -- assignments of one collector, each with its series
 abbrev pub given_rows : List TakenOver → ℕ → List Assigned → List (ℕ × Given)
 given_rows taken n rows = map (given_in taken) (map (λ a. (n, a)) (map (λ a. a.assignment) rows))
 
 -- the assignments of all are those of the first and those of the others
-pub all_given-cons : (taken : List TakenOver) (h : Holder) (hs : List Holder) →
+pub all_given_cons : (taken : List TakenOver) (h : Holder) (hs : List Holder) →
     all_given taken (h ∷ hs) ≡ own_given taken h ++ all_given taken hs
-all_given-cons taken h hs = map-append (given_in taken) (map (λ a. (h.number, a)) (assignments_of h))
+all_given_cons taken h hs = map-append (given_in taken) (map (λ a. (h.number, a)) (assignments_of h))
     (all_assignments hs)
 
-pub all_given-append : (taken : List TakenOver) (gs hs : List Holder) →
+pub all_given_append : (taken : List TakenOver) (gs hs : List Holder) →
     all_given taken (gs ++ hs) ≡ all_given taken gs ++ all_given taken hs
-all_given-append taken gs hs =
+all_given_append taken gs hs =
     ap (map (given_in taken)) (flat_map-append (λ (h : Holder). map (λ a. (h.number, a)) (assignments_of h)) gs hs)
     ∙ map-append (given_in taken) (all_assignments gs) (all_assignments hs)
 
@@ -74,7 +74,7 @@ module _ (month : ℕ) (ends : SeriesEnds) (taken : List TakenOver) (quotes : Li
       IsEnded (given_in taken (h.number, a.assignment)) →
       frozen_row month quotes given (given_in taken (h.number, a.assignment)) ≡ own_row month ends taken h a
   one_row h a e ended =
-      by (row_at quote_cmp quote_key (a.assignment.slot, month) (held_by h.number quotes)) refl
+      cases (row_at quote_cmp quote_key (a.assignment.slot, month) (held_by h.number quotes)) refl
       ∙ ap (λ qs. option_map (ending s a.assignment.item known)
       (row_at quote_cmp quote_key (a.assignment.slot, month) qs)) e
     where
@@ -84,12 +84,12 @@ module _ (month : ℕ) (ends : SeriesEnds) (taken : List TakenOver) (quotes : Li
       known : ℕ
       known = max a.assignment.last_month (last_known ends s)
 
-      by : (w : Option QuoteRow) →
+      cases : (w : Option QuoteRow) →
           row_at quote_cmp quote_key (a.assignment.slot, month) (held_by h.number quotes) ≡ w →
           option_map (ending s a.assignment.item (last_of_series s given)) w
           ≡ option_map (ending s a.assignment.item known) w
-      by None f = refl
-      by (Some q) f = ap (λ m. Some (ending s a.assignment.item m q)) (ended q f)
+      cases None f = refl
+      cases (Some q) f = ap (λ m. Some (ending s a.assignment.item m q)) (ended q f)
 
   -- one holder's
   one_holder : (h : Holder) → held_by h.number quotes ≡ h.own.quotes → (rows : List Assigned) →
@@ -97,23 +97,23 @@ module _ (month : ℕ) (ends : SeriesEnds) (taken : List TakenOver) (quotes : Li
       filter_map (frozen_row month quotes given) (given_rows taken h.number rows) ≡ filter_map
       (own_row month ends taken h) rows
   one_holder h e [] ended = refl
-  one_holder h e (a ∷ rows) ended = by (own_row month ends taken h a) refl (one_holder h e rows ended.1)
+  one_holder h e (a ∷ rows) ended = cases (own_row month ends taken h a) refl (one_holder h e rows ended.1)
     where
-      by : (w : Option Frozen) → own_row month ends taken h a ≡ w →
+      cases : (w : Option Frozen) → own_row month ends taken h a ≡ w →
           filter_map (frozen_row month quotes given) (given_rows taken h.number rows) ≡ filter_map
           (own_row month ends taken h) rows →
           filter_map (frozen_row month quotes given) (given_rows taken h.number (a ∷ rows)) ≡ filter_map
           (own_row month ends taken h) (a ∷ rows)
-      by None f rest = rw (one_row h a e ended.0 ∙ f, f) rest
-      by (Some x) f rest = rw (one_row h a e ended.0 ∙ f, f) (ap (λ ys. x ∷ ys) rest)
+      cases None f rest = rw (one_row h a e ended.0 ∙ f, f) rest
+      cases (Some x) f rest = rw (one_row h a e ended.0 ∙ f, f) (ap (λ ys. x ∷ ys) rest)
 
   all_holders : (hs : List Holder) → AllByRecursion (λ (h : Holder). held_by h.number quotes ≡ h.own.quotes) hs →
       AllByRecursion IsEnded (all_given taken hs) →
       filter_map (frozen_row month quotes given) (all_given taken hs) ≡ rows_of_holders month ends taken hs
   all_holders [] all ended = refl
   all_holders (h ∷ hs) all ended =
-      let whole = rw all_given-cons at ended in
-      ap (filter_map (frozen_row month quotes given)) (all_given-cons taken h hs)
+      let whole = rw all_given_cons at ended in
+      ap (filter_map (frozen_row month quotes given)) (all_given_cons taken h hs)
       ∙ filter_map-append (frozen_row month quotes given) (own_given taken h) (all_given taken hs)
       ∙ ap (λ ys. ys ++ filter_map (frozen_row month quotes given) (all_given taken hs))
       (one_holder h all.0 h.own.assignments (front IsEnded (own_given taken h) (all_given taken hs) whole))
@@ -131,7 +131,7 @@ module _ (month : ℕ) (ends : SeriesEnds) (taken : List TakenOver) (quotes : Li
       (apart : IsDistinct is_one (filter_map (frozen_row month quotes given_all) given_all)) where
     one_ended : (r : ℕ × Assignment) → Contains rows r → IsCovered given_all (given_in taken r) →
         IsEnded month ends taken quotes given_all (given_in taken r)
-    one_ended r has covered q stands = by (is_handed_over taken s) refl
+    one_ended r has covered q stands = cases (is_handed_over taken s) refl
       where
         s : SeriesId
         s = series_named_in taken r.0 r.1.slot
@@ -139,15 +139,15 @@ module _ (month : ℕ) (ends : SeriesEnds) (taken : List TakenOver) (quotes : Li
         Ends : ℕ × Assignment → Type 0
         Ends x = same_series (series_named_in taken x.0 x.1.slot) s ≡ true → last_of_series s given_all ≡ x.1.last_month
 
-        by : (t : Bool) → is_handed_over taken s ≡ t →
+        cases : (t : Bool) → is_handed_over taken s ≡ t →
             last_of_series s given_all ≡ max r.1.last_month (last_known ends s)
-        by true e =
+        cases true e =
             let last : last_known ends s ≡ last_of_series s given_all = known s ∙ rw e refl in
             omega (arith, last, covered)
-        by false e =
+        cases false e =
             let none : last_known ends s ≡ 0 = known s ∙ rw e refl in
             let own : same_series (own_series r.0 r.1.slot) s ≡ true =
-            names_own taken r.0 r.1.slot s e (same_series-own s) in
+            names_own taken r.0 r.1.slot s e (same_series_own s) in
             let stands_there : row_at quote_cmp quote_key (s.slot, month) (held_by s.collector quotes) ≡ Some q =
             ap (λ n. row_at quote_cmp quote_key (n, month) (held_by s.collector quotes))
             (sym (slots_are (own_series r.0 r.1.slot) s own))
@@ -156,7 +156,7 @@ module _ (month : ℕ) (ends : SeriesEnds) (taken : List TakenOver) (quotes : Li
             let all : AllByRecursion Ends rows =
             ends_at month quotes given_all taken s q e stands_there (last_of_series s given_all) rows refl apart in
             let one : Ends r = subst Ends has.2 (All-from_recursion Ends rows all has.0 r has.1) in
-            let last : last_of_series s given_all ≡ r.1.last_month = one (same_series-own s) in
+            let last : last_of_series s given_all ≡ r.1.last_month = one (same_series_own s) in
             omega (arith, last, none)
 
     pub all_ended : (rs : List (ℕ × Assignment)) → AllByRecursion (Contains rows) rs →
@@ -210,4 +210,4 @@ month_gathered month ends taken hs sorted known whole =
     all_holders month ends taken (quotes_of_holders hs) (all_given taken hs) hs
     (own_held hs sorted hs (all_found hs sorted))
     (all_ended month ends taken (quotes_of_holders hs) rows known apart rows
-    (recursion_from_All (Contains rows) rows (All-contains_itself rows)) (last_of_series-covers (all_given taken hs)))
+    (recursion_from_All (Contains rows) rows (All-contains_itself rows)) (last_of_series_covers (all_given taken hs)))

@@ -15,7 +15,7 @@ use Rattle.cpi_rows.specs.Keyed.{with_row, IsInOrder, row_by_number}
 use Rattle.cpi_rows.specs.Held.{held_by, held_cmp, held_key}
 use Rattle.cpi_rows.proofs.Held.{puts_own, puts_other, held_total}
 use Rattle.cpi_rows.proofs.Places.{put_in_order}
-use Rattle.cpi_rows.proofs.Puts.{put_standing, different, row_at-put_same, row_at-put_apart, at-put_found}
+use Rattle.cpi_rows.proofs.Puts.{put_standing, different, row_at_put_same, row_at_put_apart, at_put_found_row}
 use Rattle.cpi_survey.specs.Assignment.{until, with_last_month}
 use Rattle.cpi_store.specs.declared.given.Given.{Given}
 use Rattle.cpi_store.specs.declared.series_move.SeriesMove.{SeriesMove}
@@ -37,56 +37,56 @@ ended_given slot last_month g = if g.assignment.slot == slot then given_until la
 until_tells : (n slot last : ℕ) (r : ℕ × Given) →
     ((row_until n slot last r ≡ (r.0, given_until last r.1)) × (r.0 ≡ n) × (r.1.assignment.slot ≡ slot))
     ⊎ ((row_until n slot last r ≡ r) × ((r.0 ≡ n) × (r.1.assignment.slot ≡ slot) → ⊥))
-until_tells n slot last r = by (eqb_tells r.0 n) (eqb_tells r.1.assignment.slot slot)
+until_tells n slot last r = cases (eqb_tells r.0 n) (eqb_tells r.1.assignment.slot slot)
   where
-    by : ((eqb r.0 n ≡ true) × (r.0 ≡ n)) ⊎ ((eqb r.0 n ≡ false) × (r.0 ≢ n)) →
+    cases : ((eqb r.0 n ≡ true) × (r.0 ≡ n)) ⊎ ((eqb r.0 n ≡ false) × (r.0 ≢ n)) →
         ((eqb r.1.assignment.slot slot ≡ true) × (r.1.assignment.slot ≡ slot))
         ⊎ ((eqb r.1.assignment.slot slot ≡ false) × (r.1.assignment.slot ≢ slot)) →
         ((row_until n slot last r ≡ (r.0, given_until last r.1)) × (r.0 ≡ n) × (r.1.assignment.slot ≡ slot))
         ⊎ ((row_until n slot last r ≡ r) × ((r.0 ≡ n) × (r.1.assignment.slot ≡ slot) → ⊥))
-    by (inl mine) (inl here) = inl (rw (mine.0, here.0) refl, mine.1, here.1)
-    by (inl mine) (inr there) = inr (rw (mine.0, there.0) refl, λ same. there.1 same.1)
-    by (inr other) tells = inr (rw other.0 refl, λ same. other.1 same.0)
+    cases (inl mine) (inl here) = inl (rw (mine.0, here.0) refl, mine.1, here.1)
+    cases (inl mine) (inr there) = inr (rw (mine.0, there.0) refl, λ same. there.1 same.1)
+    cases (inr other) tells = inr (rw other.0 refl, λ same. other.1 same.0)
 
 -- of the collector's own rows, only this slot's
 pub held_ended_own : (n slot last : ℕ) (rows : List (ℕ × Given)) →
     held_by n (end_given n slot last rows) ≡ map (ended_given slot last) (held_by n rows)
 held_ended_own n slot last [] = refl
-held_ended_own n slot last (r ∷ rows) = by (eqb_tells r.0 n) (eqb_tells r.1.assignment.slot slot)
+held_ended_own n slot last (r ∷ rows) = cases (eqb_tells r.0 n) (eqb_tells r.1.assignment.slot slot)
     (held_ended_own n slot last rows)
   where
     Has : List (ℕ × Given) → Type 0
     Has rs = held_by n (end_given n slot last rs) ≡ map (ended_given slot last) (held_by n rs)
 
-    by : ((eqb r.0 n ≡ true) × (r.0 ≡ n)) ⊎ ((eqb r.0 n ≡ false) × (r.0 ≢ n)) →
+    cases : ((eqb r.0 n ≡ true) × (r.0 ≡ n)) ⊎ ((eqb r.0 n ≡ false) × (r.0 ≢ n)) →
         ((eqb r.1.assignment.slot slot ≡ true) × (r.1.assignment.slot ≡ slot))
         ⊎ ((eqb r.1.assignment.slot slot ≡ false) × (r.1.assignment.slot ≢ slot)) → Has rows → Has (r ∷ rows)
-    by (inl mine) (inl here) rest = rw (mine.0, here.0, mine.0) (ap (λ gs. given_until last r.1 ∷ gs) rest)
-    by (inl mine) (inr there) rest = rw (mine.0, there.0, mine.0) (ap (λ gs. r.1 ∷ gs) rest)
-    by (inr other) tells rest = rw (other.0, other.0) rest
+    cases (inl mine) (inl here) rest = rw (mine.0, here.0, mine.0) (ap (λ gs. given_until last r.1 ∷ gs) rest)
+    cases (inl mine) (inr there) rest = rw (mine.0, there.0, mine.0) (ap (λ gs. r.1 ∷ gs) rest)
+    cases (inr other) tells rest = rw (other.0, other.0) rest
 
 -- of another collector's, none
 pub held_ended_other : (c n slot last : ℕ) (rows : List (ℕ × Given)) → c ≢ n →
     held_by c (end_given n slot last rows) ≡ held_by c rows
 held_ended_other c n slot last [] apart = refl
-held_ended_other c n slot last (r ∷ rows) apart = by (until_tells n slot last r) (eqb_tells r.0 c)
+held_ended_other c n slot last (r ∷ rows) apart = cases (until_tells n slot last r) (eqb_tells r.0 c)
     (held_ended_other c n slot last rows apart)
   where
-    by : ((row_until n slot last r ≡ (r.0, given_until last r.1)) × (r.0 ≡ n) × (r.1.assignment.slot ≡ slot))
+    cases : ((row_until n slot last r ≡ (r.0, given_until last r.1)) × (r.0 ≡ n) × (r.1.assignment.slot ≡ slot))
         ⊎ ((row_until n slot last r ≡ r) × ((r.0 ≡ n) × (r.1.assignment.slot ≡ slot) → ⊥)) →
         ((eqb r.0 c ≡ true) × (r.0 ≡ c)) ⊎ ((eqb r.0 c ≡ false) × (r.0 ≢ c)) →
         held_by c (end_given n slot last rows) ≡ held_by c rows →
         held_by c (end_given n slot last (r ∷ rows)) ≡ held_by c (r ∷ rows)
-    by (inl ended) (inl mine) rest = absurd (apart (sym mine.1 ∙ ended.1))
-    by (inl ended) (inr other) rest = rw (ended.0, other.0) rest
-    by (inr stays) (inl mine) rest = rw (stays.0, mine.0) (ap (λ gs. r.1 ∷ gs) rest)
-    by (inr stays) (inr other) rest = rw (stays.0, other.0) rest
+    cases (inl ended) (inl mine) rest = absurd (apart (sym mine.1 ∙ ended.1))
+    cases (inl ended) (inr other) rest = rw (ended.0, other.0) rest
+    cases (inr stays) (inl mine) rest = rw (stays.0, mine.0) (ap (λ gs. r.1 ∷ gs) rest)
+    cases (inr stays) (inr other) rest = rw (stays.0, other.0) rest
 
 own_same : (slot last : ℕ) (own : List Given) →
     row_by_number (λ g. g.assignment.slot) slot (map (ended_given slot last) own) ≡ option_map (given_until last)
     (row_by_number (λ g. g.assignment.slot) slot own)
 own_same slot last [] = refl
-own_same slot last (g ∷ own) = by (eqb_tells g.assignment.slot slot) (own_same slot last own)
+own_same slot last (g ∷ own) = cases (eqb_tells g.assignment.slot slot) (own_same slot last own)
   where
     Has : List Given → Type 0
     Has gs = row_by_number (λ g. g.assignment.slot) slot (map (ended_given slot last) gs) ≡ option_map
@@ -99,18 +99,18 @@ own_same slot last (g ∷ own) = by (eqb_tells g.assignment.slot slot) (own_same
         (row_by_number (λ g. g.assignment.slot) slot (g ∷ own))
     passed e rest = rw e rest
 
-    by : ((eqb g.assignment.slot slot ≡ true) × (g.assignment.slot ≡ slot))
+    cases : ((eqb g.assignment.slot slot ≡ true) × (g.assignment.slot ≡ slot))
         ⊎ ((eqb g.assignment.slot slot ≡ false) × (g.assignment.slot ≢ slot)) → Has own → Has (g ∷ own)
-    by (inl here) rest = let same : g.assignment.slot ≡ slot = here.1 in
+    cases (inl here) rest = let same : g.assignment.slot ≡ slot = here.1 in
         rw (here.0, lt-leb (suc g.assignment.slot) slot (omega (arith, same)), here.0) refl
-    by (inr there) rest = ap (λ x. row_by_number (λ g. g.assignment.slot) slot (x ∷ map (ended_given slot last) own))
+    cases (inr there) rest = ap (λ x. row_by_number (λ g. g.assignment.slot) slot (x ∷ map (ended_given slot last) own))
         (rw there.0 refl) ∙ passed (different g.assignment.slot slot there.1) rest
 
 own_other : (slot last k : ℕ) → k ≢ slot → (own : List Given) →
     row_by_number (λ g. g.assignment.slot) k (map (ended_given slot last) own) ≡ row_by_number
     (λ g. g.assignment.slot) k own
 own_other slot last k apart [] = refl
-own_other slot last k apart (g ∷ own) = by (eqb_tells g.assignment.slot slot) (own_other slot last k apart own)
+own_other slot last k apart (g ∷ own) = cases (eqb_tells g.assignment.slot slot) (own_other slot last k apart own)
   where
     Has : List Given → Type 0
     Has gs = row_by_number (λ g. g.assignment.slot) k (map (ended_given slot last) gs) ≡ row_by_number
@@ -121,10 +121,10 @@ own_other slot last k apart (g ∷ own) = by (eqb_tells g.assignment.slot slot) 
     stays true e there rest = rw (there, e) refl
     stays false e there rest = rw (there, e) rest
 
-    by : ((eqb g.assignment.slot slot ≡ true) × (g.assignment.slot ≡ slot))
+    cases : ((eqb g.assignment.slot slot ≡ true) × (g.assignment.slot ≡ slot))
         ⊎ ((eqb g.assignment.slot slot ≡ false) × (g.assignment.slot ≢ slot)) → Has own → Has (g ∷ own)
-    by (inl here) rest = rw (here.0, different g.assignment.slot k (λ same. apart (sym same ∙ here.1))) rest
-    by (inr there) rest = stays (is_eq (nat_cmp g.assignment.slot k)) refl there.0 rest
+    cases (inl here) rest = rw (here.0, different g.assignment.slot k (λ same. apart (sym same ∙ here.1))) rest
+    cases (inr there) rest = stays (is_eq (nat_cmp g.assignment.slot k)) refl there.0 rest
 
 pub at_ended_same : (n slot last : ℕ) (rows : List (ℕ × Given)) →
     row_by_number (λ g. g.assignment.slot) slot (held_by n (end_given n slot last rows)) ≡ option_map (given_until last)
@@ -143,14 +143,14 @@ at_ended_other n slot last k rows apart = ap (row_by_number (λ g. g.assignment.
 key_until : (n slot last : ℕ) (r : ℕ × Given) →
     held_key (λ (g : Given). g.assignment.slot) (row_until n slot last r) ≡ held_key
     (λ (g : Given). g.assignment.slot) r
-key_until n slot last r = by (until_tells n slot last r)
+key_until n slot last r = cases (until_tells n slot last r)
   where
-    by : ((row_until n slot last r ≡ (r.0, given_until last r.1)) × (r.0 ≡ n) × (r.1.assignment.slot ≡ slot))
+    cases : ((row_until n slot last r ≡ (r.0, given_until last r.1)) × (r.0 ≡ n) × (r.1.assignment.slot ≡ slot))
         ⊎ ((row_until n slot last r ≡ r) × ((r.0 ≡ n) × (r.1.assignment.slot ≡ slot) → ⊥)) →
         held_key (λ (g : Given). g.assignment.slot) (row_until n slot last r) ≡ held_key
         (λ (g : Given). g.assignment.slot) r
-    by (inl ended) = ap (held_key (λ (g : Given). g.assignment.slot)) ended.0
-    by (inr stays) = ap (held_key (λ (g : Given). g.assignment.slot)) stays.0
+    cases (inl ended) = ap (held_key (λ (g : Given). g.assignment.slot)) ended.0
+    cases (inr stays) = ap (held_key (λ (g : Given). g.assignment.slot)) stays.0
 
 -- each row keeps its place
 pub end_in_order : (n slot last : ℕ) (rows : List (ℕ × Given)) → AreInOrder rows →
@@ -187,20 +187,21 @@ end_standing n slot g rows sorted found = all_fixed (row_until n slot g.assignme
     fixed : (c : ℕ) (x : Given) → row_by_number (λ (y : Given). y.assignment.slot) x.assignment.slot (held_by c rows)
         ≡ Some x →
         row_until n slot g.assignment.last_month (c, x) ≡ (c, x)
-    fixed c x there = by (until_tells n slot g.assignment.last_month (c, x))
+    fixed c x there = cases (until_tells n slot g.assignment.last_month (c, x))
       where
-        by : ((row_until n slot g.assignment.last_month (c, x) ≡ (c, given_until g.assignment.last_month x)) × (c ≡ n)
+        cases : ((row_until n slot g.assignment.last_month (c, x) ≡ (c, given_until g.assignment.last_month x)) ×
+            (c ≡ n)
             × (x.assignment.slot ≡ slot))
             ⊎ ((row_until n slot g.assignment.last_month (c, x) ≡ (c, x))
             × ((c ≡ n) × (x.assignment.slot ≡ slot) → ⊥)) → row_until n slot g.assignment.last_month (c, x) ≡ (c, x)
-        by (inl ended) =
+        cases (inl ended) =
             let same : Some x ≡ Some g = sym there ∙ ap (λ k. row_by_number (λ (y : Given). y.assignment.slot) k
             (held_by c rows)) ended.2 ∙ ap
             (λ m. row_by_number (λ (y : Given). y.assignment.slot) slot (held_by m rows))
             ended.1 ∙ found in
             let is : g ≡ x = cc in
             ended.0 ∙ ap (λ (y : Given). (c, given_until y.assignment.last_month x)) is
-        by (inr stays) = stays.0
+        cases (inr stays) = stays.0
 
 -- ---- what a slot was given, when one is put
 
@@ -217,25 +218,25 @@ pub at_put_same : (n : ℕ) (g : Given) (rows : List (ℕ × Given)) →
     row_by_number (λ g. g.assignment.slot) g.assignment.slot (held_by n (put_given n g rows)) ≡ Some g
 at_put_same n g rows = ap (row_by_number (λ g. g.assignment.slot) g.assignment.slot)
     (puts_own nat_cmp (λ (g : Given). g.assignment.slot) n g rows)
-    ∙ row_at-put_same nat_cmp_total (λ (g : Given). g.assignment.slot) g (held_by n rows)
+    ∙ row_at_put_same nat_cmp_total (λ (g : Given). g.assignment.slot) g (held_by n rows)
 
 -- another slot's row is still there: the slot of the new row was free
 pub at_put_found : (n : ℕ) (g : Given) (rows : List (ℕ × Given)) → AreInOrder rows →
     row_by_number (λ g. g.assignment.slot) g.assignment.slot (held_by n rows) ≡ None →
     (c slot : ℕ) (x : Given) → row_by_number (λ g. g.assignment.slot) slot (held_by c rows) ≡ Some x →
     row_by_number (λ g. g.assignment.slot) slot (held_by c (put_given n g rows)) ≡ Some x
-at_put_found n g rows sorted new c slot x found = by (eqb_tells c n)
+at_put_found n g rows sorted new c slot x found = cases (eqb_tells c n)
   where
-    by : ((eqb c n ≡ true) × (c ≡ n)) ⊎ ((eqb c n ≡ false) × (c ≢ n)) →
+    cases : ((eqb c n ≡ true) × (c ≡ n)) ⊎ ((eqb c n ≡ false) × (c ≢ n)) →
         row_by_number (λ g. g.assignment.slot) slot (held_by c (put_given n g rows)) ≡ Some x
-    by (inl same) =
+    cases (inl same) =
         ap (λ k. row_by_number (λ g. g.assignment.slot) slot (held_by k (put_given n g rows))) same.1
         ∙ ap (row_by_number (λ g. g.assignment.slot) slot)
         (puts_own nat_cmp (λ (g : Given). g.assignment.slot) n g rows)
-        ∙ at-put_found (λ g. g.assignment.slot) g (held_by n rows)
+        ∙ at_put_found_row (λ g. g.assignment.slot) g (held_by n rows)
         (held_in_order nat_cmp (λ g. g.assignment.slot) n rows sorted) new slot x
         (ap (λ k. row_by_number (λ g. g.assignment.slot) slot (held_by k rows)) (sym same.1) ∙ found)
-    by (inr apart) = ap (row_by_number (λ g. g.assignment.slot) slot)
+    cases (inr apart) = ap (row_by_number (λ g. g.assignment.slot) slot)
         (puts_other nat_cmp (λ (g : Given). g.assignment.slot) c n g rows apart.1) ∙ found
 
 -- ---- what is found then
@@ -244,7 +245,7 @@ at_put_found n g rows sorted new c slot x found = by (eqb_tells c n)
 pub found_put : (n : ℕ) (g : Given) (rows : List (ℕ × Given)) → AreInOrder rows → (c k : ℕ) (x : Given) →
     row_by_number (λ g. g.assignment.slot) k (held_by c (put_given n g rows)) ≡ Some x →
     ((c ≡ n) × (k ≡ g.assignment.slot) × (x ≡ g)) ⊎ (row_by_number (λ g. g.assignment.slot) k (held_by c rows) ≡ Some x)
-found_put n g rows sorted c k x found = by (eqb_tells c n) (eqb_tells g.assignment.slot k)
+found_put n g rows sorted c k x found = cases (eqb_tells c n) (eqb_tells g.assignment.slot k)
   where
     own : c ≡ n → row_by_number (λ g. g.assignment.slot) k
         (with_row nat_cmp (λ (g : Given). g.assignment.slot) g (held_by n rows)) ≡
@@ -253,24 +254,24 @@ found_put n g rows sorted c k x found = by (eqb_tells c n) (eqb_tells g.assignme
         ∙ ap (row_by_number (λ g. g.assignment.slot) k)
         (puts_own nat_cmp (λ (g : Given). g.assignment.slot) n g rows)) ∙ found
 
-    by : ((eqb c n ≡ true) × (c ≡ n)) ⊎ ((eqb c n ≡ false) × (c ≢ n)) →
+    cases : ((eqb c n ≡ true) × (c ≡ n)) ⊎ ((eqb c n ≡ false) × (c ≢ n)) →
         ((eqb g.assignment.slot k ≡ true) × (g.assignment.slot ≡ k))
         ⊎ ((eqb g.assignment.slot k ≡ false) × (g.assignment.slot ≢ k)) →
         ((c ≡ n) × (k ≡ g.assignment.slot) × (x ≡ g)) ⊎
         (row_by_number (λ g. g.assignment.slot) k (held_by c rows) ≡ Some x)
-    by (inl same) (inl here) =
-        let is : Some g ≡ Some x = sym (row_at-put_same nat_cmp_total (λ (g : Given). g.assignment.slot) g
+    cases (inl same) (inl here) =
+        let is : Some g ≡ Some x = sym (row_at_put_same nat_cmp_total (λ (g : Given). g.assignment.slot) g
         (held_by n rows)) ∙ ap (λ j. row_by_number (λ g. g.assignment.slot) j
         (with_row nat_cmp (λ (g : Given). g.assignment.slot) g (held_by n rows))) here.1 ∙ own same.1 in
         let equal : x ≡ g = cc in
         inl (same.1, sym here.1, equal)
-    by (inl same) (inr there) = inr (
+    cases (inl same) (inr there) = inr (
         ap (λ m. row_by_number (λ g. g.assignment.slot) k (held_by m rows)) same.1
-        ∙ sym (row_at-put_apart nat_cmp_total (λ (g : Given). g.assignment.slot) k g (held_by n rows)
+        ∙ sym (row_at_put_apart nat_cmp_total (λ (g : Given). g.assignment.slot) k g (held_by n rows)
         (held_in_order nat_cmp (λ g. g.assignment.slot) n rows sorted) (different g.assignment.slot k there.1))
         ∙ own same.1
         )
-    by (inr apart) tells = inr (sym (ap (row_by_number (λ g. g.assignment.slot) k)
+    cases (inr apart) tells = inr (sym (ap (row_by_number (λ g. g.assignment.slot) k)
         (puts_other nat_cmp (λ (g : Given). g.assignment.slot) c n g rows apart.1)) ∙ found)
 
 -- what is found after an assignment was ended is that assignment, or was there before
@@ -280,31 +281,31 @@ pub found_ended : (n slot last : ℕ) (rows : List (ℕ × Given)) (c k : ℕ) (
     (row_by_number (λ g. g.assignment.slot) slot (held_by n rows)) ≡ Some
     x))
     ⊎ ((row_by_number (λ g. g.assignment.slot) k (held_by c rows) ≡ Some x) × ((c ≡ n) × (k ≡ slot) → ⊥))
-found_ended n slot last rows c k x found = by (eqb_tells c n) (eqb_tells k slot)
+found_ended n slot last rows c k x found = cases (eqb_tells c n) (eqb_tells k slot)
   where
     own : c ≡ n → row_by_number (λ g. g.assignment.slot) k (held_by n (end_given n slot last rows)) ≡ Some x
     own same = ap (λ m. row_by_number (λ g. g.assignment.slot) k (held_by m (end_given n slot last rows)))
         (sym same) ∙ found
 
-    by : ((eqb c n ≡ true) × (c ≡ n)) ⊎ ((eqb c n ≡ false) × (c ≢ n)) → ((eqb k slot ≡ true) × (k ≡ slot))
+    cases : ((eqb c n ≡ true) × (c ≡ n)) ⊎ ((eqb c n ≡ false) × (c ≢ n)) → ((eqb k slot ≡ true) × (k ≡ slot))
         ⊎ ((eqb k slot ≡ false) × (k ≢ slot)) →
         ((c ≡ n) × (k ≡ slot) × (option_map (given_until last)
         (row_by_number (λ g. g.assignment.slot) slot (held_by n rows)) ≡
         Some x))
         ⊎ ((row_by_number (λ g. g.assignment.slot) k (held_by c rows) ≡ Some x) × ((c ≡ n) × (k ≡ slot) → ⊥))
-    by (inl same) (inl here) = inl (
+    cases (inl same) (inl here) = inl (
       same.1,
       here.1,
       sym (at_ended_same n slot last rows)
           ∙ ap (λ j. row_by_number (λ g. g.assignment.slot) j (held_by n (end_given n slot last rows))) (sym here.1) ∙
           own same.1,
     )
-    by (inl same) (inr there) = inr (
+    cases (inl same) (inr there) = inr (
       ap (λ m. row_by_number (λ g. g.assignment.slot) k (held_by m rows)) same.1
           ∙ sym (at_ended_other n slot last k rows there.1) ∙ own same.1,
       λ both. there.1 both.1,
     )
-    by (inr apart) tells = inr (
+    cases (inr apart) tells = inr (
       sym (ap (row_by_number (λ g. g.assignment.slot) k) (held_ended_other c n slot last rows apart.1))
           ∙ found,
       λ both. apart.1 both.0,
@@ -330,13 +331,13 @@ pub shown_ended : (outlets : List Outlet) (slot last : ℕ) (own : List Given) �
     map (with_name outlets) (map (λ g. g.assignment) (map (ended_given slot last) own)) ≡ with_last_month slot last
     (map (with_name outlets) (map (λ g. g.assignment) own))
 shown_ended outlets slot last [] = refl
-shown_ended outlets slot last (g ∷ own) = by (eqb g.assignment.slot slot) refl (shown_ended outlets slot last own)
+shown_ended outlets slot last (g ∷ own) = cases (eqb g.assignment.slot slot) refl (shown_ended outlets slot last own)
   where
     Same : List Given → Type 0
     Same gs = map (with_name outlets) (map (λ (x : Given). x.assignment) (map (ended_given slot last) gs)) ≡
         with_last_month
         slot last (map (with_name outlets) (map (λ (x : Given). x.assignment) gs))
 
-    by : (w : Bool) → eqb g.assignment.slot slot ≡ w → Same own → Same (g ∷ own)
-    by true e rest = rw e (ap (λ xs. with_name outlets (until last g.assignment) ∷ xs) rest)
-    by false e rest = rw e (ap (λ xs. with_name outlets g.assignment ∷ xs) rest)
+    cases : (w : Bool) → eqb g.assignment.slot slot ≡ w → Same own → Same (g ∷ own)
+    cases true e rest = rw e (ap (λ xs. with_name outlets (until last g.assignment) ∷ xs) rest)
+    cases false e rest = rw e (ap (λ xs. with_name outlets g.assignment ∷ xs) rest)

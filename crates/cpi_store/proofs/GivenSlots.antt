@@ -33,7 +33,7 @@ slot_of a = a.slot
 pub has_slot : (c slot : ℕ) (rows : List (ℕ × Assignment)) →
     is_some (row_by_number (λ a. a.slot) slot (held_by c rows)) ≡ list_any (is_of c slot) rows
 has_slot c slot [] = refl
-has_slot c slot (r ∷ rows) = by (eqb_tells r.0 c) (has_slot c slot rows)
+has_slot c slot (r ∷ rows) = cases (eqb_tells r.0 c) (has_slot c slot rows)
   where
     here : (b : Bool) → is_eq (nat_cmp r.1.slot slot) ≡ b → is_some (row_by_number slot_of slot (held_by c rows))
         ≡ list_any
@@ -42,11 +42,11 @@ has_slot c slot (r ∷ rows) = by (eqb_tells r.0 c) (has_slot c slot rows)
     here true e rest = rw e refl
     here false e rest = rw e rest
 
-    by : ((eqb r.0 c ≡ true) × (r.0 ≡ c)) ⊎ ((eqb r.0 c ≡ false) × (r.0 ≢ c)) →
+    cases : ((eqb r.0 c ≡ true) × (r.0 ≡ c)) ⊎ ((eqb r.0 c ≡ false) × (r.0 ≢ c)) →
         is_some (row_by_number slot_of slot (held_by c rows)) ≡ list_any (is_of c slot) rows →
         is_some (row_by_number slot_of slot (held_by c (r ∷ rows))) ≡ list_any (is_of c slot) (r ∷ rows)
-    by (inl same) rest = rw same.0 (here (eqb r.1.slot slot) (unsigned_tied r.1.slot slot) rest)
-    by (inr apart) rest = rw apart.0 rest
+    cases (inl same) rest = rw same.0 (here (eqb r.1.slot slot) (unsigned_tied r.1.slot slot) rest)
+    cases (inr apart) rest = rw apart.0 rest
 
 -- a slot that isn't found has no row
 pub free_slot : (c slot : ℕ) (rows : List (ℕ × Assignment)) → row_by_number (λ a. a.slot) slot (held_by c rows) ≡ None →
@@ -59,10 +59,10 @@ one_of_or : (a b : Bool) → (a || b) ≡ true → (a ≡ true) ⊎ (b ≡ true)
 one_of_or true b h = inl refl
 one_of_or false b h = inr h
 
-pub any-map : {X Y : Type 0} (f : X → Y) (p : Y → Bool) (q : X → Bool) → ((x : X) → p (f x) ≡ q x) → (xs : List X) →
+pub any_map : {X Y : Type 0} (f : X → Y) (p : Y → Bool) (q : X → Bool) → ((x : X) → p (f x) ≡ q x) → (xs : List X) →
     list_any p (map f xs) ≡ list_any q xs
-any-map f p q same [] = refl
-any-map f p q same (x ∷ xs) = ap (λ b. b || list_any p (map f xs)) (same x) ∙ ap (λ b. q x || b) (any-map f p q same xs)
+any_map f p q same [] = refl
+any_map f p q same (x ∷ xs) = ap (λ b. b || list_any p (map f xs)) (same x) ∙ ap (λ b. q x || b) (any_map f p q same xs)
 
 module _ {X K : Type 0} (R : K → K → Ordering) (key : X → K) (p : X → Bool) (row : X) where
   abbrev below : List X → List X
@@ -75,7 +75,7 @@ module _ {X K : Type 0} (R : K → K → Ordering) (key : X → K) (p : X → Bo
   kept_or_replaced : (rows : List X) → ((x : X) → R (key x) (key row) ≡ Equal → p x ≡ true → p row ≡ true) →
       list_any p rows ≡ true → (list_any p (below rows) ≡ true) ⊎ (list_any p (row ∷ above rows) ≡ true)
   kept_or_replaced [] alike h = let no : false ≡ true = h in cc
-  kept_or_replaced (x ∷ xs) alike h = by (R (key x) (key row)) refl (one_of_or (p x) (list_any p xs) h)
+  kept_or_replaced (x ∷ xs) alike h = cases (R (key x) (key row)) refl (one_of_or (p x) (list_any p xs) h)
       (kept_or_replaced xs alike)
     where
       Either : List X → Type 0
@@ -98,27 +98,28 @@ module _ {X K : Type 0} (R : K → K → Ordering) (key : X → K) (p : X → Bo
           by_row (inr a) =
               or_of_second (p row) (p x || list_any p (above xs)) (or_of_second (p x) (list_any p (above xs)) a)
 
-      by : (s : Ordering) → R (key x) (key row) ≡ s → (p x ≡ true) ⊎ (list_any p xs ≡ true) →
+      cases : (s : Ordering) → R (key x) (key row) ≡ s → (p x ≡ true) ⊎ (list_any p xs ≡ true) →
           (list_any p xs ≡ true → Either xs) → Either (x ∷ xs)
-      by Less e (inl here) rest = inl (rw (ap is_lt e) (or_of_first (p x) (list_any p (below xs)) here))
-      by Less e (inr later) rest = lower (rest later) (ap is_lt e) (ap is_gt e)
-      by Equal e (inl here) rest = inr (rw (ap is_gt e) (or_of_first (p row) (list_any p (above xs)) (alike x e here)))
-      by Equal e (inr later) rest = level (rest later) (ap is_lt e) (ap is_gt e)
-      by Greater e (inl here) rest = inr (rw (ap is_gt e)
+      cases Less e (inl here) rest = inl (rw (ap is_lt e) (or_of_first (p x) (list_any p (below xs)) here))
+      cases Less e (inr later) rest = lower (rest later) (ap is_lt e) (ap is_gt e)
+      cases Equal e (inl here) rest = inr
+          (rw (ap is_gt e) (or_of_first (p row) (list_any p (above xs)) (alike x e here)))
+      cases Equal e (inr later) rest = level (rest later) (ap is_lt e) (ap is_gt e)
+      cases Greater e (inl here) rest = inr (rw (ap is_gt e)
           (or_of_second (p row) (p x || list_any p (above xs)) (or_of_first (p x) (list_any p (above xs)) here)))
-      by Greater e (inr later) rest = higher (rest later) (ap is_lt e) (ap is_gt e)
+      cases Greater e (inr later) rest = higher (rest later) (ap is_lt e) (ap is_gt e)
 
-  pub any-put : (rows : List X) → ((x : X) → R (key x) (key row) ≡ Equal → p x ≡ true → p row ≡ true) →
+  pub any_put : (rows : List X) → ((x : X) → R (key x) (key row) ≡ Equal → p x ≡ true → p row ≡ true) →
       list_any p rows ≡ true → list_any p (with_row R key row rows) ≡ true
-  any-put rows alike h = list_any-append p (below rows) (row ∷ above rows) ∙ by (kept_or_replaced rows alike h)
+  any_put rows alike h = list_any-append p (below rows) (row ∷ above rows) ∙ cases (kept_or_replaced rows alike h)
     where
-      by : (list_any p (below rows) ≡ true) ⊎ (list_any p (row ∷ above rows) ≡ true) →
+      cases : (list_any p (below rows) ≡ true) ⊎ (list_any p (row ∷ above rows) ≡ true) →
           (list_any p (below rows) || list_any p (row ∷ above rows)) ≡ true
-      by (inl l) = or_of_first (list_any p (below rows)) (list_any p (row ∷ above rows)) l
-      by (inr g) = or_of_second (list_any p (below rows)) (list_any p (row ∷ above rows)) g
+      cases (inl l) = or_of_first (list_any p (below rows)) (list_any p (row ∷ above rows)) l
+      cases (inr g) = or_of_second (list_any p (below rows)) (list_any p (row ∷ above rows)) g
 
-  pub any-put_own : (rows : List X) → p row ≡ true → list_any p (with_row R key row rows) ≡ true
-  any-put_own rows h = list_any-append p (below rows) (row ∷ above rows)
+  pub any_put_own : (rows : List X) → p row ≡ true → list_any p (with_row R key row rows) ≡ true
+  any_put_own rows h = list_any-append p (below rows) (row ∷ above rows)
       ∙ or_of_second (list_any p (below rows)) (list_any p (row ∷ above rows))
       (or_of_first (p row) (list_any p (above rows)) h)
 
@@ -128,7 +129,7 @@ module _ {X K : Type 0} (R : K → K → Ordering) (key : X → K) (p : X → Bo
 pub slot_stays : (c slot n : ℕ) (a : Assignment) (rows : List (ℕ × Assignment)) →
     list_any (is_of c slot) rows ≡ true → list_any (is_of c slot)
     (with_row (held_cmp nat_cmp) (held_key (λ a. a.slot)) (n, a) rows) ≡ true
-slot_stays c slot n a rows h = any-put (held_cmp nat_cmp) (held_key slot_of) (is_of c slot) (n, a) rows alike h
+slot_stays c slot n a rows h = any_put (held_cmp nat_cmp) (held_key slot_of) (is_of c slot) (n, a) rows alike h
   where
     alike : (x : ℕ × Assignment) → held_cmp nat_cmp (x.0, x.1.slot) (n, a.slot) ≡ Equal → is_of c slot x ≡ true →
         is_of c slot (n, a) ≡ true
@@ -155,7 +156,7 @@ pub none_taken : (c slot : ℕ) (rows : List (ℕ × Assignment)) → row_by_num
     (taken : List TakenOver) → AllByRecursion (IsGiven rows) taken →
     row_at (held_cmp nat_cmp) taken_key (c, slot) taken ≡ None
 none_taken c slot rows none [] all = refl
-none_taken c slot rows none (t ∷ taken) all = by (is_eq (held_cmp nat_cmp (t.collector, t.slot) (c, slot))) refl
+none_taken c slot rows none (t ∷ taken) all = cases (is_eq (held_cmp nat_cmp (t.collector, t.slot) (c, slot))) refl
     (none_taken c slot rows none taken all.1)
   where
     collectors : (a b : Bool) → (a && b) ≡ true → a ≡ true
@@ -167,20 +168,20 @@ none_taken c slot rows none (t ∷ taken) all = by (is_eq (held_cmp nat_cmp (t.c
     slots false b h = let no : false ≡ true = h in cc
 
     is : (m n : ℕ) → eqb m n ≡ true → m ≡ n
-    is m n h = by (eqb_tells m n)
+    is m n h = cases (eqb_tells m n)
       where
-        by : ((eqb m n ≡ true) × (m ≡ n)) ⊎ ((eqb m n ≡ false) × (m ≢ n)) → m ≡ n
-        by (inl same) = same.1
-        by (inr apart) = let no : true ≡ false = sym h ∙ apart.0 in cc
+        cases : ((eqb m n ≡ true) × (m ≡ n)) ⊎ ((eqb m n ≡ false) × (m ≢ n)) → m ≡ n
+        cases (inl same) = same.1
+        cases (inr apart) = let no : true ≡ false = sym h ∙ apart.0 in cc
 
-    by : (b : Bool) → is_eq (held_cmp nat_cmp (t.collector, t.slot) (c, slot)) ≡ b →
+    cases : (b : Bool) → is_eq (held_cmp nat_cmp (t.collector, t.slot) (c, slot)) ≡ b →
         row_at (held_cmp nat_cmp) taken_key (c, slot) taken ≡ None →
         row_at (held_cmp nat_cmp) taken_key (c, slot) (t ∷ taken) ≡ None
-    by true e rest =
+    cases true e rest =
         let both : (eqb t.collector c && eqb t.slot slot) ≡ true = sym (level_slots t.collector t.slot c slot) ∙ e in
         let collector : t.collector ≡ c = is t.collector c (collectors (eqb t.collector c) (eqb t.slot slot) both) in
         let at_slot : t.slot ≡ slot = is t.slot slot (slots (eqb t.collector c) (eqb t.slot slot) both) in
         let there : is_some (row_by_number slot_of slot (held_by c rows)) ≡ true = rw (← collector, ← at_slot) all.0 in
         let no : false ≡ true = sym (ap is_some none) ∙ there in
         cc
-    by false e rest = rw e rest
+    cases false e rest = rw e rest

@@ -18,17 +18,17 @@ use Rattle.cpi_store.specs.Series.{series_cmp, series_named_in}
 use Rattle.cpi_store.specs.declared.given.Given.{Given}
 use Rattle.cpi_store.specs.declared.taken_over.TakenOver.{TakenOver}
 use Rattle.cpi_store.proofs.GivenSlots.{level_slots, taken_key}
-use Rattle.cpi_store.proofs.Lasts.{last_of_series-append}
+use Rattle.cpi_store.proofs.Lasts.{last_of_series_append}
 
 -- of more assignments, the later one of both
-pub last_handed_over-append : (taken : List TakenOver) (s : SeriesId) (xs ys : List (ℕ × Given)) →
+pub last_handed_over_append : (taken : List TakenOver) (s : SeriesId) (xs ys : List (ℕ × Given)) →
     last_handed_over taken s (xs ++ ys) ≡ max (last_handed_over taken s xs) (last_handed_over taken s ys)
-last_handed_over-append taken s xs ys = by (is_handed_over taken s) refl
+last_handed_over_append taken s xs ys = cases (is_handed_over taken s) refl
   where
-    by : (t : Bool) → is_handed_over taken s ≡ t →
+    cases : (t : Bool) → is_handed_over taken s ≡ t →
         last_handed_over taken s (xs ++ ys) ≡ max (last_handed_over taken s xs) (last_handed_over taken s ys)
-    by true e = rw e (last_of_series-append s xs ys)
-    by false e = rw e refl
+    cases true e = rw e (last_of_series_append s xs ys)
+    cases false e = rw e refl
 
 pub collectors_are : (a b : SeriesId) → same_series a b ≡ true → a.collector ≡ b.collector
 collectors_are a b same =
@@ -37,8 +37,8 @@ collectors_are a b same =
 pub slots_are : (a b : SeriesId) → same_series a b ≡ true → a.slot ≡ b.slot
 slots_are a b same = eqb-true a.slot b.slot (and_both (eqb a.collector b.collector) (eqb a.slot b.slot) same).1
 
-pub same_series-is : (a b : SeriesId) → a.collector ≡ b.collector → a.slot ≡ b.slot → same_series a b ≡ true
-same_series-is a b collectors slots =
+pub same_series_is : (a b : SeriesId) → a.collector ≡ b.collector → a.slot ≡ b.slot → same_series a b ≡ true
+same_series_is a b collectors slots =
     rw (eq-eqb a.collector b.collector collectors, eq-eqb a.slot b.slot slots) refl
 
 -- one series is handed over or isn't
@@ -55,26 +55,26 @@ any_found : (p : TakenOver → Bool) (key : ℕ × ℕ) (taken : List TakenOver)
     row_at (held_cmp nat_cmp) taken_key key taken ≡ Some t → p t ≡ true → list_any p taken ≡ true
 any_found p key [] t found passes = let no : None ≡ Some t = found in cc
 any_found p key (x ∷ taken) t found passes =
-    by (is_eq (held_cmp nat_cmp (taken_key x) key)) refl (any_found p key taken t)
+    cases (is_eq (held_cmp nat_cmp (taken_key x) key)) refl (any_found p key taken t)
   where
-    by : (w : Bool) → is_eq (held_cmp nat_cmp (taken_key x) key) ≡ w →
+    cases : (w : Bool) → is_eq (held_cmp nat_cmp (taken_key x) key) ≡ w →
         (row_at (held_cmp nat_cmp) taken_key key taken ≡ Some t → p t ≡ true → list_any p taken ≡ true) →
         list_any p (x ∷ taken) ≡ true
-    by true e rest =
+    cases true e rest =
         let one : Some x ≡ Some t = rw e at found in
         let is : x ≡ t = cc in
         rw (ap p is ∙ passes) refl
-    by false e rest = or_of_second (p x) (list_any p taken) (rest (rw e at found) passes)
+    cases false e rest = or_of_second (p x) (list_any p taken) (rest (rw e at found) passes)
 
 -- the slot of a series that no slot took over is the one that the series names
 pub names_own : (taken : List TakenOver) (c slot : ℕ) (s : SeriesId) → is_handed_over taken s ≡ false →
     same_series (series_named_in taken c slot) s ≡ true → same_series (own_series c slot) s ≡ true
-names_own taken c slot s free same = by (row_at (held_cmp nat_cmp) taken_key (c, slot) taken) refl
+names_own taken c slot s free same = cases (row_at (held_cmp nat_cmp) taken_key (c, slot) taken) refl
   where
-    by : (w : Option TakenOver) → row_at (held_cmp nat_cmp) taken_key (c, slot) taken ≡ w →
+    cases : (w : Option TakenOver) → row_at (held_cmp nat_cmp) taken_key (c, slot) taken ≡ w →
         same_series (own_series c slot) s ≡ true
-    by None e = rw e at same
-    by (Some t) e =
+    cases None e = rw e at same
+    cases (Some t) e =
         let of_it : same_series t.series s ≡ true = rw e at same in
         let taken_it : is_handed_over taken s ≡ true =
         any_found (λ t. same_series t.series s) (c, slot) taken t e of_it in
@@ -109,22 +109,22 @@ module _ (month : ℕ) (quotes : List (ℕ × QuoteRow)) (given : List (ℕ × G
   later_apart : (f : Frozen) (row : ℕ × Given) (rows : List (ℕ × Given)) →
       AllByRecursion (λ g. is_one f g ≡ false) (filter_map stored (row ∷ rows)) →
       AllByRecursion (λ g. is_one f g ≡ false) (filter_map stored rows)
-  later_apart f row rows all = by (stored row) all
+  later_apart f row rows all = cases (stored row) all
     where
-      by : (w : Option Frozen) → AllByRecursion (λ g. is_one f g ≡ false) (cons_option w (filter_map stored rows)) →
+      cases : (w : Option Frozen) → AllByRecursion (λ g. is_one f g ≡ false) (cons_option w (filter_map stored rows)) →
           AllByRecursion (λ g. is_one f g ≡ false) (filter_map stored rows)
-      by None all = all
-      by (Some x) all = all.1
+      cases None all = all
+      cases (Some x) all = all.1
 
   later_distinct : (row : ℕ × Given) (rows : List (ℕ × Given)) → IsDistinct is_one (filter_map stored (row ∷ rows)) →
       IsDistinct is_one (filter_map stored rows)
   unfolding IsDistinct
-  later_distinct row rows all = by (stored row) all
+  later_distinct row rows all = cases (stored row) all
     where
-      by : (w : Option Frozen) → IsDistinct is_one (cons_option w (filter_map stored rows)) →
+      cases : (w : Option Frozen) → IsDistinct is_one (cons_option w (filter_map stored rows)) →
           IsDistinct is_one (filter_map stored rows)
-      by None all = all
-      by (Some x) all = all.1
+      cases None all = all
+      cases (Some x) all = all.1
 
   -- if no quote is of the series, no assignment is
   none_more : (f : Frozen) → same_series f.series s ≡ true → (rs : List (ℕ × Assignment)) →
@@ -132,24 +132,24 @@ module _ (month : ℕ) (quotes : List (ℕ × QuoteRow)) (given : List (ℕ × G
       AllByRecursion (λ r. is_its r ≡ false) rs
   none_more f same [] all = tt
   none_more f same (r ∷ rs) all = (
-    by (is_its r) refl,
+    cases (is_its r) refl,
     none_more f same rs (later_apart f (given_in taken r) (map (given_in taken) rs) all),
   )
     where
-      by : (t : Bool) → is_its r ≡ t → is_its r ≡ false
-      by true e =
+      cases : (t : Bool) → is_its r ≡ t → is_its r ≡ false
+      cases true e =
           let split = rw (stores r e) at all in
           let apart : is_one f (quote_of_it r) ≡ false = split.0 in
           let level : is_one f (quote_of_it r) ≡ same_series f.series (series_named_in taken r.0 r.1.slot) =
           level_slots f.series.collector f.series.slot (series_named_in taken r.0 r.1.slot).collector
           (series_named_in taken r.0 r.1.slot).slot in
           let one : same_series f.series (series_named_in taken r.0 r.1.slot) ≡ true =
-          same_series-is f.series (series_named_in taken r.0 r.1.slot)
+          same_series_is f.series (series_named_in taken r.0 r.1.slot)
           (collectors_are f.series s same ∙ sym (collectors_are (series_named_in taken r.0 r.1.slot) s e))
           (slots_are f.series s same ∙ sym (slots_are (series_named_in taken r.0 r.1.slot) s e)) in
           let no : false ≡ true = sym apart ∙ level ∙ one in
           cc
-      by false e = e
+      cases false e = e
 
   none_last : (rs : List (ℕ × Assignment)) → AllByRecursion (λ r. is_its r ≡ false) rs →
       last_of_series s (map (given_in taken) rs) ≡ 0
@@ -169,18 +169,18 @@ module _ (month : ℕ) (quotes : List (ℕ × QuoteRow)) (given : List (ℕ × G
       IsDistinct is_one (filter_map stored (map (given_in taken) rs)) → AllByRecursion (EndsAt m) rs
   unfolding IsDistinct
   ends_at m [] last distinct = tt
-  ends_at m (r ∷ rs) last distinct = by (is_its r) refl (ends_at m rs)
+  ends_at m (r ∷ rs) last distinct = cases (is_its r) refl (ends_at m rs)
     where
-      by : (t : Bool) → is_its r ≡ t → (last_of_series s (map (given_in taken) rs) ≡ m →
+      cases : (t : Bool) → is_its r ≡ t → (last_of_series s (map (given_in taken) rs) ≡ m →
           IsDistinct is_one (filter_map stored (map (given_in taken) rs)) → AllByRecursion (EndsAt m) rs) →
           AllByRecursion (EndsAt m) (r ∷ rs)
-      by true e rest =
+      cases true e rest =
           let split = rw (stores r e) at distinct in
           let none : AllByRecursion (λ r. is_its r ≡ false) rs = none_more (quote_of_it r) e rs split.0 in
           let others : last_of_series s (map (given_in taken) rs) ≡ 0 = none_last rs none in
           let whole : max r.1.last_month (last_of_series s (map (given_in taken) rs)) ≡ m = rw e at last in
           ((λ its. omega (arith, others, whole)), no_ends m rs none)
-      by false e rest = (
+      cases false e rest = (
         (λ its. let no : false ≡ true = sym e ∙ its in cc),
         rest (rw e at last) (later_distinct (given_in taken r) (map (given_in taken) rs) distinct),
       )

@@ -11,7 +11,7 @@ use Rattle.std.proofs.lemmas.List.{map-append}
 use Rattle.cpi_rows.specs.Keyed.{IsInOrder, row_by_number, with_row, row_at}
 use Rattle.cpi_rows.specs.Held.{held_by, held_cmp, held_key}
 use Rattle.cpi_rows.proofs.Found.{at_key}
-use Rattle.cpi_rows.proofs.Puts.{map-put, put_standing}
+use Rattle.cpi_rows.proofs.Puts.{map_put, put_standing}
 use Rattle.cpi_store.proofs.GivenRows.{given_total}
 use Rattle.cpi_store.specs.declared.given.Given.{Given}
 use Rattle.cpi_store.specs.Office.{end_given, given_until, put_given, row_until}
@@ -21,12 +21,12 @@ abbrev slot_of : Given → ℕ
 slot_of g = g.assignment.slot
 
 -- the row of a slot among those of all is that of the slot among its collector's
-pub row_at-held : {X : Type 0} (key : X → ℕ) (c slot : ℕ) (rows : List (ℕ × X)) →
+pub row_at_held : {X : Type 0} (key : X → ℕ) (c slot : ℕ) (rows : List (ℕ × X)) →
     row_at (held_cmp nat_cmp) (held_key key) (c, slot) rows ≡ option_map (λ x. (c, x))
     (row_by_number key slot (held_by c rows))
-row_at-held key c slot [] = refl
-row_at-held {X = X} key c slot (r ∷ rows) = rw (level_slots r.0 (key r.1) c slot)
-    (by (eqb_tells r.0 c) (row_at-held key c slot rows))
+row_at_held key c slot [] = refl
+row_at_held {X = X} key c slot (r ∷ rows) = rw (level_slots r.0 (key r.1) c slot)
+    (cases (eqb_tells r.0 c) (row_at_held key c slot rows))
   where
     Found : List (ℕ × X) → Type 0
     Found rs = row_at (held_cmp nat_cmp) (held_key key) (c, slot) rs ≡ option_map (λ x. (c, x))
@@ -38,11 +38,11 @@ row_at-held {X = X} key c slot (r ∷ rows) = rw (level_slots r.0 (key r.1) c sl
     here same true e rest = rw e (ap (λ n. Some (n, r.1)) same)
     here same false e rest = rw e rest
 
-    by : ((eqb r.0 c ≡ true) × (r.0 ≡ c)) ⊎ ((eqb r.0 c ≡ false) × (r.0 ≢ c)) → Found rows →
+    cases : ((eqb r.0 c ≡ true) × (r.0 ≡ c)) ⊎ ((eqb r.0 c ≡ false) × (r.0 ≢ c)) → Found rows →
         (if r.0 == c && key r.1 == slot then Some r else row_at (held_cmp nat_cmp) (held_key key) (c, slot) rows) ≡
         option_map (λ x. (c, x)) (row_by_number key slot (held_by c (r ∷ rows)))
-    by (inl same) rest = rw same.0 (here same.1 (eqb (key r.1) slot) (unsigned_tied (key r.1) slot) rest)
-    by (inr apart) rest = rw apart.0 rest
+    cases (inl same) rest = rw same.0 (here same.1 (eqb (key r.1) slot) (unsigned_tied (key r.1) slot) rest)
+    cases (inr apart) rest = rw apart.0 rest
 
 module _ (c slot last_month : ℕ) where
   abbrev ending : ℕ × Given → ℕ × Given
@@ -50,21 +50,21 @@ module _ (c slot last_month : ℕ) where
 
   -- a row keeps its collector and slot
   key_stays : (row : ℕ × Given) → held_key slot_of (ending row) ≡ held_key slot_of row
-  key_stays row = by (row.0 == c && row.1.assignment.slot == slot) refl
+  key_stays row = cases (row.0 == c && row.1.assignment.slot == slot) refl
     where
-      by : (b : Bool) → (row.0 == c && row.1.assignment.slot == slot) ≡ b →
+      cases : (b : Bool) → (row.0 == c && row.1.assignment.slot == slot) ≡ b →
           held_key slot_of (ending row) ≡ held_key slot_of row
-      by true e = rw e refl
-      by false e = rw e refl
+      cases true e = rw e refl
+      cases false e = rw e refl
 
   -- what is put before the slot's row ends, is put after it
-  pub end_given-put : (n : ℕ) (g : Given) (rows : List (ℕ × Given)) → (n == c && g.assignment.slot == slot) ≡ false →
+  pub end_given_put : (n : ℕ) (g : Given) (rows : List (ℕ × Given)) → (n == c && g.assignment.slot == slot) ≡ false →
       end_given c slot last_month (put_given n g rows) ≡ put_given n g (end_given c slot last_month rows)
-  end_given-put n g rows apart =
+  end_given_put n g rows apart =
       let keys : (λ (row : ℕ × Given). held_key slot_of (ending row)) ≡ held_key slot_of = λ i row. key_stays row i in
       let stays : ending (n, g) ≡ (n, g) = rw apart refl in
       ap (λ key. map ending (with_row (held_cmp nat_cmp) key (n, g) rows)) (sym keys)
-      ∙ map-put (held_cmp nat_cmp) (held_key slot_of) ending (n, g) rows
+      ∙ map_put (held_cmp nat_cmp) (held_key slot_of) ending (n, g) rows
       ∙ ap (λ row. with_row (held_cmp nat_cmp) (held_key slot_of) row (map ending rows)) stays
 
   -- among rows of which the test passes none of the slot's, none changes
@@ -72,22 +72,22 @@ module _ (c slot last_month : ℕ) where
       (row.0 == c && row.1.assignment.slot == slot) ≡ false) → (rows : List (ℕ × Given)) →
       map ending (filter p rows) ≡ filter p rows
   none_ends p apart [] = refl
-  none_ends p apart (r ∷ rows) = by (p r) refl (none_ends p apart rows)
+  none_ends p apart (r ∷ rows) = cases (p r) refl (none_ends p apart rows)
     where
-      by : (b : Bool) → p r ≡ b → map ending (filter p rows) ≡ filter p rows →
+      cases : (b : Bool) → p r ≡ b → map ending (filter p rows) ≡ filter p rows →
           map ending (filter p (r ∷ rows)) ≡ filter p (r ∷ rows)
-      by true e rest = rw (e, apart r e) (ap (λ ys. r ∷ ys) rest)
-      by false e rest = rw e rest
+      cases true e rest = rw (e, apart r e) (ap (λ ys. r ∷ ys) rest)
+      cases false e rest = rw e rest
 
   -- If the slot is among rows in order, its row with the other last month is put in its place.
-  pub end_given-is_put : (g : Given) (rows : List (ℕ × Given)) →
+  pub end_given_is_put : (g : Given) (rows : List (ℕ × Given)) →
       IsInOrder (held_cmp nat_cmp) (held_key slot_of) rows →
       row_by_number (λ g. g.assignment.slot) slot (held_by c rows) ≡ Some g →
       end_given c slot last_month rows ≡ put_given c (given_until last_month g) rows
-  end_given-is_put g rows sorted found =
+  end_given_is_put g rows sorted found =
       let slot_is : g.assignment.slot ≡ slot = at_key slot_of slot g (held_by c rows) found in
       let there : row_at (held_cmp nat_cmp) (held_key slot_of) (c, slot) rows ≡ Some (c, g) =
-      row_at-held slot_of c slot rows ∙ ap (option_map (λ x. (c, x))) found in
+      row_at_held slot_of c slot rows ∙ ap (option_map (λ x. (c, x))) found in
       let stands : put_given c g rows ≡ rows = put_standing given_total (held_key slot_of) (c, g) rows sorted
       (ap (λ s. row_at (held_cmp nat_cmp) (held_key slot_of) (c, s) rows) slot_is ∙ there) in
       let below : ℕ × Given → Bool = λ r. is_lt (held_cmp nat_cmp (held_key slot_of r) (c, g.assignment.slot)) in
@@ -102,11 +102,11 @@ module _ (c slot last_month : ℕ) where
       ∙ ap (λ y. filter below rows ++ y ∷ filter above rows) own
     where
       same : (n : ℕ) → eqb n n ≡ true
-      same n = by (eqb_tells n n)
+      same n = cases (eqb_tells n n)
         where
-          by : ((eqb n n ≡ true) × (n ≡ n)) ⊎ ((eqb n n ≡ false) × (n ≢ n)) → eqb n n ≡ true
-          by (inl is) = is.0
-          by (inr not) = absurd (not.1 refl)
+          cases : ((eqb n n ≡ true) × (n ≡ n)) ⊎ ((eqb n n ≡ false) × (n ≢ n)) → eqb n n ≡ true
+          cases (inl is) = is.0
+          cases (inr not) = absurd (not.1 refl)
 
       ends : (g : Given) → g.assignment.slot ≡ slot → ending (c, g) ≡ (c, given_until last_month g)
       ends g is = rw (same c, is, same slot) refl
@@ -114,12 +114,12 @@ module _ (c slot last_month : ℕ) where
       apart : (test : Ordering → Bool) → test Equal ≡ false → (row : ℕ × Given) → g.assignment.slot ≡ slot →
           test (held_cmp nat_cmp (held_key slot_of row) (c, g.assignment.slot)) ≡ true →
           (row.0 == c && row.1.assignment.slot == slot) ≡ false
-      apart test out row is passes = by (held_cmp nat_cmp (held_key slot_of row) (c, slot)) refl
+      apart test out row is passes = cases (held_cmp nat_cmp (held_key slot_of row) (c, slot)) refl
           (rw is at passes)
         where
-          by : (s : Ordering) → held_cmp nat_cmp (held_key slot_of row) (c, slot) ≡ s →
+          cases : (s : Ordering) → held_cmp nat_cmp (held_key slot_of row) (c, slot) ≡ s →
               test (held_cmp nat_cmp (held_key slot_of row) (c, slot)) ≡ true →
               (row.0 == c && row.1.assignment.slot == slot) ≡ false
-          by Less e h = sym (level_slots row.0 row.1.assignment.slot c slot) ∙ ap is_eq e
-          by Equal e h = let no : false ≡ true = sym out ∙ ap test (sym e) ∙ h in cc
-          by Greater e h = sym (level_slots row.0 row.1.assignment.slot c slot) ∙ ap is_eq e
+          cases Less e h = sym (level_slots row.0 row.1.assignment.slot c slot) ∙ ap is_eq e
+          cases Equal e h = let no : false ≡ true = sym out ∙ ap test (sym e) ∙ h in cc
+          cases Greater e h = sym (level_slots row.0 row.1.assignment.slot c slot) ∙ ap is_eq e

@@ -73,11 +73,11 @@ module _ (plans : List Plan) where
   next_after month (b ∷ d ∷ before) x = next_after month (d ∷ before) x
 
   pub again_or_next : (a b : ℕ) → (a == b || b == a + 1) ≡ true → (b ≡ a) ⊎ (b ≡ a + 1)
-  again_or_next a b e = by (eqb_tells a b)
+  again_or_next a b e = cases (eqb_tells a b)
     where
-      by : ((eqb a b ≡ true) × (a ≡ b)) ⊎ ((eqb a b ≡ false) × (a ≢ b)) → (b ≡ a) ⊎ (b ≡ a + 1)
-      by (inl same) = inl (sym same.1)
-      by (inr apart) = inr (eqb-true b (a + 1) (rw apart.0 at e))
+      cases : ((eqb a b ≡ true) × (a ≡ b)) ⊎ ((eqb a b ≡ false) × (a ≢ b)) → (b ≡ a) ⊎ (b ≡ a + 1)
+      cases (inl same) = inl (sym same.1)
+      cases (inr apart) = inr (eqb-true b (a + 1) (rw apart.0 at e))
 
   abbrev months_in : Release → List Release → List ℕ
   months_in x rs = x.month ∷ map (λ (r : Release). r.month) rs
@@ -107,12 +107,12 @@ module _ (plans : List Plan) where
 
   -- ---- each but the first has its plan
   pub month_up : (a b : ReleaseKey) → release_cmp a b ≡ Less → a.0 ≤ b.0
-  month_up a b e = by (nat_cmp a.0 b.0) refl
+  month_up a b e = cases (nat_cmp a.0 b.0) refl
     where
-      by : (o : Ordering) → nat_cmp a.0 b.0 ≡ o → a.0 ≤ b.0
-      by Less f = omega (arith, ranked a.0 b.0 Less (sym f))
-      by Equal f = omega (arith, ranked a.0 b.0 Equal (sym f))
-      by Greater f = let no : Greater ≡ Less = sym (ap (λ o. ordering_then o (nat_cmp a.1 b.1)) f) ∙ e in cc
+      cases : (o : Ordering) → nat_cmp a.0 b.0 ≡ o → a.0 ≤ b.0
+      cases Less f = omega (arith, ranked a.0 b.0 Less (sym f))
+      cases Equal f = omega (arith, ranked a.0 b.0 Equal (sym f))
+      cases Greater f = let no : Greater ≡ Less = sym (ap (λ o. ordering_then o (nat_cmp a.1 b.1)) f) ∙ e in cc
 
   none_earlier : (r : Release) (rs : List Release) →
       AllByRecursion (λ (s : Release). release_cmp (release_key r) (release_key s) ≡ Less) rs →
@@ -158,12 +158,12 @@ module _ (plans : List Plan) where
   planned : (rs : List Release) → IsInOrder release_cmp release_key rs → AreReleased plans [] rs → (month : ℕ) →
       IsSome (latest_release rs month) → has_an_earlier rs month ≡ true →
       IsSome (row_by_number (λ (y : Plan). y.year) (year_of month) plans)
-  planned rs sorted all month found early = by (latest_release rs month) refl found
+  planned rs sorted all month found early = cases (latest_release rs month) refl found
     where
-      by : (o : Option Release) → latest_release rs month ≡ o → IsSome o →
+      cases : (o : Option Release) → latest_release rs month ≡ o → IsSome o →
           IsSome (row_by_number (λ (y : Plan). y.year) (year_of month) plans)
-      by None e some = absurd (false≢true some)
-      by (Some r) e some =
+      cases None e some = absurd (false≢true some)
+      cases (Some r) e some =
           let one = latest_all (λ (x : Release). x.month) month (IsPlanned rs) rs r (all_planned [] rs sorted all) e in
           subst (λ m. IsSome (row_by_number (λ (y : Plan). y.year) (year_of m) plans)) one.1
           (one.0 (ap (has_an_earlier rs) one.1 ∙ early))
@@ -173,14 +173,14 @@ module _ (plans : List Plan) where
 pub at_all : {X : Type 0} (P : X → Type 0) (key : X → ℕ) (k : ℕ) (x : X) (xs : List X) → AllByRecursion P xs →
     row_by_number key k xs ≡ Some x → P x
 at_all P key k x [] all found = let no : None ≡ Some x = found in cc
-at_all P key k x (y ∷ ys) all found = by (is_eq (nat_cmp (key y) k)) refl (at_all P key k x ys all.1)
+at_all P key k x (y ∷ ys) all found = cases (is_eq (nat_cmp (key y) k)) refl (at_all P key k x ys all.1)
   where
-    by : (b : Bool) → is_eq (nat_cmp (key y) k) ≡ b → (row_by_number key k ys ≡ Some x → P x) → P x
-    by true e rest =
+    cases : (b : Bool) → is_eq (nat_cmp (key y) k) ≡ b → (row_by_number key k ys ≡ Some x → P x) → P x
+    cases true e rest =
         let some : Some y ≡ Some x = rw e at found in
         let is : y ≡ x = cc in
         subst P is all.0
-    by false e rest = rest (rw e at found)
+    cases false e rest = rest (rw e at found)
 
 -- a table has the order of the nodes
 module _ (p : Plan) (releases : List Release) (month : ℕ) (rows : List Row) where
@@ -198,25 +198,25 @@ module _ (p : Plan) (releases : List Release) (month : ℕ) (rows : List Row) wh
 module _ (plans : List Plan) (nodes : AllByRecursion HasNodesInOrder plans) where
   plan_ordered : (p : Plan) (before : List Release) (month : ℕ) →
       plan_for plans (frozen_months before) month ≡ Some p → HasNodesInOrder p
-  plan_ordered p before month e = by (is_past_first_month month (frozen_months before)) refl
+  plan_ordered p before month e = cases (is_past_first_month month (frozen_months before)) refl
     where
-      by : (b : Bool) → is_past_first_month month (frozen_months before) ≡ b → HasNodesInOrder p
-      by true t = at_all HasNodesInOrder (λ (y : Plan). y.year) (year_of month) p plans nodes (rw t at e)
-      by false t = let no : None ≡ Some p = rw t at e in cc
+      cases : (b : Bool) → is_past_first_month month (frozen_months before) ≡ b → HasNodesInOrder p
+      cases true t = at_all HasNodesInOrder (λ (y : Plan). y.year) (year_of month) p plans nodes (rw t at e)
+      cases false t = let no : None ≡ Some p = rw t at e in cc
 
   one_ordered : (before : List Release) (r : Release) → AllByRecursion IsOrdered before →
       are_by_series frozen_serial r.frozen ≡ true → IsReleased plans before r → IsOrdered r
-  one_ordered before r done frozen one = by (plan_for plans (frozen_months before) r.month) refl
+  one_ordered before r done frozen one = cases (plan_for plans (frozen_months before) r.month) refl
     where
-      by : (w : Option Plan) → plan_for plans (frozen_months before) r.month ≡ w → IsOrdered r
-      by None e = let is : r ≡ release_of_month None before (freeze_of r) = one.computed
+      cases : (w : Option Plan) → plan_for plans (frozen_months before) r.month ≡ w → IsOrdered r
+      cases None e = let is : r ≡ release_of_month None before (freeze_of r) = one.computed
           ∙ ap (λ w. release_of_month w before (freeze_of r)) e in record {
             frozen = frozen;
             carried = ap (λ (x : Release). are_by_series carried_serial x.carried) is;
             levels = subst (λ (x : Release). IsInOrder code_cmp (λ l. l.code) x.levels) (sym is)
                 (none_in_order code_cmp (λ l. l.code));
           }
-      by (Some p) e = let is : r ≡ release_of_month (Some p) before (freeze_of r) = one.computed
+      cases (Some p) e = let is : r ≡ release_of_month (Some p) before (freeze_of r) = one.computed
           ∙ ap (λ w. release_of_month w before (freeze_of r)) e in record {
             frozen = frozen;
             carried = ap (λ (x : Release). are_by_series carried_serial x.carried) is

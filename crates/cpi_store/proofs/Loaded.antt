@@ -165,16 +165,16 @@ ok_found P (Err y) x e h = let no : Some x ≡ None = e in cc
 pub registration_behind : (b : Registration) (bs : List Registration) → registration_of b.key bs ≡ None
     → (key : ℕ) (before after : Option Registration) → before ≡ registration_of key bs
     → after ≡ cond (is_eq (nat_cmp b.key key)) (Some b) before → after ≡ registration_of key (bs ++ b ∷ [])
-registration_behind b bs free key before after was is = by (eqb_tells b.key key)
+registration_behind b bs free key before after was is = cases (eqb_tells b.key key)
   where
-    by : ((eqb b.key key ≡ true) × (b.key ≡ key)) ⊎ ((eqb b.key key ≡ false) × (b.key ≢ key))
+    cases : ((eqb b.key key ≡ true) × (b.key ≡ key)) ⊎ ((eqb b.key key ≡ false) × (b.key ≢ key))
         → after ≡ registration_of key (bs ++ b ∷ [])
-    by (inl same) =
+    cases (inl same) =
         let test : is_eq (nat_cmp b.key key) ≡ true = rw (← same.1) (ap is_eq (tied_itself nat_cmp_total b.key)) in
         let none : registration_of key (bs ++ []) ≡ None =
         ap (registration_of key) (append-nil bs) ∙ ap (λ k. registration_of k bs) (sym same.1) ∙ free in
         is ∙ ap (λ t. cond t (Some b) before) test ∙ sym (registration_new key b bs [] same.0 none)
-    by (inr apart) =
+    cases (inr apart) =
         is ∙ ap (λ t. cond t (Some b) before) (different b.key key apart.1) ∙ was
         ∙ sym (registration_passed key b bs [] apart.0 ∙ ap (registration_of key) (append-nil bs))
 

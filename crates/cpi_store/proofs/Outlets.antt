@@ -5,7 +5,7 @@ use Rattle.std.specs.Ordering.{nat_cmp}
 use Rattle.std.specs.List.{AllByRecursion}
 use Rattle.std.proofs.lemmas.Bool.{false≢true}
 use Rattle.cpi_rows.specs.Keyed.{row_by_number, put_by, IsInOrder}
-use Rattle.cpi_rows.proofs.Puts.{at-put_found, at-put_some}
+use Rattle.cpi_rows.proofs.Puts.{at_put_found_row, at_put_some}
 use Rattle.cpi_store.specs.Outlet.{with_name}
 use Rattle.cpi_store.specs.declared.outlet.Outlet.{Outlet}
 use Rattle.cpi_survey.specs.declared.assignment.Assigned.{Assigned}
@@ -15,12 +15,12 @@ module _ (u : Outlet) (us : List Outlet) (sorted : IsInOrder nat_cmp (λ u. u.nu
     (new : row_by_number (λ u. u.number) u.number us ≡ None) where
   name_stays : (a : Assigned) → HasOutlet us a →
       with_name (put_by (λ u. u.number) u us) a.assignment ≡ with_name us a.assignment
-  name_stays a has = by (row_by_number (λ u. u.number) a.assignment.outlet us) refl has
+  name_stays a has = cases (row_by_number (λ u. u.number) a.assignment.outlet us) refl has
     where
-      by : (w : Option Outlet) → row_by_number (λ u. u.number) a.assignment.outlet us ≡ w → IsSome w →
+      cases : (w : Option Outlet) → row_by_number (λ u. u.number) a.assignment.outlet us ≡ w → IsSome w →
           with_name (put_by (λ u. u.number) u us) a.assignment ≡ with_name us a.assignment
-      by None e some = absurd (false≢true some)
-      by (Some x) e some = rw (at-put_found (λ u. u.number) u us sorted new a.assignment.outlet x e, e) refl
+      cases None e some = absurd (false≢true some)
+      cases (Some x) e some = rw (at_put_found_row (λ u. u.number) u us sorted new a.assignment.outlet x e, e) refl
 
   own_stays : (own : List Assigned) → AllByRecursion (HasOutlet us) own →
       map (with_name (put_by (λ u. u.number) u us)) (map (λ a. a.assignment) own) ≡ map (with_name us)
@@ -39,7 +39,7 @@ module _ (u : Outlet) (us : List Outlet) (sorted : IsInOrder nat_cmp (λ u. u.nu
       AllByRecursion (HasOutlet (put_by (λ u. u.number) u us)) own
   own_placed [] all = tt
   own_placed (a ∷ own) all = (
-    at-put_some (λ u. u.number) u us sorted new a.assignment.outlet all.0,
+    at_put_some (λ u. u.number) u us sorted new a.assignment.outlet all.0,
     own_placed own all.1,
   )
 

@@ -16,27 +16,28 @@ use Rattle.cpi_store.specs.Sound.{AllPairs}
 
 -- series that compare equal
 pub series_equal : (s t : SeriesId) → series_cmp s t ≡ Equal → s ≡ t
-series_equal s t e = by (nat_cmp s.collector t.collector) refl e
+series_equal s t e = cases (nat_cmp s.collector t.collector) refl e
   where
-    by : (w : Ordering) → nat_cmp s.collector t.collector ≡ w → ordering_then w (nat_cmp s.slot t.slot) ≡ Equal → s ≡ t
-    by Less f e = let no : Less ≡ Equal = e in cc
-    by Equal f e =
+    cases : (w : Ordering) → nat_cmp s.collector t.collector ≡ w → ordering_then w (nat_cmp s.slot t.slot) ≡ Equal →
+        s ≡ t
+    cases Less f e = let no : Less ≡ Equal = e in cc
+    cases Equal f e =
         let collector : s.collector ≡ t.collector = ranked s.collector t.collector Equal (sym f) in
         let slot : s.slot ≡ t.slot = ranked s.slot t.slot Equal (sym e) in
         λ n. record { collector = collector n; slot = slot n }
-    by Greater f e = let no : Greater ≡ Equal = e in cc
+    cases Greater f e = let no : Greater ≡ Equal = e in cc
 
 -- ---- what holds of each quote
 
 pub all_placed : (P : Frozen → Type 0) (f : Frozen) (rows : List Frozen) → P f → AllByRecursion P rows →
     AllByRecursion P (put_by_series f rows)
 all_placed P f [] one all = (one, tt)
-all_placed P f (g ∷ rows) one all = by (is_gt (series_cmp f.series g.series)) refl (all_placed P f rows one all.1)
+all_placed P f (g ∷ rows) one all = cases (is_gt (series_cmp f.series g.series)) refl (all_placed P f rows one all.1)
   where
-    by : (w : Bool) → is_gt (series_cmp f.series g.series) ≡ w → AllByRecursion P (put_by_series f rows) →
+    cases : (w : Bool) → is_gt (series_cmp f.series g.series) ≡ w → AllByRecursion P (put_by_series f rows) →
         AllByRecursion P (put_by_series f (g ∷ rows))
-    by true e rest = rw e (all.0, rest)
-    by false e rest = rw e (one, (all.0, all.1))
+    cases true e rest = rw e (all.0, rest)
+    cases false e rest = rw e (one, (all.0, all.1))
 
 pub all_by_series : (P : Frozen → Type 0) (rows : List Frozen) → AllByRecursion P rows →
     AllByRecursion P (by_series rows)
@@ -61,15 +62,15 @@ placed_in_order : (f : Frozen) (rows : List Frozen) → AllByRecursion (AreApart
     IsInOrder series_cmp (λ g. g.series) rows → IsInOrder series_cmp (λ g. g.series) (put_by_series f rows)
 unfolding IsStrictlySortedBy
 placed_in_order f [] apart sorted = (tt, tt)
-placed_in_order f (g ∷ rows) apart sorted = by (series_cmp f.series g.series) refl
+placed_in_order f (g ∷ rows) apart sorted = cases (series_cmp f.series g.series) refl
     (placed_in_order f rows apart.1 sorted.1)
   where
-    by : (w : Ordering) → series_cmp f.series g.series ≡ w → IsInOrder series_cmp (λ g. g.series)
+    cases : (w : Ordering) → series_cmp f.series g.series ≡ w → IsInOrder series_cmp (λ g. g.series)
         (put_by_series f rows) →
         IsInOrder series_cmp (λ g. g.series) (put_by_series f (g ∷ rows))
-    by Less e rest = rw (ap is_gt e) ((e, above_too f g rows e sorted.0), (sorted.0, sorted.1))
-    by Equal e rest = absurd (apart.0 (series_equal f.series g.series e))
-    by Greater e rest =
+    cases Less e rest = rw (ap is_gt e) ((e, above_too f g rows e sorted.0), (sorted.0, sorted.1))
+    cases Equal e rest = absurd (apart.0 (series_equal f.series g.series e))
+    cases Greater e rest =
         let below : series_cmp g.series f.series ≡ Less = series_cmp_total.antisymm g.series f.series
         ∙ ap ordering_reverse e in
         rw (ap is_gt e) (all_placed (λ h. series_cmp g.series h.series ≡ Less) f rows below sorted.0, rest)
@@ -87,7 +88,7 @@ module _ (s : SeriesId) where
   first_placed : (f : Frozen) (rows : List Frozen) →
       row_at series_cmp (λ f. f.series) s (put_by_series f rows) ≡ row_at series_cmp (λ f. f.series) s (f ∷ rows)
   first_placed f [] = refl
-  first_placed f (g ∷ rows) = by (series_cmp f.series g.series) refl (first_placed f rows)
+  first_placed f (g ∷ rows) = cases (series_cmp f.series g.series) refl (first_placed f rows)
     where
       Same : List Frozen → Type 0
       Same rs = row_at series_cmp (λ (f : Frozen). f.series) s (put_by_series f rs) ≡ row_at series_cmp
@@ -102,19 +103,19 @@ module _ (s : SeriesId) where
           let past : series_cmp f.series s ≡ Greater = sym (alike_right series_cmp_total g.series s f.series t) ∙ e in
           rw (ap is_eq t, ap is_eq past) refl
 
-      by : (w : Ordering) → series_cmp f.series g.series ≡ w → Same rows → Same (g ∷ rows)
-      by Less e rest = rw (ap is_gt e) refl
-      by Equal e rest = rw (ap is_gt e) refl
-      by Greater e rest = rw (ap is_gt e) (behind e (series_cmp g.series s) refl rest)
+      cases : (w : Ordering) → series_cmp f.series g.series ≡ w → Same rows → Same (g ∷ rows)
+      cases Less e rest = rw (ap is_gt e) refl
+      cases Equal e rest = rw (ap is_gt e) refl
+      cases Greater e rest = rw (ap is_gt e) (behind e (series_cmp g.series s) refl rest)
 
   pub first_by_series : (rows : List Frozen) → row_at series_cmp (λ f. f.series) s
       (by_series rows) ≡ row_at series_cmp (λ f. f.series) s rows
   first_by_series [] = refl
   first_by_series (f ∷ rows) = first_placed f (by_series rows)
-      ∙ by (is_eq (series_cmp f.series s)) refl (first_by_series rows)
+      ∙ cases (is_eq (series_cmp f.series s)) refl (first_by_series rows)
     where
-      by : (w : Bool) → is_eq (series_cmp f.series s) ≡ w →
+      cases : (w : Bool) → is_eq (series_cmp f.series s) ≡ w →
           row_at series_cmp (λ f. f.series) s (by_series rows) ≡ row_at series_cmp (λ f. f.series) s rows →
           row_at series_cmp (λ f. f.series) s (f ∷ by_series rows) ≡ row_at series_cmp (λ f. f.series) s (f ∷ rows)
-      by true e rest = rw e refl
-      by false e rest = rw e rest
+      cases true e rest = rw e refl
+      cases false e rest = rw e rest

@@ -46,29 +46,31 @@ module _ (month : ℕ) (revision : Option ℕ) (until : ℕ) where
 
   pub table_wanted : (rs : List Release) (r : Release) → is_wanted month revision until r ≡ true →
       table_until month revision until (rs ++ r ∷ []) ≡ Some (published_table r)
-  table_wanted rs r e = by (due r) (asked (published_table r)) refl refl (eqb_tells r.month month)
+  table_wanted rs r e = cases (due r) (asked (published_table r)) refl refl (eqb_tells r.month month)
     where
-      by : (d a : Bool) → due r ≡ d → asked (published_table r) ≡ a → ((eqb r.month month ≡ true) × (r.month ≡ month))
+      cases : (d a : Bool) → due r ≡ d → asked (published_table r) ≡ a →
+          ((eqb r.month month ≡ true) × (r.month ≡ month))
           ⊎ ((eqb r.month month ≡ false) × (r.month ≢ month)) → table_until month revision until (rs ++ r ∷ []) ≡ Some
           (published_table r)
-      by true true f g (inl same) = one_more rs r (published_table r ∷ []) (rw (f, g) refl)
+      cases true true f g (inl same) = one_more rs r (published_table r ∷ []) (rw (f, g) refl)
           ∙ latest_own in_month month (of rs) (published_table r) same.1
-      by true true f g (inr apart) = absurd (false≢true (rw (f, g, apart.0) at e))
-      by true false f g tells = absurd (false≢true (rw (f, g) at e))
-      by false a f g tells = absurd (false≢true (rw f at e))
+      cases true true f g (inr apart) = absurd (false≢true (rw (f, g, apart.0) at e))
+      cases true false f g tells = absurd (false≢true (rw (f, g) at e))
+      cases false a f g tells = absurd (false≢true (rw f at e))
 
   pub table_unwanted : (rs : List Release) (r : Release) → is_wanted month revision until r ≡ false →
       table_until month revision until (rs ++ r ∷ []) ≡ table_until month revision until rs
-  table_unwanted rs r e = by (due r) (asked (published_table r)) refl refl (eqb_tells r.month month)
+  table_unwanted rs r e = cases (due r) (asked (published_table r)) refl refl (eqb_tells r.month month)
     where
-      by : (d a : Bool) → due r ≡ d → asked (published_table r) ≡ a → ((eqb r.month month ≡ true) × (r.month ≡ month))
+      cases : (d a : Bool) → due r ≡ d → asked (published_table r) ≡ a →
+          ((eqb r.month month ≡ true) × (r.month ≡ month))
           ⊎ ((eqb r.month month ≡ false) × (r.month ≢ month)) →
           table_until month revision until (rs ++ r ∷ []) ≡ table_until month revision until rs
-      by true true f g (inl same) = absurd (false≢true (sym (rw (f, g, same.0) at e)))
-      by true true f g (inr apart) = one_more rs r (published_table r ∷ []) (rw (f, g) refl)
+      cases true true f g (inl same) = absurd (false≢true (sym (rw (f, g, same.0) at e)))
+      cases true true f g (inr apart) = one_more rs r (published_table r ∷ []) (rw (f, g) refl)
           ∙ latest_other in_month month (of rs) (published_table r) apart.1
-      by true false f g tells = none_more rs r (rw (f, g) refl)
-      by false a f g tells = none_more rs r (rw f refl)
+      cases true false f g tells = none_more rs r (rw (f, g) refl)
+      cases false a f g tells = none_more rs r (rw f refl)
 
 -- a revision that is named is one of those that may be latest
 pub wanted_named : (month revision until : ℕ) (r : Release) → (r.revision == revision) ≡ true →
@@ -77,20 +79,20 @@ wanted_named month revision until r e = rw e refl
 
 pub wanted_other : (month revision until : ℕ) (r : Release) → (r.revision == revision) ≡ false →
     is_wanted month (Some revision) until r ≡ false
-wanted_other month revision until r e = by (nat_le r.publishes until) refl
+wanted_other month revision until r e = cases (nat_le r.publishes until) refl
   where
-    by : (b : Bool) → nat_le r.publishes until ≡ b → is_wanted month (Some revision) until r ≡ false
-    by true f = rw (f, e) refl
-    by false f = rw f refl
+    cases : (b : Bool) → nat_le r.publishes until ≡ b → is_wanted month (Some revision) until r ≡ false
+    cases true f = rw (f, e) refl
+    cases false f = rw f refl
 
 pub le_is : (a b : ℕ) → nat_le a b ≡ is_le (nat_cmp a b)
-le_is a b = by (leb_tells a b) (nat_cmp a b) refl
+le_is a b = cases (leb_tells a b) (nat_cmp a b) refl
   where
-    by : ((leb a b ≡ true) × (a ≤ b)) ⊎ ((leb a b ≡ false) × (b < a)) → (s : Ordering) → nat_cmp a b ≡ s →
+    cases : ((leb a b ≡ true) × (a ≤ b)) ⊎ ((leb a b ≡ false) × (b < a)) → (s : Ordering) → nat_cmp a b ≡ s →
         nat_le a b ≡ is_le (nat_cmp a b)
-    by (inl le) Greater e = absurd (omega (arith, le.1, ranked a b Greater (sym e)))
-    by (inl le) Less e = le.0 ∙ sym (ap is_le e)
-    by (inl le) Equal e = le.0 ∙ sym (ap is_le e)
-    by (inr gt) Greater e = gt.0 ∙ sym (ap is_le e)
-    by (inr gt) Less e = absurd (omega (arith, gt.1, ranked a b Less (sym e)))
-    by (inr gt) Equal e = absurd (omega (arith, gt.1, ranked a b Equal (sym e)))
+    cases (inl le) Greater e = absurd (omega (arith, le.1, ranked a b Greater (sym e)))
+    cases (inl le) Less e = le.0 ∙ sym (ap is_le e)
+    cases (inl le) Equal e = le.0 ∙ sym (ap is_le e)
+    cases (inr gt) Greater e = gt.0 ∙ sym (ap is_le e)
+    cases (inr gt) Less e = absurd (omega (arith, gt.1, ranked a b Less (sym e)))
+    cases (inr gt) Equal e = absurd (omega (arith, gt.1, ranked a b Equal (sym e)))

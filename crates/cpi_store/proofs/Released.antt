@@ -15,7 +15,7 @@ use Rattle.std.proofs.lemmas.Map.Lookups.{exact_pairs, exact_unsigned}
 use Rattle.cpi_rows.specs.Keyed.{IsInOrder, row_by_number, row_at, put_by}
 use Rattle.cpi_rows.specs.Held.{held_by}
 use Rattle.cpi_rows.proofs.Found.{row_key}
-use Rattle.cpi_rows.proofs.Puts.{put_last, row_at-put_apart, different}
+use Rattle.cpi_rows.proofs.Puts.{put_last, row_at_put_apart, different}
 use Rattle.cpi_codes.specs.Month.{year_of}
 use Rattle.cpi_survey.specs.Assignment.{is_active}
 use Rattle.cpi_survey.specs.Quote.{QuoteRow, quote_cmp, quote_key}
@@ -74,35 +74,35 @@ module _ (month : ℕ) (quotes : List (ℕ × QuoteRow)) (given : List (ℕ × G
       AllByRecursion (AreApart r) rows → AllByRecursion IsActiveIfQuoted rows →
       AllByRecursion (λ f. r.1.series ≢ f.series) (filter_map (frozen_row month quotes given) rows)
   others_apart r [] active apart quoted = tt
-  others_apart r (s ∷ rows) active apart quoted = by (stored s) refl (others_apart r rows active apart.1 quoted.1)
+  others_apart r (s ∷ rows) active apart quoted = cases (stored s) refl (others_apart r rows active apart.1 quoted.1)
     where
-      by : (w : Option QuoteRow) → stored s ≡ w → AllByRecursion (λ f. r.1.series ≢ f.series)
+      cases : (w : Option QuoteRow) → stored s ≡ w → AllByRecursion (λ f. r.1.series ≢ f.series)
           (filter_map (frozen_row month quotes given) rows) →
           AllByRecursion (λ f. r.1.series ≢ f.series) (filter_map (frozen_row month quotes given) (s ∷ rows))
-      by None e rest = rw e rest
-      by (Some q) e rest = rw e (λ same. apart.0 same month active (quoted.0 q e), rest)
+      cases None e rest = rw e rest
+      cases (Some q) e rest = rw e (λ same. apart.0 same month active (quoted.0 q e), rest)
 
   stored_apart : (rows : List (ℕ × Given)) → AllPairs AreApart rows → AllByRecursion IsActiveIfQuoted rows →
       AllPairs (λ f g. f.series ≢ g.series) (filter_map (frozen_row month quotes given) rows)
   stored_apart [] apart quoted = tt
-  stored_apart (r ∷ rows) apart quoted = by (stored r) refl (stored_apart rows apart.1 quoted.1)
+  stored_apart (r ∷ rows) apart quoted = cases (stored r) refl (stored_apart rows apart.1 quoted.1)
     where
-      by : (w : Option QuoteRow) → stored r ≡ w → AllPairs (λ f g. f.series ≢ g.series)
+      cases : (w : Option QuoteRow) → stored r ≡ w → AllPairs (λ f g. f.series ≢ g.series)
           (filter_map (frozen_row month quotes given) rows) →
           AllPairs (λ f g. f.series ≢ g.series) (filter_map (frozen_row month quotes given) (r ∷ rows))
-      by None e rest = rw e rest
-      by (Some q) e rest = rw e (others_apart r rows (quoted.0 q e) apart.0 quoted.1, rest)
+      cases None e rest = rw e rest
+      cases (Some q) e rest = rw e (others_apart r rows (quoted.0 q e) apart.0 quoted.1, rest)
 
   stored_of_series : (rows : List (ℕ × Given)) → AllByRecursion (HasItsSeries given) rows →
       AllByRecursion (IsOfSeries given) (filter_map (frozen_row month quotes given) rows)
   stored_of_series [] series = tt
-  stored_of_series (r ∷ rows) series = by (stored r) refl (stored_of_series rows series.1)
+  stored_of_series (r ∷ rows) series = cases (stored r) refl (stored_of_series rows series.1)
     where
-      by : (w : Option QuoteRow) → stored r ≡ w → AllByRecursion (IsOfSeries given)
+      cases : (w : Option QuoteRow) → stored r ≡ w → AllByRecursion (IsOfSeries given)
           (filter_map (frozen_row month quotes given) rows) →
           AllByRecursion (IsOfSeries given) (filter_map (frozen_row month quotes given) (r ∷ rows))
-      by None e rest = rw e rest
-      by (Some q) e rest = rw e ((series.0.0, series.0.1, sym series.0.3, refl), rest)
+      cases None e rest = rw e rest
+      cases (Some q) e rest = rw e ((series.0.0, series.0.1, sym series.0.3, refl), rest)
 
 module _ (o : Office) (s : IsSound o) (month : ℕ) where
   pub month_active : AllByRecursion (IsActiveIfQuoted month o.quotes o.assignments) o.assignments
@@ -135,16 +135,16 @@ below_next n = rw (lt-ltb n (n + 1) (omega arith)) refl
 -- the last release, and one that follows it
 last_below : (r : Release) (month : ℕ) → follows month (Some (frozen_month r)) ≡ true →
     release_cmp (release_key r) (month, revision_after month (Some (frozen_month r))) ≡ Less
-last_below r month e = by (eqb_tells r.month month) e
+last_below r month e = cases (eqb_tells r.month month) e
   where
-    by : ((eqb r.month month ≡ true) × (r.month ≡ month)) ⊎ ((eqb r.month month ≡ false) × (r.month ≢ month)) →
+    cases : ((eqb r.month month ≡ true) × (r.month ≡ month)) ⊎ ((eqb r.month month ≡ false) × (r.month ≢ month)) →
         follows month (Some (frozen_month r)) ≡ true →
         release_cmp (release_key r) (month, revision_after month (Some (frozen_month r))) ≡ Less
-    by (inl same) e =
+    cases (inl same) e =
         let level : nat_cmp r.month month ≡ Equal = ap (λ k. nat_cmp k month) same.1
         ∙ tied_itself nat_cmp_total month in
         rw (level, same.0) (below_next r.revision)
-    by (inr apart) e =
+    cases (inr apart) e =
         let is : month ≡ r.month + 1 = eqb-true month (r.month + 1) (rw apart.0 at e) in
         let less : nat_cmp r.month month ≡ Less = ap (nat_cmp r.month) is ∙ below_next r.month in
         rw less refl
@@ -209,7 +209,7 @@ module _ (plans : List Plan) (p : Plan) (sorted : IsInOrder nat_cmp (λ y. y.yea
   others = put_by (λ y. y.year) p plans
 
   same_plan_at : (y : ℕ) → p.year ≢ y → row_by_number (λ y. y.year) y others ≡ row_by_number (λ y. y.year) y plans
-  same_plan_at y apart = row_at-put_apart nat_cmp_total (λ y. y.year) y p plans sorted (different p.year y apart)
+  same_plan_at y apart = row_at_put_apart nat_cmp_total (λ y. y.year) y p plans sorted (different p.year y apart)
 
   one_replanned : (before : List Release) (r : Release) → p.year ≢ year_of r.month → IsReleased plans before r →
       IsReleased others before r
@@ -228,14 +228,14 @@ module _ (plans : List Plan) (p : Plan) (sorted : IsInOrder nat_cmp (λ y. y.yea
   pub replanned : (before rs : List Release) → has_year_frozen p.year (frozen_months rs) ≡ false →
       AreReleased plans before rs → AreReleased others before rs
   replanned before [] free all = tt
-  replanned before (r ∷ rs) free all = by (eqb_tells (year_of r.month) p.year) (replanned (before ++ r ∷ []) rs)
+  replanned before (r ∷ rs) free all = cases (eqb_tells (year_of r.month) p.year) (replanned (before ++ r ∷ []) rs)
     where
-      by : ((eqb (year_of r.month) p.year ≡ true) × (year_of r.month ≡ p.year))
+      cases : ((eqb (year_of r.month) p.year ≡ true) × (year_of r.month ≡ p.year))
           ⊎ ((eqb (year_of r.month) p.year ≡ false) × (year_of r.month ≢ p.year)) →
           (has_year_frozen p.year (frozen_months rs) ≡ false → AreReleased plans (before ++ r ∷ []) rs →
           AreReleased others (before ++ r ∷ []) rs) → AreReleased others before (r ∷ rs)
-      by (inl same) rest = let e : true ≡ false = rw same.0 at free in cc
-      by (inr apart) rest = (
+      cases (inl same) rest = let e : true ≡ false = rw same.0 at free in cc
+      cases (inr apart) rest = (
         one_replanned before r (λ e. apart.1 (sym e)) all.0,
         rest
             (rw apart.0 at free) all.1,

@@ -30,17 +30,17 @@ IsSeries s = (1 ≤ s.collector) × (1 ≤ s.slot) × (s.slot ≤ GREATEST_SLOT)
 
 -- the numbers rise with the series
 serial_rises : (s t : SeriesId) → IsSeries s → IsSeries t → series_cmp s t ≡ Less → serial s < serial t
-serial_rises s t a b less = by (nat_cmp s.collector t.collector) refl less
+serial_rises s t a b less = cases (nat_cmp s.collector t.collector) refl less
   where
-    by : (w : Ordering) → nat_cmp s.collector t.collector ≡ w → ordering_then w (nat_cmp s.slot t.slot) ≡ Less →
+    cases : (w : Ordering) → nat_cmp s.collector t.collector ≡ w → ordering_then w (nat_cmp s.slot t.slot) ≡ Less →
         serial s < serial t
-    by Less e less = let lower : s.collector < t.collector = ranked s.collector t.collector Less (sym e) in
+    cases Less e less = let lower : s.collector < t.collector = ranked s.collector t.collector Less (sym e) in
         omega (arith, lower, a.0, a.1, a.2, b.0, b.1, b.2)
-    by Equal e less =
+    cases Equal e less =
         let same : s.collector ≡ t.collector = ranked s.collector t.collector Equal (sym e) in
         let lower : s.slot < t.slot = ranked s.slot t.slot Less (sym less) in
         omega (arith, same, lower, a.0, a.1, a.2, b.0, b.1, b.2)
-    by Greater e less = let no : Greater ≡ Less = less in cc
+    cases Greater e less = let no : Greater ≡ Less = less in cc
 
 all_rise : (n : ℕ) (fs : List Frozen) → AllByRecursion (λ f. n ≤ frozen_serial f) fs →
     AllByRecursion (λ f. IsSeries f.series) fs → IsInOrder series_cmp (λ f. f.series) fs →
@@ -99,17 +99,17 @@ frozen_by_serial given all (r ∷ rs) of = (
 -- ---- one item and one last month for each series
 
 series_of_serial : (s t : SeriesId) → IsSeries s → IsSeries t → serial s ≡ serial t → s ≡ t
-series_of_serial s t a b e = by (nat_cmp s.collector t.collector) refl
+series_of_serial s t a b e = cases (nat_cmp s.collector t.collector) refl
   where
     slots : s.collector ≡ t.collector → s ≡ t
     slots same = let slot : s.slot ≡ t.slot = omega (arith, same, e, a.0, a.1, a.2, b.0, b.1, b.2) in
         λ n. record { collector = same n; slot = slot n }
 
-    by : (w : Ordering) → nat_cmp s.collector t.collector ≡ w → s ≡ t
-    by Less f = let lower : s.collector < t.collector = ranked s.collector t.collector Less (sym f) in
+    cases : (w : Ordering) → nat_cmp s.collector t.collector ≡ w → s ≡ t
+    cases Less f = let lower : s.collector < t.collector = ranked s.collector t.collector Less (sym f) in
         absurd (omega (arith, lower, e, a.0, a.1, a.2, b.0, b.1, b.2))
-    by Equal f = slots (ranked s.collector t.collector Equal (sym f))
-    by Greater f = let lower : t.collector < s.collector = ranked s.collector t.collector Greater (sym f) in
+    cases Equal f = slots (ranked s.collector t.collector Equal (sym f))
+    cases Greater f = let lower : t.collector < s.collector = ranked s.collector t.collector Greater (sym f) in
         absurd (omega (arith, lower, e, a.0, a.1, a.2, b.0, b.1, b.2))
 
 all_of : (given : List (ℕ × Given)) (rs : List Release) → AllByRecursion (HasFrozenList given) rs →

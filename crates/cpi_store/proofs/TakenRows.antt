@@ -61,11 +61,11 @@ apart key row less =
 -- a slot that another row is of is found where it was before
 passed_by : (key : ℕ × ℕ) (row : Row) (rows : List Row) → is_eq (held_cmp nat_cmp (key_of row) key) ≡ false
     → found_in key (taken_rows (row ∷ rows)) ≡ found_in key (taken_rows rows)
-passed_by key row rows other = by (names row)
+passed_by key row rows other = cases (names row)
   where
-    by : Names row → found_in key (taken_rows (row ∷ rows)) ≡ found_in key (taken_rows rows)
-    by (inl own) = rw own.0 refl
-    by (inr took) = rw (took.0, other) refl
+    cases : Names row → found_in key (taken_rows (row ∷ rows)) ≡ found_in key (taken_rows rows)
+    cases (inl own) = rw own.0 refl
+    cases (inr took) = rw (took.0, other) refl
 
 -- a slot below all rows is none of those that took over
 none_above : (key : ℕ × ℕ) (rows : List Row) → AreAbove key rows → found_in key (taken_rows rows) ≡ None
@@ -75,11 +75,11 @@ none_above key (row ∷ rows) all = passed_by key row rows (apart key row all.0)
 -- the first row's series
 series_first : (row : Row) (rows : List Row) → AreAbove (key_of row) rows
     → series_named_in (taken_rows (row ∷ rows)) row.0 row.1.assignment.slot ≡ row.1.series
-series_first row rows all = by (names row)
+series_first row rows all = cases (names row)
   where
-    by : Names row → series_named_in (taken_rows (row ∷ rows)) row.0 row.1.assignment.slot ≡ row.1.series
-    by (inl own) = rw own.0 (ap (series_or (named_by row)) (none_above (key_of row) rows all) ∙ sym own.1)
-    by (inr took) = rw (took.0, ap is_eq (tied_itself given_total (key_of row))) refl
+    cases : Names row → series_named_in (taken_rows (row ∷ rows)) row.0 row.1.assignment.slot ≡ row.1.series
+    cases (inl own) = rw own.0 (ap (series_or (named_by row)) (none_above (key_of row) rows all) ∙ sym own.1)
+    cases (inr took) = rw (took.0, ap is_eq (tied_itself given_total (key_of row))) refl
 
 -- rows with their series as those say that took over
 abbrev said_by : List TakenOver → List Row → List Row
@@ -109,22 +109,22 @@ given_again (row ∷ rows) sorted =
 
 taken_above : (key : ℕ × ℕ) (rows : List Row) → AreAbove key rows → TookAbove key (taken_rows rows)
 taken_above key [] all = tt
-taken_above key (row ∷ rows) all = by (names row) (taken_above key rows all.1)
+taken_above key (row ∷ rows) all = cases (names row) (taken_above key rows all.1)
   where
-    by : Names row → TookAbove key (taken_rows rows) → TookAbove key (taken_rows (row ∷ rows))
-    by (inl own) rest = rw own.0 rest
-    by (inr took) rest = rw took.0 (all.0, rest)
+    cases : Names row → TookAbove key (taken_rows rows) → TookAbove key (taken_rows (row ∷ rows))
+    cases (inl own) rest = rw own.0 rest
+    cases (inr took) rest = rw took.0 (all.0, rest)
 
 -- they are in the order of the rows
 pub taken_sorted : (rows : List Row) → IsSorted rows → IsInOrder (held_cmp nat_cmp) taken_key (taken_rows rows)
 unfolding IsStrictlySortedBy
 taken_sorted [] sorted = tt
-taken_sorted (row ∷ rows) sorted = by (names row) (taken_sorted rows sorted.1)
+taken_sorted (row ∷ rows) sorted = cases (names row) (taken_sorted rows sorted.1)
   where
-    by : Names row → IsInOrder (held_cmp nat_cmp) taken_key (taken_rows rows)
+    cases : Names row → IsInOrder (held_cmp nat_cmp) taken_key (taken_rows rows)
         → IsInOrder (held_cmp nat_cmp) taken_key (taken_rows (row ∷ rows))
-    by (inl own) rest = rw own.0 rest
-    by (inr took) rest = rw took.0 (taken_above (key_of row) rows sorted.0, rest)
+    cases (inl own) rest = rw own.0 rest
+    cases (inr took) rest = rw took.0 (taken_above (key_of row) rows sorted.0, rest)
 
 abbrev AreGiven : List Row → List Row → Type 0
 AreGiven rows some = AllByRecursion (IsGiven (map without_series rows)) (taken_rows some)
@@ -133,15 +133,15 @@ AreGiven rows some = AllByRecursion (IsGiven (map without_series rows)) (taken_r
 pub taken_are_given : (rows : List Row) → AllByRecursion (IsGiven (map without_series rows)) (taken_rows rows)
 taken_are_given [] = tt
 taken_are_given (row ∷ rows) =
-    by (names row)
+    cases (names row)
     (given_after (map without_series rows) (map without_series (row ∷ rows))
     (λ c slot is.
     or_of_second (is_of c slot (without_series row)) (list_any (is_of c slot) (map without_series rows)) is)
     (taken_rows rows) (taken_are_given rows))
   where
-    by : Names row → AreGiven (row ∷ rows) rows → AreGiven (row ∷ rows) (row ∷ rows)
-    by (inl own) rest = rw own.0 rest
-    by (inr took) rest =
+    cases : Names row → AreGiven (row ∷ rows) rows → AreGiven (row ∷ rows) (row ∷ rows)
+    cases (inl own) rest = rw own.0 rest
+    cases (inr took) rest =
         let slot = row.1.assignment.slot in
         let here : list_any (is_of row.0 slot) (map without_series (row ∷ rows)) ≡ true =
         rw (eq-eqb row.0 row.0 refl, eq-eqb slot slot refl) refl in

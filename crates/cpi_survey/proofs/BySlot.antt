@@ -66,12 +66,12 @@ beside_own (s ∷ ss) all = own_named s.slot s.quotes.items (beside ss) all.0.ow
 sifted : (p : ℕ × QuoteRow → Bool) (t : QuoteRow → Bool) → ((r : ℕ × QuoteRow) → IsOwn r → p r ≡ t r.1) →
     (rs : List (ℕ × QuoteRow)) → AllByRecursion IsOwn rs → map second (filter p rs) ≡ filter t (map second rs)
 sifted p t agree [] own = refl
-sifted p t agree (r ∷ rs) own = by (t r.1) refl (sifted p t agree rs own.1)
+sifted p t agree (r ∷ rs) own = cases (t r.1) refl (sifted p t agree rs own.1)
   where
-    by : (s : Bool) → t r.1 ≡ s → map second (filter p rs) ≡ filter t (map second rs) →
+    cases : (s : Bool) → t r.1 ≡ s → map second (filter p rs) ≡ filter t (map second rs) →
         map second (filter p (r ∷ rs)) ≡ filter t (map second (r ∷ rs))
-    by true e rest = rw (agree r own.0, e) (ap (λ ys. r.1 ∷ ys) rest)
-    by false e rest = rw (agree r own.0, e) rest
+    cases true e rest = rw (agree r own.0, e) (ap (λ ys. r.1 ∷ ys) rest)
+    cases false e rest = rw (agree r own.0, e) rest
 
 -- ---- what a slot has of all
 
@@ -96,11 +96,11 @@ quotes_missing slot ss kept none = sym (of_slot slot ss kept ∙ ap (rows_in own
 found_all : (P : SlotQuotes → Type 0) (slot : ℕ) (s : SlotQuotes) (ss : List SlotQuotes) → AllByRecursion P ss →
     row_by_number slot_of slot ss ≡ Some s → P s
 found_all P slot s [] all found = let wrong : None ≡ Some s = found in cc
-found_all P slot s (x ∷ ss) all found = by (is_eq (nat_cmp x.slot slot)) refl (found_all P slot s ss all.1)
+found_all P slot s (x ∷ ss) all found = cases (is_eq (nat_cmp x.slot slot)) refl (found_all P slot s ss all.1)
   where
-    by : (t : Bool) → is_eq (nat_cmp x.slot slot) ≡ t → (row_by_number slot_of slot ss ≡ Some s → P s) → P s
-    by true e rest = let same : Some x ≡ Some s = rw e at found in let here : x ≡ s = cc in rw (← here) all.0
-    by false e rest = rest (rw e at found)
+    cases : (t : Bool) → is_eq (nat_cmp x.slot slot) ≡ t → (row_by_number slot_of slot ss ≡ Some s → P s) → P s
+    cases true e rest = let same : Some x ≡ Some s = rw e at found in let here : x ≡ s = cc in rw (← here) all.0
+    cases false e rest = rest (rw e at found)
 
 pub order_found : (slot : ℕ) (ss : List SlotQuotes) (s : SlotQuotes) → AreBySlot ss → row_by_number slot_of slot ss
     ≡ Some s →
@@ -110,13 +110,13 @@ order_found slot ss s kept found = (found_all AreOfSlot slot s ss kept.own found
 -- ---- what is asked of a slot's quotes
 
 other_slot : (k : ℕ × ℕ) (q : QuoteRow) → q.slot ≢ k.0 → is_eq (quote_cmp (quote_key q) k) ≡ false
-other_slot k q apart = by (nat_cmp q.slot k.0) refl
+other_slot k q apart = cases (nat_cmp q.slot k.0) refl
   where
-    by : (s : Ordering) → nat_cmp q.slot k.0 ≡ s →
+    cases : (s : Ordering) → nat_cmp q.slot k.0 ≡ s →
         is_eq (ordering_then (nat_cmp q.slot k.0) (nat_cmp q.month k.1)) ≡ false
-    by Less p = rw p refl
-    by Equal p = absurd (apart (ranked q.slot k.0 Equal (sym p)))
-    by Greater p = rw p refl
+    cases Less p = rw p refl
+    cases Equal p = absurd (apart (ranked q.slot k.0 Equal (sym p)))
+    cases Greater p = rw p refl
 
 front : (p : QuoteRow → Bool) (q : QuoteRow) (qs : List QuoteRow) → p q ≡ true → filter p (q ∷ qs) ≡ q ∷ filter p qs
 front p q qs e = rw e refl
@@ -128,14 +128,14 @@ behind p q qs e = rw e refl
 pub row_of_slot : (k : ℕ × ℕ) (qs : List QuoteRow) →
     row_at quote_cmp quote_key k (filter (is_in_slot k.0) qs) ≡ row_at quote_cmp quote_key k qs
 row_of_slot k [] = refl
-row_of_slot k (q ∷ qs) = by (eqb_tells q.slot k.0) (row_of_slot k qs)
+row_of_slot k (q ∷ qs) = cases (eqb_tells q.slot k.0) (row_of_slot k qs)
   where
-    by : (((q.slot == k.0) ≡ true) × (q.slot ≡ k.0)) ⊎ (((q.slot == k.0) ≡ false) × (q.slot ≢ k.0)) →
+    cases : (((q.slot == k.0) ≡ true) × (q.slot ≡ k.0)) ⊎ (((q.slot == k.0) ≡ false) × (q.slot ≢ k.0)) →
         row_at quote_cmp quote_key k (filter (is_in_slot k.0) qs) ≡ row_at quote_cmp quote_key k qs →
         row_at quote_cmp quote_key k (filter (is_in_slot k.0) (q ∷ qs)) ≡ row_at quote_cmp quote_key k (q ∷ qs)
-    by (inl same) rest = ap (row_at quote_cmp quote_key k) (front (is_in_slot k.0) q qs same.0)
+    cases (inl same) rest = ap (row_at quote_cmp quote_key k) (front (is_in_slot k.0) q qs same.0)
         ∙ ap (λ found. if is_eq (quote_cmp (quote_key q) k) then Some q else found) rest
-    by (inr apart) rest =
+    cases (inr apart) rest =
         ap (row_at quote_cmp quote_key k) (behind (is_in_slot k.0) q qs apart.0) ∙ rest
         ∙ sym (ap (λ test. if test then Some q else row_at quote_cmp quote_key k qs) (other_slot k q apart.1))
 
@@ -281,11 +281,11 @@ module _ (ss : List SlotQuotes) (kept : AreBySlot ss) (i : ℕ) (s : SlotQuotes)
 -- a slot that has a quote is found
 pub slot_known : (k : ℕ × ℕ) (ss : List SlotQuotes) → AreBySlot ss →
     IsSome (row_at quote_cmp quote_key k (quotes_of_slots ss)) → IsSome (row_by_number slot_of k.0 ss)
-slot_known k ss kept some = by (row_by_number slot_of k.0 ss) refl
+slot_known k ss kept some = cases (row_by_number slot_of k.0 ss) refl
   where
-    by : (w : Option SlotQuotes) → row_by_number slot_of k.0 ss ≡ w → IsSome (row_by_number slot_of k.0 ss)
-    by (Some s) e = rw e refl
-    by None e =
+    cases : (w : Option SlotQuotes) → row_by_number slot_of k.0 ss ≡ w → IsSome (row_by_number slot_of k.0 ss)
+    cases (Some s) e = rw e refl
+    cases None e =
         let none : row_at quote_cmp quote_key k (quotes_of_slots ss) ≡ None = sym (row_of_slot k (quotes_of_slots ss))
         ∙ ap (row_at quote_cmp quote_key k) (sym (quotes_missing k.0 ss kept e)) in
         let wrong : false ≡ true = rw none at some in cc

@@ -33,19 +33,19 @@ module _ {X : Type 0} (n : X → ℕ) where
 
   kept : (P : X → Type 0) (p : X → Bool) (xs : List X) → AllByRecursion P xs → AllByRecursion P (filter p xs)
   kept P p [] all = tt
-  kept P p (x ∷ xs) all = by (p x) refl (kept P p xs all.1)
+  kept P p (x ∷ xs) all = cases (p x) refl (kept P p xs all.1)
     where
-      by : (s : Bool) → p x ≡ s → AllByRecursion P (filter p xs) → AllByRecursion P (filter p (x ∷ xs))
-      by true e rest = rw e (all.0, rest)
-      by false e rest = rw e rest
+      cases : (s : Bool) → p x ≡ s → AllByRecursion P (filter p xs) → AllByRecursion P (filter p (x ∷ xs))
+      cases true e rest = rw e (all.0, rest)
+      cases false e rest = rw e rest
 
-  rises-filter : (p : X → Bool) (xs : List X) → Rises xs → Rises (filter p xs)
-  rises-filter p [] r = tt
-  rises-filter p (x ∷ xs) r = by (p x) refl (rises-filter p xs r.1)
+  rises_filter : (p : X → Bool) (xs : List X) → Rises xs → Rises (filter p xs)
+  rises_filter p [] r = tt
+  rises_filter p (x ∷ xs) r = cases (p x) refl (rises_filter p xs r.1)
     where
-      by : (s : Bool) → p x ≡ s → Rises (filter p xs) → Rises (filter p (x ∷ xs))
-      by true e rest = rw e (kept (λ y. n x ≤ n y) p xs r.0, rest)
-      by false e rest = rw e rest
+      cases : (s : Bool) → p x ≡ s → Rises (filter p xs) → Rises (filter p (x ∷ xs))
+      cases true e rest = rw e (kept (λ y. n x ≤ n y) p xs r.0, rest)
+      cases false e rest = rw e rest
 
   none_at : (a : ℕ) (xs : List X) → AllByRecursion (λ x. suc a ≤ n x) xs → filter (is_at a) xs ≡ []
   none_at a [] all = refl
@@ -60,28 +60,28 @@ module _ {X : Type 0} (n : X → ℕ) where
   parted : (a : ℕ) (xs : List X) → Rises xs → AllByRecursion (λ x. a ≤ n x) xs → xs ≡ filter (is_at a) xs
       ++ filter (is_off a) xs
   parted a [] r low = refl
-  parted a (x ∷ xs) r low = by (cases_eq (n x) a) (parted a xs r.1 low.1)
+  parted a (x ∷ xs) r low = cases (cases_eq (n x) a) (parted a xs r.1 low.1)
     where
-      by : (n x ≡ a) ⊎ (n x ≡ a → ⊥) → xs ≡ filter (is_at a) xs ++ filter (is_off a) xs →
+      cases : (n x ≡ a) ⊎ (n x ≡ a → ⊥) → xs ≡ filter (is_at a) xs ++ filter (is_off a) xs →
           x ∷ xs ≡ filter (is_at a) (x ∷ xs) ++ filter (is_off a) (x ∷ xs)
-      by (inl same) rest = rw (eq-eqb (n x) a same) (ap (λ ys. x ∷ ys) rest)
-      by (inr other) rest =
+      cases (inl same) rest = rw (eq-eqb (n x) a same) (ap (λ ys. x ∷ ys) rest)
+      cases (inr other) rest =
           let higher = above (suc a) (n x) xs (omega (arith, low.0, other)) r.0 in
           rw (ne_eqb (n x) a other, none_at a xs higher, all_off a xs higher) refl
 
   off_at : (a m : ℕ) (xs : List X) → a ≢ m → filter (is_at m) (filter (is_off a) xs) ≡ filter (is_at m) xs
   off_at a m [] apart = refl
-  off_at a m (x ∷ xs) apart = by (cases_eq (n x) a) (off_at a m xs apart)
+  off_at a m (x ∷ xs) apart = cases (cases_eq (n x) a) (off_at a m xs apart)
     where
       front : (s : Bool) → (n x == m) ≡ s → filter (is_at m) (filter (is_off a) xs) ≡ filter (is_at m) xs →
           filter (is_at m) (x ∷ filter (is_off a) xs) ≡ filter (is_at m) (x ∷ xs)
       front true e rest = rw e (ap (λ ys. x ∷ ys) rest)
       front false e rest = rw e rest
 
-      by : (n x ≡ a) ⊎ (n x ≡ a → ⊥) → filter (is_at m) (filter (is_off a) xs) ≡ filter (is_at m) xs →
+      cases : (n x ≡ a) ⊎ (n x ≡ a → ⊥) → filter (is_at m) (filter (is_off a) xs) ≡ filter (is_at m) xs →
           filter (is_at m) (filter (is_off a) (x ∷ xs)) ≡ filter (is_at m) (x ∷ xs)
-      by (inl same) rest = rw (eq-eqb (n x) a same, ne_eqb (n x) m (λ e. apart (sym same ∙ e))) rest
-      by (inr other) rest = rw (ne_eqb (n x) a other) (front (n x == m) refl rest)
+      cases (inl same) rest = rw (eq-eqb (n x) a same, ne_eqb (n x) m (λ e. apart (sym same ∙ e))) rest
+      cases (inr other) rest = rw (ne_eqb (n x) a other) (front (n x == m) refl rest)
 
   abbrev IsIn : ℕ → ℕ → X → Type 0
   IsIn a len x = (a ≤ n x) × (n x < a + len)
@@ -93,12 +93,12 @@ module _ {X : Type 0} (n : X → ℕ) where
   rest_in : (a len : ℕ) (xs : List X) → AllByRecursion (IsIn a (suc len)) xs →
       AllByRecursion (IsIn (a + 1) len) (filter (is_off a) xs)
   rest_in a len [] all = tt
-  rest_in a len (x ∷ xs) all = by (cases_eq (n x) a) (rest_in a len xs all.1)
+  rest_in a len (x ∷ xs) all = cases (cases_eq (n x) a) (rest_in a len xs all.1)
     where
-      by : (n x ≡ a) ⊎ (n x ≡ a → ⊥) → AllByRecursion (IsIn (a + 1) len) (filter (is_off a) xs) →
+      cases : (n x ≡ a) ⊎ (n x ≡ a → ⊥) → AllByRecursion (IsIn (a + 1) len) (filter (is_off a) xs) →
           AllByRecursion (IsIn (a + 1) len) (filter (is_off a) (x ∷ xs))
-      by (inl same) rest = rw (eq-eqb (n x) a same) rest
-      by (inr other) rest = rw (ne_eqb (n x) a other) ((omega (arith, all.0.0, other), omega (arith, all.0.1)), rest)
+      cases (inl same) rest = rw (eq-eqb (n x) a same) rest
+      cases (inr other) rest = rw (ne_eqb (n x) a other) ((omega (arith, all.0.0, other), omega (arith, all.0.1)), rest)
 
   -- what rises through a range is, for each number of the range, the rows of that number
   pub grouped : (f : ℕ → List X) (len a : ℕ) (xs : List X) → Rises xs → AllByRecursion (IsIn a len) xs →
@@ -109,5 +109,5 @@ module _ {X : Type 0} (n : X → ℕ) where
       let rest : List X = filter (is_off a) xs in
       parted a xs r (low a (suc len) xs all)
       ∙ ap (λ ys. ys ++ rest) (same a (omega arith) (omega arith))
-      ∙ ap (λ ys. f a ++ ys) (grouped f len (a + 1) rest (rises-filter (is_off a) xs r) (rest_in a len xs all)
+      ∙ ap (λ ys. f a ++ ys) (grouped f len (a + 1) rest (rises_filter (is_off a) xs r) (rest_in a len xs all)
       (λ m ge lt. off_at a m xs (λ e. absurd (omega arith)) ∙ same m (omega arith) (omega arith)))

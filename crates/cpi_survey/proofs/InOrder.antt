@@ -28,24 +28,24 @@ price_in_order : (entry : EntryRow) (item : Option Item) (last : Option ℕ) (gr
     once_checked entry (price_check entry item last) greatest
     ≡ cond (is_replacement entry.mark && is_none last) (Err NoLastPrice)
     (unless_outside entry item last (with_receipt entry greatest))
-price_in_order entry item None greatest = by (is_replacement entry.mark)
+price_in_order entry item None greatest = cases (is_replacement entry.mark)
   where
-    by : (b : Bool) → once_checked entry (cond b (Err NoLastPrice) (Ok tt)) greatest ≡ cond (b && true)
+    cases : (b : Bool) → once_checked entry (cond b (Err NoLastPrice) (Ok tt)) greatest ≡ cond (b && true)
         (Err NoLastPrice) (with_receipt entry greatest)
-    by true = refl
-    by false = refl
+    cases true = refl
+    cases false = refl
 price_in_order entry item (Some last) greatest =
-    by (is_replacement entry.mark) entry.confirm (against_last item last (checked_price entry.mark))
+    cases (is_replacement entry.mark) entry.confirm (against_last item last (checked_price entry.mark))
   where
-    by : (b c : Bool) (r : Result (Unit {0}) Refusal) → once_checked entry (cond c (Ok tt) r) greatest
+    cases : (b c : Bool) (r : Result (Unit {0}) Refusal) → once_checked entry (cond c (Ok tt) r) greatest
         ≡ cond (b && false) (Err NoLastPrice) (cond c (with_receipt entry greatest)
         (unless_refused r (with_receipt entry greatest)))
-    by true true r = refl
-    by false true r = refl
-    by true false (Ok _) = refl
-    by false false (Ok _) = refl
-    by true false (Err refusal) = refl
-    by false false (Err refusal) = refl
+    cases true true r = refl
+    cases false true r = refl
+    cases true false (Ok _) = refl
+    cases false false (Ok _) = refl
+    cases true false (Err refusal) = refl
+    cases false false (Err refusal) = refl
 
 -- the lines of the window
 window_in_order : (active early late : Bool) (x y : Answer) → x ≡ y →

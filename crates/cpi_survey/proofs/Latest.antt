@@ -24,15 +24,15 @@ quote_order = then_total (on_total (λ (k : ℕ × ℕ). k.0) nat_cmp_total) (on
 
 -- a key below another has a smaller slot, or the same slot and an earlier month
 pub below_key : (a b : ℕ × ℕ) → quote_cmp a b ≡ Less → (a.0 ≤ b.0) × (a.0 ≡ b.0 → a.1 < b.1)
-below_key a b less = by (nat_cmp a.0 b.0) (nat_cmp a.1 b.1) refl refl
+below_key a b less = cases (nat_cmp a.0 b.0) (nat_cmp a.1 b.1) refl refl
   where
-    by : (s t : Ordering) → nat_cmp a.0 b.0 ≡ s → nat_cmp a.1 b.1 ≡ t → (a.0 ≤ b.0) × (a.0 ≡ b.0 → a.1 < b.1)
-    by Less t p q = let less = ranked a.0 b.0 Less (sym p) in (omega arith, λ same. absurd (omega arith))
-    by Equal Less p q = let same = ranked a.0 b.0 Equal (sym p) in let less = ranked a.1 b.1 Less (sym q) in
+    cases : (s t : Ordering) → nat_cmp a.0 b.0 ≡ s → nat_cmp a.1 b.1 ≡ t → (a.0 ≤ b.0) × (a.0 ≡ b.0 → a.1 < b.1)
+    cases Less t p q = let less = ranked a.0 b.0 Less (sym p) in (omega arith, λ same. absurd (omega arith))
+    cases Equal Less p q = let same = ranked a.0 b.0 Equal (sym p) in let less = ranked a.1 b.1 Less (sym q) in
         (omega arith, λ _. omega arith)
-    by Equal Equal p q = let wrong : Equal ≡ Less = rw (p, q) at less in cc
-    by Equal Greater p q = let wrong : Greater ≡ Less = rw (p, q) at less in cc
-    by Greater t p q = let wrong : Greater ≡ Less = rw p at less in cc
+    cases Equal Equal p q = let wrong : Equal ≡ Less = rw (p, q) at less in cc
+    cases Equal Greater p q = let wrong : Greater ≡ Less = rw (p, q) at less in cc
+    cases Greater t p q = let wrong : Greater ≡ Less = rw p at less in cc
 
 module _ (passes : QuoteRow → Bool) where
   -- where none passes there is no latest
@@ -44,23 +44,23 @@ module _ (passes : QuoteRow → Bool) where
   pub latest_filter : (keeps : QuoteRow → Bool) → ((q : QuoteRow) → keeps q ≡ false → passes q ≡ false) →
       (qs : List QuoteRow) → latest_quote passes qs ≡ latest_quote passes (filter keeps qs)
   latest_filter keeps out [] = refl
-  latest_filter keeps out (q ∷ qs) = by (keeps q) refl (latest_filter keeps out qs)
+  latest_filter keeps out (q ∷ qs) = cases (keeps q) refl (latest_filter keeps out qs)
     where
-      by : (s : Bool) → keeps q ≡ s → latest_quote passes qs ≡ latest_quote passes (filter keeps qs) →
+      cases : (s : Bool) → keeps q ≡ s → latest_quote passes qs ≡ latest_quote passes (filter keeps qs) →
           latest_quote passes (q ∷ qs) ≡ latest_quote passes (filter keeps (q ∷ qs))
-      by true e rest = rw (e, rest) refl
-      by false e rest = rw (e, out q e) rest
+      cases true e rest = rw (e, rest) refl
+      cases false e rest = rw (e, out q e) rest
 
   -- a last row that passes, of no earlier month than the others that pass, is the latest
   pub latest_last : (qs : List QuoteRow) (q : QuoteRow) → passes q ≡ true →
       AllByRecursion (λ x. passes x ≡ true → x.month ≤ q.month) qs → latest_quote passes (qs ++ q ∷ []) ≡ Some q
   latest_last [] q e all = rw e refl
-  latest_last (x ∷ qs) q e all = by (passes x) refl (latest_last qs q e all.1)
+  latest_last (x ∷ qs) q e all = cases (passes x) refl (latest_last qs q e all.1)
     where
-      by : (s : Bool) → passes x ≡ s → latest_quote passes (qs ++ q ∷ []) ≡ Some q → latest_quote passes
+      cases : (s : Bool) → passes x ≡ s → latest_quote passes (qs ++ q ∷ []) ≡ Some q → latest_quote passes
           (x ∷ qs ++ q ∷ []) ≡ Some q
-      by true p rest = rw (p, rest, le-ltb q.month x.month (all.0 p)) refl
-      by false p rest = rw (p, rest) refl
+      cases true p rest = rw (p, rest, le-ltb q.month x.month (all.0 p)) refl
+      cases false p rest = rw (p, rest) refl
 
 -- ---- the rows before a place
 
@@ -103,13 +103,13 @@ before_row k qs sorted i place =
 all_below : (k : ℕ × ℕ) (qs : List QuoteRow) → AllByRecursion (λ q. quote_cmp (quote_key q) k ≡ Less)
     (filter (is_below k) qs)
 all_below k [] = tt
-all_below k (q ∷ qs) = by (quote_cmp (quote_key q) k) refl (all_below k qs)
+all_below k (q ∷ qs) = cases (quote_cmp (quote_key q) k) refl (all_below k qs)
   where
-    by : (s : Ordering) → quote_cmp (quote_key q) k ≡ s → AllByRecursion (λ q. quote_cmp (quote_key q) k ≡ Less)
+    cases : (s : Ordering) → quote_cmp (quote_key q) k ≡ s → AllByRecursion (λ q. quote_cmp (quote_key q) k ≡ Less)
         (filter (is_below k) qs) → AllByRecursion (λ q. quote_cmp (quote_key q) k ≡ Less) (filter (is_below k) (q ∷ qs))
-    by Less e rest = rw (ap is_lt e) (e, rest)
-    by Equal e rest = rw (ap is_lt e) rest
-    by Greater e rest = rw (ap is_lt e) rest
+    cases Less e rest = rw (ap is_lt e) (e, rest)
+    cases Equal e rest = rw (ap is_lt e) rest
+    cases Greater e rest = rw (ap is_lt e) rest
 
 -- an earlier quote of the slot is below the slot and the month
 earlier_below : (slot month : ℕ) (q : QuoteRow) → is_earlier slot month q ≡ true → (q.slot ≡ slot) × (q.month < month)
@@ -176,11 +176,11 @@ latest_front passes (x ∷ qs) q e = rw (latest_front passes qs q e) refl
 pub without_last : (slot month : ℕ) (qs : List QuoteRow) (q : QuoteRow) → observed_price q.mark ≡ None →
     latest_quote (is_earlier slot month) (qs ++ q ∷ []) ≡ latest_quote (is_earlier slot month) qs
 without_last slot month qs q none = latest_front (is_earlier slot month) qs q
-    (by (q.slot == slot && nat_lt q.month month))
+    (cases (q.slot == slot && nat_lt q.month month))
   where
-    by : (earlier : Bool) → (earlier && is_some (observed_price q.mark)) ≡ false
-    by true = ap is_some none
-    by false = refl
+    cases : (earlier : Bool) → (earlier && is_some (observed_price q.mark)) ≡ false
+    cases true = ap is_some none
+    cases false = refl
 
 pub front_in_order : (qs : List QuoteRow) (q : QuoteRow) → IsInOrder quote_cmp quote_key (qs ++ q ∷ []) →
     IsInOrder quote_cmp quote_key qs

@@ -13,12 +13,12 @@ greatest_append (x ∷ xs) ys = rw (greatest_append xs ys) (omega arith)
 
 greatest_filter : (p : QuoteRow → Bool) (xs : List QuoteRow) → greatest_receipt (filter p xs) ≤ greatest_receipt xs
 greatest_filter p [] = omega arith
-greatest_filter p (x ∷ xs) = by (p x) refl (greatest_filter p xs)
+greatest_filter p (x ∷ xs) = cases (p x) refl (greatest_filter p xs)
   where
-    by : (t : Bool) → p x ≡ t → greatest_receipt (filter p xs) ≤ greatest_receipt xs →
+    cases : (t : Bool) → p x ≡ t → greatest_receipt (filter p xs) ≤ greatest_receipt xs →
         greatest_receipt (filter p (x ∷ xs)) ≤ greatest_receipt (x ∷ xs)
-    by true e rest = rw e (omega arith)
-    by false e rest = rw e (omega arith)
+    cases true e rest = rw e (omega arith)
+    cases false e rest = rw e (omega arith)
 
 pub greatest_put : (q : QuoteRow) (qs : List QuoteRow) → greatest_receipt qs < q.receipt →
     q.receipt ≡ greatest_receipt (with_row quote_cmp quote_key q qs)

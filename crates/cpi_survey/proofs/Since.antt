@@ -20,12 +20,12 @@ use Rattle.cpi_survey.proofs.Latest.{below_key}
 
 -- the comparison's answer is the test's
 pub is_le_tells : (a b : ℕ) → is_le (nat_cmp a b) ≡ nat_le a b
-is_le_tells a b = by (nat_cmp a b) refl
+is_le_tells a b = cases (nat_cmp a b) refl
   where
-    by : (s : Ordering) → nat_cmp a b ≡ s → is_le (nat_cmp a b) ≡ nat_le a b
-    by Less e = let less = ranked a b Less (sym e) in ap is_le e ∙ sym (le-leb a b (omega (arith, less)))
-    by Equal e = let same = ranked a b Equal (sym e) in ap is_le e ∙ sym (le-leb a b (omega (arith, same)))
-    by Greater e = let greater = ranked a b Greater (sym e) in ap is_le e ∙ sym (lt-leb a b (omega (arith, greater)))
+    cases : (s : Ordering) → nat_cmp a b ≡ s → is_le (nat_cmp a b) ≡ nat_le a b
+    cases Less e = let less = ranked a b Less (sym e) in ap is_le e ∙ sym (le-leb a b (omega (arith, less)))
+    cases Equal e = let same = ranked a b Equal (sym e) in ap is_le e ∙ sym (le-leb a b (omega (arith, same)))
+    cases Greater e = let greater = ranked a b Greater (sym e) in ap is_le e ∙ sym (lt-leb a b (omega (arith, greater)))
 
 -- the quotes of other slots don't count
 of_slot : (slot month : ℕ) (all : List QuoteRow) →
@@ -40,12 +40,12 @@ own_since slot month q own = ap (λ same. same && nat_le month q.month) own
 
 either_way : (month earlier later : ℕ) (rest : Bool) → earlier ≤ later → (nat_le month later ≡ true → rest ≡ true) →
     (nat_le month earlier || rest) ≡ rest
-either_way month earlier later rest le settles = by (nat_le month earlier) refl
+either_way month earlier later rest le settles = cases (nat_le month earlier) refl
   where
-    by : (s : Bool) → nat_le month earlier ≡ s → (s || rest) ≡ rest
-    by true e = let reached = leb-true month earlier e in
+    cases : (s : Bool) → nat_le month earlier ≡ s → (s || rest) ≡ rest
+    cases true e = let reached = leb-true month earlier e in
         sym (settles (le-leb month later (omega (arith, le, reached))))
-    by false e = refl
+    cases false e = refl
 
 -- the last of the quotes of a slot tells for all of them
 last_tells : (slot month : ℕ) (qs : List QuoteRow) (q : QuoteRow) → IsInOrder quote_cmp quote_key qs →
@@ -54,11 +54,11 @@ last_tells : (slot month : ℕ) (qs : List QuoteRow) (q : QuoteRow) → IsInOrde
 last_tells slot month [] q sorted own last = let wrong : None ≡ Some q = last in cc
 last_tells slot month (x ∷ []) q sorted own last =
     let same : x ≡ q = (let here : Some x ≡ Some q = last in cc) in
-    by (nat_le month x.month) refl same
+    cases (nat_le month x.month) refl same
   where
-    by : (s : Bool) → nat_le month x.month ≡ s → x ≡ q → nat_le month q.month ≡ has_quotes_since slot month (x ∷ [])
-    by true e same = rw (← same) (rw (own_since slot month x own.0, e) refl)
-    by false e same = rw (← same) (rw (own_since slot month x own.0, e) refl)
+    cases : (s : Bool) → nat_le month x.month ≡ s → x ≡ q → nat_le month q.month ≡ has_quotes_since slot month (x ∷ [])
+    cases true e same = rw (← same) (rw (own_since slot month x own.0, e) refl)
+    cases false e same = rw (← same) (rw (own_since slot month x own.0, e) refl)
 last_tells slot month (x ∷ y ∷ ys) q sorted own last =
     let next = below_key (quote_key x) (quote_key y) (sorted_head _ x (y ∷ ys) sorted).0 in
     let same : x.slot ≡ y.slot = eqb-true x.slot slot own.0 ∙ sym (eqb-true y.slot slot own.1.0) in

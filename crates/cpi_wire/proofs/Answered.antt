@@ -18,33 +18,33 @@ use Rattle.cpi_wire.specs.Record.{ask_of}
 use Rattle.cpi_wire.specs.Records.{LinesAreWritten, LinesAreWrittenUntil, LineIsCutOff, AnswersAll, BegunUntil, GaveUp}
 use Rattle.cpi_wire.specs.Rows.{answer_line}
 
-concat-more : (lines : List (List ℕ)) (line : List ℕ) → concat (lines ++ line ∷ []) ≡ concat lines ++ line
-concat-more [] line = append-nil line
-concat-more (l ∷ ls) line = ap (λ (z : List ℕ). l ++ z) (concat-more ls line) ∙ sym (append_assoc l (concat ls) line)
+concat_more : (lines : List (List ℕ)) (line : List ℕ) → concat (lines ++ line ∷ []) ≡ concat lines ++ line
+concat_more [] line = append-nil line
+concat_more (l ∷ ls) line = ap (λ (z : List ℕ). l ++ z) (concat_more ls line) ∙ sym (append_assoc l (concat ls) line)
 
-pub none-written : (old : Option (List ℕ)) → LinesAreWritten [] old old
-none-written old = Appends-nil old
+pub none_written : (old : Option (List ℕ)) → LinesAreWritten [] old old
+none_written old = Appends-nil old
 
 -- one line more
-pub more-written : (replies : List Answer) (reply : Answer) (old mid new : Option (List ℕ))
+pub more_written : (replies : List Answer) (reply : Answer) (old mid new : Option (List ℕ))
     → LinesAreWritten replies old mid → Appends mid new (answer_line reply)
     → LinesAreWritten (replies ++ reply ∷ []) old new
-more-written replies reply old mid new written line =
-    rw (map-append answer_line replies (reply ∷ []), concat-more)
+more_written replies reply old mid new written line =
+    rw (map-append answer_line replies (reply ∷ []), concat_more)
     (Appends-trans old mid new (concat (map answer_line replies)) (answer_line reply) written line)
 
 -- all lines are whole after a fault, unless it is one of the writer
-pub whole-written : (e : WireFault) (replies : List Answer) (old new : Option (List ℕ)) → e ≢ fault.Write →
+pub whole_written : (e : WireFault) (replies : List Answer) (old new : Option (List ℕ)) → e ≢ fault.Write →
     LinesAreWritten replies old new → LinesAreWrittenUntil e replies old new
-whole-written fault.Read replies old new other written = written
-whole-written fault.Write replies old new other written = absurd (other refl)
-whole-written fault.NoMemory replies old new other written = written
+whole_written fault.Read replies old new other written = written
+whole_written fault.Write replies old new other written = absurd (other refl)
+whole_written fault.NoMemory replies old new other written = written
 
 -- of one line more a part was written
-pub cut-off : (replies : List Answer) (reply : Answer) (old mid new : Option (List ℕ)) (count : ℕ)
+pub cut_off : (replies : List Answer) (reply : Answer) (old mid new : Option (List ℕ)) (count : ℕ)
     → LinesAreWritten replies old mid → count < length (answer_line reply)
     → Appends mid new (take count (answer_line reply)) → LineIsCutOff (replies ++ reply ∷ []) old new
-cut-off replies reply old mid new count written short line = record {
+cut_off replies reply old mid new count written short line = record {
   front = replies;
   last = reply;
   count = count;
@@ -54,34 +54,34 @@ cut-off replies reply old mid new count written short line = record {
 }
 
 -- one more in turn
-pub in-turn-more : {B X Y : Type 0} (step : B → X → Y → B → Type 0) (old mid new : B) (xs : List X) (ys : List Y)
+pub in_turn_more : {B X Y : Type 0} (step : B → X → Y → B → Type 0) (old mid new : B) (xs : List X) (ys : List Y)
     (x : X) (y : Y)
     → InTurn step old xs ys mid → step mid x y new → InTurn step old (xs ++ x ∷ []) (ys ++ y ∷ []) new
-in-turn-more step old mid new [] [] x y h a = (new, rw h at a, refl)
-in-turn-more step old mid new [] (p ∷ ps) x y h a = absurd h
-in-turn-more step old mid new (q ∷ qs) [] x y h a = absurd h
-in-turn-more step old mid new (q ∷ qs) (p ∷ ps) x y h a = (h.0, h.1, in-turn-more step h.0 mid new qs ps x y h.2 a)
+in_turn_more step old mid new [] [] x y h a = (new, rw h at a, refl)
+in_turn_more step old mid new [] (p ∷ ps) x y h a = absurd h
+in_turn_more step old mid new (q ∷ qs) [] x y h a = absurd h
+in_turn_more step old mid new (q ∷ qs) (p ∷ ps) x y h a = (h.0, h.1, in_turn_more step h.0 mid new qs ps x y h.2 a)
 
 module _ {B : Type 0} (zone : ZoneRule) (state : B → State Office) where
-  pub answers-more : (old mid new : B) (rows : List Record) (replies : List Answer) (row : Record) (reply : Answer)
+  pub answers_more : (old mid new : B) (rows : List Record) (replies : List Answer) (row : Record) (reply : Answer)
       → AnswersAll zone state old rows replies mid → Answers state mid (ask_of zone row) reply new
       → AnswersAll zone state old (rows ++ row ∷ []) (replies ++ reply ∷ []) new
-  answers-more old mid new rows replies row reply h a =
-      in-turn-more (λ from row reply to. Answers state from (ask_of zone row) reply to) old mid new rows replies row
+  answers_more old mid new rows replies row reply h a =
+      in_turn_more (λ from row reply to. Answers state from (ask_of zone row) reply to) old mid new rows replies row
       reply h a
 
-  none-begun : (e : WireFault) (old : B) → BegunUntil zone state e old None old
-  none-begun fault.Read old = (refl, refl)
-  none-begun fault.Write old = (refl, refl)
-  none-begun fault.NoMemory old = refl
+  none_begun : (e : WireFault) (old : B) → BegunUntil zone state e old None old
+  none_begun fault.Read old = (refl, refl)
+  none_begun fault.Write old = (refl, refl)
+  none_begun fault.NoMemory old = refl
 
   -- given up between two records
-  pub gave-up-between : (input : Option (List ℕ)) (old new : B) (was is : Option (List ℕ)) (e : WireFault)
+  pub gave_up_between : (input : Option (List ℕ)) (old new : B) (was is : Option (List ℕ)) (e : WireFault)
       (rows : List Record) (replies : List Answer)
       → e ≢ fault.Write → length rows ≤ MOST_RECORDS → IfSome input (AreFirst rows) →
       AnswersAll zone state old rows replies new → LinesAreWritten replies was is
       → GaveUp zone state input old new was is e
-  gave-up-between input old new was is e rows replies other few first answers written = record {
+  gave_up_between input old new was is e rows replies other few first answers written = record {
     rows = rows;
     replies = replies;
     mid = new;
@@ -89,18 +89,18 @@ module _ {B : Type 0} (zone : ZoneRule) (state : B → State Office) where
     first = rw (append-nil rows) first;
     few = rw (append-nil rows) few;
     answers = answers;
-    begun = none-begun e new;
-    written = whole-written e replies was is other written;
+    begun = none_begun e new;
+    written = whole_written e replies was is other written;
   }
 
   -- given up in a record, for lack of memory
-  pub gave-up-in : (input : Option (List ℕ)) (old mid new : B) (was is : Option (List ℕ))
+  pub gave_up_in : (input : Option (List ℕ)) (old mid new : B) (was is : Option (List ℕ))
       (rows : List Record) (replies : List Answer) (row : Record)
       → length rows < MOST_RECORDS → IfSome input (AreFirst (rows ++ row ∷ []))
       → AnswersAll zone state old rows replies mid → LinesAreWritten replies was is
       → Begins state mid (ask_of zone row) new
       → GaveUp zone state input old new was is fault.NoMemory
-  gave-up-in input old mid new was is rows replies row few first answers written begun = record {
+  gave_up_in input old mid new was is rows replies row few first answers written begun = record {
     rows = rows;
     replies = replies;
     mid = mid;
@@ -113,20 +113,20 @@ module _ {B : Type 0} (zone : ZoneRule) (state : B → State Office) where
   }
 
   -- given up in the line of a record
-  pub gave-up-at : (input : Option (List ℕ)) (old mid new : B) (was so_far is : Option (List ℕ))
+  pub gave_up_at : (input : Option (List ℕ)) (old mid new : B) (was so_far is : Option (List ℕ))
       (rows : List Record) (replies : List Answer) (row : Record) (line : List ℕ) (count : ℕ)
       → length rows < MOST_RECORDS → IfSome input (AreFirst (rows ++ row ∷ []))
       → AnswersAll zone state old rows replies mid → LinesAreWritten replies was so_far
       → AnswersWithLine state mid (ask_of zone row) line new → count < length line → Appends so_far is (take count line)
       → GaveUp zone state input old new was is fault.Write
-  gave-up-at input old mid new was so_far is rows replies row line n few first answers written one short part = record {
+  gave_up_at input old mid new was so_far is rows replies row line n few first answers written one short part = record {
     rows = rows ++ row ∷ [];
     replies = replies ++ one.answered ∷ [];
     mid = new;
     next = None;
     first = rw (append-nil (rows ++ row ∷ [])) first;
     few = rw (append-nil (rows ++ row ∷ []), length-append) (omega arith);
-    answers = answers-more old mid new rows replies row one.answered answers one.answers;
+    answers = answers_more old mid new rows replies row one.answered answers one.answers;
     begun = (refl, refl);
-    written = cut-off replies one.answered was so_far is n written (rw (← one.line_is) short) (rw (← one.line_is) part);
+    written = cut_off replies one.answered was so_far is n written (rw (← one.line_is) short) (rw (← one.line_is) part);
   }

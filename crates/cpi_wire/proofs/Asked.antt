@@ -12,29 +12,29 @@ use Rattle.cpi_wire.specs.Record.{ask_of, spelled_parts}
 use Rattle.cpi_wire.specs.Words.{spelled_word, spelled_request}
 use Rattle.cpi_wire.proofs.Counted.{texts}
 
-pub ask-short : (zone : ZoneRule) (xs : List (Bor Text)) → length xs < 3 → ask.Bad ≡ ask_of zone (texts xs)
+pub ask_short : (zone : ZoneRule) (xs : List (Bor Text)) → length xs < 3 → ask.Bad ≡ ask_of zone (texts xs)
 unfolding ask_of
-ask-short zone [] h = refl
-ask-short zone (a ∷ []) h = refl
-ask-short zone (a ∷ b ∷ []) h = refl
-ask-short zone (a ∷ b ∷ c ∷ xs) h = absurd (omega arith)
+ask_short zone [] h = refl
+ask_short zone (a ∷ []) h = refl
+ask_short zone (a ∷ b ∷ []) h = refl
+ask_short zone (a ∷ b ∷ c ∷ xs) h = absurd (omega arith)
 
-pub ask-parts : (zone : ZoneRule) (xs : List (Bor Text)) (d : Bor Text) (r : Option Ask) → 3 ≤ length xs
+pub ask_parts : (zone : ZoneRule) (xs : List (Bor Text)) (d : Bor Text) (r : Option Ask) → 3 ≤ length xs
     → r ≡ spelled_parts zone (get_or xs 0 d).now (get_or xs 1 d).now (get_or xs 2 d).now
     (texts (take (length xs - 3) (drop 3 xs)))
     → unwrap_or r ask.Bad ≡ ask_of zone (texts xs)
 unfolding ask_of
-ask-parts zone [] d r h e = absurd (omega arith)
-ask-parts zone (a ∷ []) d r h e = absurd (omega arith)
-ask-parts zone (a ∷ b ∷ []) d r h e = absurd (omega arith)
-ask-parts zone (a ∷ b ∷ c ∷ xs) d r h e = rw (rw (take_rest (a ∷ b ∷ c ∷ xs) 3) at e) refl
+ask_parts zone [] d r h e = absurd (omega arith)
+ask_parts zone (a ∷ []) d r h e = absurd (omega arith)
+ask_parts zone (a ∷ b ∷ []) d r h e = absurd (omega arith)
+ask_parts zone (a ∷ b ∷ c ∷ xs) d r h e = rw (rw (take_rest (a ∷ b ∷ c ∷ xs) 3) at e) refl
 
-pub row-of : (zone : ZoneRule) (xs : List (Bor Text)) (x : Bor Text) (rest : List (Bor Text)) → xs ≡ x ∷ rest →
+pub row_of : (zone : ZoneRule) (xs : List (Bor Text)) (x : Bor Text) (rest : List (Bor Text)) → xs ≡ x ∷ rest →
     spelled_request zone (spelled_word x.now) (texts rest) ≡ row_asks zone (texts xs)
 unfolding row_asks
-row-of zone xs x rest e = rw e refl
+row_of zone xs x rest e = rw e refl
 
-pub row-none : (zone : ZoneRule) (xs : List (Bor Text)) → length xs ≡ 0 → None ≡ row_asks zone (texts xs)
+pub row_none : (zone : ZoneRule) (xs : List (Bor Text)) → length xs ≡ 0 → None ≡ row_asks zone (texts xs)
 unfolding row_asks
-row-none zone [] e = refl
-row-none zone (x ∷ xs) e = absurd (omega arith)
+row_none zone [] e = refl
+row_none zone (x ∷ xs) e = absurd (omega arith)

@@ -12,25 +12,25 @@ abbrev pub behind : List Code → Option (List Code) → Option (List Code)
 behind found None = None
 behind found (Some more) = Some (found ++ more)
 
-pub behind-none : (more : Option (List Code)) → behind [] more ≡ more
-behind-none None = refl
-behind-none (Some more) = refl
+pub behind_none : (more : Option (List Code)) → behind [] more ≡ more
+behind_none None = refl
+behind_none (Some more) = refl
 
-pub behind-all : (found : List Code) → behind found (Some []) ≡ Some found
-behind-all found = ap (λ codes. Some codes) (append-nil found)
+pub behind_all : (found : List Code) → behind found (Some []) ≡ Some found
+behind_all found = ap (λ codes. Some codes) (append-nil found)
 
 -- one code more
-pub behind-more : (found : List Code) (text : Text) (code : Code) (texts : List Text)
+pub behind_more : (found : List Code) (text : Text) (code : Code) (texts : List Text)
     → spelled_elementary_code text ≡ Some code
     → behind found (elementary_codes (text ∷ texts)) ≡ behind (found ++ code ∷ []) (elementary_codes texts)
-behind-more found text code texts e = rw e (case-by-case (elementary_codes texts))
+behind_more found text code texts e = rw e (cases (elementary_codes texts))
   where
-    case-by-case : (more : Option (List Code)) → behind found (more >>= λ codes. Some (code ∷ codes))
+    cases : (more : Option (List Code)) → behind found (more >>= λ codes. Some (code ∷ codes))
         ≡ behind (found ++ code ∷ []) more
-    case-by-case None = refl
-    case-by-case (Some codes) = ap (λ all. Some all) (sym (append_assoc found (code ∷ []) codes))
+    cases None = refl
+    cases (Some codes) = ap (λ all. Some all) (sym (append_assoc found (code ∷ []) codes))
 
 -- a text that writes none
-pub behind-bad : (found : List Code) (text : Text) (texts : List Text) → spelled_elementary_code text ≡ None
+pub behind_bad : (found : List Code) (text : Text) (texts : List Text) → spelled_elementary_code text ≡ None
     → behind found (elementary_codes (text ∷ texts)) ≡ None
-behind-bad found text texts e = rw e refl
+behind_bad found text texts e = rw e refl

@@ -19,7 +19,7 @@ use Rattle.cpi_wire.specs.Answers.{Begins, FirstRowsAnswer, IsServed, RowAnswers
 use Rattle.cpi_wire.specs.Answers.{some_fails}
 use Rattle.cpi_wire.specs.Line.{data_of, line_of_reply}
 use Rattle.cpi_wire.specs.Rows.{added_text, rows_line}
-use Rattle.cpi_wire.proofs.Answered.{in-turn-more}
+use Rattle.cpi_wire.proofs.Answered.{in_turn_more}
 
 -- ---- the line
 
@@ -32,43 +32,43 @@ abbrev pub none_yet : List Reply → Bool
 none_yet [] = true
 none_yet (r ∷ rs) = false
 
-items-joined : (later : Bool) (rs : List Reply)
+items_joined : (later : Bool) (rs : List Reply)
     → items_text later (items_of (map data_of rs)) ≡ joined later rs ++ 93 ∷ []
-items-joined later [] = refl
-items-joined later (r ∷ rs) = rw (append_assoc, append_assoc, items-joined true rs) refl
+items_joined later [] = refl
+items_joined later (r ∷ rs) = rw (append_assoc, append_assoc, items_joined true rs) refl
 
-joined-behind : (rs : List Reply) (r : Reply)
+joined_behind : (rs : List Reply) (r : Reply)
     → joined true (rs ++ r ∷ []) ≡ joined true rs ++ 44 ∷ compact_text (data_of r)
-joined-behind [] r = rw append-nil refl
-joined-behind (x ∷ rs) r =
-    ap (λ ys. 44 ∷ (compact_text (data_of x) ++ ys)) (joined-behind rs r)
+joined_behind [] r = rw append-nil refl
+joined_behind (x ∷ rs) r =
+    ap (λ ys. 44 ∷ (compact_text (data_of x) ++ ys)) (joined_behind rs r)
     ∙ ap (λ ys. 44 ∷ ys)
     (sym (append_assoc (compact_text (data_of x)) (joined true rs) (44 ∷ compact_text (data_of r))))
 
-joined-more : (rs : List Reply) (r : Reply)
+joined_more : (rs : List Reply) (r : Reply)
     → joined false (rs ++ r ∷ []) ≡ joined false rs ++ added_text (none_yet rs) r
-joined-more [] r = rw append-nil refl
-joined-more (x ∷ rs) r =
-    ap (λ ys. compact_text (data_of x) ++ ys) (joined-behind rs r)
+joined_more [] r = rw append-nil refl
+joined_more (x ∷ rs) r =
+    ap (λ ys. compact_text (data_of x) ++ ys) (joined_behind rs r)
     ∙ sym (append_assoc (compact_text (data_of x)) (joined true rs) (44 ∷ compact_text (data_of r)))
 
 ended : (rs : List Reply)
     → joined false rs ++ codes "]}\n" ≡ (items_text false (items_of (map data_of rs)) ++ 125 ∷ []) ++ 10 ∷ []
 ended rs =
     let text = joined false rs in
-    sym (ap (λ ys. (ys ++ 125 ∷ []) ++ 10 ∷ []) (items-joined false rs)
+    sym (ap (λ ys. (ys ++ 125 ∷ []) ++ 10 ∷ []) (items_joined false rs)
     ∙ append_assoc (text ++ 93 ∷ []) (125 ∷ []) (10 ∷ [])
     ∙ append_assoc text (93 ∷ []) (125 ∷ 10 ∷ []))
 
-line-joined : (rs : List Reply) → (codes "{\"rows\":[" ++ joined false rs) ++ codes "]}\n" ≡ rows_line rs
+line_joined : (rs : List Reply) → (codes "{\"rows\":[" ++ joined false rs) ++ codes "]}\n" ≡ rows_line rs
 unfolding serde_json_on_literals
-line-joined rs = ap (λ ys. codes "{\"rows\":[" ++ ys) (ended rs)
+line_joined rs = ap (λ ys. codes "{\"rows\":[" ++ ys) (ended rs)
 
 -- whether some reply fails, and one more
-fails-more : (rs : List Reply) (r : Reply) → some_fails (rs ++ r ∷ []) ≡ (some_fails rs || is_failure_of r)
-fails-more [] r = elim (is_failure_of r) as (λ b. (b || false) ≡ b) [ true ↦ refl | false ↦ refl ]
-fails-more (x ∷ rs) r =
-    ap (λ b. is_failure_of x || b) (fails-more rs r)
+fails_more : (rs : List Reply) (r : Reply) → some_fails (rs ++ r ∷ []) ≡ (some_fails rs || is_failure_of r)
+fails_more [] r = elim (is_failure_of r) as (λ b. (b || false) ≡ b) [ true ↦ refl | false ↦ refl ]
+fails_more (x ∷ rs) r =
+    ap (λ b. is_failure_of x || b) (fails_more rs r)
     ∙ elim (is_failure_of x) as (λ b. (b || (some_fails rs || is_failure_of r)) ≡
     ((b || some_fails rs) || is_failure_of r))
     [ true ↦ refl | false ↦ refl ]
@@ -87,62 +87,62 @@ module _ {B : Type 0} (state : B → State Office) (now : ℕ) (caller : Caller)
     pub fails : failed ≡ some_fails replies
     pub written : line ≡ codes "{\"rows\":[" ++ joined false replies
 
-  pub so-far-none : (old : B) (rows : List (Option Request)) →
+  pub so_far_none : (old : B) (rows : List (Option Request)) →
       RowsSoFar old rows rows true false (codes "{\"rows\":[") old
-  so-far-none old rows =
+  so_far_none old rows =
       record { front = []; replies = []; split = refl; answers = refl; first = refl; fails = refl; written = refl }
 
-  split-more : (rows front rest more : List (Option Request)) (row : Option Request)
+  split_more : (rows front rest more : List (Option Request)) (row : Option Request)
       → rows ≡ front ++ rest → rest ≡ row ∷ more → rows ≡ (front ++ row ∷ []) ++ more
-  split-more rows front rest more row split next =
+  split_more rows front rest more row split next =
       split ∙ ap (λ ys. front ++ ys) next ∙ sym (append_assoc front (row ∷ []) more)
 
-  none-more : (rs : List Reply) (r : Reply) → false ≡ none_yet (rs ++ r ∷ [])
-  none-more [] r = refl
-  none-more (x ∷ rs) r = refl
+  none_more : (rs : List Reply) (r : Reply) → false ≡ none_yet (rs ++ r ∷ [])
+  none_more [] r = refl
+  none_more (x ∷ rs) r = refl
 
   -- one row more was carried out
-  pub first-rows : (old mid new : B) (rows rest more : List (Option Request)) (is_first failed : Bool) (line : List ℕ)
+  pub first_rows : (old mid new : B) (rows rest more : List (Option Request)) (is_first failed : Bool) (line : List ℕ)
       (row : Option Request) (reply : Reply)
       → RowsSoFar old rows rest is_first failed line mid → rest ≡ row ∷ more →
       RowAnswers state now caller mid row reply new
       → FirstRowsAnswer state now caller old rows new
-  first-rows old mid new rows rest more is_first failed line row reply so_far next one = record {
+  first_rows old mid new rows rest more is_first failed line row reply so_far next one = record {
     front = so_far.front ++ row ∷ [];
     rest = more;
     replies = so_far.replies ++ reply ∷ [];
-    split = split-more rows so_far.front rest more row so_far.split next;
+    split = split_more rows so_far.front rest more row so_far.split next;
     answers =
-        in-turn-more (RowAnswers state now caller) old mid new so_far.front so_far.replies row reply so_far.answers one;
+        in_turn_more (RowAnswers state now caller) old mid new so_far.front so_far.replies row reply so_far.answers one;
   }
 
   -- and its reply was written
-  pub so-far-more : (old mid new : B) (rows rest more : List (Option Request)) (is_first failed fails : Bool)
+  pub so_far_more : (old mid new : B) (rows rest more : List (Option Request)) (is_first failed fails : Bool)
       (line grown : List ℕ) (row : Option Request) (reply : Reply)
       → RowsSoFar old rows rest is_first failed line mid → rest ≡ row ∷ more
       → RowAnswers state now caller mid row reply new
       → grown ≡ line ++ added_text is_first reply → fails ≡ is_failure_of reply
       → RowsSoFar old rows more false (failed || fails) grown new
-  so-far-more old mid new rows rest more is_first failed fails line grown row reply so_far next one text same = record {
+  so_far_more old mid new rows rest more is_first failed fails line grown row reply so_far next one text same = record {
     front = so_far.front ++ row ∷ [];
     replies = so_far.replies ++ reply ∷ [];
-    split = split-more rows so_far.front rest more row so_far.split next;
+    split = split_more rows so_far.front rest more row so_far.split next;
     answers =
-        in-turn-more (RowAnswers state now caller) old mid new so_far.front so_far.replies row reply so_far.answers one;
-    first = none-more so_far.replies reply;
-    fails = ap₂ (λ a b. a || b) so_far.fails same ∙ sym (fails-more so_far.replies reply);
+        in_turn_more (RowAnswers state now caller) old mid new so_far.front so_far.replies row reply so_far.answers one;
+    first = none_more so_far.replies reply;
+    fails = ap₂ (λ a b. a || b) so_far.fails same ∙ sym (fails_more so_far.replies reply);
     written =
         text ∙ ap₂ (λ ys first. ys ++ added_text first reply) so_far.written so_far.first
-        ∙ ap (λ ys. codes "{\"rows\":[" ++ ys) (sym (joined-more so_far.replies reply));
+        ∙ ap (λ ys. codes "{\"rows\":[" ++ ys) (sym (joined_more so_far.replies reply));
   }
 
-  pub rows-none : (old : B) (rows : List (Option Request)) → FirstRowsAnswer state now caller old rows old
-  rows-none old rows = record { front = []; rest = rows; replies = []; split = refl; answers = refl }
+  pub rows_none : (old : B) (rows : List (Option Request)) → FirstRowsAnswer state now caller old rows old
+  rows_none old rows = record { front = []; rest = rows; replies = []; split = refl; answers = refl }
 
   -- memory ran out
-  pub rows-until : (old new : B) (rows rest : List (Option Request)) (is_first failed : Bool) (line : List ℕ)
+  pub rows_until : (old new : B) (rows rest : List (Option Request)) (is_first failed : Bool) (line : List ℕ)
       → RowsSoFar old rows rest is_first failed line new → FirstRowsAnswer state now caller old rows new
-  rows-until old new rows rest is_first failed line so_far = record {
+  rows_until old new rows rest is_first failed line so_far = record {
     front = so_far.front;
     rest = rest;
     replies = so_far.replies;
@@ -151,20 +151,20 @@ module _ {B : Type 0} (state : B → State Office) (now : ℕ) (caller : Caller)
   }
 
   -- no row is left, and the line was ended
-  pub rows-whole : (old new : B) (rows rest : List (Option Request)) (is_first failed : Bool) (line grown : List ℕ)
+  pub rows_whole : (old new : B) (rows rest : List (Option Request)) (is_first failed : Bool) (line grown : List ℕ)
       → RowsSoFar old rows rest is_first failed line new → rest ≡ [] → grown ≡ line ++ codes "]}\n"
       → (replies : List Reply) × RowsAnswer state now caller old rows replies new × (grown ≡ rows_line replies)
       × (failed ≡ some_fails replies)
-  rows-whole old new rows rest is_first failed line grown so_far none text =
+  rows_whole old new rows rest is_first failed line grown so_far none text =
       let all = so_far.split ∙ ap (λ ys. so_far.front ++ ys) none ∙ append-nil so_far.front in
-      (so_far.replies, rw all so_far.answers, text ∙ rw so_far.written (line-joined so_far.replies), so_far.fails)
+      (so_far.replies, rw all so_far.answers, text ∙ rw so_far.written (line_joined so_far.replies), so_far.fails)
 
   -- ---- any record
 
   -- one request was served
-  pub one-begun : (old new : B) (request : Request) (reply : Reply)
+  pub one_begun : (old new : B) (request : Request) (reply : Reply)
       → IsServed state now caller old request reply new → FirstRowsAnswer state now caller old (Some request ∷ []) new
-  one-begun old new request reply one = record {
+  one_begun old new request reply one = record {
     front = Some request ∷ [];
     rest = [];
     replies = reply ∷ [];
@@ -172,32 +172,32 @@ module _ {B : Type 0} (state : B → State Office) (now : ℕ) (caller : Caller)
     answers = (new, one, refl);
   }
 
-  pub line-of-one : (old new : B) (request : Request) (reply : Reply) (line : List ℕ)
+  pub line_of_one : (old new : B) (request : Request) (reply : Reply) (line : List ℕ)
       → IsServed state now caller old request reply new → line ≡ line_of_reply reply
       → AnswersWithLine state old (ask.One now caller request) line new
-  line-of-one old new request reply line one text =
+  line_of_one old new request reply line one text =
       record { answered = answer.One reply; answers = one; line_is = text }
 
-  pub line-of-rows : (old new : B) (rows : List (Option Request)) (line : List ℕ) (failed : Bool)
+  pub line_of_rows : (old new : B) (rows : List (Option Request)) (line : List ℕ) (failed : Bool)
       → ((replies : List Reply) × RowsAnswer state now caller old rows replies new × (line ≡ rows_line replies)
       × (failed ≡ some_fails replies))
       → AnswersWithLine state old (ask.Import now caller rows) line new
-  line-of-rows old new rows line failed whole =
+  line_of_rows old new rows line failed whole =
       record { answered = answer.Rows whole.0; answers = whole.1; line_is = whole.2 }
 
 module _ {B : Type 0} (state : B → State Office) where
-  pub line-of-bad : (old : B) (line : List ℕ) → line ≡ line_of_reply (Refused BadRequest)
+  pub line_of_bad : (old : B) (line : List ℕ) → line ≡ line_of_reply (Refused BadRequest)
       → AnswersWithLine state old ask.Bad line old
-  line-of-bad old line text =
+  line_of_bad old line text =
       record { answered = answer.One (Refused BadRequest); answers = (refl, refl); line_is = text }
 
   -- nothing was carried out
-  pub none-begun : (old : B) (asked : Ask) → Begins state old asked old
-  none-begun old ask.Bad = refl
-  none-begun old (ask.One now caller request) = rows-none state now caller old (Some request ∷ [])
-  none-begun old (ask.Import now caller rows) = rows-none state now caller old rows
+  pub none_begun : (old : B) (asked : Ask) → Begins state old asked old
+  none_begun old ask.Bad = refl
+  none_begun old (ask.One now caller request) = rows_none state now caller old (Some request ∷ [])
+  none_begun old (ask.Import now caller rows) = rows_none state now caller old rows
 
 -- what holds anyway
-pub on-err : {T E P : Type 0} (r : Result T E) → P → OnErr r P
-on-err (Ok x) p = tt
-on-err (Err e) p = p
+pub on_err : {T E P : Type 0} (r : Result T E) → P → OnErr r P
+on_err (Ok x) p = tt
+on_err (Err e) p = p

@@ -28,7 +28,7 @@ use Rattle.cpi_wire.specs.Lines.{is_own, is_others, records_without, own_answers
 use Rattle.cpi_wire.specs.Record.{ask_of}
 use Rattle.cpi_wire.specs.Records.{AnswersAll}
 use Rattle.cpi_wire.specs.Rows.{answer_line}
-use Rattle.cpi_wire.proofs.Runs.{records_are_a_run, requests-are, replies-are}
+use Rattle.cpi_wire.proofs.Runs.{records_are_a_run, requests_are, replies_are}
 
 -- ---- the forms of answers
 
@@ -55,30 +55,30 @@ AllFit (k ∷ ks) [] = ⊥
 AllFit (k ∷ ks) (a ∷ ans) = FitsAnswer k a × AllFit ks ans
 
 module _ {B : Type 0} (state : B → State Office) where
-  rows-fit : (t : ℕ) (c : Caller) (p q : B) (rows : List (Option Request)) (rs : List Reply)
+  rows_fit : (t : ℕ) (c : Caller) (p q : B) (rows : List (Option Request)) (rs : List Reply)
       → RowsAnswer state t c p rows rs q → Fit rows rs
-  rows-fit t c p q [] [] a = tt
-  rows-fit t c p q [] (r ∷ rs) a = absurd a
-  rows-fit t c p q (row ∷ rows) [] a = absurd a
-  rows-fit t c p q (None ∷ rows) (r ∷ rs) a = (a.1.0, rows-fit t c a.0 q rows rs a.2)
-  rows-fit t c p q (Some x ∷ rows) (r ∷ rs) a = rows-fit t c a.0 q rows rs a.2
+  rows_fit t c p q [] [] a = tt
+  rows_fit t c p q [] (r ∷ rs) a = absurd a
+  rows_fit t c p q (row ∷ rows) [] a = absurd a
+  rows_fit t c p q (None ∷ rows) (r ∷ rs) a = (a.1.0, rows_fit t c a.0 q rows rs a.2)
+  rows_fit t c p q (Some x ∷ rows) (r ∷ rs) a = rows_fit t c a.0 q rows rs a.2
 
-  answer-fits : (p q : B) (k : Ask) (answered : Answer) → Answers state p k answered q → FitsAnswer k answered
-  answer-fits p q ask.Bad (answer.One r) a = a.0
-  answer-fits p q ask.Bad (answer.Rows rs) a = absurd a
-  answer-fits p q (ask.One t c x) (answer.One r) a = tt
-  answer-fits p q (ask.One t c x) (answer.Rows rs) a = absurd a
-  answer-fits p q (ask.Import t c rows) (answer.One r) a = absurd a
-  answer-fits p q (ask.Import t c rows) (answer.Rows rs) a = rows-fit t c p q rows rs a
+  answer_fits : (p q : B) (k : Ask) (answered : Answer) → Answers state p k answered q → FitsAnswer k answered
+  answer_fits p q ask.Bad (answer.One r) a = a.0
+  answer_fits p q ask.Bad (answer.Rows rs) a = absurd a
+  answer_fits p q (ask.One t c x) (answer.One r) a = tt
+  answer_fits p q (ask.One t c x) (answer.Rows rs) a = absurd a
+  answer_fits p q (ask.Import t c rows) (answer.One r) a = absurd a
+  answer_fits p q (ask.Import t c rows) (answer.Rows rs) a = rows_fit t c p q rows rs a
 
-  all-fit : (zone : ZoneRule) (p q : B) (rows : List Record) (ans : List Answer) →
+  all_fit : (zone : ZoneRule) (p q : B) (rows : List Record) (ans : List Answer) →
       AnswersAll zone state p rows ans q → AllFit (map (ask_of zone) rows) ans
-  all-fit zone p q [] [] a = tt
-  all-fit zone p q [] (x ∷ ans) a = absurd a
-  all-fit zone p q (row ∷ rows) [] a = absurd a
-  all-fit zone p q (row ∷ rows) (x ∷ ans) a = (
-    answer-fits p a.0 (ask_of zone row) x a.1,
-    all-fit zone a.0 q rows ans a.2,
+  all_fit zone p q [] [] a = tt
+  all_fit zone p q [] (x ∷ ans) a = absurd a
+  all_fit zone p q (row ∷ rows) [] a = absurd a
+  all_fit zone p q (row ∷ rows) (x ∷ ans) a = (
+    answer_fits p a.0 (ask_of zone row) x a.1,
+    all_fit zone a.0 q rows ans a.2,
   )
 
 -- ---- the records of the collector, with their answers
@@ -91,81 +91,81 @@ own key [] ans = []
 own key (k ∷ ks) [] = []
 own key (k ∷ ks) (a ∷ ans) = (if is_own key k then a ∷ [] else []) ++ own key ks ans
 
-own-is : (zone : ZoneRule) (key : ℕ) (rows : List Record) (ans : List Answer) →
+own_is : (zone : ZoneRule) (key : ℕ) (rows : List Record) (ans : List Answer) →
     own_answers zone key rows ans ≡ own key (map (ask_of zone) rows) ans
-own-is zone key [] ans = refl
-own-is zone key (row ∷ rows) [] = refl
-own-is zone key (row ∷ rows) (a ∷ ans) = ap (λ (z : List Answer).
-    (if is_own key (ask_of zone row) then a ∷ [] else []) ++ z) (own-is zone key rows ans)
+own_is zone key [] ans = refl
+own_is zone key (row ∷ rows) [] = refl
+own_is zone key (row ∷ rows) (a ∷ ans) = ap (λ (z : List Answer).
+    (if is_own key (ask_of zone row) then a ∷ [] else []) ++ z) (own_is zone key rows ans)
 
-own-fit : (key : ℕ) (ks : List Ask) (ans : List Answer) → AllFit ks ans → AllFit (own_asks key ks) (own key ks ans)
-own-fit key [] [] h = tt
-own-fit key [] (a ∷ ans) h = absurd h
-own-fit key (k ∷ ks) [] h = absurd h
-own-fit key (k ∷ ks) (a ∷ ans) h = case-by-case (is_own key k) (own-fit key ks ans h.1)
+own_fit : (key : ℕ) (ks : List Ask) (ans : List Answer) → AllFit ks ans → AllFit (own_asks key ks) (own key ks ans)
+own_fit key [] [] h = tt
+own_fit key [] (a ∷ ans) h = absurd h
+own_fit key (k ∷ ks) [] h = absurd h
+own_fit key (k ∷ ks) (a ∷ ans) h = cases (is_own key k) (own_fit key ks ans h.1)
   where
-    case-by-case : (is_its : Bool) → AllFit (own_asks key ks) (own key ks ans) →
+    cases : (is_its : Bool) → AllFit (own_asks key ks) (own key ks ans) →
         AllFit (if is_its then k ∷ own_asks key ks else own_asks key ks)
         ((if is_its then a ∷ [] else []) ++ own key ks ans)
-    case-by-case true rest = (h.0, rest)
-    case-by-case false rest = rest
+    cases true rest = (h.0, rest)
+    cases false rest = rest
 
 -- ---- the replies to the collector's requests are those to the collector's records
 
 module _ (key : ℕ) (t : ℕ) (c : Caller) (more : List Asking) (rest : List Reply) where
-  rows-own : has_this_key key c ≡ true → (rows : List (Option Request)) (rs : List Reply) → Fit rows rs
+  rows_own : has_this_key key c ≡ true → (rows : List (Option Request)) (rs : List Reply) → Fit rows rs
       → replies_to key (rows_asked t c rows ++ more) (rows_replied rows rs ++ rest)
       ≡ rows_replied rows rs ++ replies_to key more rest
-  rows-own e [] [] h = refl
-  rows-own e [] (r ∷ rs) h = absurd h
-  rows-own e (row ∷ rows) [] h = absurd h
-  rows-own e (None ∷ rows) (r ∷ rs) h = rows-own e rows rs h.1
-  rows-own e (Some q ∷ rows) (r ∷ rs) h = rw e (ap (λ (z : List Reply). r ∷ z) (rows-own e rows rs h))
+  rows_own e [] [] h = refl
+  rows_own e [] (r ∷ rs) h = absurd h
+  rows_own e (row ∷ rows) [] h = absurd h
+  rows_own e (None ∷ rows) (r ∷ rs) h = rows_own e rows rs h.1
+  rows_own e (Some q ∷ rows) (r ∷ rs) h = rw e (ap (λ (z : List Reply). r ∷ z) (rows_own e rows rs h))
 
-  rows-not : has_this_key key c ≡ false → (rows : List (Option Request)) (rs : List Reply) → Fit rows rs
+  rows_not : has_this_key key c ≡ false → (rows : List (Option Request)) (rs : List Reply) → Fit rows rs
       → replies_to key (rows_asked t c rows ++ more) (rows_replied rows rs ++ rest) ≡ replies_to key more rest
-  rows-not e [] [] h = refl
-  rows-not e [] (r ∷ rs) h = absurd h
-  rows-not e (row ∷ rows) [] h = absurd h
-  rows-not e (None ∷ rows) (r ∷ rs) h = rows-not e rows rs h.1
-  rows-not e (Some q ∷ rows) (r ∷ rs) h = rw e (rows-not e rows rs h)
+  rows_not e [] [] h = refl
+  rows_not e [] (r ∷ rs) h = absurd h
+  rows_not e (row ∷ rows) [] h = absurd h
+  rows_not e (None ∷ rows) (r ∷ rs) h = rows_not e rows rs h.1
+  rows_not e (Some q ∷ rows) (r ∷ rs) h = rw e (rows_not e rows rs h)
 
-record-own : (key : ℕ) (k : Ask) (a : Answer) (more : List Asking) (rest : List Reply) → FitsAnswer k a →
+record_own : (key : ℕ) (k : Ask) (a : Answer) (more : List Asking) (rest : List Reply) → FitsAnswer k a →
     is_own key k ≡ true
     → replies_to key (requests_of_record k ++ more) (replies_of_record k a ++ rest)
     ≡ replies_of_record k a ++ replies_to key more rest
-record-own key ask.Bad a more rest h e = absurd (true≢false (sym e))
-record-own key (ask.One t c q) (answer.One r) more rest h e = rw e refl
-record-own key (ask.One t c q) (answer.Rows rs) more rest h e = absurd h
-record-own key (ask.Import t c rows) (answer.One r) more rest h e = absurd h
-record-own key (ask.Import t c rows) (answer.Rows rs) more rest h e = rows-own key t c more rest e rows rs h
+record_own key ask.Bad a more rest h e = absurd (true≢false (sym e))
+record_own key (ask.One t c q) (answer.One r) more rest h e = rw e refl
+record_own key (ask.One t c q) (answer.Rows rs) more rest h e = absurd h
+record_own key (ask.Import t c rows) (answer.One r) more rest h e = absurd h
+record_own key (ask.Import t c rows) (answer.Rows rs) more rest h e = rows_own key t c more rest e rows rs h
 
-record-not : (key : ℕ) (k : Ask) (a : Answer) (more : List Asking) (rest : List Reply) → FitsAnswer k a →
+record_not : (key : ℕ) (k : Ask) (a : Answer) (more : List Asking) (rest : List Reply) → FitsAnswer k a →
     is_own key k ≡ false
     → replies_to key (requests_of_record k ++ more) (replies_of_record k a ++ rest) ≡ replies_to key more rest
-record-not key ask.Bad (answer.One r) more rest h e = refl
-record-not key ask.Bad (answer.Rows rs) more rest h e = absurd h
-record-not key (ask.One t c q) (answer.One r) more rest h e = rw e refl
-record-not key (ask.One t c q) (answer.Rows rs) more rest h e = absurd h
-record-not key (ask.Import t c rows) (answer.One r) more rest h e = absurd h
-record-not key (ask.Import t c rows) (answer.Rows rs) more rest h e = rows-not key t c more rest e rows rs h
+record_not key ask.Bad (answer.One r) more rest h e = refl
+record_not key ask.Bad (answer.Rows rs) more rest h e = absurd h
+record_not key (ask.One t c q) (answer.One r) more rest h e = rw e refl
+record_not key (ask.One t c q) (answer.Rows rs) more rest h e = absurd h
+record_not key (ask.Import t c rows) (answer.One r) more rest h e = absurd h
+record_not key (ask.Import t c rows) (answer.Rows rs) more rest h e = rows_not key t c more rest e rows rs h
 
-replies-own : (key : ℕ) (ks : List Ask) (ans : List Answer) → AllFit ks ans →
+replies_own : (key : ℕ) (ks : List Ask) (ans : List Answer) → AllFit ks ans →
     replies_to key (requests_of_asks ks) (replies_of_asks ks ans) ≡ replies_of_asks (own_asks key ks) (own key ks ans)
-replies-own key [] [] h = refl
-replies-own key [] (a ∷ ans) h = absurd h
-replies-own key (k ∷ ks) [] h = absurd h
-replies-own key (k ∷ ks) (a ∷ ans) h = case-by-case (is_own key k) refl (replies-own key ks ans h.1)
+replies_own key [] [] h = refl
+replies_own key [] (a ∷ ans) h = absurd h
+replies_own key (k ∷ ks) [] h = absurd h
+replies_own key (k ∷ ks) (a ∷ ans) h = cases (is_own key k) refl (replies_own key ks ans h.1)
   where
-    case-by-case : (is_its : Bool) → is_own key k ≡ is_its
+    cases : (is_its : Bool) → is_own key k ≡ is_its
         → replies_to key (requests_of_asks ks) (replies_of_asks ks ans)
         ≡ replies_of_asks (own_asks key ks) (own key ks ans)
         → replies_to key (requests_of_record k ++ requests_of_asks ks) (replies_of_record k a ++ replies_of_asks ks ans)
         ≡ replies_of_asks (if is_its then k ∷ own_asks key ks else own_asks key ks)
         ((if is_its then a ∷ [] else []) ++ own key ks ans)
-    case-by-case true e rest = record-own key k a (requests_of_asks ks) (replies_of_asks ks ans) h.0 e
+    cases true e rest = record_own key k a (requests_of_asks ks) (replies_of_asks ks ans) h.0 e
         ∙ ap (λ (z : List Reply). replies_of_record k a ++ z) rest
-    case-by-case false e rest = record-not key k a (requests_of_asks ks) (replies_of_asks ks ans) h.0 e ∙ rest
+    cases false e rest = record_not key k a (requests_of_asks ks) (replies_of_asks ks ans) h.0 e ∙ rest
 
 -- ---- the replies have one reading: equal replies are of equal answers
 
@@ -175,139 +175,139 @@ heads a b xs ys e = cc
 tails : (a b : Reply) (xs ys : List Reply) → (a ∷ xs) ≡ (b ∷ ys) → xs ≡ ys
 tails a b xs ys e = cc
 
-rows-same : (rows : List (Option Request)) (rs ss x y : List Reply) → Fit rows rs → Fit rows ss
+rows_same : (rows : List (Option Request)) (rs ss x y : List Reply) → Fit rows rs → Fit rows ss
     → rows_replied rows rs ++ x ≡ rows_replied rows ss ++ y → (rs ≡ ss) × (x ≡ y)
-rows-same [] [] [] x y f g e = (refl, e)
-rows-same [] (r ∷ rs) ss x y f g e = absurd f
-rows-same [] [] (s ∷ ss) x y f g e = absurd g
-rows-same (row ∷ rows) [] ss x y f g e = absurd f
-rows-same (row ∷ rows) (r ∷ rs) [] x y f g e = absurd g
-rows-same (None ∷ rows) (r ∷ rs) (s ∷ ss) x y f g e =
-    let rest = rows-same rows rs ss x y f.1 g.1 e in (ap₂ (λ z zs. z ∷ zs) (f.0 ∙ sym g.0) rest.0, rest.1)
-rows-same (Some q ∷ rows) (r ∷ rs) (s ∷ ss) x y f g e =
-    let rest = rows-same rows rs ss x y f g (tails r s _ _ e) in (ap₂ (λ z zs. z ∷ zs) (heads r s _ _ e) rest.0, rest.1)
+rows_same [] [] [] x y f g e = (refl, e)
+rows_same [] (r ∷ rs) ss x y f g e = absurd f
+rows_same [] [] (s ∷ ss) x y f g e = absurd g
+rows_same (row ∷ rows) [] ss x y f g e = absurd f
+rows_same (row ∷ rows) (r ∷ rs) [] x y f g e = absurd g
+rows_same (None ∷ rows) (r ∷ rs) (s ∷ ss) x y f g e =
+    let rest = rows_same rows rs ss x y f.1 g.1 e in (ap₂ (λ z zs. z ∷ zs) (f.0 ∙ sym g.0) rest.0, rest.1)
+rows_same (Some q ∷ rows) (r ∷ rs) (s ∷ ss) x y f g e =
+    let rest = rows_same rows rs ss x y f g (tails r s _ _ e) in (ap₂ (λ z zs. z ∷ zs) (heads r s _ _ e) rest.0, rest.1)
 
-record-same : (k : Ask) (a b : Answer) (x y : List Reply) → FitsAnswer k a → FitsAnswer k b
+record_same : (k : Ask) (a b : Answer) (x y : List Reply) → FitsAnswer k a → FitsAnswer k b
     → replies_of_record k a ++ x ≡ replies_of_record k b ++ y → (a ≡ b) × (x ≡ y)
-record-same ask.Bad (answer.One r) (answer.One s) x y f g e = (ap answer.One (f ∙ sym g), e)
-record-same ask.Bad (answer.One r) (answer.Rows ss) x y f g e = absurd g
-record-same ask.Bad (answer.Rows rs) b x y f g e = absurd f
-record-same (ask.One t c q) (answer.One r) (answer.One s) x y f g e = (ap answer.One (heads r s x y e), tails r s x y e)
-record-same (ask.One t c q) (answer.One r) (answer.Rows ss) x y f g e = absurd g
-record-same (ask.One t c q) (answer.Rows rs) b x y f g e = absurd f
-record-same (ask.Import t c rows) (answer.Rows rs) (answer.Rows ss) x y f g e =
-    let both = rows-same rows rs ss x y f g e in (ap answer.Rows both.0, both.1)
-record-same (ask.Import t c rows) (answer.Rows rs) (answer.One s) x y f g e = absurd g
-record-same (ask.Import t c rows) (answer.One r) b x y f g e = absurd f
+record_same ask.Bad (answer.One r) (answer.One s) x y f g e = (ap answer.One (f ∙ sym g), e)
+record_same ask.Bad (answer.One r) (answer.Rows ss) x y f g e = absurd g
+record_same ask.Bad (answer.Rows rs) b x y f g e = absurd f
+record_same (ask.One t c q) (answer.One r) (answer.One s) x y f g e = (ap answer.One (heads r s x y e), tails r s x y e)
+record_same (ask.One t c q) (answer.One r) (answer.Rows ss) x y f g e = absurd g
+record_same (ask.One t c q) (answer.Rows rs) b x y f g e = absurd f
+record_same (ask.Import t c rows) (answer.Rows rs) (answer.Rows ss) x y f g e =
+    let both = rows_same rows rs ss x y f g e in (ap answer.Rows both.0, both.1)
+record_same (ask.Import t c rows) (answer.Rows rs) (answer.One s) x y f g e = absurd g
+record_same (ask.Import t c rows) (answer.One r) b x y f g e = absurd f
 
-replies-same : (ks : List Ask) (ans bs : List Answer) → AllFit ks ans → AllFit ks bs
+replies_same : (ks : List Ask) (ans bs : List Answer) → AllFit ks ans → AllFit ks bs
     → replies_of_asks ks ans ≡ replies_of_asks ks bs → ans ≡ bs
-replies-same [] [] [] f g e = refl
-replies-same [] (a ∷ ans) bs f g e = absurd f
-replies-same [] [] (b ∷ bs) f g e = absurd g
-replies-same (k ∷ ks) [] bs f g e = absurd f
-replies-same (k ∷ ks) (a ∷ ans) [] f g e = absurd g
-replies-same (k ∷ ks) (a ∷ ans) (b ∷ bs) f g e =
-    let both = record-same k a b (replies_of_asks ks ans) (replies_of_asks ks bs) f.0 g.0 e in
-    ap₂ (λ z zs. z ∷ zs) both.0 (replies-same ks ans bs f.1 g.1 both.1)
+replies_same [] [] [] f g e = refl
+replies_same [] (a ∷ ans) bs f g e = absurd f
+replies_same [] [] (b ∷ bs) f g e = absurd g
+replies_same (k ∷ ks) [] bs f g e = absurd f
+replies_same (k ∷ ks) (a ∷ ans) [] f g e = absurd g
+replies_same (k ∷ ks) (a ∷ ans) (b ∷ bs) f g e =
+    let both = record_same k a b (replies_of_asks ks ans) (replies_of_asks ks bs) f.0 g.0 e in
+    ap₂ (λ z zs. z ∷ zs) both.0 (replies_same ks ans bs f.1 g.1 both.1)
 
 -- ---- as many replies as requests
 
-rows-length : (t : ℕ) (c : Caller) (rows : List (Option Request)) (rs : List Reply) → Fit rows rs →
+rows_length : (t : ℕ) (c : Caller) (rows : List (Option Request)) (rs : List Reply) → Fit rows rs →
     length (rows_replied rows rs) ≡ length (rows_asked t c rows)
-rows-length t c [] [] h = refl
-rows-length t c [] (r ∷ rs) h = absurd h
-rows-length t c (row ∷ rows) [] h = absurd h
-rows-length t c (None ∷ rows) (r ∷ rs) h = rows-length t c rows rs h.1
-rows-length t c (Some q ∷ rows) (r ∷ rs) h = let e = rows-length t c rows rs h in omega (arith, e)
+rows_length t c [] [] h = refl
+rows_length t c [] (r ∷ rs) h = absurd h
+rows_length t c (row ∷ rows) [] h = absurd h
+rows_length t c (None ∷ rows) (r ∷ rs) h = rows_length t c rows rs h.1
+rows_length t c (Some q ∷ rows) (r ∷ rs) h = let e = rows_length t c rows rs h in omega (arith, e)
 
-record-length : (k : Ask) (a : Answer) → FitsAnswer k a → length (replies_of_record k a) ≡ length (requests_of_record k)
-record-length ask.Bad a h = refl
-record-length (ask.One t c q) (answer.One r) h = refl
-record-length (ask.One t c q) (answer.Rows rs) h = absurd h
-record-length (ask.Import t c rows) (answer.One r) h = absurd h
-record-length (ask.Import t c rows) (answer.Rows rs) h = rows-length t c rows rs h
+record_length : (k : Ask) (a : Answer) → FitsAnswer k a → length (replies_of_record k a) ≡ length (requests_of_record k)
+record_length ask.Bad a h = refl
+record_length (ask.One t c q) (answer.One r) h = refl
+record_length (ask.One t c q) (answer.Rows rs) h = absurd h
+record_length (ask.Import t c rows) (answer.One r) h = absurd h
+record_length (ask.Import t c rows) (answer.Rows rs) h = rows_length t c rows rs h
 
-replies-length : (ks : List Ask) (ans : List Answer) → AllFit ks ans
+replies_length : (ks : List Ask) (ans : List Answer) → AllFit ks ans
     → length (replies_of_asks ks ans) ≡ length (requests_of_asks ks)
-replies-length [] [] h = refl
-replies-length [] (a ∷ ans) h = absurd h
-replies-length (k ∷ ks) [] h = absurd h
-replies-length (k ∷ ks) (a ∷ ans) h = length-append (replies_of_record k a) (replies_of_asks ks ans)
-    ∙ ap₂ (λ m n. m + n) (record-length k a h.0) (replies-length ks ans h.1)
+replies_length [] [] h = refl
+replies_length [] (a ∷ ans) h = absurd h
+replies_length (k ∷ ks) [] h = absurd h
+replies_length (k ∷ ks) (a ∷ ans) h = length-append (replies_of_record k a) (replies_of_asks ks ans)
+    ∙ ap₂ (λ m n. m + n) (record_length k a h.0) (replies_length ks ans h.1)
     ∙ sym (length-append (requests_of_record k) (requests_of_asks ks))
 
 -- ---- without other collectors
 
-not-true : (b : Bool) → not b ≡ true → b ≡ false
-not-true true h = sym h
-not-true false h = refl
+not_true : (b : Bool) → not b ≡ true → b ≡ false
+not_true true h = sym h
+not_true false h = refl
 
 -- an own record isn't another collector's
-own-not-others : (key : ℕ) (k : Ask) → is_others key k ≡ true → is_own key k ≡ false
-own-not-others key ask.Bad e = refl
-own-not-others key (ask.One t (Collector j) q) e = not-true (j == key) e
-own-not-others key (ask.One t Public q) e = refl
-own-not-others key (ask.One t Desk q) e = refl
-own-not-others key (ask.Import t (Collector j) rows) e = not-true (j == key) e
-own-not-others key (ask.Import t Public rows) e = refl
-own-not-others key (ask.Import t Desk rows) e = refl
+own_not_others : (key : ℕ) (k : Ask) → is_others key k ≡ true → is_own key k ≡ false
+own_not_others key ask.Bad e = refl
+own_not_others key (ask.One t (Collector j) q) e = not_true (j == key) e
+own_not_others key (ask.One t Public q) e = refl
+own_not_others key (ask.One t Desk q) e = refl
+own_not_others key (ask.Import t (Collector j) rows) e = not_true (j == key) e
+own_not_others key (ask.Import t Public rows) e = refl
+own_not_others key (ask.Import t Desk rows) e = refl
 
 -- the collector's records are among those that are left
-own-left : (zone : ZoneRule) (key : ℕ) (rows : List Record) →
+own_left : (zone : ZoneRule) (key : ℕ) (rows : List Record) →
     own_asks key (map (ask_of zone) (records_without zone key rows)) ≡ own_asks key (map (ask_of zone) rows)
-own-left zone key [] = refl
-own-left zone key (row ∷ rows) = case-by-case (is_others key (ask_of zone row)) refl (own-left zone key rows)
+own_left zone key [] = refl
+own_left zone key (row ∷ rows) = cases (is_others key (ask_of zone row)) refl (own_left zone key rows)
   where
-    case-by-case : (b : Bool) → is_others key (ask_of zone row) ≡ b →
+    cases : (b : Bool) → is_others key (ask_of zone row) ≡ b →
         own_asks key (map (ask_of zone) (records_without zone key rows)) ≡ own_asks key (map (ask_of zone) rows)
         → own_asks key (map (ask_of zone)
         (if not b then row ∷ records_without zone key rows else records_without zone key rows))
         ≡ own_asks key (ask_of zone row ∷ map (ask_of zone) rows)
-    case-by-case true e rest = rest ∙ rw (own-not-others key (ask_of zone row) e) refl
-    case-by-case false e rest =
+    cases true e rest = rest ∙ rw (own_not_others key (ask_of zone row) e) refl
+    cases false e rest =
         ap (λ (z : List Ask). if is_own key (ask_of zone row) then ask_of zone row ∷ z else z) rest
 
 -- the requests of a record go or stay together
-rows-kept : (key t : ℕ) (c : Caller) (rows : List (Option Request)) (more : List Asking) → is_other key c ≡ false
+rows_kept : (key t : ℕ) (c : Caller) (rows : List (Option Request)) (more : List Asking) → is_other key c ≡ false
     → requests_without key (rows_asked t c rows ++ more) ≡ rows_asked t c rows ++ requests_without key more
-rows-kept key t c [] more e = refl
-rows-kept key t c (None ∷ rows) more e = rows-kept key t c rows more e
-rows-kept key t c (Some q ∷ rows) more e =
+rows_kept key t c [] more e = refl
+rows_kept key t c (None ∷ rows) more e = rows_kept key t c rows more e
+rows_kept key t c (Some q ∷ rows) more e =
     let one : Asking = record { now = t; caller = c; request = q } in
-    rw e (ap (λ (z : List Asking). one ∷ z) (rows-kept key t c rows more e))
+    rw e (ap (λ (z : List Asking). one ∷ z) (rows_kept key t c rows more e))
 
-rows-gone : (key t : ℕ) (c : Caller) (rows : List (Option Request)) (more : List Asking) → is_other key c ≡ true
+rows_gone : (key t : ℕ) (c : Caller) (rows : List (Option Request)) (more : List Asking) → is_other key c ≡ true
     → requests_without key (rows_asked t c rows ++ more) ≡ requests_without key more
-rows-gone key t c [] more e = refl
-rows-gone key t c (None ∷ rows) more e = rows-gone key t c rows more e
-rows-gone key t c (Some q ∷ rows) more e = rw e (rows-gone key t c rows more e)
+rows_gone key t c [] more e = refl
+rows_gone key t c (None ∷ rows) more e = rows_gone key t c rows more e
+rows_gone key t c (Some q ∷ rows) more e = rw e (rows_gone key t c rows more e)
 
-record-kept : (key : ℕ) (k : Ask) (more : List Asking) → is_others key k ≡ false →
+record_kept : (key : ℕ) (k : Ask) (more : List Asking) → is_others key k ≡ false →
     requests_without key (requests_of_record k ++ more) ≡ requests_of_record k ++ requests_without key more
-record-kept key ask.Bad more e = refl
-record-kept key (ask.One t c q) more e = rw e refl
-record-kept key (ask.Import t c rows) more e = rows-kept key t c rows more e
+record_kept key ask.Bad more e = refl
+record_kept key (ask.One t c q) more e = rw e refl
+record_kept key (ask.Import t c rows) more e = rows_kept key t c rows more e
 
-record-gone : (key : ℕ) (k : Ask) (more : List Asking) → is_others key k ≡ true →
+record_gone : (key : ℕ) (k : Ask) (more : List Asking) → is_others key k ≡ true →
     requests_without key (requests_of_record k ++ more) ≡ requests_without key more
-record-gone key ask.Bad more e = refl
-record-gone key (ask.One t c q) more e = rw e refl
-record-gone key (ask.Import t c rows) more e = rows-gone key t c rows more e
+record_gone key ask.Bad more e = refl
+record_gone key (ask.One t c q) more e = rw e refl
+record_gone key (ask.Import t c rows) more e = rows_gone key t c rows more e
 
-left-requests : (zone : ZoneRule) (key : ℕ) (rows : List Record) →
+left_requests : (zone : ZoneRule) (key : ℕ) (rows : List Record) →
     requests_without key (requests_of_records zone rows) ≡ requests_of_records zone (records_without zone key rows)
-left-requests zone key [] = refl
-left-requests zone key (row ∷ rows) = case-by-case (is_others key (ask_of zone row)) refl (left-requests zone key rows)
+left_requests zone key [] = refl
+left_requests zone key (row ∷ rows) = cases (is_others key (ask_of zone row)) refl (left_requests zone key rows)
   where
-    case-by-case : (b : Bool) → is_others key (ask_of zone row) ≡ b
+    cases : (b : Bool) → is_others key (ask_of zone row) ≡ b
         → requests_without key (requests_of_records zone rows)
         ≡ requests_of_records zone (records_without zone key rows)
         → requests_without key (requests_of_record (ask_of zone row) ++ requests_of_records zone rows)
         ≡ requests_of_records zone
         (if not b then row ∷ records_without zone key rows else records_without zone key rows)
-    case-by-case true e rest = record-gone key (ask_of zone row) (requests_of_records zone rows) e ∙ rest
-    case-by-case false e rest = record-kept key (ask_of zone row) (requests_of_records zone rows) e
+    cases true e rest = record_gone key (ask_of zone row) (requests_of_records zone rows) e ∙ rest
+    cases false e rest = record_kept key (ask_of zone row) (requests_of_records zone rows) e
         ∙ ap (λ (z : List Asking). requests_of_record (ask_of zone row) ++ z) rest
 
 -- ---- the law
@@ -316,22 +316,22 @@ module _ {B : Type 0} (state : B → State Office) (zone : ZoneRule) (old new : 
     (ans : List Answer)
     (is : IsReplayed state zone old new rows ans) where
   fits : AllFit (map (ask_of zone) rows) ans
-  fits = all-fit state zone old new rows ans is.each
+  fits = all_fit state zone old new rows ans is.each
 
   whole : IsWholeRun (state old) (state new) (requests_of_records zone rows) (replies_of zone rows ans)
   whole = record {
     ran = records_are_a_run state zone old new rows ans is.each;
     clean = is.clean;
     sound = is.sound;
-    each = ap length (replies-are zone rows ans) ∙ replies-length (map (ask_of zone) rows) ans fits
-        ∙ sym (ap length (requests-are zone rows));
+    each = ap length (replies_are zone rows ans) ∙ replies_length (map (ask_of zone) rows) ans fits
+        ∙ sym (ap length (requests_are zone rows));
     served = is.served;
   }
 
-  replies-to-own : (key : ℕ) → replies_to key (requests_of_records zone rows) (replies_of zone rows ans)
+  replies_to_own : (key : ℕ) → replies_to key (requests_of_records zone rows) (replies_of zone rows ans)
       ≡ replies_of_asks (own_asks key (map (ask_of zone) rows)) (own key (map (ask_of zone) rows) ans)
-  replies-to-own key = ap₂ (replies_to key) (requests-are zone rows) (replies-are zone rows ans)
-      ∙ replies-own key (map (ask_of zone) rows) ans fits
+  replies_to_own key = ap₂ (replies_to key) (requests_are zone rows) (replies_are zone rows ans)
+      ∙ replies_own key (map (ask_of zone) rows) ans fits
 
 pub replays_answer_alike : {B C : Type 0} (state : B → State Office) (state' : C → State Office)
     → ReplaysAnswerAlike state state'
@@ -339,19 +339,19 @@ replays_answer_alike state state' zone key old new old' new' rows others ans bs 
     let asked = map (ask_of zone) rows in
     let asked' = map (ask_of zone) others in
     let asks : own_asks key asked ≡ own_asks key asked' =
-    sym (own-left zone key rows) ∙ ap (λ z. own_asks key (map (ask_of zone) z)) same ∙ own-left zone key others in
-    let left = left-requests zone key rows ∙ ap (requests_of_records zone) same ∙ sym (left-requests zone key others) in
+    sym (own_left zone key rows) ∙ ap (λ z. own_asks key (map (ask_of zone) z)) same ∙ own_left zone key others in
+    let left = left_requests zone key rows ∙ ap (requests_of_records zone) same ∙ sym (left_requests zone key others) in
     let alike = runs_tell_alike state state' key (requests_of_records zone rows) (requests_of_records zone others)
     (replies_of zone rows ans) (replies_of zone others bs)
     old new old' new' (whole state zone old new rows ans is) (whole state' zone old' new' others bs is') start
     is.none_passes_on is'.none_passes_on left in
     let answered : replies_of_asks (own_asks key asked) (own key asked ans)
     ≡ replies_of_asks (own_asks key asked) (own key asked' bs) =
-    sym (replies-to-own state zone old new rows ans is key) ∙ alike
-    ∙ replies-to-own state' zone old' new' others bs is' key
+    sym (replies_to_own state zone old new rows ans is key) ∙ alike
+    ∙ replies_to_own state' zone old' new' others bs is' key
     ∙ ap (λ ks. replies_of_asks ks (own key asked' bs)) (sym asks) in
-    let here = own-fit key asked ans (fits state zone old new rows ans is) in
+    let here = own_fit key asked ans (fits state zone old new rows ans is) in
     let there = subst (λ ks. AllFit ks (own key asked' bs)) (sym asks)
-    (own-fit key asked' bs (fits state' zone old' new' others bs is')) in
-    ap (map answer_line) (own-is zone key rows ans ∙ replies-same (own_asks key asked) (own key asked ans)
-    (own key asked' bs) here there answered ∙ sym (own-is zone key others bs))
+    (own_fit key asked' bs (fits state' zone old' new' others bs is')) in
+    ap (map answer_line) (own_is zone key rows ans ∙ replies_same (own_asks key asked) (own key asked ans)
+    (own key asked' bs) here there answered ∙ sym (own_is zone key others bs))

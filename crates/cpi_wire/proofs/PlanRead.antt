@@ -13,32 +13,32 @@ use Rattle.cpi_wire.specs.PlanBody.{body_of}
 use Rattle.cpi_wire.specs.PlanRows.{spelled_plan_row}
 use Rattle.cpi_codes.specs.Following.{◌>>=◌}
 use Rattle.cpi_wire.specs.declared.limits.TheConstants.{MOST_ROWS}
-use Rattle.cpi_wire.proofs.RowLimits.{within-limit, past-limit}
+use Rattle.cpi_wire.proofs.RowLimits.{within_limit, past_limit}
 
 -- ---- one row more
 
-title-more : (rows : List PlanRow) (t : Title) →
+title_more : (rows : List PlanRow) (t : Title) →
     body_of_rows (rows ++ row.Title t ∷ []) ≡ record {
       titles = titles_of rows ++ t ∷ [];
       weights = weights_of_rows rows;
       places = places_of rows;
       references = references_of rows;
     }
-title-more [] t = refl
-title-more (row.Title u ∷ rows) t = ap (λ (b : PlanBody).
+title_more [] t = refl
+title_more (row.Title u ∷ rows) t = ap (λ (b : PlanBody).
     record { titles = u ∷ b.titles; weights = b.weights; places = b.places; references = b.references })
-    (title-more rows t)
-title-more (row.Weight w ∷ rows) t = ap (λ (b : PlanBody).
+    (title_more rows t)
+title_more (row.Weight w ∷ rows) t = ap (λ (b : PlanBody).
     record { titles = b.titles; weights = w ∷ b.weights; places = b.places; references = b.references })
-    (title-more rows t)
-title-more (row.Place p ∷ rows) t = ap (λ (b : PlanBody).
+    (title_more rows t)
+title_more (row.Place p ∷ rows) t = ap (λ (b : PlanBody).
     record { titles = b.titles; weights = b.weights; places = p ∷ b.places; references = b.references })
-    (title-more rows t)
-title-more (row.Reference m ∷ rows) t = ap (λ (b : PlanBody).
+    (title_more rows t)
+title_more (row.Reference m ∷ rows) t = ap (λ (b : PlanBody).
     record { titles = b.titles; weights = b.weights; places = b.places; references = m ∷ b.references })
-    (title-more rows t)
+    (title_more rows t)
 
-weight-more : (rows : List PlanRow) (v : Weight) →
+weight_more : (rows : List PlanRow) (v : Weight) →
     body_of_rows (rows ++ row.Weight v ∷ []) ≡ record {
       titles = titles_of rows;
       weights = weights_of_rows rows
@@ -46,21 +46,21 @@ weight-more : (rows : List PlanRow) (v : Weight) →
       places = places_of rows;
       references = references_of rows;
     }
-weight-more [] v = refl
-weight-more (row.Title u ∷ rows) v = ap (λ (b : PlanBody).
+weight_more [] v = refl
+weight_more (row.Title u ∷ rows) v = ap (λ (b : PlanBody).
     record { titles = u ∷ b.titles; weights = b.weights; places = b.places; references = b.references })
-    (weight-more rows v)
-weight-more (row.Weight w ∷ rows) v = ap (λ (b : PlanBody).
+    (weight_more rows v)
+weight_more (row.Weight w ∷ rows) v = ap (λ (b : PlanBody).
     record { titles = b.titles; weights = w ∷ b.weights; places = b.places; references = b.references })
-    (weight-more rows v)
-weight-more (row.Place p ∷ rows) v = ap (λ (b : PlanBody).
+    (weight_more rows v)
+weight_more (row.Place p ∷ rows) v = ap (λ (b : PlanBody).
     record { titles = b.titles; weights = b.weights; places = p ∷ b.places; references = b.references })
-    (weight-more rows v)
-weight-more (row.Reference m ∷ rows) v = ap (λ (b : PlanBody).
+    (weight_more rows v)
+weight_more (row.Reference m ∷ rows) v = ap (λ (b : PlanBody).
     record { titles = b.titles; weights = b.weights; places = b.places; references = m ∷ b.references })
-    (weight-more rows v)
+    (weight_more rows v)
 
-place-more : (rows : List PlanRow) (q : Place) →
+place_more : (rows : List PlanRow) (q : Place) →
     body_of_rows (rows ++ row.Place q ∷ []) ≡ record {
       titles = titles_of rows;
       weights = weights_of_rows rows;
@@ -68,21 +68,21 @@ place-more : (rows : List PlanRow) (q : Place) →
           places_of rows ++ q ∷ [];
       references = references_of rows;
     }
-place-more [] q = refl
-place-more (row.Title u ∷ rows) q = ap (λ (b : PlanBody).
+place_more [] q = refl
+place_more (row.Title u ∷ rows) q = ap (λ (b : PlanBody).
     record { titles = u ∷ b.titles; weights = b.weights; places = b.places; references = b.references })
-    (place-more rows q)
-place-more (row.Weight w ∷ rows) q = ap (λ (b : PlanBody).
+    (place_more rows q)
+place_more (row.Weight w ∷ rows) q = ap (λ (b : PlanBody).
     record { titles = b.titles; weights = w ∷ b.weights; places = b.places; references = b.references })
-    (place-more rows q)
-place-more (row.Place p ∷ rows) q = ap (λ (b : PlanBody).
+    (place_more rows q)
+place_more (row.Place p ∷ rows) q = ap (λ (b : PlanBody).
     record { titles = b.titles; weights = b.weights; places = p ∷ b.places; references = b.references })
-    (place-more rows q)
-place-more (row.Reference m ∷ rows) q = ap (λ (b : PlanBody).
+    (place_more rows q)
+place_more (row.Reference m ∷ rows) q = ap (λ (b : PlanBody).
     record { titles = b.titles; weights = b.weights; places = b.places; references = m ∷ b.references })
-    (place-more rows q)
+    (place_more rows q)
 
-reference-more : (rows : List PlanRow) (n : ℕ) →
+reference_more : (rows : List PlanRow) (n : ℕ) →
     body_of_rows (rows ++ row.Reference n ∷ []) ≡ record {
       titles = titles_of rows;
       weights = weights_of_rows rows;
@@ -90,52 +90,52 @@ reference-more : (rows : List PlanRow) (n : ℕ) →
           places_of rows;
       references = references_of rows ++ n ∷ [];
     }
-reference-more [] n = refl
-reference-more (row.Title u ∷ rows) n = ap (λ (b : PlanBody).
+reference_more [] n = refl
+reference_more (row.Title u ∷ rows) n = ap (λ (b : PlanBody).
     record { titles = u ∷ b.titles; weights = b.weights; places = b.places; references = b.references })
-    (reference-more rows n)
-reference-more (row.Weight w ∷ rows) n = ap (λ (b : PlanBody).
+    (reference_more rows n)
+reference_more (row.Weight w ∷ rows) n = ap (λ (b : PlanBody).
     record { titles = b.titles; weights = w ∷ b.weights; places = b.places; references = b.references })
-    (reference-more rows n)
-reference-more (row.Place p ∷ rows) n = ap (λ (b : PlanBody).
+    (reference_more rows n)
+reference_more (row.Place p ∷ rows) n = ap (λ (b : PlanBody).
     record { titles = b.titles; weights = b.weights; places = p ∷ b.places; references = b.references })
-    (reference-more rows n)
-reference-more (row.Reference m ∷ rows) n = ap
+    (reference_more rows n)
+reference_more (row.Reference m ∷ rows) n = ap
     (λ (b : PlanBody). record {
       titles = b.titles;
       weights = b.weights;
       places = b.places;
       references = m ∷ b.references;
-    }) (reference-more rows n)
+    }) (reference_more rows n)
 
 -- a body with one row more
-pub with-title : (b : PlanBody) (rows : List PlanRow) (t : Title) → b ≡ body_of_rows rows →
+pub with_title : (b : PlanBody) (rows : List PlanRow) (t : Title) → b ≡ body_of_rows rows →
     record { titles = b.titles ++ t ∷ []; weights = b.weights; places = b.places; references = b.references } ≡
     body_of_rows (rows ++ row.Title t ∷ [])
-with-title b rows t e = ap (λ (b : PlanBody).
+with_title b rows t e = ap (λ (b : PlanBody).
     record { titles = b.titles ++ t ∷ []; weights = b.weights; places = b.places; references = b.references }) e
-    ∙ sym (title-more rows t)
+    ∙ sym (title_more rows t)
 
-pub with-weight : (b : PlanBody) (rows : List PlanRow) (v : Weight) → b ≡ body_of_rows rows →
+pub with_weight : (b : PlanBody) (rows : List PlanRow) (v : Weight) → b ≡ body_of_rows rows →
     record { titles = b.titles; weights = b.weights ++ v ∷ []; places = b.places; references = b.references } ≡
     body_of_rows (rows ++ row.Weight v ∷ [])
-with-weight b rows v e = ap (λ (b : PlanBody).
+with_weight b rows v e = ap (λ (b : PlanBody).
     record { titles = b.titles; weights = b.weights ++ v ∷ []; places = b.places; references = b.references }) e
-    ∙ sym (weight-more rows v)
+    ∙ sym (weight_more rows v)
 
-pub with-place : (b : PlanBody) (rows : List PlanRow) (q : Place) → b ≡ body_of_rows rows →
+pub with_place : (b : PlanBody) (rows : List PlanRow) (q : Place) → b ≡ body_of_rows rows →
     record { titles = b.titles; weights = b.weights; places = b.places ++ q ∷ []; references = b.references } ≡
     body_of_rows (rows ++ row.Place q ∷ [])
-with-place b rows q e = ap (λ (b : PlanBody).
+with_place b rows q e = ap (λ (b : PlanBody).
     record { titles = b.titles; weights = b.weights; places = b.places ++ q ∷ []; references = b.references }) e
-    ∙ sym (place-more rows q)
+    ∙ sym (place_more rows q)
 
-pub with-reference : (b : PlanBody) (rows : List PlanRow) (n : ℕ) → b ≡ body_of_rows rows →
+pub with_reference : (b : PlanBody) (rows : List PlanRow) (n : ℕ) → b ≡ body_of_rows rows →
     record { titles = b.titles; weights = b.weights; places = b.places; references = b.references ++ n ∷ [] } ≡
     body_of_rows (rows ++ row.Reference n ∷ [])
-with-reference b rows n e = ap (λ (b : PlanBody).
+with_reference b rows n e = ap (λ (b : PlanBody).
     record { titles = b.titles; weights = b.weights; places = b.places; references = b.references ++ n ∷ [] }) e
-    ∙ sym (reference-more rows n)
+    ∙ sym (reference_more rows n)
 
 -- ---- the rows of records
 
@@ -145,56 +145,56 @@ joined_rows None more = None
 joined_rows (Some rows) None = None
 joined_rows (Some rows) (Some more) = Some (rows ++ more)
 
-rows-append : (xs ys : List Record) → plan_rows (xs ++ ys) ≡ joined_rows (plan_rows xs) (plan_rows ys)
+rows_append : (xs ys : List Record) → plan_rows (xs ++ ys) ≡ joined_rows (plan_rows xs) (plan_rows ys)
 unfolding joined_rows
-rows-append [] ys = none (plan_rows ys)
+rows_append [] ys = none (plan_rows ys)
   where
     none : (o : Option (List PlanRow)) → o ≡ joined_rows (Some []) o
     none None = refl
     none (Some rows) = refl
-rows-append (x ∷ xs) ys = case-by-case (spelled_plan_row x) (plan_rows xs) (plan_rows ys) (plan_rows (xs ++ ys))
-    (rows-append xs ys)
+rows_append (x ∷ xs) ys = cases (spelled_plan_row x) (plan_rows xs) (plan_rows ys) (plan_rows (xs ++ ys))
+    (rows_append xs ys)
   where
-    case-by-case : (p : Option PlanRow) (o q r : Option (List PlanRow)) → r ≡ joined_rows o q
+    cases : (p : Option PlanRow) (o q r : Option (List PlanRow)) → r ≡ joined_rows o q
         → (p >>= λ first. r >>= λ rows. Some (first ∷ rows))
         ≡ joined_rows (p >>= λ first. o >>= λ rows. Some (first ∷ rows)) q
-    case-by-case None o q r e = refl
-    case-by-case (Some first) None q r e = rw e refl
-    case-by-case (Some first) (Some rows) None r e = rw e refl
-    case-by-case (Some first) (Some rows) (Some more) r e = rw e refl
+    cases None o q r e = refl
+    cases (Some first) None q r e = rw e refl
+    cases (Some first) (Some rows) None r e = rw e refl
+    cases (Some first) (Some rows) (Some more) r e = rw e refl
 
-pub rows-more : (given : List Record) (rows : List PlanRow) (fields : Record) (one : PlanRow) →
+pub rows_more : (given : List Record) (rows : List PlanRow) (fields : Record) (one : PlanRow) →
     plan_rows given ≡ Some rows → spelled_plan_row fields ≡ Some one
     → plan_rows (given ++ fields ∷ []) ≡ Some (rows ++ one ∷ [])
 unfolding joined_rows
-rows-more given rows fields one e f = rows-append given (fields ∷ []) ∙ rw (e, f) refl
+rows_more given rows fields one e f = rows_append given (fields ∷ []) ∙ rw (e, f) refl
 
 -- ---- the body
 
-pub body-whole : (text : List ℕ) (given : List Record) (rows : List PlanRow) → given ≡ records_of text →
+pub body_whole : (text : List ℕ) (given : List Record) (rows : List PlanRow) → given ≡ records_of text →
     length given ≤ MOST_ROWS → plan_rows given ≡ Some rows
     → Some (body_of_rows rows) ≡ body_of text
 unfolding body_of
-body-whole text given rows e h r = rw (← e, within-limit (length given) h, r) refl
+body_whole text given rows e h r = rw (← e, within_limit (length given) h, r) refl
 
-pub body-long : (text : List ℕ) (given : List Record) → AreFirst given text → MOST_ROWS < length given
+pub body_long : (text : List ℕ) (given : List Record) → AreFirst given text → MOST_ROWS < length given
     → None ≡ body_of text
 unfolding body_of
-body-long text given first h =
+body_long text given first h =
     let t : nat_lt MOST_ROWS (length (records_of text)) ≡ true =
-    past-limit _ (rw (first.1, length-append) (omega arith)) in
+    past_limit _ (rw (first.1, length-append) (omega arith)) in
     rw t refl
 
-pub body-bad : (text : List ℕ) (given : List Record) (rows : List PlanRow) (fields : Record) →
+pub body_bad : (text : List ℕ) (given : List Record) (rows : List PlanRow) (fields : Record) →
     AreFirst (given ++ fields ∷ []) text → plan_rows given ≡ Some rows
     → spelled_plan_row fields ≡ None → None ≡ body_of text
 unfolding body_of joined_rows
-body-bad text given rows fields first e f =
+body_bad text given rows fields first e f =
     let all : plan_rows (records_of text) ≡ None = ap plan_rows (first.1 ∙ append_assoc given (fields ∷ []) first.0)
-    ∙ rows-append given (fields ∷ first.0) ∙ rw (e, f) refl in
-    case-by-case (nat_lt MOST_ROWS (length (records_of text))) (plan_rows (records_of text)) all
+    ∙ rows_append given (fields ∷ first.0) ∙ rw (e, f) refl in
+    cases (nat_lt MOST_ROWS (length (records_of text))) (plan_rows (records_of text)) all
   where
-    case-by-case : (t : Bool) (o : Option (List PlanRow)) → o ≡ None →
+    cases : (t : Bool) (o : Option (List PlanRow)) → o ≡ None →
         None ≡ (if t then None else (o >>= λ rows. Some (body_of_rows rows)))
-    case-by-case true o e = refl
-    case-by-case false o e = rw e refl
+    cases true o e = refl
+    cases false o e = rw e refl

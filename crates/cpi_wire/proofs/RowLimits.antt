@@ -3,8 +3,8 @@ use Rattle.std.proofs.Common.{◌≡◌, ◌<◌, ◌≤◌, ℕ, arith, nat_lt,
 use Rattle.std.proofs.lemmas.Bool.Decides.{nat_tests}
 use Rattle.cpi_wire.specs.declared.limits.TheConstants.{MOST_ROWS}
 
-pub within-limit : (n : ℕ) → n ≤ MOST_ROWS → nat_lt MOST_ROWS n ≡ false
-within-limit n h = grind (arith, nat_tests)
+pub within_limit : (n : ℕ) → n ≤ MOST_ROWS → nat_lt MOST_ROWS n ≡ false
+within_limit n h = grind (arith, nat_tests)
 
-pub past-limit : (n : ℕ) → MOST_ROWS < n → nat_lt MOST_ROWS n ≡ true
-past-limit n h = grind (arith, nat_tests)
+pub past_limit : (n : ℕ) → MOST_ROWS < n → nat_lt MOST_ROWS n ≡ true
+past_limit n h = grind (arith, nat_tests)

@@ -24,18 +24,18 @@ use Rattle.cpi_wire.specs.Laws.{requests_of_asks, replies_of_asks, requests_of_r
 
 -- ---- the requests and the replies of records are those of what they ask
 
-pub requests-are : (zone : ZoneRule) (rows : List Record)
+pub requests_are : (zone : ZoneRule) (rows : List Record)
     → requests_of_records zone rows ≡ requests_of_asks (map (ask_of zone) rows)
-requests-are zone [] = refl
-requests-are zone (row ∷ rows) =
-    ap (λ (z : List Asking). requests_of_record (ask_of zone row) ++ z) (requests-are zone rows)
+requests_are zone [] = refl
+requests_are zone (row ∷ rows) =
+    ap (λ (z : List Asking). requests_of_record (ask_of zone row) ++ z) (requests_are zone rows)
 
-pub replies-are : (zone : ZoneRule) (rows : List Record) (answers : List Answer)
+pub replies_are : (zone : ZoneRule) (rows : List Record) (answers : List Answer)
     → replies_of zone rows answers ≡ replies_of_asks (map (ask_of zone) rows) answers
-replies-are zone [] answers = refl
-replies-are zone (row ∷ rows) [] = refl
-replies-are zone (row ∷ rows) (a ∷ answers) =
-    ap (λ (z : List Reply). replies_of_record (ask_of zone row) a ++ z) (replies-are zone rows answers)
+replies_are zone [] answers = refl
+replies_are zone (row ∷ rows) [] = refl
+replies_are zone (row ∷ rows) (a ∷ answers) =
+    ap (λ (z : List Reply). replies_of_record (ask_of zone row) a ++ z) (replies_are zone rows answers)
 
 -- ---- runs
 
@@ -45,8 +45,8 @@ module _ {B : Type 0} (state : B → State Office) where
   IsRunSoFar start new front replied =
       (length replied ≡ length front) × RunOverBook (state start) (state new) front replied
 
-  pub run-none : (old : B) → IsRunSoFar old old [] []
-  run-none old = (
+  pub run_none : (old : B) → IsRunSoFar old old [] []
+  run_none old = (
     refl,
     record {
       was_clean = λ clean. clean;
@@ -55,75 +55,75 @@ module _ {B : Type 0} (state : B → State Office) where
     },
   )
 
-  same-more : (front : List Asking) (replied : List Reply) (a : Asking) (reply : Reply)
+  same_more : (front : List Asking) (replied : List Reply) (a : Asking) (reply : Reply)
       → length replied ≡ length front → length (replied ++ reply ∷ []) ≡ length (front ++ a ∷ [])
-  same-more front replied a reply same = length-append replied (reply ∷ []) ∙ omega (arith, same)
+  same_more front replied a reply same = length-append replied (reply ∷ []) ∙ omega (arith, same)
       ∙ sym (length-append front (a ∷ []))
 
   -- the rows of an import more
-  run-rows : (start old new : B) (front : List Asking) (replied : List Reply) (t : ℕ) (k : Caller)
+  run_rows : (start old new : B) (front : List Asking) (replied : List Reply) (t : ℕ) (k : Caller)
       (rows : List (Option Request)) (replies : List Reply)
       → IsRunSoFar start old front replied → RowsAnswer state t k old rows replies new
       → IsRunSoFar start new (front ++ rows_asked t k rows) (replied ++ rows_replied rows replies)
-  run-rows start old new front replied t k [] [] ran a = rw (append-nil front, append-nil replied, a) ran
-  run-rows start old new front replied t k [] (p ∷ ps) ran a = absurd a
-  run-rows start old new front replied t k (q ∷ qs) [] ran a = absurd a
-  run-rows start old new front replied t k (None ∷ qs) (p ∷ ps) ran a =
-      run-rows start a.0 new front replied t k qs ps (rw a.1.1 ran) a.2
-  run-rows start old new front replied t k (Some r ∷ qs) (p ∷ ps) ran a =
+  run_rows start old new front replied t k [] [] ran a = rw (append-nil front, append-nil replied, a) ran
+  run_rows start old new front replied t k [] (p ∷ ps) ran a = absurd a
+  run_rows start old new front replied t k (q ∷ qs) [] ran a = absurd a
+  run_rows start old new front replied t k (None ∷ qs) (p ∷ ps) ran a =
+      run_rows start a.0 new front replied t k qs ps (rw a.1.1 ran) a.2
+  run_rows start old new front replied t k (Some r ∷ qs) (p ∷ ps) ran a =
       let one : Asking = record { now = t; caller = k; request = r } in
-      let more = run-rows start a.0 new (front ++ one ∷ []) (replied ++ p ∷ []) t k qs ps (
-        same-more front replied one p ran.0,
+      let more = run_rows start a.0 new (front ++ one ∷ []) (replied ++ p ∷ []) t k qs ps (
+        same_more front replied one p ran.0,
         ran_more (state start) (state old) (state a.0) front replied one p ran.0 ran.1 a.1,
       ) a.2 in
       rw (append_assoc front (one ∷ []) (rows_asked t k qs), append_assoc replied (p ∷ []) (rows_replied qs ps)) at more
 
   -- one record more
-  pub run-one : (start old new : B) (front : List Asking) (replied : List Reply) (k : Ask) (reply : Answer)
+  pub run_one : (start old new : B) (front : List Asking) (replied : List Reply) (k : Ask) (reply : Answer)
       → IsRunSoFar start old front replied → Answers state old k reply new
       → IsRunSoFar start new (front ++ requests_of_record k) (replied ++ replies_of_record k reply)
-  run-one start old new front replied ask.Bad (answer.One reply) ran a =
+  run_one start old new front replied ask.Bad (answer.One reply) ran a =
       rw (append-nil front, append-nil replied, a.1) ran
-  run-one start old new front replied ask.Bad (answer.Rows replies) ran a = absurd a
-  run-one start old new front replied (ask.One t k r) (answer.One reply) ran a =
+  run_one start old new front replied ask.Bad (answer.Rows replies) ran a = absurd a
+  run_one start old new front replied (ask.One t k r) (answer.One reply) ran a =
       let one : Asking = record { now = t; caller = k; request = r } in (
-        same-more front replied one reply ran.0,
+        same_more front replied one reply ran.0,
         ran_more (state start) (state old) (state new) front replied one reply ran.0 ran.1 a,
       )
-  run-one start old new front replied (ask.One t k r) (answer.Rows replies) ran a = absurd a
-  run-one start old new front replied (ask.Import t k rows) (answer.One reply) ran a = absurd a
-  run-one start old new front replied (ask.Import t k rows) (answer.Rows replies) ran a =
-      run-rows start old new front replied t k rows replies ran a
+  run_one start old new front replied (ask.One t k r) (answer.Rows replies) ran a = absurd a
+  run_one start old new front replied (ask.Import t k rows) (answer.One reply) ran a = absurd a
+  run_one start old new front replied (ask.Import t k rows) (answer.Rows replies) ran a =
+      run_rows start old new front replied t k rows replies ran a
 
   -- the requests of some records, or messages, more
-  run-asks : (start old new : B) (front : List Asking) (replied : List Reply) (asks : List Ask) (answers : List Answer)
+  run_asks : (start old new : B) (front : List Asking) (replied : List Reply) (asks : List Ask) (answers : List Answer)
       → IsRunSoFar start old front replied → InTurn (Answers state) old asks answers new
       → IsRunSoFar start new (front ++ requests_of_asks asks) (replied ++ replies_of_asks asks answers)
-  run-asks start old new front replied [] [] ran a = rw (append-nil front, append-nil replied, a) ran
-  run-asks start old new front replied [] (p ∷ ps) ran a = absurd a
-  run-asks start old new front replied (q ∷ qs) [] ran a = absurd a
-  run-asks start old new front replied (q ∷ qs) (p ∷ ps) ran a =
-      let more = run-asks start a.0 new (front ++ requests_of_record q) (replied ++ replies_of_record q p) qs ps
-      (run-one start old a.0 front replied q p ran a.1) a.2 in
+  run_asks start old new front replied [] [] ran a = rw (append-nil front, append-nil replied, a) ran
+  run_asks start old new front replied [] (p ∷ ps) ran a = absurd a
+  run_asks start old new front replied (q ∷ qs) [] ran a = absurd a
+  run_asks start old new front replied (q ∷ qs) (p ∷ ps) ran a =
+      let more = run_asks start a.0 new (front ++ requests_of_record q) (replied ++ replies_of_record q p) qs ps
+      (run_one start old a.0 front replied q p ran a.1) a.2 in
       rw (
         append_assoc front (requests_of_record q) (requests_of_asks qs),
         append_assoc replied (replies_of_record q p) (replies_of_asks qs ps),
       ) at more
 
-  pub asks-are-a-run : (old new : B) (asks : List Ask) (answers : List Answer)
+  pub asks_are_a_run : (old new : B) (asks : List Ask) (answers : List Answer)
       → InTurn (Answers state) old asks answers new
       → RunOverBook (state old) (state new) (requests_of_asks asks) (replies_of_asks asks answers)
-  asks-are-a-run old new asks answers a = (run-asks old old new [] [] asks answers (run-none old) a).1
+  asks_are_a_run old new asks answers a = (run_asks old old new [] [] asks answers (run_none old) a).1
 
-  asks-in-turn : (zone : ZoneRule) (old new : B) (rows : List Record) (replies : List Answer)
+  asks_in_turn : (zone : ZoneRule) (old new : B) (rows : List Record) (replies : List Answer)
       → AnswersAll zone state old rows replies new
       → InTurn (Answers state) old (map (ask_of zone) rows) replies new
-  asks-in-turn zone old new [] [] a = a
-  asks-in-turn zone old new [] (p ∷ ps) a = absurd a
-  asks-in-turn zone old new (q ∷ qs) [] a = absurd a
-  asks-in-turn zone old new (q ∷ qs) (p ∷ ps) a = (a.0, a.1, asks-in-turn zone a.0 new qs ps a.2)
+  asks_in_turn zone old new [] [] a = a
+  asks_in_turn zone old new [] (p ∷ ps) a = absurd a
+  asks_in_turn zone old new (q ∷ qs) [] a = absurd a
+  asks_in_turn zone old new (q ∷ qs) (p ∷ ps) a = (a.0, a.1, asks_in_turn zone a.0 new qs ps a.2)
 
   pub records_are_a_run : AreRecordsOfARun state
   records_are_a_run zone old new rows replies a =
-      rw (requests-are zone rows, replies-are zone rows replies)
-      (asks-are-a-run old new (map (ask_of zone) rows) replies (asks-in-turn zone old new rows replies a))
+      rw (requests_are zone rows, replies_are zone rows replies)
+      (asks_are_a_run old new (map (ask_of zone) rows) replies (asks_in_turn zone old new rows replies a))

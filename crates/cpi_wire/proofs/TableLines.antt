@@ -18,25 +18,25 @@ use Rattle.cpi_wire.specs.Lines.{all_replies}
 use Rattle.cpi_wire.specs.Rows.{answer_line}
 use Rattle.cpi_wire.specs.TableLines.{TableLinesAreComputed, ReplaysReportTables}
 use Rattle.cpi_wire.specs.declared.asks.Ask.TheVariants as ask
-use Rattle.cpi_wire.proofs.Alike.{is-served, meets}
+use Rattle.cpi_wire.proofs.Alike.{is_served, meets}
 use Rattle.cpi_wire.proofs.Runs.{records_are_a_run}
 
 module _ {B : Type 0} (state : B → State Office) where
   -- the answer to one request for a table
-  pub answer-is-computed : (now month : ℕ) (form : Form) (revision : Option ℕ) (k : Caller) (p q : B)
+  pub answer_is_computed : (now month : ℕ) (form : Form) (revision : Option ℕ) (k : Caller) (p q : B)
       (answered : Answer)
       → Answers state p (ask.One now k (Table month form revision)) answered q → (state q).is_clean
       → IsSound (state p).held → IsKnown k (state p).held → NoneFails (all_replies answered)
       → answered ≡ answer.One (computed_reply now month form revision (state p).held)
-  answer-is-computed now month form revision k p q (answer.One reply) a clean s known fair =
+  answer_is_computed now month form revision k p q (answer.One reply) a clean s known fair =
       let one : Asking = record { now = now; caller = k; request = Table month form revision } in
-      ap answer.One ((is-served state now k one.request p q reply a clean s fair.0).0
+      ap answer.One ((is_served state now k one.request p q reply a clean s fair.0).0
       ∙ tables_are_told one (state p).held s month form revision refl known)
-  answer-is-computed now month form revision k p q (answer.Rows replies) a clean s known fair = absurd a
+  answer_is_computed now month form revision k p q (answer.Rows replies) a clean s known fair = absurd a
 
   pub table_lines_are_computed : TableLinesAreComputed state
   table_lines_are_computed zone k row answered start is now month form revision asks known =
-      ap answer_line (answer-is-computed now month form revision k is.mid is.end answered
+      ap answer_line (answer_is_computed now month form revision k is.mid is.end answered
       (subst (λ a. Answers state is.mid a answered is.end) asks is.one) is.clean
       (meets state zone k start row answered is).0 known is.served)
 

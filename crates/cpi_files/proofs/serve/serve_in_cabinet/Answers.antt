@@ -1,6 +1,6 @@
 use Rattle.std.proofs.Common.{◌≡◌, ◌<◌, IsOk, IsErrOf, arith, rules, inl, Ok, Err}
 use Rattle.std.proofs.lemmas.Result.{err_from_is_err_and}
-use Rattle.cpi_files.proofs.Serving.{book-left, book-open, book-early}
+use Rattle.cpi_files.proofs.Serving.{book_left, book_open, book_early}
 use Rattle.cpi_files.proofs.serve.serve_in_cabinet.Goals as goal
 
 -- no book was opened
@@ -17,7 +17,7 @@ returns-in_err-rest g c =
     let p = err_from_is_err_and told.result told.ensures.1 in
     let is : c.in_ok-outcome.outcome ≡ Err c.in_err-rest.field-0.0 = search rules in
     let opens = g.A.Address.opens c.args.job.address.now in
-    rw (p.1, p.2) (book-early g.C.Cabinet g.C.Medium.Disk g.A.Open.Listener.meets opens c.args.job.desk.now
+    rw (p.1, p.2) (book_early g.C.Cabinet g.C.Medium.Disk g.A.Open.Listener.meets opens c.args.job.desk.now
     c.args.job.listener c.args.job.limit c.args.cabinet.now c.job_in_cabinet.new.cabinet _ _ _ c.in_ok-outcome.closed
     c.in_err-rest.field-0.0 (rw is at c.in_ok-outcome.ensures.done))
 
@@ -30,7 +30,7 @@ returns-in_err-closed g c =
     let none : c.in_ok-rest.rest.left ≡ 0 = omega arith in
     let failed : IsErrOf c.in_ok-outcome.closed c.in_err-closed.field-0.0 = search rules in
     let opens = g.A.Address.opens c.args.job.address.now in
-    rw (p.1, p.2) (book-open g.C.Cabinet g.C.Medium.Disk g.A.Open.Listener.meets opens c.args.job.desk.now
+    rw (p.1, p.2) (book_open g.C.Cabinet g.C.Medium.Disk g.A.Open.Listener.meets opens c.args.job.desk.now
     c.args.job.listener c.args.job.limit c.args.cabinet.now c.job_in_cabinet.new.cabinet _ _ _ c.in_ok-outcome.closed
     c.in_ok-rest.rest c.in_err-closed.field-0.0 (rw is at c.in_ok-outcome.ensures.done) none failed)
 
@@ -40,7 +40,7 @@ returns-then-rest-gt0 g c =
     let is : c.in_ok-outcome.outcome ≡ Ok c.in_ok-rest.rest = search rules in
     let some : 0 < c.in_ok-rest.rest.left = c.if-rest-gt0.true in
     let opens = g.A.Address.opens c.args.job.address.now in
-    book-left g.C.Cabinet g.C.Medium.Disk g.A.Open.Listener.meets opens c.args.job.desk.now c.args.job.listener
+    book_left g.C.Cabinet g.C.Medium.Disk g.A.Open.Listener.meets opens c.args.job.desk.now c.args.job.listener
     c.args.job.limit c.args.cabinet.now c.job_in_cabinet.new.cabinet _ _ _ c.in_ok-outcome.closed c.in_ok-rest.rest
     (rw is at c.in_ok-outcome.ensures.done) (λ none. absurd (omega (arith, some, none)))
 
@@ -50,6 +50,6 @@ returns g c =
     let is : c.in_ok-outcome.outcome ≡ Ok c.in_ok-rest.rest = search rules in
     let well : IsOk c.in_ok-outcome.closed = search rules in
     let opens = g.A.Address.opens c.args.job.address.now in
-    book-left g.C.Cabinet g.C.Medium.Disk g.A.Open.Listener.meets opens c.args.job.desk.now c.args.job.listener
+    book_left g.C.Cabinet g.C.Medium.Disk g.A.Open.Listener.meets opens c.args.job.desk.now c.args.job.listener
     c.args.job.limit c.args.cabinet.now c.job_in_cabinet.new.cabinet _ _ _ c.in_ok-outcome.closed c.in_ok-rest.rest
     (rw is at c.in_ok-outcome.ensures.done) (λ none. well)

@@ -1,8 +1,8 @@
 use Rattle.std.proofs.Common.{◌≡◌, [], ◌∷◌, ◌++◌, sym, subst, arith, rules}
 use Rattle.std.proofs.KnownBytes.{Consumes-nil, Consumes-trans}
 use Rattle.httparse.specs.Grammar.{HasNoRequest}
-use Rattle.cpi_http.proofs.Front.{no-request-nil, no-request-more, too-long, whole, goes-on-nil, goes-on-more}
-use Rattle.cpi_http.proofs.Front.{goes-on-lines}
+use Rattle.cpi_http.proofs.Front.{no_request_nil, no_request_more, too_long, whole, goes_on_nil, goes_on_more}
+use Rattle.cpi_http.proofs.Front.{goes_on_lines}
 use Rattle.cpi_http.specs.Head.{MayGoOn}
 use Rattle.cpi_http.proofs.head.read_head.Goals as goal
 
@@ -10,8 +10,8 @@ pub bytes-init : goal.bytes-init
 bytes-init g c =
     record {
       bytes = rw c.requires.empty (Consumes-nil _);
-      none = subst HasNoRequest (sym c.requires.empty) no-request-nil;
-      goes_on = subst MayGoOn (sym c.requires.empty) goes-on-nil;
+      none = subst HasNoRequest (sym c.requires.empty) no_request_nil;
+      goes_on = subst MayGoOn (sym c.requires.empty) goes_on_nil;
       room = c.requires.room;
     }
 
@@ -40,15 +40,15 @@ bytes-preserved g c =
     let pushed : c.push_byte.new.buf.items ≡ c.bytes.buf.items ++ c.in-Some.byte ∷ [] = search rules in
     record {
       bytes = rw pushed (Consumes-trans _ _ _ _ _ inv.bytes (search rules));
-      none = rw pushed (no-request-more _ _ inv.none c.if-byte-eq10.false);
-      goes_on = rw pushed (goes-on-more _ _ inv.goes_on c.if-byte-eq10.false);
+      none = rw pushed (no_request_more _ _ inv.none c.if-byte-eq10.false);
+      goes_on = rw pushed (goes_on_more _ _ inv.goes_on c.if-byte-eq10.false);
       room = inv.room;
     }
 
 pub returns-clause-head : goal.returns-clause-head
 returns-clause-head g c =
     let test = c.bytes-test.false in let l = c.len.ensures in let ok = c.bytes.buf.ok in
-    too-long c.bytes.buf.items c.bytes.invariant.none (omega (arith, test, l, ok.0))
+    too_long c.bytes.buf.items c.bytes.invariant.none (omega (arith, test, l, ok.0))
 
 pub bytes-preserved-in-Ok-Partial : goal.bytes-preserved-in-Ok-Partial
 bytes-preserved-in-Ok-Partial g c =
@@ -59,6 +59,6 @@ bytes-preserved-in-Ok-Partial g c =
     record {
       bytes = rw pushed (Consumes-trans _ _ _ _ _ inv.bytes (search rules));
       none = none;
-      goes_on = goes-on-lines _ unfinished;
+      goes_on = goes_on_lines _ unfinished;
       room = omega (arith, c.parse_request.auto.headers, inv.room);
     }

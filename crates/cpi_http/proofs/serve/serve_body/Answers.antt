@@ -6,15 +6,15 @@ use Rattle.cpi_office.specs.declared.reply.Reply.TheVariants.{Refused}
 use Rattle.cpi_wire.specs.Answer.{One}
 use Rattle.cpi_http.specs.Message.{asked_by}
 use Rattle.cpi_http.specs.Served.{bodies}
-use Rattle.cpi_http.proofs.Serving.{sent-ok, sent-err, gives-refused, gives-whole, said-bytes, gave-up-memory}
+use Rattle.cpi_http.proofs.Serving.{sent_ok, sent_err, gives_refused, gives_whole, said_bytes, gave_up_memory}
 use Rattle.cpi_http.proofs.serve.serve_body.Goals as goal
 
 pub returns-in-Err-clause-ok : goal.returns-in-Err-clause-ok
 returns-in-Err-clause-ok g c =
     let a = c.args in
-    sent-ok g.B.Book.state (bodies a.now a.zone.now a.size a.called a.path.now) _ _ _ (Err c.in-Err.status)
+    sent_ok g.B.Book.state (bodies a.now a.zone.now a.size a.called a.path.now) _ _ _ (Err c.in-Err.status)
     (One (Refused BadRequest)) _ _ _ _
-    (gives-refused a.now a.zone.now a.size a.called a.path.now c.in-Err.status _ c.in-Err.is) (
+    (gives_refused a.now a.zone.now a.size a.called a.path.now c.in-Err.status _ c.in-Err.is) (
       refl,
       refl,
     ) refl refl refl c.refuse.ensures.ok c.refuse.ensures.whole
@@ -22,9 +22,9 @@ returns-in-Err-clause-ok g c =
 pub returns-in-Err-clause-err : goal.returns-in-Err-clause-err
 returns-in-Err-clause-err g c =
     let a = c.args in
-    sent-err g.B.Book.state (bodies a.now a.zone.now a.size a.called a.path.now) _ _ _ (Err c.in-Err.status)
+    sent_err g.B.Book.state (bodies a.now a.zone.now a.size a.called a.path.now) _ _ _ (Err c.in-Err.status)
     (One (Refused BadRequest)) _ _
-    (gives-refused a.now a.zone.now a.size a.called a.path.now c.in-Err.status _ c.in-Err.is) (
+    (gives_refused a.now a.zone.now a.size a.called a.path.now c.in-Err.status _ c.in-Err.is) (
       refl,
       refl,
     ) refl c.refuse.ensures.err
@@ -33,32 +33,32 @@ pub returns-clause-ok : goal.returns-clause-ok
 returns-clause-ok g c =
     let a = c.args in
     let got = rw c.in-Some.is at c.in_ok-body.ensures.body in
-    let gives = gives-whole a.now a.zone.now a.size a.called a.path.now c.in-Some.body.items _ _ c.in-Ok.length
+    let gives = gives_whole a.now a.zone.now a.size a.called a.path.now c.in-Some.body.items _ _ c.in-Ok.length
     c.in-Ok.is got.0 got.1 in
     let said = rw c.deref.ensures.value at c.in_ok-response.ensures.ok in
-    sent-ok g.B.Book.state (bodies a.now a.zone.now a.size a.called a.path.now) _ _ _
+    sent_ok g.B.Book.state (bodies a.now a.zone.now a.size a.called a.path.now) _ _ _
     (asked_by a.now a.zone.now a.called a.path.now c.in-Some.body.items) said.0 _ _ _ _
-    gives said.1 (said-bytes _ _ c.in_ok-response.response said.2) said.2.0 said.2.3 c.send.ensures.ok
+    gives said.1 (said_bytes _ _ c.in_ok-response.response said.2) said.2.0 said.2.3 c.send.ensures.ok
     c.send.ensures.whole
 
 pub returns-clause-err : goal.returns-clause-err
 returns-clause-err g c =
     let a = c.args in
     let got = rw c.in-Some.is at c.in_ok-body.ensures.body in
-    let gives = gives-whole a.now a.zone.now a.size a.called a.path.now c.in-Some.body.items _ _ c.in-Ok.length
+    let gives = gives_whole a.now a.zone.now a.size a.called a.path.now c.in-Some.body.items _ _ c.in-Ok.length
     c.in-Ok.is got.0 got.1 in
     let said = rw c.deref.ensures.value at c.in_ok-response.ensures.ok in
-    sent-err g.B.Book.state (bodies a.now a.zone.now a.size a.called a.path.now) _ _ _
+    sent_err g.B.Book.state (bodies a.now a.zone.now a.size a.called a.path.now) _ _ _
     (asked_by a.now a.zone.now a.called a.path.now c.in-Some.body.items) said.0 _ _
-    gives said.1 (said-bytes _ _ c.in_ok-response.response said.2) c.send.ensures.err
+    gives said.1 (said_bytes _ _ c.in_ok-response.response said.2) c.send.ensures.err
 
 pub returns-in_err-response-clause-err : goal.returns-in_err-response-clause-err
 returns-in_err-response-clause-err g c =
     let a = c.args in
     let got = rw c.in-Some.is at c.in_ok-body.ensures.body in
-    let gives = gives-whole a.now a.zone.now a.size a.called a.path.now c.in-Some.body.items _ _ c.in-Ok.length
+    let gives = gives_whole a.now a.zone.now a.size a.called a.path.now c.in-Some.body.items _ _ c.in-Ok.length
     c.in-Ok.is got.0 got.1 in
     let begun = rw c.deref.ensures.value at c.in_err-response.ensures.err in
     let p = err_from_is_err_and c.from_residual-in_err-response.result c.from_residual-in_err-response.ensures.1 in
-    rw (p.1, p.2) (gave-up-memory g.B.Book.state (bodies a.now a.zone.now a.size a.called a.path.now) _ _ _
+    rw (p.1, p.2) (gave_up_memory g.B.Book.state (bodies a.now a.zone.now a.size a.called a.path.now) _ _ _
     (asked_by a.now a.zone.now a.called a.path.now c.in-Some.body.items) gives begun (Keeps-refl _))

@@ -9,10 +9,10 @@ use Rattle.cpi_http.specs.Served.{SendFails}
 use Rattle.cpi_http.proofs.serve.write_both.Goals as goal
 
 -- the first text was written, and a part of the second
-second-fails : (e : WireFault) (old mid new : Option (List ℕ)) (front rest : List ℕ) → Appends old mid front
+second_fails : (e : WireFault) (old mid new : Option (List ℕ)) (front rest : List ℕ) → Appends old mid front
     → (e ≡ Write) × (count : ℕ) × (count < length rest) × Appends mid new (take count rest)
     → SendFails old new (front ++ rest) e
-second-fails e old mid new front rest whole part =
+second_fails e old mid new front rest whole part =
     let count = part.1 in
     let short : length front + count < length (front ++ rest) = rw length-append (omega (arith, part.2)) in
     subst (SendFails old new (front ++ rest)) (sym part.0) (
@@ -27,6 +27,6 @@ returns-clause-part g c =
     let front = c.args.front.now in
     let rest = c.args.rest.now in
     IfErr-weaker c.write_whole-2.result _ _
-    (λ e part. second-fails e _ (g.W.Write.contents c.write_whole.new.writer) _ front rest
+    (λ e part. second_fails e _ (g.W.Write.contents c.write_whole.new.writer) _ front rest
     c.in_ok-write_whole.ensures.whole part)
     c.write_whole-2.ensures.part

@@ -1,7 +1,7 @@
 use Rattle.std.proofs.Common.{ap, sym, ◌∙◌, cond, ◌^◌, ◌+◌, ◌<◌}
 use Rattle.cpi_codes.specs.declared.codes.Code.{Code}
 use Rattle.cpi_plan.specs.Sums.{sum_at}
-use Rattle.cpi_codes.proofs.CodePath.{path_total, at_or_below-parts}
+use Rattle.cpi_codes.proofs.CodePath.{path_total, at_or_below_parts}
 use Rattle.cpi_plan.proofs.SumLemmas.{room_for_sixth, six_amounts}
 use Rattle.cpi_plan.proofs.sums.add_path.Goals as goal
 
@@ -18,4 +18,4 @@ returns c = λ q.
     six_amounts _ _ _ _ _ _ _ _ _ _ _ _ _ _ (c.in_ok-add.ensures q) (c.in_ok-add-2.ensures q)
     (c.in_ok-add-3.ensures q) (c.in_ok-add-4.ensures q) (c.in_ok-add-5.ensures q) (c.in_ok-add-6.ensures q)
     (path_total c.args.amount code.division code.group code.class code.subclass code.aggregate q code.valid
-    c.requires.elementary ∙ ap (λ b. cond b c.args.amount 0) (sym (at_or_below-parts q code)))
+    c.requires.elementary ∙ ap (λ b. cond b c.args.amount 0) (sym (at_or_below_parts q code)))

@@ -8,7 +8,7 @@ use Rattle.cpi_store.specs.declared.given.Given.{Given}
 use Rattle.cpi_store.specs.declared.taken_over.TakenOver.{TakenOver}
 use Rattle.cpi_store.specs.Series.{given_in, is_handed_over, last_handed_over, last_known, same_series}
 use Rattle.cpi_store.proofs.FrozenRows.{given_rows}
-use Rattle.cpi_store.proofs.HandedSeries.{handed_over_alike, last_handed_over-append}
+use Rattle.cpi_store.proofs.HandedSeries.{handed_over_alike, last_handed_over_append}
 use Rattle.cpi_store.proofs.frozen.put_ends.Goals.{then-contains+in_ok-put, else-contains}
 use Rattle.cpi_store.proofs.frozen.put_ends.Goals as goal
 
@@ -30,19 +30,19 @@ given_more taken n rows i x lt is =
 
 module _ (taken : List TakenOver) (s series : SeriesId) (row : ℕ × Given) (named : row.1.series ≡ series) where
   of_another : same_series series s ≡ false → last_handed_over taken s (row ∷ []) ≡ 0
-  of_another e = by (is_handed_over taken s) refl
+  of_another e = cases (is_handed_over taken s) refl
     where
-      by : (b : Bool) → is_handed_over taken s ≡ b → last_handed_over taken s (row ∷ []) ≡ 0
-      by true f = rw (f, named, e) refl
-      by false f = rw f refl
+      cases : (b : Bool) → is_handed_over taken s ≡ b → last_handed_over taken s (row ∷ []) ≡ 0
+      cases true f = rw (f, named, e) refl
+      cases false f = rw f refl
 
   of_its_own : is_handed_over taken series ≡ false → last_handed_over taken s (row ∷ []) ≡ 0
-  of_its_own free = by (same_series series s) refl
+  of_its_own free = cases (same_series series s) refl
     where
-      by : (b : Bool) → same_series series s ≡ b → last_handed_over taken s (row ∷ []) ≡ 0
-      by true e = let none : is_handed_over taken s ≡ false = sym (handed_over_alike taken series s e) ∙ free in
+      cases : (b : Bool) → same_series series s ≡ b → last_handed_over taken s (row ∷ []) ≡ 0
+      cases true e = let none : is_handed_over taken s ≡ false = sym (handed_over_alike taken series s e) ∙ free in
           rw none refl
-      by false e = of_another e
+      cases false e = of_another e
 
   of_this : is_handed_over taken series ≡ true → same_series series s ≡ true →
       last_handed_over taken s (row ∷ []) ≡ max row.1.assignment.last_month 0
@@ -54,21 +54,21 @@ module _ (taken : List TakenOver) (s series : SeriesId) (row : ℕ × Given) (na
       (was : known ≡ max before (last_handed_over taken s given)) where
     joined : last_handed_over taken s (given ++ row ∷ []) ≡ max (last_handed_over taken s given)
         (last_handed_over taken s (row ∷ []))
-    joined = last_handed_over-append taken s given (row ∷ [])
+    joined = last_handed_over_append taken s given (row ∷ [])
 
     -- the last month that is known after one more assignment of a series that was handed over
     later : is_handed_over taken series ≡ true →
         after ≡ (if same_series series s then max row.1.assignment.last_month known else known) →
         after ≡ max before (last_handed_over taken s (given ++ row ∷ []))
-    later passed is = by (same_series series s) refl
+    later passed is = cases (same_series series s) refl
       where
-        by : (t : Bool) → same_series series s ≡ t → after ≡ max before
+        cases : (t : Bool) → same_series series s ≡ t → after ≡ max before
             (last_handed_over taken s (given ++ row ∷ []))
-        by true e =
+        cases true e =
             let one = of_this passed e in
             let now : after ≡ max row.1.assignment.last_month known = rw e at is in
             omega (arith, joined, one, now, was)
-        by false e =
+        cases false e =
             let none = of_another e in
             let now : after ≡ known = rw e at is in
             omega (arith, joined, none, now, was)

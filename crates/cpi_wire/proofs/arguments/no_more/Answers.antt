@@ -1,8 +1,8 @@
-use Rattle.cpi_wire.proofs.Counted.{none-is, none-not}
+use Rattle.cpi_wire.proofs.Counted.{none_is, none_not}
 use Rattle.cpi_wire.proofs.arguments.no_more.Goals as goal
 
 pub returns-then-arguments-eq0 : goal.returns-then-arguments-eq0
-returns-then-arguments-eq0 c = none-is c.args.arguments.now c.if-arguments-eq0.true
+returns-then-arguments-eq0 c = none_is c.args.arguments.now c.if-arguments-eq0.true
 
 pub returns-else-arguments-eq0 : goal.returns-else-arguments-eq0
-returns-else-arguments-eq0 c = none-not c.args.arguments.now c.if-arguments-eq0.false
+returns-else-arguments-eq0 c = none_not c.args.arguments.now c.if-arguments-eq0.false

@@ -1,5 +1,5 @@
 use Rattle.std.proofs.Common.{◌∙◌, inr}
-use Rattle.cpi_wire.proofs.Reading.{at-start}
+use Rattle.cpi_wire.proofs.Reading.{at_start}
 use Rattle.cpi_wire.proofs.input.record_reader.Goals as goal
 
 pub returns : goal.returns
@@ -8,5 +8,5 @@ returns g c =
     let f = c.flexible.ensures in
     let h = c.has_headers.ensures in
     let n = c.new.ensures in
-    at-start _ _ _ (rw (f, h) at fr.trim ∙ n.trim) (inr (inr (rw (f, h) at fr.has_headers, fr.headers)))
+    at_start _ _ _ (rw (f, h) at fr.trim ∙ n.trim) (inr (inr (rw (f, h) at fr.has_headers, fr.headers)))
     (rw (f, h) at fr.config ∙ n.config) fr.state fr.source

@@ -20,21 +20,21 @@ after_put : (old new : SeriesEnds) (series s : SeriesId) (last_month latest : �
 after_put old new series s last_month latest is put =
     ap or_first put ∙ ap (λ b. or_first (cond b (Some latest) (known s.collector s.slot)))
     (level_slots series.collector series.slot s.collector s.slot)
-    ∙ by (eqb_tells series.collector s.collector) (eqb_tells series.slot s.slot)
+    ∙ cases (eqb_tells series.collector s.collector) (eqb_tells series.slot s.slot)
   where
     known : ℕ → ℕ → Option ℕ
     known c n = get (held_cmp nat_cmp) old.ends (c, n)
 
-    by : ((eqb series.collector s.collector ≡ true) × (series.collector ≡ s.collector))
+    cases : ((eqb series.collector s.collector ≡ true) × (series.collector ≡ s.collector))
         ⊎ ((eqb series.collector s.collector ≡ false) × (series.collector ≢ s.collector)) →
         ((eqb series.slot s.slot ≡ true) × (series.slot ≡ s.slot))
         ⊎ ((eqb series.slot s.slot ≡ false) × (series.slot ≢ s.slot)) →
         or_first (cond (same_series series s) (Some latest) (known s.collector s.slot)) ≡ if same_series series s then
         max last_month (last_known old s) else last_known old s
-    by (inl a) (inl b) = rw (a.0, b.0) (is ∙ ap (λ c. max last_month (or_first (known c series.slot))) a.1
+    cases (inl a) (inl b) = rw (a.0, b.0) (is ∙ ap (λ c. max last_month (or_first (known c series.slot))) a.1
         ∙ ap (λ n. max last_month (or_first (known s.collector n))) b.1)
-    by (inl a) (inr b) = rw (a.0, b.0) refl
-    by (inr a) d = rw a.0 refl
+    cases (inl a) (inr b) = rw (a.0, b.0) refl
+    cases (inr a) d = rw a.0 refl
 
 pub returns : goal.returns
 returns c = record {
