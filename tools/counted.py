@@ -26,10 +26,14 @@ IRREGULAR = frozenset(
 )
 """Participles that don't end in -ed."""
 
+SAYING_NOTHING = frozenset({"by", "mine", "either", "go"})
+"""Names that say nothing of what a lemma states."""
+
 LITERAL = re.compile(r"(?<![_0-9.])[0-9]{7,}\b")
 RENAMED = re.compile(r"\b[\w◌-]+ as [\w◌-]+")
 USE = re.compile(r"\s*(ghost |pub )*use ")
 SPEC = re.compile(r"(?:(?:abbrev|unfoldable|opaque) )?(?:pub )?(?:record |data )?([^\s(){}:]+) (?:[({].* )?: ")
+LEMMA = re.compile(r"\s*(?:(?:abbrev|unfoldable|opaque|pub) )*([\w'-]+) : (?!goal\.)")
 FUNCTION = re.compile(r"( *)(pub(?:\([a-z]+\))? )?(?:ghost )?fn (\w+)")
 WORD = re.compile(r"\b\w+\b")
 
@@ -70,6 +74,16 @@ def spec_names() -> dict[str, set[str]]:
 def participles() -> list[str]:
     """Spec names of one word that end in -ed, or are one of IRREGULAR."""
     return sorted(it for it in spec_names() if it in IRREGULAR or re.fullmatch(r"[a-z]{2,}ed", it))
+
+
+def lemma_names() -> list[str]:
+    """Names of lemmas with a dash, and those that say nothing. The toolchain gives the names of goals."""
+    return [
+        f"{file}: {found[1]}"
+        for file, lines in texts("proofs")
+        for line in lines
+        if (found := LEMMA.match(line)) and ("-" in found[1] or found[1] in SAYING_NOTHING)
+    ]
 
 
 def literals(part: str) -> list[str]:
