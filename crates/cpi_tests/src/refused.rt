@@ -234,7 +234,7 @@ fn each_call_of_the_book_is_refused_in_turn(rt: HostRuntime) -> Result<(), Fail>
         calls_of(alloc, &FREEZE)?,
         calls_of(alloc, &HAND_OVER)?,
     ];
-    assert_eq!(rt; calls, [27, 26, 16]);
-    assert!(rt; calls_of(alloc, &MOVED)? >= 26 + 4);
+    assert_eq!(rt; calls, [27, 24, 16]);
+    assert!(rt; calls_of(alloc, &MOVED)? >= 24 + 4);
     Ok(())
 }
