@@ -52,10 +52,10 @@ return now;
 
 
 class Browser:
-    """A Chromium of its own, with a home of its own."""
+    """A Chromium of its own, with a home of its own; `text` is the size of text that its user has set, in pixels."""
 
-    def __init__(self, url: str, authority: Path, home: Path):
-        self.url, self.home = url, home
+    def __init__(self, url: str, authority: Path, home: Path, text: int = 16):
+        self.url, self.home, self._text = url, home, text
         trust(authority, home)
         self.driver: Any = self._started("profile")
 
@@ -64,6 +64,7 @@ class Browser:
         for word in (*WORDS, f"--user-data-dir={self.home}/{profile}"):
             options.add_argument(word)
         options.set_capability("goog:loggingPrefs", {"browser": "ALL"})
+        options.add_experimental_option("prefs", {"webkit.webprefs.default_font_size": self._text})
         kept = {**os.environ, "HOME": str(self.home), "XDG_DATA_HOME": f"{self.home}/.local/share"}
         driver = webdriver.Chrome(service=Service(system_program("chromedriver"), env=kept), options=options)
         driver.set_script_timeout(20)

@@ -3,126 +3,22 @@
 from __future__ import annotations
 
 import gettext
-from pathlib import Path
 
 import pytest
 from babel.messages.pofile import read_po
 
 from languages import ARABIC, FRENCH, Speech, spoken
-from offices import ANNA, BEFORE, NOW
+from offices import ANNA, NOW
 from phone import Phone
+from phone_walks import walk_over
 from stage import ROOT, Stage
-from unsent import CLOSED, act, desk
 from walks import Walk
 
 
-def save(phone: Phone, price: str) -> None:
-    phone.browser.type("#price", price)
-    phone.browser.click("#entry-save")
-
-
-def test_nothing_is_cut_covered_or_left_in_english(phone: Phone, stage: Stage, pseudo: str, tmp_path: Path) -> None:
-    browser, walk = phone.browser, Walk(phone.browser, pseudo)
-    phone.open()
-    browser.wait_shown("#sign-in")
-    assert browser.run("return document.documentElement.dir") == ("rtl" if pseudo == "he" else "ltr")
-    walk.look_at_form("sign-in")
-    phone.give_key("x" * 32)
-    walk.look("a key that is none")
-    browser.click("#language")
-    walk.look_at_form("languages")
-    browser.click("#languages form > button")
-    phone.give_key(ANNA)
-    browser.wait(lambda: browser.all("[data-slot]"), "a work list")
-    browser.wait(lambda: browser.run("return document.getElementById('line').dataset.line") == "up")
-    walk.look_at_form("list")
-    phone.edit(3)
-    walk.look("a form without a last price")
-    browser.type("#price", "1,459")
-    browser.click("#entry-save")
-    browser.wait_shown("#entry-refusal")
-    walk.look("a price that can be read in two ways")
-    phone.close()
-    phone.edit(2)
-    walk.look_at_form("form")
-    save(phone, "none")
-    browser.wait(lambda: browser.text("#price-fault"), "a fault")
-    walk.look("no price")
-    save(phone, "99")
-    browser.wait_shown("#entry-confirm")
-    walk.look_at_form("second look")
-    browser.click('#entry input[value="missing"]')
-    walk.look_at_form("a reason")
-    browser.click('#entry input[value="stock"]')
-    browser.click("#entry-save")
-    phone.wait_edited(3)
-    walk.look("the next form, of another shop")
-    phone.close()
-    not_stored(phone, stage, walk)
-    take_out(phone, walk, tmp_path)
-
-
-def not_stored(phone: Phone, stage: Stage, walk: Walk) -> None:
-    """What was refused, without a line and with one."""
-    browser = phone.browser
-    phone.show("all")
-    browser.wait(lambda: browser.run("return document.getElementById('line').dataset.line") == "up")
-    desk(stage, CLOSED)
-    phone.edit(1)
-    save(phone, "3.10")
-    browser.wait_shown("#alarm")
-    if phone.edited():
-        phone.close()
-    walk.look_at_form("refused")
-    browser.click("#alarm")
-    walk.look_at_form("unsent")
-    act(phone, "open", 1)
-    walk.look("a refused form")
-    phone.close()
-    act(phone, "drop", 1)
-    walk.look_at_form("dropping")
-    browser.click('#dropping [value="keep"]')
-    browser.offline(True)
-    phone.edit(4)
-    save(phone, "1.05")
-    browser.wait(lambda: browser.run("return document.getElementById('line').dataset.line") == "down")
-    if phone.edited():
-        phone.close()
-    walk.look("without a line")
-    phone.show("quotes")
-    walk.look("stored")
-    browser.click("#month-before")
-    browser.wait(lambda: phone.month() == BEFORE, "the month before")
-    walk.look("a month that isn't on the phone")
-    browser.click("#month-after")
-
-
-EXPORTED = """
-const made = [], create = URL.createObjectURL;
-URL.createObjectURL = (blob) => { made.push(blob); return create.call(URL, blob); };
-let name = "";
-const click = HTMLAnchorElement.prototype.click;
-HTMLAnchorElement.prototype.click = function () { name = this.download; };
-document.querySelector("#leaving [data-do=save]").click();
-Object.assign(URL, { createObjectURL: create });
-HTMLAnchorElement.prototype.click = click;
-return [name, await made[0].text()];
-"""
-
-
-def take_out(phone: Phone, walk: Walk, folder: Path) -> None:
-    """The question of Sign out, and the file of what isn't stored."""
-    browser = phone.browser
-    browser.click("#leave")
-    browser.wait_shown("#leaving")
-    walk.look_at_form("leaving")
-    name, text = browser.run_until(EXPORTED)
-    assert name.endswith(".csv") and not name.startswith("not-stored")
-    head, *rows = text.split("\r\n")
-    assert head == "month,slot,outlet,item,unit,mark,value,confirmed,written,state" and len(rows) == 3
-    for row in rows[:-1]:
-        state = row.rpartition(",")[2]
-        assert state and not any(each.isascii() and each.isalpha() for each in state), row
+def test_nothing_is_cut_covered_or_left_in_english(phone: Phone, stage: Stage, pseudo: str) -> None:
+    walk = Walk(phone.browser, pseudo)
+    walk_over(phone, stage, walk)
+    assert walk.faults == []
 
 
 # ---- the choice

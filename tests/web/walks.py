@@ -44,9 +44,10 @@ for (let node = walker.nextNode(); node; node = walker.nextNode()) {
   for (const box of range.getClientRects()) {
     if (!box.width || (shown && box.bottom > shown.bottom + 1)) continue;
     texts.push({ node, box });
-    const frame = holder.closest("button, .chip, label, .notice, .card, summary, dialog")?.getBoundingClientRect();
+    const framed = holder.closest("button, .chip, label, .notice, .card, summary, dialog"), frame = framed?.getBoundingClientRect();
+    const isScrolled = framed && ["auto", "scroll"].includes(getComputedStyle(framed).overflowY);
     if (box.left < -1 || box.right > innerWidth + 1) found.push(`outside: ${node.data}`);
-    if (frame && (box.left < frame.left - 1 || box.right > frame.right + 1 || box.bottom > frame.bottom + 4)) {
+    if (frame && (box.left < frame.left - 1 || box.right > frame.right + 1 || (!isScrolled && box.bottom > frame.bottom + 4))) {
       found.push(`over its edge: ${node.data}`);
     }
   }
@@ -79,25 +80,77 @@ return all("input[placeholder]").filter((field) => {
 """Placeholders that are longer than their field; those of several lines are wrapped."""
 
 
+CLIPPED = (
+    SEEN
+    + """
+const hides = (way) => way === "hidden" || way === "clip";
+return all("body *").filter((element) => {
+  const { overflowX, overflowY } = getComputedStyle(element), { scrollWidth, clientWidth, scrollHeight, clientHeight } = element;
+  return !["INPUT", "PROGRESS"].includes(element.nodeName) && clientWidth > 0
+    && ((hides(overflowX) && scrollWidth > clientWidth + 1) || (hides(overflowY) && scrollHeight > clientHeight + 1));
+}).map((element) => `clipped: ${element.outerHTML.slice(0, 200)}`);
+"""
+)
+"""Elements that hide a part of what is in them, and have no bar to scroll it by."""
+
+UNDER = (
+    SEEN
+    + """
+const fields = all("input, select, textarea, button, a, summary").filter((it) => !it.disabled);
+const inWindow = (n, most) => Math.min(Math.max(n, 1), most - 1);
+const before = document.activeElement;
+before.blur();
+const found = [...fields, ...fields.toReversed()].filter((it) => {
+  it.focus();
+  const { left, top, width, height } = it.getBoundingClientRect(), marked = it.closest("label") ?? it;
+  return !marked.contains(document.elementFromPoint(inWindow(left + width / 2, innerWidth), top + height / 2));
+});
+before.focus({ preventScroll: true });
+return found.map((it) => `under something: ${it.outerHTML.slice(0, 200)}`);
+"""
+)
+"""Fields and buttons that something covers as they have the focus, from the first to the last and back."""
+
+
 class Walk:
-    """What is looked at on the way."""
+    """What is looked at on the way: `faults` is what was found wrong, each with the step at which it was."""
 
     def __init__(self, browser: Browser, language: str):
         self.browser, self.language, self.count = browser, language, 0
+        self.faults: list[str] = []
 
     def look(self, name: str) -> None:
-        """Nothing is wrong with what is seen now."""
+        """What is wrong with what is seen now."""
         self.count += 1
         browser = self.browser
         browser.run("if (!document.querySelector('dialog[open]')) scrollTo(0, 0)")
         if PICTURES:
-            browser.picture(Path(PICTURES) / f"{self.language}-{self.count:02}-{name}.png", is_whole=False)
-        found = [*faults_of_page(browser), *browser.run(CUT), *browser.run(LEFT), *browser.run(COVERED)]
-        found += browser.run(HIDDEN)
-        assert found == [], f"{name}: {found}"
+            file = f"{self.language}-{browser.run('return innerWidth')}-{self.count:02}-{name}.png"
+            browser.picture(Path(PICTURES) / file, not browser.all("dialog[open]"))
+        self.found(
+            name, *faults_of_page(browser), *(it for each in (CUT, LEFT, COVERED, HIDDEN) for it in browser.run(each))
+        )
         assert browser.run("return document.documentElement.lang") == self.language
 
     def look_at_form(self, name: str) -> None:
         """The same, with the focus of each part, and twice the size."""
         self.look(name)
-        assert [*faults_for_keys(self.browser), *faults_enlarged(self.browser)] == [], name
+        self.found(name, *faults_for_keys(self.browser), *faults_enlarged(self.browser))
+
+    def found(self, name: str, *faults: str) -> None:
+        """Notes what is wrong at a step."""
+        self.faults += [f"{name}: {fault}" for fault in faults]
+
+
+class Enlarged(Walk):
+    """What is looked at where a text needs much room: it is twice the size, or the window is small."""
+
+    def look(self, name: str) -> None:
+        """The same; nothing is hidden either, and nothing lies over what has the focus."""
+        super().look(name)
+        self.found(name, *self.browser.run(CLIPPED), *self.browser.run(UNDER))
+
+    def look_at_form(self, name: str) -> None:
+        """The same, with the focus of each part."""
+        self.look(name)
+        self.found(name, *faults_for_keys(self.browser))
