@@ -275,7 +275,7 @@ FAULTS = [
     ("show=index+level", "show", ["index"], "level is no measure; the measures are index, year, month, "),
     ("from=2024-12", "from", "", "it is no month from 2025-01 to 2027-05"),
     ("to=2027-13", "to", "", "it is no month from 2025-01 to 2027-05"),
-    ("from=2027-01&to=2026-12", "from", "", "it is after 2026-12, the last month that is chosen"),
+    ("from=2027-01&to=2026-12", "from", "", "it is after December 2026, the last month that is chosen"),
     (
         "hundred=2027",
         "hundred",

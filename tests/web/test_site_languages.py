@@ -6,6 +6,7 @@ Two languages that nobody speaks have texts that are 40 percent longer, one of t
 from __future__ import annotations
 
 import os
+import re
 import shutil
 from collections.abc import Iterator
 from pathlib import Path
@@ -129,12 +130,57 @@ def test_nothing_of_the_site_is_cut_covered_or_left_in_english(shown: Browser, t
     assert not found, "\n".join(found)
 
 
+AXIS = """
+const texts = [...document.querySelectorAll("#parts .picture:first-of-type svg text.middle")];
+const boxes = texts.map((it) => it.getBoundingClientRect());
+const isOver = (one, other) => Math.min(one.right, other.right) > Math.max(one.left, other.left)
+  && Math.min(one.bottom, other.bottom) > Math.max(one.top, other.top) + 2;
+return [texts.map((it) => it.textContent), boxes.some((one, n) => boxes.slice(n + 1).some((other) => isOver(one, other)))];
+"""
+"""What is below the first picture of the page for choosing, and whether one of these texts lies over another one."""
+
+
+def months_below(browser: Browser, search: str) -> list[str]:
+    """The names of months and years below the picture of some months."""
+    browser.open(f"/published/choose.html?{search}")
+    browser.wait(lambda: browser.all("#parts tbody tr"), "figures")
+    texts, is_over = browser.run(AXIS)
+    assert not is_over, texts
+    found: list[str] = texts
+    return found
+
+
+@pytest.fixture
+def arabic(browser: Browser, stage: Stage, tmp_path: Path) -> Browser:
+    """A browser of 360 pixels before a site in Arabic, with Arabic digits."""
+    config = CONFIG._replace(speaks=OfficeLanguages(("ar",), "arab"), address="https://prices.example/")
+    publish([*made_up()], config, tmp_path / "public", None, lambda _: None)
+    stage.published.symlink_to(tmp_path / "public")
+    browser.size(360, 740)
+    return browser
+
+
+def test_a_picture_has_the_months_of_its_language(arabic: Browser) -> None:
+    """There is room for four names: each sixth of 13 months has one, and each second January of five years."""
+    halves = ["يناير", "٢٠٢٥", "يوليو", "يناير", "٢٠٢٦"]
+    assert months_below(arabic, "items=00&from=2025-01&to=2026-01") == halves
+    years = ["يناير", "٢٠٢٢", "يناير", "٢٠٢٤", "يناير", "٢٠٢٦"]
+    assert months_below(arabic, "items=00&from=2021-02&to=2026-01") == years
+    arabic.open("/published/choose.html?items=00&revision=2026-01-28T08:30:00Z")
+    arabic.wait(lambda: arabic.all("#parts tbody tr"), "figures")
+    chosen = arabic.run("return document.getElementById('revision').selectedOptions[0].textContent")
+    assert chosen.startswith("كما نُشر في ٢٨ يناير ٢٠٢٦ ") and chosen.endswith("٠٨:٣٠ UTC")
+    assert arabic.faults() == []
+
+
 @pytest.mark.parametrize("tag", TONGUES)
 def test_the_scripts_of_the_site_speak_its_language(shown: Browser, tag: str) -> None:
     folder = "" if tag == TONGUES[0] else f"{tag}/"
     shown.open(f"/published/{folder}choose.html?items=00+01.1+99.9&show=index+year")
     shown.wait(lambda: shown.all("#parts tbody tr"), "figures")
     look(shown, tag, "choose.html")
+    texts, is_over = shown.run(AXIS)
+    assert len(texts) > 4 and not is_over and not [it for it in texts if re.search("[A-Za-z-]", it)], texts
     shown.open(f"/published/{folder}nodes.html#seek=999999")
     shown.wait(lambda: shown.text("#found"), "what is found")
     look(shown, tag, "nodes.html")

@@ -10,6 +10,8 @@ const SPOKEN = globalThis.WORDS ?? { tag: "en", texts: {}, plural: { one: 0, oth
 const LOCALE = `${SPOKEN.tag}-u-ca-gregory-nu-${SPOKEN.digits}`;
 const MONTHS = new Intl.DateTimeFormat(LOCALE, { month: "long", year: "numeric", timeZone: "UTC" });
 const SHORT_MONTHS = new Intl.DateTimeFormat(LOCALE, { month: "short", year: "numeric", timeZone: "UTC" });
+const MONTH_MARKS = new Intl.DateTimeFormat(LOCALE, { month: "short", timeZone: "UTC" });
+const MOMENTS = new Intl.DateTimeFormat(LOCALE, { dateStyle: "long", timeStyle: "short", hourCycle: "h23", timeZone: "UTC" });
 
 /** The first digits of the systems that people type with: Arabic ones, Persian ones, Devanagari, and wide ones. */
 const ZEROS = [0x660, 0x6f0, 0x966, 0xff10];
@@ -46,4 +48,12 @@ const monthText = (month) => MONTHS.format(new Date(`${month}-01`));
 /** `Dec 2025`, as a telephone shows it. */
 const shortMonth = (month) => SHORT_MONTHS.format(new Date(`${month}-01`));
 
-if (typeof module !== "undefined") module.exports = { t, tn, figureText, plainFigure, monthText, shortMonth };
+/** `Dec` of `2025-12`, at the axis of a picture. */
+const monthMark = (month) => MONTH_MARKS.format(new Date(`${month}-01`));
+
+/** `28 January 2026 at 08:30 UTC` of `2026-01-28T08:30:00Z`. */
+const momentText = (moment) => `${MOMENTS.format(new Date(moment))} UTC`;
+
+if (typeof module !== "undefined") {
+  module.exports = { t, tn, figureText, plainFigure, monthText, shortMonth, monthMark, momentText };
+}

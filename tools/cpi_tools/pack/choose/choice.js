@@ -1,6 +1,6 @@
 // The choice of a reader, and its address, such as `choose.html?items=00+01.1&show=index+year&from=2025-01`.
 // A word that is left out has its default. Nothing here needs a page, so a test runs it by itself.
-import { t } from "../assets/spoken.js";
+import { figureText, monthText, t } from "../assets/spoken.js";
 
 export const MOST_ITEMS = 20;
 
@@ -72,7 +72,7 @@ export function choiceOf(search, known) {
   }
   const last = choice.to || known.last;
   if (choice.from > last) {
-    faults.push({ read: `from=${choice.from}`, fault: t("it is after {month}, the last month that is chosen", { month: last }) });
+    faults.push({ read: `from=${choice.from}`, fault: t("it is after {month}, the last month that is chosen", { month: monthText(last) }) });
     choice.from = "";
   }
   return { choice, faults };
@@ -105,7 +105,7 @@ const READERS = {
   items: (text) => {
     const all = parts(text), bad = all.filter((code) => !CODE.test(code)), good = all.filter((code) => CODE.test(code));
     const many = good.length > MOST_ITEMS
-      ? t("it names {given} items, and the page takes {most}", { given: good.length, most: MOST_ITEMS }) : "";
+      ? t("it names {given} items, and the page takes {most}", { given: figureText(String(good.length)), most: figureText(String(MOST_ITEMS)) }) : "";
     const odd = bad.length
       ? t("{codes} is no code such as 01.1.1, and no id of a special aggregate", { codes: bad.join(", ") }) : "";
     const value = good.length ? good.slice(0, MOST_ITEMS) : DEFAULTS.items;

@@ -1,6 +1,7 @@
 // The files of the site that the page reads: the file of each chosen item, and the list of all items. Each is asked for
 // once.
-import { t } from "../assets/spoken.js";
+import { figureText, t } from "../assets/spoken.js";
+import { isolated } from "./elements.js";
 import { rowsOf } from "./lines.js";
 
 /** The way from the page to the folder of its language, and to that of the pack, and whether titles are those of the list
@@ -10,7 +11,8 @@ export const site = { root: "", top: "", isListed: false };
 /** A file that can't be had: its name, and the status of the server, 0 if there was no answer. */
 export class NoFile extends Error {
   constructor(name, status) {
-    super(status ? t("{name}: the server answers {status}", { name, status }) : t("{name}: the server doesn’t answer", { name }));
+    const values = { name: isolated(name), status: figureText(String(status)) };
+    super(status ? t("{name}: the server answers {status}", values) : t("{name}: the server doesn’t answer", values));
     this.status = status;
   }
 }

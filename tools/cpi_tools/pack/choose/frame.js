@@ -2,7 +2,7 @@
 // choosing, with the same choice. Without a last month in its address it shows the newest one.
 import { t } from "../assets/spoken.js";
 import { choiceOf } from "./choice.js";
-import { byId, made } from "./elements.js";
+import { byId, isolated, made } from "./elements.js";
 import { itemsOf, site } from "./files.js";
 import { drawPictures, partsOf, shownOf, tellIn } from "./shown.js";
 
@@ -24,4 +24,4 @@ async function show() {
 byId("without").hidden = true;
 byId("choose").href = `../choose.html${location.search}`;
 show().catch((fault) => tellIn(byId("fault"),
-  [{ read: t("This page"), fault: t("it met a fault, {fault}", { fault: fault.message }) }]));
+  [{ read: t("This page"), fault: t("it met a fault, {fault}", { fault: isolated(fault.message) }) }]));

@@ -1,10 +1,10 @@
 // The page: what its form and its address choose, as pictures, tables and a file. The address comes first: a change of
 // the form is written there, and shown from there, so back and forward work.
-import { figureText, monthText, t } from "../assets/spoken.js";
+import { figureText, momentText, monthText, t } from "../assets/spoken.js";
 import { png, save } from "../assets/take.js";
 import { addressOf, choiceOf, DEFAULTS, fixed, fullYears, MEASURES, monthsBetween } from "./choice.js";
 import { fileOf } from "./drawing.js";
-import { byId, made } from "./elements.js";
+import { byId, isolated, made } from "./elements.js";
 import { csvOf, tablesOf } from "./figures.js";
 import { itemsOf, site } from "./files.js";
 import { listenToPicker, picker, showChosen } from "./picker.js";
@@ -49,7 +49,7 @@ const ticked = () => boxes().filter(({ checked }) => checked).map(({ value }) =>
 function setForm() {
   for (const word of FIELDS) {
     const field = byId(word), value = choice[word];
-    if (![...field.options].some((one) => one.value === value)) field.append(option(value, t("As published on {moment}", { moment: value })));
+    if (![...field.options].some((one) => one.value === value)) field.append(option(value, t("As published on {moment}", { moment: momentText(value) })));
     field.value = value;
   }
   for (const box of boxes()) {
@@ -80,7 +80,7 @@ function follow() {
 const tell = (faults) => tellIn(byId("fault"), faults);
 
 const guarded = (work) => (...words) => Promise.resolve().then(() => work(...words)).catch(failed);
-const failed = (fault) => tell([{ read: t("This page"), fault: t("it met a fault, {fault}", { fault: fault.message }) }]);
+const failed = (fault) => tell([{ read: t("This page"), fault: t("it met a fault, {fault}", { fault: isolated(fault.message) }) }]);
 
 /** Asks for the files of the chosen items, and shows them. `faults` are those of the address. */
 async function show(faults) {

@@ -1,9 +1,9 @@
 // A picture of lines over months, by pointer and by arrow keys. Figures are texts; floats are in pictures only.
-import { figureText, monthText, t } from "../assets/spoken.js";
+import { figureText, monthMark, monthText, t } from "../assets/spoken.js";
 import { made, isolated } from "./elements.js";
 
 const LEFT = 48, RIGHT = 14, TOP = 12, FOOT = 44; // what is free around the lines, in pixels
-const LABEL = 62; // the room of a month's name
+const LABEL = 52; // the room of a month's name
 
 const drawn = (name, attributes, ...children) => made(`svg:${name}`, attributes, ...children);
 const within = (n, least, most) => Math.min(most, Math.max(least, n));
@@ -69,15 +69,19 @@ function levels(axis, hasZero, { width, y }) {
   });
 }
 
-/** The names of months, as many as there is room for, at round ones. */
+/** The names of months, as many as there is room for, at round ones; below the first one and each January is the year. */
 function named(months, { width, height, x }) {
   const room = Math.max(1, Math.floor((width - LEFT - RIGHT) / LABEL));
   const every = [1, 2, 3, 6, 12, 24, 60].find((n) => months.length / n <= room) ?? 120;
   const isNamed = (month) => (Number(month.slice(0, 4)) * 12 + Number(month.slice(5)) - 1) % every === 0;
-  return [...months.entries()].filter(([, month]) => isNamed(month)).flatMap(([n, month]) => [
-    drawn("line", { class: "grid", x1: x(n), x2: x(n), y1: height - FOOT, y2: height - FOOT + 5 }),
-    drawn("text", { class: "middle", x: within(x(n), 26, width - 26), y: height - FOOT + 21 }, month),
-  ]);
+  return [...months.entries()].filter(([, month]) => isNamed(month)).flatMap(([n, month], at) => {
+    const hasYear = at === 0 || month.endsWith("-01"), below = height - FOOT, middle = within(x(n), 26, width - 26);
+    return [
+      drawn("line", { class: "grid", x1: x(n), x2: x(n), y1: below, y2: below + 5 }),
+      drawn("text", { class: "middle", x: middle, y: below + 20 }, monthMark(month)),
+      ...(hasYear ? [drawn("text", { class: "middle", x: middle, y: below + 37 }, figureText(month.slice(0, 4)))] : []),
+    ];
+  });
 }
 
 function curve({ values, begins }, n, { x, y }) {
