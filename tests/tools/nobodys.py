@@ -50,12 +50,14 @@ ISOLATED = re.compile("\u2068[^\u2069]*\u2069")
 
 
 class Seen(HTMLParser):
-    """The texts of a page that aren't of others, and those of attributes that are read."""
+    """The texts of a page that aren't of others, and those of attributes that are read; `others` are the texts of others,
+    but for the own lines of programs, which are marked as English."""
 
     def __init__(self) -> None:
         super().__init__()
         self.texts: list[str] = []
         self.figures: list[str] = []
+        self.others: list[str] = []
         self._open: list[tuple[str, str]] = []
 
     def handle_starttag(self, tag: str, attrs: list[tuple[str, Optional[str]]]) -> None:
@@ -63,7 +65,7 @@ class Seen(HTMLParser):
         texts = [has[name] or "" for name in ("aria-label", "title", "alt", "placeholder") if name in has]
         self.texts += [ISOLATED.sub("", it) for it in texts]
         if tag not in ("meta", "link", "br"):
-            self._open.append((tag, has.get("class") or ""))
+            self._open.append((tag, "line" if has.get("lang") == "en" else has.get("class") or ""))
 
     def handle_endtag(self, tag: str) -> None:
         while self._open and self._open.pop()[0] != tag:
@@ -71,6 +73,7 @@ class Seen(HTMLParser):
 
     def handle_data(self, data: str) -> None:
         if any(tag in ("bdi", "style", "script") or kind == "code" for tag, kind in self._open):
+            self.others += [] if ("bdi", "line") in self._open else [data]
             return
         if self._open and self._open[-1] == ("td", "n"):
             self.figures.append(data)
@@ -91,6 +94,15 @@ def seen_of(text: str) -> Seen:
 
 NAMES = re.compile(r"[a-z-]+\.csv|UTC")
 """What is the same in each language: names of files, and of the zone."""
+
+
+SENTENCE = re.compile(r"\b[a-z']{2,}(?: [a-z']{2,}){2,}")
+"""Three English words, one after the other."""
+
+
+def unmarked(found: Seen) -> list[str]:
+    """The texts of others that read like an English sentence: a program wrote them, and the page doesn't say so."""
+    return [text for text in found.others if SENTENCE.search(text)]
 
 
 def left_in_english(found: Seen, names: re.Pattern[str] = NAMES) -> list[str]:

@@ -13,11 +13,11 @@ import surveys
 from cpi_tools.program import Cpi
 from cpi_tools.speech import speech_of
 from desk_apps import ADA, BEN, LISTEN, Application, Person, applied
-from nobodys import NAMES, greek, left_in_english, nobodys_in, seen_of
+from nobodys import NAMES, greek, left_in_english, nobodys_in, seen_of, unmarked
 from test_desk_app_publish import frozen as published_at, waited, with_site
 
 MONTH, CODE = "2026-02", "01.1.1.2-01"
-WHY = {f"why-{CODE}": "the shop is closed for a week"}
+WHY = {f"why-{CODE}": "\u03b3\u03b4 \u03b5"}
 PAGES = (
     *("/", f"/month/{MONTH}/", f"/month/{MONTH}/looks?all=1", f"/month/{MONTH}/table", f"/month/{MONTH}/freeze"),
     *(f"/month/{MONTH}/what-if", f"/month/{MONTH}/field-notes", "/calendar", "/records", "/log"),
@@ -28,9 +28,10 @@ SAME = re.compile(rf"{NAMES.pattern}|\b(?:CET|CEST|CSV|cpi|COLLECTOR/SLOT)\b")
 
 
 def left_on(answer: str) -> list[str]:
-    """What of a page is in English: what people and the office called something is in elements of its own, and so is a
-    record."""
-    return left_in_english(seen_of(re.sub(r"<(code|textarea)\b.*?</\1>", "", answer, flags=re.S)), SAME)
+    """What of a page is in English: what people and the office called something is in elements of its own, and so are a
+    record and the line of a program, which is marked."""
+    found = seen_of(re.sub(r"<(code|textarea|style)\b.*?</\1>", "", answer, flags=re.S))
+    return [*left_in_english(found, SAME), *unmarked(found)]
 
 
 def steps(application: Application, ada: Person) -> None:

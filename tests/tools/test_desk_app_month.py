@@ -82,7 +82,9 @@ def test_what_a_handful_of_prices_would_change(ada: Person) -> None:
     words = words_of(ada.post(f"/month/{MONTH}/what-if", text="7/1=220\n").text)
     assert "00 105.698455 1.5 106.363636 2.1" in words and "01.1.1.1-01 106.164091 2.4 107.272727 3.5" in words
     refused = ada.post(f"/month/{MONTH}/what-if", text="7/1=220\n7/x=1\n")
-    assert refused.status_code == 400 and "Line 2: 7/x isn't COLLECTOR/SLOT" in words_of(refused.text)
+    assert refused.status_code == 400 and "Line 2: 7/x=1 can't be tried. Wanted is a price like 7/2=210" in words_of(
+        refused.text
+    )
     assert "7/1=220\n7/x=1" in refused.text
 
 
@@ -249,7 +251,7 @@ def test_the_freeze_isn_t_a_record_among_others(ada: Person) -> None:
     for text, says in (
         (f"freeze,{MONTH}\n", "Line 1: a month is frozen on its own page"),
         ("\noutlet,12,A\nquote,1,2026-02,price,3\n", "Line 3: quote is no word of a record here"),
-        ('outlet,12,"A\n', "unexpected end of data"),
+        ('outlet,12,"A\n', "Line 1 isn't read as CSV: look at its quotation marks."),
         ("\n", "There are no records"),
     ):
         answer = ada.post("/records/judge", text=text)

@@ -145,8 +145,8 @@ def test_a_website_that_couldn_t_be_written_says_why_and_stays(
     for _ in range(2):
         words = written(publisher, ada)
         assert (
-            "The website couldn't be written, and is as it was: the table of 2025-12, revision 1, isn't the one"
-            in words
+            "The website couldn't be written, and is as it was: Mend what cpi-tools publish names in this line, then write"
+            " the website again: the table of 2025-12, revision 1, isn't the one" in words
         )
     assert (tmp_path / "public/SHA256SUMS").read_bytes() == before
     assert ada.words("/log").count("the website couldn't be written") == 1

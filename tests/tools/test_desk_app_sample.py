@@ -77,7 +77,7 @@ def test_what_may_be_missing_and_months_of_a_spreadsheet() -> None:
         ("outlet,name\n", "There are no rows: write or paste one a line, with the cells outlet, name."),
         ("10,a\n\n11,b,c", 'Line 3 has 3 cells by commas: "11", "b", "c". Wanted are outlet, name.'),
         ("10", 'Line 1 has one cell by commas: "10". Wanted are outlet, name.'),
-        ('10,"a\n', "Line 1: unexpected end of data. Look at its quotation marks."),
+        ('10,"a\n', "Line 1 isn't read as CSV: look at its quotation marks."),
         ("outlet;name;name\n10;a;b", "Line 1 is a heading that has name twice: rename one of the two."),
         ("10,a\n" * 20_001, "There are 20,001 rows: 20,000 are taken at once at most."),
     ],

@@ -243,7 +243,9 @@ def test_a_file_that_cannot_be_had_is_said(shown: Browser, stage: Stage, website
     opened(shown)
     shown.offline(True)
     shown.run("history.replaceState(null, '', '?items=00+01'); dispatchEvent(new PopStateEvent('popstate'))")
-    shown.wait_text("#fault", "01: \u2068node/01.csv\u2069: the server doesn’t answer. Load the page again in a moment.")
+    shown.wait_text(
+        "#fault", "01: \u2068node/01.csv\u2069: the server doesn’t answer. Load the page again in a moment."
+    )
     shown.offline(False)
     shown.choose("from", "2011-02")
     shown.wait(lambda: shown.text("#fault") == "" and len(shown.run(HEADS)) == 3)

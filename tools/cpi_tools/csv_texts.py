@@ -17,7 +17,7 @@ from typing import TextIO
 
 from .cells import ROWS_LOOKED_AT, BadSheet, Origin, Texts, label_of
 from .office_sheets import SHEETS
-from .others import of_others
+from .others import of_others, own_line
 from .terminal import because_of
 from .told import told
 
@@ -52,12 +52,12 @@ def _rows(path: Path) -> Iterator[list[str]]:
             for number, row in enumerate(csv.reader(file, delimiter=separator, strict=True), 1):
                 yield row
     except OSError as fault:
-        raise BadSheet(Origin(label, 0), because_of(fault), told("see why the file can't be read")) from fault
+        raise BadSheet(Origin(label, 0), own_line(because_of(fault)), told("see why the file can't be read")) from fault
     except UnicodeError as fault:
         because = told("the file begins as UTF-16 does, and isn't that")
         raise BadSheet(Origin(label, number + 1), because, UTF_8) if is_utf_16 else _no_utf_8(path) from fault
     except csv.Error as fault:
-        because = told("the row is no CSV: {fault}", fault=of_others(str(fault).splitlines()[0]))
+        because = told("the row is no CSV: {fault}", fault=own_line(str(fault).splitlines()[0]))
         raise BadSheet(Origin(label, number + 1), because, told("look at its quotes")) from fault
 
 

@@ -46,6 +46,17 @@ def known() -> list[str]:
     return [SOURCE, *sorted(path.stem for path in PO.glob("*.po"))]
 
 
+def in_themselves() -> dict[str, str]:
+    """The languages by their codes, each with its name in itself, such as `français`; with its code if Babel isn't
+    there, which English doesn't need."""
+    try:
+        from babel import Locale
+    except ImportError:
+        return {code: code for code in known()}
+
+    return {code: Locale.parse(code).get_display_name() or code for code in known()}
+
+
 def a_language(text: str) -> str:
     """A type of argparse: a language that has a catalogue."""
     if text not in known():

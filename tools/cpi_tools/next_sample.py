@@ -10,12 +10,11 @@ from collections.abc import Collection, Iterator, Sequence
 from pathlib import Path
 from typing import Optional
 
-from .judge import number_of
+from . import draft_faults
 from .program import LAST_MOMENT, Cpi, Reply, Session, record
 from .sent import DESK
 from .stored import Plan, Release, Series, StoredOffice, stored_office
 from .terminal import Fault, month_text
-from .words import refusal_words
 
 FIRST = 1
 """The revision of a month that is frozen for the first time."""
@@ -50,7 +49,7 @@ def next_sample(cpi: Cpi, copy: Path, plan: Plan, last_frozen: int) -> dict[Seri
                 session.ask(record(0, DESK, "calendar", month_text(month), 0, 1, LAST_MOMENT))
             code = freeze(session, month) if month < january else None
             if code is not None:
-                raise Fault(f"{month_text(month)} can't be frozen on a copy: {code} has no series in its sample")
+                raise Fault(draft_faults.no_series(month, code))
         is_frozen = freeze_january(session, plan, priced_items(session, keys, january))
     with stored_office(copy) as stored:
         return sample_of(stored, Release(january, FIRST, ()), plan) if is_frozen else {}
@@ -96,8 +95,7 @@ def freeze(session: Session, month: int) -> Optional[str]:
 def must(reply: Reply, what: str, word: str = "plan") -> None:
     """Raises Fault where something was refused, in the words of the refusal."""
     if "refused" in reply:
-        words = refusal_words(reply, DESK, word)
-        raise Fault(f"{what} is refused on a copy by {number_of(reply)}: {words.because} ({words.do})")
+        raise Fault(draft_faults.refused(reply, what, word))
 
 
 def plan_record(plan: Plan, weights: dict[str, int]) -> str:

@@ -15,6 +15,7 @@ from collections.abc import Iterable, Sequence
 from pathlib import Path
 from typing import NamedTuple
 
+from . import draft_faults
 from .copying import private_copy
 from .next_sample import next_sample, sample_of
 from .program import Cpi, add_program
@@ -59,11 +60,11 @@ def read(stored: StoredOffice, year: int) -> Now:
     releases = stored.releases()
     last = releases[-1] if releases else None
     if plan is None:
-        raise Fault(f"there is no plan of {year - 1} that one of {year} could be drafted from")
+        raise Fault(draft_faults.no_plan(year))
     if last is None:
-        raise Fault("no month is frozen yet")
+        raise Fault(draft_faults.none_frozen())
     if last.month > year * 100:
-        raise Fault(f"{month_text(last.month)} is frozen, so {year} has begun: name a later year")
+        raise Fault(draft_faults.has_begun(last.month, year))
     current = plans.get(last.month // 100)
     held = held_by(stored)
     months = [month for month in stored.months_of_quotes() if month < year * 100][-GONE_MONTHS:]
@@ -220,7 +221,7 @@ def next_year(cpi: Cpi, file: Path, year: int, folder: Path) -> tuple[Now, Lists
     next one.
     """
     if os.path.lexists(folder):
-        raise Fault(f"{folder} is there already: name a folder that isn't")
+        raise Fault(draft_faults.is_there(folder))
     folder.parent.mkdir(parents=True, exist_ok=True)
     with private_copy(file) as copy, tempfile.TemporaryDirectory(prefix=".cpi-next-", dir=folder.parent) as room:
         # (the program opens it first, so it is an office, and of the schema that is read here)

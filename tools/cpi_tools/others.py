@@ -63,6 +63,14 @@ class Worded(str):
         return Element(escape(self.form).format(*map(others, self.texts)))
 
 
+class OwnLine(Worded):
+    """A line that a program wrote in English: on a page it is shown as it is, so that somebody can search for it, or read
+    it to whoever keeps the machine."""
+
+    def __html__(self) -> Element:
+        return Element(f'<bdi lang="en" dir="ltr"><code>{escape(closed(str(self)))}</code></bdi>')
+
+
 def worded(form: str, **places: object) -> Worded:
     """A sentence of ours with what belongs in its named places, `{title}` or `{month}`. A text of others is handed in
     as Worded; anything else is ours, such as a figure."""
@@ -89,6 +97,11 @@ def _literal(text: str) -> str:
 def of_others(text: str) -> Worded:
     """A text of others, for a place in words of ours."""
     return Worded("{}", text)
+
+
+def own_line(text: object) -> Worded:
+    """A line of a program, for a place in words of ours."""
+    return OwnLine("{}", str(text))
 
 
 def listed(texts: Sequence[Worded]) -> Worded:

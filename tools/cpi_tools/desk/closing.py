@@ -15,8 +15,10 @@ from ..program import Cpi, record
 from ..sections import Section
 from ..stored import read_copy
 from ..terminal import Fault, counted, month_text, time_text
+from ..told import Told, month_of, said_as, whole
+from ..told import told as _
 from ..trial import Frozen as FrozenMonth
-from ..trial import freeze_on_copy, state_of
+from ..trial import State, freeze_on_copy, state_of
 from . import aggregates, response
 from .early import Early, early_tables
 from .facts import Facts
@@ -71,12 +73,21 @@ def close(cpi: Cpi, office_copy: Path, month: int, at: int) -> Closed:
         state = state_of(office, month)
         early = early_tables(office, state, at)
     if state.is_frozen:
-        raise NotClosed(f"{month_text(month)} is frozen, revision {state.revision}: reopen it to freeze it again")
+        raise NotClosed(_is_frozen(state))
     closes = state.window.closes
     with private_copy(office_copy) as copy:
         frozen = freeze_on_copy(cpi, copy, state, max(at, closes))
         with read_copy(copy) as office:
             return closed_of(Facts(office, month, frozen), closes, frozen, early)
+
+
+def _is_frozen(state: State) -> Told:
+    """Why a month isn't closed that is frozen."""
+    places = {"month": month_of(state.month), "revision": whole(state.revision)}
+    return said_as(
+        f"{month_text(state.month)} is frozen, revision {state.revision}: reopen it to freeze it again",
+        _("{month} is frozen, revision {revision}: reopen it to freeze it again.", **places),
+    )
 
 
 def closed_of(facts: Facts, closes: int, frozen: FrozenMonth, early: list[Early]) -> Closed:

@@ -16,7 +16,7 @@ from ..program import Cpi
 from ..sections import Cell, Section, columns
 from ..stored import StoredOffice, Window, read_copy
 from ..terminal import Fault, month_text, slot_text
-from ..told import told
+from ..told import Code, said_as, told
 from ..trial import Frozen, Record, as_frozen, freeze_on_copy, reopened, state_of
 from .early import until_when
 
@@ -69,7 +69,11 @@ def quotes_of(office: StoredOffice, window: Window, tried: Tried) -> Iterator[Re
     sent += [(place, ["price", price, "confirm"]) for place, price in tried.prices]
     for place, fields in sent:
         if place not in known:
-            raise NotTried(f"nobody has slot {slot_text(place)}: give COLLECTOR/SLOT")
+            slot = slot_text(place)
+            says = told(
+                "Nobody has the slot {slot}: write a collector and a slot, with a stroke between them.", slot=Code(slot)
+            )
+            raise NotTried(said_as(f"nobody has slot {slot}: give COLLECTOR/SLOT", says))
         yield [window.opens, keys[place[0]], "quote", place[1], month_text(window.month), *fields]
 
 

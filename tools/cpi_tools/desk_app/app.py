@@ -13,7 +13,7 @@ from werkzeug.exceptions import HTTPException
 from werkzeug.wrappers import Response
 
 from .. import pages, section_pages
-from ..others import of_others
+from ..others import of_others, own_line
 from ..terminal import Fault
 from ..told import Told, sentences, told as _, whole
 from . import (
@@ -171,7 +171,15 @@ def _fault(fault: Fault) -> Response:
 def _http_fault(fault: HTTPException) -> Response:
     if fault.code is None or fault.code < 400:
         return fault.get_response()  # type: ignore[return-value]
-    return _refused(fault.code, BY_STATUS.get(fault.code, f"{fault.code} {fault.name}"))
+    return _refused(fault.code, BY_STATUS.get(fault.code) or _not_so(fault))
+
+
+def _not_so(fault: HTTPException) -> Told:
+    """What is said of another status."""
+    return _(
+        "The application can't do this as it was asked: go back, load the page anew, and try again. Its own line: {line}",
+        line=own_line(f"{fault.code} {fault.name}"),
+    )
 
 
 def _with_fields(answer: Response) -> Response:

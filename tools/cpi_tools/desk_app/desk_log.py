@@ -21,6 +21,9 @@ from typing import Any, NamedTuple, Optional
 
 from ..program import Reply
 from ..terminal import Fault, because_of
+from ..told import said_as
+from ..told import told as _
+from .faults import of_system
 
 FIRST = "0" * 64
 """What the first line has in the place of a sum."""
@@ -157,7 +160,9 @@ class DeskLog:
                 os.ftruncate(self._file, size)
                 raise
         except OSError as fault:
-            raise Fault(f"{self.path}: {fault.strerror}, so nothing was done") from fault
+            text = f"{self.path}: {fault.strerror}"
+            done = _("The desk's log can't be written, so nothing was done.")
+            raise Fault(said_as(f"{text}, so nothing was done", done, of_system(fault, text))) from fault
 
     def open_entries(self) -> list[Entry]:
         """The records that were sent, and of which it isn't known what came of them."""

@@ -20,6 +20,7 @@ from ..sent import FIELDS
 from ..terminal import Fault, because_of
 from ..told import told as _
 from ..whole_files import write_whole
+from .faults import not_as_written
 from .sample_kinds import Kind
 
 CLASSIFICATION, WEIGHTS, PLACES, SERIES = "classification", "weights", "places", "series"
@@ -136,7 +137,7 @@ class Draft:
         except FileNotFoundError:
             return Settings()
         except (OSError, ValueError, TypeError) as fault:
-            raise Fault(f"{self.folder / SETTINGS} isn't as it was written: {fault}") from fault
+            raise Fault(not_as_written(self.folder / SETTINGS, fault)) from fault
 
     def set(self, settings: Settings, reference: str) -> None:
         """Sets all three. Raises Fault."""
@@ -176,7 +177,7 @@ def read_rows(path: Path, columns: Sequence[str]) -> list[Cells]:
     except OSError as fault:
         raise Fault(because_of(fault)) from fault
     except (csv.Error, UnicodeError) as fault:
-        raise Fault(f"{path} isn't as it was written: {fault}") from fault
+        raise Fault(not_as_written(path, fault)) from fault
 
 
 def write_rows(path: Path, heads: Sequence[str], rows: Sequence[Sequence[str]]) -> None:

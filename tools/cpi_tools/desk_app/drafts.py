@@ -16,7 +16,7 @@ from typing import NamedTuple, Optional
 from ..cells import SheetFault
 from ..next_year import next_year
 from ..office_files import Options
-from ..others import Worded, of_others
+from ..others import Worded, own_line
 from ..plan_rows import Weighed
 from ..program import Cpi
 from ..sent import Bundle, Problem, body_of
@@ -26,7 +26,7 @@ from ..told import Told
 from ..told import told as _
 from .copies import Copies
 from .draft_sheets import Draft
-from .faults import met, says
+from .faults import met, of_system, says
 
 UTC = "UTC0"
 """The clock of civil times; a draft has none."""
@@ -128,9 +128,9 @@ class Drafts:
         except Fault as fault:
             self.fault = says(fault)
         except OSError as fault:
-            self.fault = of_others(because_of(fault))
+            self.fault = of_system(fault)
         except sqlite3.Error as fault:
-            self.fault = _("The copy can't be read: {fault}", fault=of_others(str(fault)))
+            self.fault = _("The copy can't be read: {fault}", fault=own_line(fault))
         except Exception as fault:
             # (a fault of ours: it is on the page too, and the journal has all of it)
             self.fault = met(fault)

@@ -18,7 +18,7 @@ from collections.abc import Callable, Iterator
 from pathlib import Path
 from typing import NamedTuple, Optional
 
-from ..others import of_others
+from ..others import of_others, own_line
 from ..terminal import Fault, because_of
 from ..told import told as _
 from .field_limits import MOST_NOTES
@@ -92,7 +92,7 @@ class FieldNotes:
         except OSError as fault:
             raise Fault(because_of(fault)) from fault
         except sqlite3.Error as fault:
-            places = {"path": of_others(str(path)), "fault": of_others(str(fault))}
+            places = {"path": of_others(str(path)), "fault": own_line(fault)}
             raise Fault(_("{path} can't be read as the notes of the field: {fault}", **places)) from fault
         self.forget()
 
@@ -108,7 +108,10 @@ class FieldNotes:
             try:
                 yield self._link
             except sqlite3.Error as fault:
-                raise Fault(f"{self.path}: {fault}") from fault
+                places = {"path": of_others(str(self.path)), "fault": own_line(fault)}
+                raise Fault(
+                    _("{path} can't be read or written as the notes of the field: {fault}", **places)
+                ) from fault
 
     # ---- writing
 

@@ -17,6 +17,7 @@ from ..desk.closing import Closed
 from ..terminal import Fault, because_of, month_text
 from ..told import told as _
 from ..whole_files import write_whole
+from .faults import not_as_written
 
 
 class Prepared(NamedTuple):
@@ -71,8 +72,7 @@ class PreparedFreeze:
         except OSError as fault:
             raise Fault(because_of(fault)) from fault
         except (ValueError, TypeError) as fault:
-            text = _("{file} isn't as it was written: put it aside, and prepare the freeze again.", file=self._path)
-            raise Fault(text) from fault
+            raise Fault(not_as_written(self._path, fault)) from fault
 
     def keep(self, it: Prepared) -> None:
         """Keeps it in place of one that is there. Raises Fault."""

@@ -47,8 +47,13 @@ def records_of(text: str, clock: Clock) -> list[list[str]]:
             if fields:
                 found.append(at_clock(_looked_at(fields, rows.line_num), clock))
     except csv.Error as fault:
-        places = {"line": whole(rows.line_num), "fault": of_others(str(fault))}
-        raise NotRead(_("Line {line}: {fault}. Wanted are fields with commas between them.", **places)) from fault
+        line = whole(rows.line_num)
+        raise NotRead(
+            _(
+                "Line {line} isn't read as CSV: look at its quotation marks. Wanted are fields with commas between them.",
+                line=line,
+            )
+        ) from fault
     if len(found) > MOST_RECORDS:
         places = {"count": whole(len(found)), "most": whole(MOST_RECORDS)}
         raise NotRead(_("There are {count} records: {most} are sent at once at most.", **places))

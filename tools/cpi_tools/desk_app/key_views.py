@@ -15,6 +15,7 @@ from werkzeug.wrappers import Response
 from ..cells import Origin, Row
 from ..keys.names import NUMBER, NAME, name_of, number_of
 from ..languages import Language, a_language, language_of
+from ..others import of_others
 from ..stored import read_copy
 from ..stored_pages import collectors_in, key_of
 from ..terminal import Fault
@@ -51,7 +52,7 @@ def page_with_key() -> str:
     given, form = desk().given, flask.request.form
     if not given.phones:
         raise Fault(_("The application wasn't told the address of the front that collectors reach (--phones)."))
-    named = Row(Origin("form", 0), {NUMBER: form.get("collector", ""), NAME: form.get("name", "")})
+    named = Row(Origin("", 0), {NUMBER: form.get("collector", ""), NAME: form.get("name", "")})
     with desk().copies_now() as copy, read_copy(copy.path) as office:
         number = number_of(named, collectors_in(office))
         key = key_of(office, number)
@@ -66,4 +67,4 @@ def language_in(text: str) -> Language:
     try:
         return language_of(a_language(text))
     except argparse.ArgumentTypeError as fault:
-        raise Fault(str(fault)) from fault
+        raise Fault(_("There is no catalogue of the language {language}.", language=of_others(text))) from fault

@@ -9,6 +9,7 @@ import flask
 from werkzeug.wrappers import Response
 
 from ..csv_files import Writer, formulas_told, line_of
+from ..others import OwnLine, Worded, of_others, own_line
 from ..report_language import ENGLISH, Teller
 from ..told import moment_of
 from ..told import told as _
@@ -33,8 +34,13 @@ class Line(NamedTuple):
     number: int
     at: int
     by: str
-    said: str
+    said: Worded
     answer: str
+
+    @property
+    def is_step(self) -> bool:
+        """Whether it is a step of a person, and no record."""
+        return isinstance(self.said, OwnLine)
 
     @property
     def cells(self) -> list[object]:
@@ -51,12 +57,13 @@ def lines_of(entries: list[Entry]) -> list[Line]:
             end = settled.get(it.number)
             for place, fields in enumerate(it.records):
                 if end is not None and end.what == NOT_SENT:
-                    answer = end.text
+                    answer = _("not sent: {line}", line=own_line(end.text))
                 else:
                     answer = told(fields, end.replies[place] if end else None).answer
-                found.append(Line(it.number, it.at, it.by, line_of(fields), answer))
+                found.append(Line(it.number, it.at, it.by, of_others(line_of(fields)), answer))
         elif it.what not in (ANSWERED, LOOKED_UP, NOT_SENT):
-            found.append(Line(it.number, it.at, it.by, it.text, STEPS.get(it.what, it.what)))
+            # (the file has it in English)
+            found.append(Line(it.number, it.at, it.by, own_line(it.text), STEPS.get(it.what, it.what)))
     return found
 
 

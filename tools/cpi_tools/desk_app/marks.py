@@ -13,10 +13,10 @@ import time
 from pathlib import Path
 from typing import NamedTuple
 
-from ..others import of_others
 from ..terminal import Fault, because_of, naming
 from ..told import told as _
 from ..told import whole
+from .faults import of_system
 
 SEEN, UNSEEN, NOTE = "seen", "unseen", "note"
 
@@ -83,7 +83,7 @@ class Marks:
                     file.write(line)
                     os.fsync(file.fileno())
         except OSError as fault:
-            raise Fault(_("Nothing was noted: {fault}", fault=of_others(because_of(fault)))) from fault
+            raise Fault(_("Nothing was noted: {fault}", fault=of_system(fault))) from fault
 
     def seen_by(self, person: str, month: int) -> set[Price]:
         """The prices of a month that a person has seen."""

@@ -13,7 +13,7 @@ from typing import Any, Optional
 
 from ..csv_files import line_of
 from ..program import Reply
-from ..others import of_others
+from ..others import of_others, own_line
 from ..terminal import Fault
 from ..told import told as _
 from ..told import whole
@@ -76,7 +76,7 @@ class Office:
         try:
             line.connect()
         except OSError as fault:
-            places = {"office": of_others(self.url), "fault": of_others(str(fault.strerror or fault))}
+            places = {"office": of_others(self.url), "fault": own_line(fault.strerror or fault)}
             raise NotSent(_("The office at {office} can't be reached: {fault}", **places)) from fault
         fields = {"Authorization": f"CPI-Key {key}"} if key else {}
         try:
@@ -85,7 +85,7 @@ class Office:
             text = answer.read()
             reply = json.loads(text)
         except (OSError, http.client.HTTPException, ValueError) as fault:
-            places = {"office": of_others(self.url), "fault": of_others(type(fault).__name__)}
+            places = {"office": of_others(self.url), "fault": own_line(type(fault).__name__)}
             raise NoReply(_("No reply came from the office at {office}: {fault}", **places)) from fault
         finally:
             line.close()

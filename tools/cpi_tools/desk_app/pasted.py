@@ -95,8 +95,8 @@ def split(text: str, separator: str) -> list[Line]:
             if any(it.strip() for it in cells):
                 found.append(Line(rows.line_num, [it.strip() for it in cells]))
     except csv.Error as fault:
-        places: dict[str, object] = {"line": whole(rows.line_num), "fault": of_others(str(fault))}
-        raise NotRead(_("Line {line}: {fault}. Look at its quotation marks.", **places)) from fault
+        line = whole(rows.line_num)
+        raise NotRead(_("Line {line} isn't read as CSV: look at its quotation marks.", line=line)) from fault
     return found
 
 

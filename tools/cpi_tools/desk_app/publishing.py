@@ -17,17 +17,18 @@ from collections.abc import Sequence
 from pathlib import Path
 from typing import NamedTuple, Optional
 
-from ..others import Worded
+from ..others import Worded, own_line
 from ..pack.config import read_config
 from ..pack.manifest import MANIFEST, TableId, read_manifest
 from ..pack.release_names import page_of_release
 from ..pack.sdmx import KNOWN_IDS
 from ..stored import StoredOffice
 from ..terminal import Fault, because_of, month_text, time_text
+from ..told import Told
 from ..told import told as _
 from ..whole_files import write_whole
 from .desk_log import SAID, DeskLog
-from .faults import met, says
+from .faults import met, not_as_written, says
 
 LOOKS_EVERY = 20.0
 """Seconds from one look at what is planned to the next, at most."""
@@ -89,7 +90,7 @@ class Publisher:
         self._process: Optional[subprocess.Popen[str]] = None
         self._thread = threading.Thread(target=self._follow, daemon=True, name="publisher")
         self.running: Optional[Running] = None
-        self.fault, self.told, self._failed_at = Worded(""), "", 0.0
+        self.fault, self.told, self._failed_at = Worded(""), Worded(""), 0.0
 
     # ---- what there is
 
@@ -132,7 +133,7 @@ class Publisher:
         except OSError as fault:
             raise Fault(because_of(fault)) from fault
         except (ValueError, TypeError) as fault:
-            raise Fault(f"{self._plan} isn't as it was written: put it aside, and plan again") from fault
+            raise Fault(not_as_written(self._plan, fault)) from fault
 
     def plan(self, one: Planned) -> None:
         """Plans to publish a table at its moment; whoever planned it before did. Raises Fault."""
@@ -189,7 +190,7 @@ class Publisher:
             self._log.append(by, SAID, text=f"the website couldn't be written: {why}")
         self.fault = why
 
-    def _written(self, by: str) -> str:
+    def _written(self, by: str) -> Worded:
         """Writes the website; what `publish` says. Raises Fault."""
         at = int(time.time())
         words = [sys.executable, "-m", "cpi_tools", "publish", "--db", self._file, "--at", at]
@@ -203,11 +204,9 @@ class Publisher:
         ) as self._process:
             told, errors = self._process.communicate()
         if self._process.returncode:
-            lines = errors.strip().splitlines()
-            ended = _("cpi-tools publish ended with the status {status}.", status=self._process.returncode)
-            raise Fault(lines[-1].removeprefix(BEGINS) if lines else ended)
+            raise Fault(_because(self._process.returncode, errors))
         self._log.append(by, SAID, text=f"the website was written, with what is out at {time_text(at)}: {told.strip()}")
-        return " ".join([told.strip(), *errors.strip().splitlines()])
+        return own_line(" ".join([told.strip(), *errors.strip().splitlines()]))
 
     def _done(self) -> None:
         """Forgets what was planned and is in the website now."""
@@ -250,6 +249,15 @@ class Publisher:
         if planned and wait <= 0 and not is_waiting:
             self.begin(planned[0].by)
         return min(LOOKS_EVERY, wait) if wait > 0 else 1.0
+
+
+def _because(status: int, errors: str) -> Told:
+    """Why `cpi-tools publish` ended with a status, by what it wrote."""
+    lines = errors.strip().splitlines()
+    if not lines:
+        return _("cpi-tools publish ended with the status {status}.", status=status)
+    line = own_line(lines[-1].removeprefix(BEGINS))
+    return _("Mend what cpi-tools publish names in this line, then write the website again: {line}", line=line)
 
 
 def named(it: Planned) -> str:

@@ -23,7 +23,7 @@ import flask
 from werkzeug.wrappers import Response
 
 from ..csv_files import Writer, formulas_told, line_of
-from ..languages import known
+from ..languages import in_themselves
 from ..others import Worded, of_others
 from ..stored import StoredOffice, read_copy
 from ..stored_pages import LISTINGS, Found, found_in
@@ -35,7 +35,7 @@ from .faults import says
 from .pasted import pasted
 from .sample_kinds import KINDS, Kind
 from .sampling import NotAsSeen, Sent, answer_of, judge, send, settle, state_of
-from .tray import GOING, GOOD, NEW, REFUSED, Waiting
+from .tray import COLLECTORS, GOING, GOOD, NEW, REFUSED, Waiting
 
 views = flask.Blueprint("sample", __name__)
 
@@ -120,7 +120,7 @@ def shown(
         "text": text or (text_of(kind, mended) if len(mended) > 1 else ""),
         "zone": desk().given.clock.name or "UTC",
         "phones": desk().given.phones,
-        "languages": known(),
+        "languages": in_themselves() if kind.name == COLLECTORS else {},
     }
     return page("sample.html", status, fault=fault, answer=answer, unread=unread, **named)
 

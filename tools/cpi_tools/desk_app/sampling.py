@@ -12,7 +12,7 @@ from ..csv_files import line_of
 from ..pack.clocks import Clock
 from ..program import Reply
 from ..stored import StoredOffice, read_copy
-from ..others import Worded, of_others
+from ..others import Worded, own_line
 from ..terminal import Fault
 from ..told import told as _
 from .desk import Desk
@@ -44,7 +44,7 @@ def answer_of(row: Waiting) -> Worded:
         return told(row.record, row.reply).answer
     if row.why in WHY or not row.why:
         return WHY.get(row.why, Worded(""))
-    return _("Not sent: {fault}", fault=of_others(row.why))
+    return _("Not sent: {fault}", fault=own_line(row.why))
 
 
 class Record(NamedTuple):

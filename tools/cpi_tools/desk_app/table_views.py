@@ -131,8 +131,17 @@ def tried_of(text: str) -> Asked:
             elif word:
                 carry.append(a_code(word))
         except Exception as fault:
-            places = {"line": whole(place), "fault": of_others(str(fault)), "example": of_others("7/2=missing")}
-            raise Fault(_("Line {line}: {fault}; or {example}", **places)) from fault
+            places = {"price": of_others("7/2=210"), "missing": of_others("7/2=missing")}
+            raise Fault(
+                _(
+                    "Line {line}: {text} can't be tried. Wanted is a price like {price}, or {missing}, or a code like"
+                    " {code} to carry.",
+                    line=whole(place),
+                    text=of_others(line.strip()[:40]),
+                    code=of_others("01.1.1.1-01"),
+                    **places,
+                )
+            ) from fault
     if not (missing or prices or carry):
         places = {"price": of_others("7/2=210"), "missing": of_others("7/2=missing")}
         raise Fault(_("Write what to try, one a line: a price like {price}, or {missing}.", **places))

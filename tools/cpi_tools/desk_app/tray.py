@@ -17,6 +17,7 @@ from ..program import Reply
 from ..terminal import Fault, because_of
 from ..whole_files import write_whole
 from .desk_log import HIDDEN
+from .faults import not_as_written
 
 NEW, GOOD, REFUSED, GOING = "new", "good", "refused", "going"
 """Where a row is: it wasn't judged yet; the copy's answer is `done`; it was refused, or not sent; it is on its way to the
@@ -112,7 +113,7 @@ class Tray:
         except OSError as fault:
             raise Fault(because_of(fault)) from fault
         except (ValueError, TypeError, LookupError) as fault:
-            raise Fault(f"{self._path} isn't as it was written: put it aside, and give the rows again") from fault
+            raise Fault(not_as_written(self._path, fault)) from fault
 
     def _write(self, last: int, rows: Mapping[str, Sequence[Waiting]]) -> None:
         kept = {"last": last, "rows": {of: own for of, own in rows.items() if own}}

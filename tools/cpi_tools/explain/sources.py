@@ -19,7 +19,8 @@ from ..stored import (
     Series,
     StoredOffice,
 )
-from ..terminal import Fault, link_month, month_before, month_text
+from ..terminal import Fault, link_month, month_before
+from ..told import Told, month_of, row, told, whole
 from .money import TICKS, Money
 
 AGGREGATE = 5
@@ -67,6 +68,11 @@ class Month:
         return series in self.frozen and self.frozen[series].mark in OBSERVED
 
 
+def _no_table(month: int) -> Told:
+    """Why the first month isn't explained."""
+    return told("{month} has no table: it is the first month, which later ones begin at", month=month_of(month))
+
+
 class Sources:
     """A release of a month, the months that it was computed from, the survey, and how amounts of money are written.
 
@@ -83,18 +89,25 @@ class Sources:
         self.own = Month(office, own[-1])
         plan = next((plan for plan in office.plans() if plan.year == month // 100), None)
         if plan is None or not self.own.levels:
-            raise NotExplained(f"{month_text(month)} has no table: it is the first month, which later ones begin at")
+            raise NotExplained(_no_table(month))
         self.plan: Plan = plan
         self.outlets = office.outlets()
         self.items: dict[str, Item] = {it.code: it for it in office.items()}
 
-    def _no_release(self, revision: Optional[int]) -> str:
-        known = [it.revision for it in self.releases if it.month == self.month]
+    def _no_release(self, revision: Optional[int]) -> Told:
+        month, known = month_of(self.month), [it.revision for it in self.releases if it.month == self.month]
         if known:
-            return f"{month_text(self.month)} has no revision {revision}; it has {', '.join(map(str, known))}"
-        months = [it.month for it in self.releases]
-        span = f"{month_text(months[0])} to {month_text(months[-1])} are" if months else "no month is"
-        return f"{month_text(self.month)} isn't frozen; {span}"
+            given, all_of_them = whole(revision or 0), row([whole(it) for it in known])
+            return told(
+                "{month} has no revision {revision}; it has {revisions}",
+                month=month,
+                revision=given,
+                revisions=all_of_them,
+            )
+        if not self.releases:
+            return told("{month} isn't frozen; no month is", month=month)
+        first, last = month_of(self.releases[0].month), month_of(self.releases[-1].month)
+        return told("{month} isn't frozen; {first} to {last} are", month=month, first=first, last=last)
 
     @property
     def is_january(self) -> bool:
@@ -108,7 +121,8 @@ class Sources:
     def _known(self, month: int) -> Month:
         found = self.latest(month)
         if found is None:
-            raise NotExplained(f"{month_text(month)}, which {month_text(self.month)} is computed from, isn't there")
+            places = {"month": month_of(month), "own": month_of(self.month)}
+            raise NotExplained(told("{month}, which {own} is computed from, isn't there", **places))
         return found
 
     @cached_property

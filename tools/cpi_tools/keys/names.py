@@ -10,8 +10,10 @@ from typing import NamedTuple, NoReturn
 
 from ..cells import BadSheet, Columns, Origin, Row, Sheet, SheetFault
 from ..csv_texts import texts_of_csv
+from ..others import of_others
 from ..sheets import sheet_of
 from ..terminal import Fault
+from ..told import Figure, placed, told, whole
 
 NUMBER, NAME = COLUMNS = ("collector", "name")
 
@@ -65,10 +67,11 @@ def number_of(row: Row, known: Collection[int]) -> int:
     """The collector of a row."""
     text = row[NUMBER].strip()
     if not re.fullmatch(r"[1-9][0-9]{0,3}", text):
-        refuse(SheetFault(row.origin, f"{text!r} is no collector", "write a number like 7"))
+        because = told("{text} is no collector", text=of_others(repr(text)))
+        refuse(SheetFault(row.origin, because, told("write a number like 7")))
     if int(text) not in known:
-        do = "register the collector first, or leave the row out"
-        refuse(SheetFault(row.origin, f"the office has no collector {text}", do))
+        do = told("register the collector first, or leave the row out")
+        refuse(SheetFault(row.origin, told("the office has no collector {number}", number=Figure(text)), do))
     return int(text)
 
 
@@ -76,20 +79,23 @@ def name_of(row: Row) -> str:
     """The name of a row, one line of at most 60 characters."""
     name = row[NAME].strip()
     if not name:
-        refuse(
-            SheetFault(
-                row.origin, f"the name of collector {row[NUMBER].strip()} is empty", "write it, or leave the row out"
-            )
-        )
+        because = told("the name of collector {number} is empty", number=of_others(row[NUMBER].strip()))
+        refuse(SheetFault(row.origin, because, told("write it, or leave the row out")))
     if any(unicodedata.category(it) == "Cc" for it in name):
-        refuse(SheetFault(row.origin, f"the name {name!r} has a control character", "write it in one line"))
+        because = told("the name {name} has a control character", name=of_others(repr(name)))
+        refuse(SheetFault(row.origin, because, told("write it in one line")))
     if len(name) > LONGEST_NAME:
-        because = f"the name {name[:LONGEST_NAME]!r}.. has {len(name)} characters"
-        refuse(SheetFault(row.origin, because, f"write at most {LONGEST_NAME}"))
+        places = {"name": of_others(repr(name[:LONGEST_NAME])), "count": whole(len(name))}
+        because = told("the name {name}.. has {count} characters", **places)
+        refuse(SheetFault(row.origin, because, told("write at most {most}", most=whole(LONGEST_NAME))))
     return name
 
 
 def refuse(fault: SheetFault) -> NoReturn:
     """Raises NamesRefused in one line."""
+    # t: what is wrong, and what to do
+    says = told("{because}: {do}", because=placed(fault.because), do=placed(fault.do))
+    if not fault.origin.file:
+        raise NamesRefused(says)
     place = f"{fault.origin.file}, row {fault.origin.row}" if fault.origin.row else fault.origin.file
-    raise NamesRefused(f"{place}: {fault.because}: {fault.do}")
+    raise NamesRefused(f"{place}: {says}")
