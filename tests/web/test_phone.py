@@ -561,7 +561,9 @@ FULL = "IDBObjectStore.prototype.put = () => { throw new DOMException('full', 'Q
 def test_a_browser_that_keeps_nothing_is_told(phone: Phone) -> None:
     script = phone.browser.cdp("Page.addScriptToEvaluateOnNewDocument", source=SHUT)["identifier"]
     phone.open()
-    phone.browser.wait_text("#notice", "the browser refuses it (SecurityError). Let it keep data of this site")
+    phone.browser.wait_text(
+        "#notice", "the browser refuses it (\u2068SecurityError\u2069). Let it keep data of this site"
+    )
     phone.browser.cdp("Page.removeScriptToEvaluateOnNewDocument", identifier=script)
     assert not phone.browser.find("#work").is_displayed()
 

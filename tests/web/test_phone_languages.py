@@ -21,6 +21,13 @@ def test_nothing_is_cut_covered_or_left_in_english(phone: Phone, stage: Stage, p
     assert walk.faults == []
 
 
+def test_nothing_of_arabic_is_cut_covered_or_left_in_english(phone: Phone, stage: Stage) -> None:
+    walk = Walk(phone.browser, "ar")
+    with spoken(stage, ARABIC):
+        walk_over(phone, stage, walk)
+    assert walk.faults == []
+
+
 # ---- the choice
 
 

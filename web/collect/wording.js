@@ -1,4 +1,5 @@
 // The words for slots and entries.
+import { isolated } from "../shared/dom.js";
 import { shown } from "../shared/money.js";
 import { parts, t, tc, whole } from "../shared/texts.js";
 import { REFUSED } from "./refused.js";
@@ -109,4 +110,4 @@ export const pageKeepsNothing = (fault) => (isFull(fault)
   ? t("The page can’t keep what it needs here: there is no room left. Make room on the phone, and save again.")
   // t: {error} is the browser's name of an error
   : t("The page can’t keep what it needs here: the browser refuses it ({error}). Let it keep data of this site, or leave the "
-    + "private window.", { error: fault.name }));
+    + "private window.", { error: isolated(fault.name) }));
