@@ -62,7 +62,8 @@ for (let node = walker.nextNode(); node; node = walker.nextNode()) {
   range.selectNodeContents(node);
   for (const box of range.getClientRects()) {
     if (!box.width) continue;
-    if (!holder.closest(".scroll") && (box.left < -1 || box.right > innerWidth + 1)) found.push(`outside: ${node.data}`);
+    const isScrolled = holder.closest(".scroll") && !holder.closest("caption");
+    if (!isScrolled && (box.left < -1 || box.right > innerWidth + 1)) found.push(`outside: ${node.data}`);
     texts.push({ node, box });
   }
 }
