@@ -28,7 +28,7 @@ SAID = {
     ("es", "latn"): ["105,7", "+0,3\xa0%", "−0,3\xa0%", "12,50\xa0%", "1.234.567", "enero de 2026", "2026", "ene",
                      "28 de enero de 2026, 9:05 CET", "a, b y c"],
     ("ar", "arab"): ["١٠٥٫٧", "\u061c+٠٫٣٪\u061c", "\u061c−٠٫٣٪\u061c", "١٢٫٥٠٪\u061c", "١٬٢٣٤٬٥٦٧", "يناير ٢٠٢٦",
-                     "٢٠٢٦", "يناير", "٢٨ يناير ٢٠٢٦ في ٠٩:٠٥ CET", "a وb وc"],
+                     "٢٠٢٦", "يناير", "٢٨ يناير ٢٠٢٦ في \u2066٠٩:٠٥ CET\u2069", "a وb وc"],
 }  # fmt: skip
 """By CLDR's tables: number symbols, percent patterns, dates and lists."""
 

@@ -18,6 +18,9 @@ from typing import Optional
 OPENS, CLOSES = "\u2068", "\u2069"
 """FIRST STRONG ISOLATE and POP DIRECTIONAL ISOLATE."""
 
+LEFT_TO_RIGHT = "\u2066"
+"""LEFT-TO-RIGHT ISOLATE: between it and CLOSES are figures and codes, whose signs stay where they are."""
+
 PARAGRAPHS = re.compile("[\n\r\x1c-\x1e\x85\u2029]")
 """What begins a paragraph, and so ends each isolate."""
 

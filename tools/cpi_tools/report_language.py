@@ -10,7 +10,7 @@ from collections.abc import Callable, Mapping
 from typing import Any
 
 from .languages import SOURCE, a_language, known
-from .others import Worded, worded
+from .others import CLOSES, LEFT_TO_RIGHT, Worded, worded
 from .pack.clocks import UTC, Clock, clock_of
 from .speech import DIGITS, LATIN, SPEAKS_ENGLISH, Speech, speech_of
 from .terminal import Fault
@@ -24,9 +24,6 @@ KINDS = (Code, Figure, Moment, Month, MonthName)
 """What a place or a cell holds besides texts."""
 
 FIGURE = re.compile(r"[+\u2212-]?[0-9][0-9,]*(\.[0-9]+)?([ \u202f]?%)?")
-
-LEFT_TO_RIGHT, ENDS = "\u2066", "\u2069"
-"""LEFT-TO-RIGHT ISOLATE and POP DIRECTIONAL ISOLATE: round a figure or a code, whose signs stay where they are."""
 
 
 def add_speech(words: argparse.ArgumentParser, what: str) -> None:
@@ -117,7 +114,7 @@ class Teller:
 
     def code(self, value: object) -> object:
         """The code of a node or an item, or a figure, between whose signs nothing turns."""
-        return f"{LEFT_TO_RIGHT}{value}{ENDS}" if self.speech.language.dir == "rtl" and value else value
+        return f"{LEFT_TO_RIGHT}{value}{CLOSES}" if self.speech.language.dir == "rtl" and value else value
 
     def month(self, month: str) -> str:
         """`January 2026` of `2026-01`."""

@@ -13,6 +13,7 @@ from babel.lists import format_list
 from markupsafe import Markup, escape
 
 from .languages import Language
+from .others import CLOSES, LEFT_TO_RIGHT
 from .speech import LATIN, Speech
 
 MINUS = "\u2212"
@@ -95,7 +96,9 @@ class Cldr(Speech):
         return re.sub(r"\{[01]\}", lambda found: parts[found[0]], told)
 
     def time(self, at: datetime, zone: str) -> str:
-        return f"{self._dated('Hm', at)} {zone}"
+        """The time, and what its zone is called: both from left to right, so that no bracket next to them is turned."""
+        told = f"{self._dated('Hm', at)} {zone}"
+        return f"{LEFT_TO_RIGHT}{told}{CLOSES}" if self.language.dir == "rtl" else told
 
     def _dated(self, skeleton: str, at: date) -> str:
         """A date in the form that the language has for some of its parts."""

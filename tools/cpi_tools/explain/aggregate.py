@@ -8,11 +8,12 @@ from typing import Optional
 
 from ..exact import HUNDRED, decimal
 from ..desk.marks import mark_words
-from ..others import Worded, of_others
+from ..others import of_others
 from ..sections import Cell, Section, columns
 from ..stored import OBSERVED, Frozen, Series
 from ..terminal import link_month, month_before, slot_text
 from ..told import Code, Told, month_of, told
+from . import wording
 from .lines import WITHIN, Line, Part, summed
 from .sources import WHOLE_SCALE, Sources
 
@@ -267,7 +268,7 @@ def glance_row(sources: Sources, series: Series, now: int, then: int) -> list[Ce
     return [
         Code(slot_text(series)),
         Code(slot_text(holder[:2])),
-        Worded("{}, {}", item.text, item.unit),
+        told(wording.ITEM, text=of_others(item.text), unit=of_others(item.unit)),
         sources.outlets[holder.outlet],
         mark_text(quote, holder.has_ended(sources.month)),
         sent.receipt if sent and stands else None,

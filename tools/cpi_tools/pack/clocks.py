@@ -46,8 +46,8 @@ class Clock(NamedTuple):
 
     def day(self, moment: int, speech: Speech = SPEAKS_ENGLISH) -> str:
         """`28 January 2026, 09:30 CET (08:30 UTC)`; without a zone only the time in UTC."""
-        local = self.local(moment, speech)
-        return local if local.endswith(" UTC") else f"{local} ({self._utc(moment, speech)})"
+        local, (zone, _) = self.local(moment, speech), self.zone_at(moment)
+        return local if zone == "UTC" else f"{local} ({self._utc(moment, speech)})"
 
     def _utc(self, moment: int, speech: Speech) -> str:
         """`08:30 UTC`, with the day if it is another one there."""
