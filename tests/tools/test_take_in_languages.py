@@ -140,6 +140,16 @@ def test_a_message_that_no_catalogue_has_is_found() -> None:
     assert all_of_others(page.format("<bdi>items</bdi> is there twice: <bdi>b.csv</bdi>")) == []
 
 
+def test_the_line_of_a_program_is_marked_in_a_sentence(cpi: Cpi, tmp_path: Path) -> None:
+    """Python's own words for a quotation mark that isn't closed."""
+    folder = written(tmp_path / "office", sheets())
+    (folder / "outlets.csv").write_text('outlet,name\n10,"A\n', encoding="utf-8")
+    assert report(cpi, "refused", folder, tmp_path / "out", "--language", "fr").status == 1
+    page = (tmp_path / "out/report.html").read_text(encoding="utf-8")
+    line = '<bdi lang="en" dir="ltr"><code>unexpected end of data</code></bdi>'
+    assert re.search(f"la ligne n’est pas du CSV\\s?: {re.escape(line)}", page) and "regardez ses guillemets" in page
+
+
 @pytest.mark.parametrize("language", ["ar", "es", "fr"])
 def test_files_and_lines_stay_in_english(cpi: Cpi, tmp_path: Path, language: str) -> None:
     """To the byte; and the page has as many rows as the English one."""
