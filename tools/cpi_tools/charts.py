@@ -98,19 +98,26 @@ class Frame(NamedTuple):
         low, high = self.marks[0], self.marks[-1]
         return TOP + (HEIGHT - TOP - FOOT) * (high - value) / (high - low)
 
-    def axes(self) -> Iterator[str]:
+    def axes(self) -> str:
         """The lines of the marks, and the months below all of them."""
-        lines = {"grid": "", "zero": ""}
-        for mark in self.marks:
-            lines["zero" if abs(mark) < 1e-9 else "grid"] += f"M{LEFT} {self.y(mark):.1f}H{WIDTH - RIGHT}"
-            yield f'<text class="end" x="{LEFT - 6}" y="{self.y(mark) + 4:.1f}">{self.speech.figure(ticked(mark))}</text>'
-        strokes, texts = _below(tuple(self.months), self.speech)
-        lines["grid"] += strokes
-        yield from (f'<path class="{kind}" d="{path}"/>' for kind, path in lines.items() if path)
-        yield texts
+        return _axes(tuple(self.months), tuple(self.marks), self.speech)
 
 
-# (thousands of pictures have the same months, so what is below them is written once)
+# (thousands of pictures have the same months, and many the same marks, so what is beside and below them is written once)
+
+
+@lru_cache(maxsize=1024)
+def _axes(months: tuple[str, ...], marks: tuple[float, ...], speech: Speech) -> str:
+    frame, lines, parts = Frame(months, marks, speech), {"grid": "", "zero": ""}, list[str]()
+    for mark in marks:
+        lines["zero" if abs(mark) < 1e-9 else "grid"] += f"M{LEFT} {frame.y(mark):.1f}H{WIDTH - RIGHT}"
+        parts.append(
+            f'<text class="end" x="{LEFT - 6}" y="{frame.y(mark) + 4:.1f}">{speech.figure(ticked(mark))}</text>'
+        )
+    strokes, texts = _below(months, speech)
+    lines["grid"] += strokes
+    parts += [f'<path class="{kind}" d="{path}"/>' for kind, path in lines.items() if path]
+    return "".join([*parts, texts])
 
 
 def _x(at: float, count: int) -> float:
@@ -168,30 +175,46 @@ def lines(
     drawn = [it._replace(values=it.values[-MOST_MONTHS:]) for it in drawn]
     known = [value for line in drawn for value in line.values if value is not None]
     known += [0.0] if has_zero else []
-    room = max((max(known) - min(known)) / 10, (LEAST_POINTS - max(known) + min(known)) / 2)
-    frame = Frame(months, steps(min(known) - room, max(known) + room), picture.speech)
-    begins = [at for at, month in enumerate(months) if month in breaks]
-    marked = [at for at, month in enumerate(months) if month in breaks or month in marks]
+    low, high = min(known), max(known)
+    room = max((high - low) / 10, (LEAST_POINTS - high + low) / 2)
+    frame = Frame(months, steps(low - room, high + room), picture.speech)
+    begins = [at for at, month in enumerate(months) if month in breaks] if breaks else []
+    marked = [at for at, month in enumerate(months) if month in breaks or month in marks] if breaks or marks else []
     places = [frame.x(at - 0.5) for at in marked]
     path = "".join(f"M{x:.1f} {TOP}V{HEIGHT - FOOT}" for x in places)
-    parts = [*frame.axes(), *([f'<path class="break" d="{path}"/>'] if path else [])]
+    parts = [frame.axes(), *([f'<path class="break" d="{path}"/>'] if path else [])]
     for line in sorted(drawn, key=lambda it: it.kind, reverse=True):
-        parts += _line(frame, line, begins)
+        parts.append(f'<path class="line {line.kind}" d="{_path(frame, line, begins)}"/>')
         parts += _last(frame, line, places) if line.last else []
     return svg(picture, parts)
 
 
-def _line(frame: Frame, line: Line, begins: Collection[int]) -> Iterator[str]:
-    """A line, parted at its gaps and at the months with which it begins anew."""
-    path = "".join(_part(frame, part) for part in _parts(line.values, begins))
-    yield f'<path class="line {line.kind}" d="{path}"/>'
+def _path(frame: Frame, line: Line, begins: Collection[int]) -> str:
+    """The path of a line, parted at its gaps and at the months with which it begins anew."""
+    values = tuple([value for value in line.values if value is not None])
+    if begins or len(values) < len(line.values) or len(values) == 1:
+        return "".join(_part(frame, part) for part in _parts(line.values, begins))
+    ends = frame.marks[0], frame.marks[-1]
+    return _beside(*ends, values) if line.kind == OTHER else _joined(*ends, values)
+
+
+def _joined(low: float, high: float, values: tuple[float, ...]) -> str:
+    """The path of a line without a gap, a value for each month, between the lowest mark and the highest."""
+    tall, span = HEIGHT - TOP - FOOT, high - low
+    # (Frame.y, written out: there are hundreds of thousands of values)
+    found = zip(_xs(len(values)), values)
+    return "M" + "L".join([f"{x} {TOP + tall * (high - value) / span:.1f}" for x, value in found])
+
+
+_beside = lru_cache(maxsize=1024)(_joined)
+"""The same of what stands beside, which is one line in thousands of pictures; many of them have the same marks."""
 
 
 def _last(frame: Frame, line: Line, places: Collection[float]) -> Iterator[str]:
     """A dot at the last value of a line, and the value; `places` are those of marks, which no value is written across."""
-    ends = [(at, value) for at, value in enumerate(line.values) if value is not None]
-    at, value = ends[-1]
-    before = next((earlier for _, earlier in reversed(ends[:-1]) if earlier != value), value)
+    at, value = _last_of(line.values)
+    earlier = (it for it in reversed(line.values[:at]) if it is not None)
+    before = next((it for it in earlier if it != value), value)
     x, y = frame.x(at), frame.y(value)
     # (above where the line came from below, below where it came from above; within the picture)
     written = max(y - 9, TOP - 2) if value >= before else min(y + 19, HEIGHT - FOOT - 4)
@@ -200,6 +223,11 @@ def _last(frame: Frame, line: Line, places: Collection[float]) -> Iterator[str]:
     for place in sorted(places, reverse=True):
         end = place - 4 if end - VALUE_WIDE < place < end else end
     yield f'<text class="end value" x="{end:.1f}" y="{written:.1f}">{line.last}</text>'
+
+
+def _last_of(values: Sequence[Optional[float]]) -> tuple[int, float]:
+    """The last value that is known, and its place; at least one is."""
+    return next((at, it) for at in range(len(values) - 1, -1, -1) if (it := values[at]) is not None)
 
 
 def _parts(values: Sequence[Optional[float]], begins: Collection[int]) -> Iterator[list[tuple[int, float]]]:
@@ -220,8 +248,8 @@ def _part(frame: Frame, part: Sequence[tuple[int, float]]) -> str:
     if len(part) == 1:
         at, value = part[0]
         return f"M{frame.x(at) - 3:.1f} {frame.y(value):.1f}h6"
-    xs, y = _xs(len(frame.months)), frame.y
-    return "M" + "L".join(f"{xs[at]} {y(value):.1f}" for at, value in part)
+    xs = _xs(len(frame.months))
+    return "M" + "L".join(f"{xs[at]} {frame.y(value):.1f}" for at, value in part)
 
 
 def columns(picture: Picture, months: Sequence[str], values: Sequence[Optional[float]]) -> Markup:
@@ -231,16 +259,19 @@ def columns(picture: Picture, months: Sequence[str], values: Sequence[Optional[f
     low, high = min(0.0, *known, 0.0), max(0.0, *known, 0.0)
     if high - low < LEAST_PERCENT:
         low, high = (low, low + LEAST_PERCENT) if high > 0 or low == 0 else (-LEAST_PERCENT, 0.0)
-    frame = Frame(months, steps(low, high), picture.speech)
-    last = max(at for at, value in enumerate(values) if value is not None)
+    frame = Frame(months, _steps(low, high), picture.speech)
     wide = min((WIDTH - LEFT - RIGHT) / len(months) * 0.66, WIDEST)
-    drawn: dict[str, str] = {}
-    sizes = {value: _size(frame, value, wide) for value in {*known}}
-    for at, (left, value) in enumerate(zip(_lefts(len(months), wide), values)):
-        if value is not None:
-            kind = ("bar down" if value < 0 else "bar") + (" last" if at == last else "")
-            drawn[kind] = drawn.get(kind, "") + left + sizes[value]
-    return svg(picture, [*frame.axes(), *(f'<path class="{kind}" d="{path}"/>' for kind, path in drawn.items())])
+    lefts, sizes = _lefts(len(months), wide), _sizes(frame.marks[0], frame.marks[-1], wide)
+    at, last = _last_of(values)
+    earlier = [(left, value) for left, value in zip(lefts, values[:at]) if value is not None]
+    drawn = [
+        ("bar", "".join([left + sizes[value] for left, value in earlier if value >= 0])),
+        ("bar down", "".join([left + sizes[value] for left, value in earlier if value < 0])),
+    ]
+    # (in the order in which they come)
+    drawn = drawn[::-1] if earlier and earlier[0][1] < 0 else drawn
+    drawn.append(("bar down last" if last < 0 else "bar last", lefts[at] + sizes[last]))
+    return svg(picture, [frame.axes(), *(f'<path class="{kind}" d="{path}"/>' for kind, path in drawn if path)])
 
 
 @lru_cache(maxsize=64)
@@ -249,10 +280,22 @@ def _lefts(count: int, wide: float) -> Sequence[str]:
     return [f"M{_x(at, count) - wide / 2:.1f} " for at in range(count)]
 
 
-def _size(frame: Frame, value: float, wide: float) -> str:
-    """A column, from the place at which it begins."""
-    top, foot = sorted((frame.y(value), frame.y(0)))
-    return f"{top:.1f}h{wide:.1f}v{max(foot - top, 0.6):.1f}h-{wide:.1f}z"
+class _Sizes(dict[float, str]):
+    """Columns of some width between the lowest mark and the highest, by their values, from the place at which each begins:
+    thousands of pictures have changes of few different sizes."""
+
+    def __init__(self, low: float, high: float, wide: float):
+        super().__init__()
+        self._frame, self._wide = Frame((), (low, high), SPEAKS_ENGLISH), wide
+
+    def __missing__(self, value: float) -> str:
+        (top, foot), wide = sorted((self._frame.y(value), self._frame.y(0))), self._wide
+        found = self[value] = f"{top:.1f}h{wide:.1f}v{max(foot - top, 0.6):.1f}h-{wide:.1f}z"
+        return found
+
+
+_sizes = lru_cache(maxsize=256)(_Sizes)
+_steps = lru_cache(maxsize=1024)(steps)
 
 
 # ---- bars in the rows of a table

@@ -49,7 +49,6 @@ LOOKS: Mapping[str, str] = {
 }
 """What an element of each class looks like in a file."""
 
-CLASS = re.compile(r'class="([^"]*)"')
 TAG, LINE = re.compile("</?[bi]>"), re.compile("(?=<[bi]>)")
 
 LETTER = 0.55
@@ -83,21 +82,31 @@ def drawing(chart: Chart, title: str, source: str) -> str:
         f' role="img" aria-labelledby="{chart.kind}-title {chart.kind}-says" font-size="11.5" fill="{SOFT}"'
         f" font-family=\"system-ui, 'Segoe UI', Roboto, Arial, sans-serif\">\n{named}</desc>\n"
         f'<rect width="100%" height="100%" fill="#ffffff"/>\n{"".join(_written(head, EDGE))}'
-        f'<g transform="translate({EDGE} {top:.1f})">{CLASS.sub(lambda it: LOOKS[it[1]], plot)}</g>\n'
+        f'<g transform="translate({EDGE} {top:.1f})">{_looked(plot)}</g>\n'
         f'{"".join(_written(foot, top + chart.height))}</svg>\n'
     )
+
+
+def _looked(plot: str) -> str:
+    """The elements of a picture with their looks in place of their classes."""
+    first, *parts = plot.split('class="')
+    return first + "".join([LOOKS[kind] + rest for kind, _, rest in (part.partition('"') for part in parts)])
 
 
 def _key(chart: Chart) -> list[Words]:
     """What the lines and the marks of a picture are, if it has two lines."""
     if not chart.broken:
         return []
-    form, places = chart.speech.t(KEY), {"full": isolated(chart.full), "broken": isolated(chart.broken)}
-    # (each line in its own colour, in the words of the page's key)
-    told = [TAG.sub("", it).strip(" .").format(**places) for it in LINE.split(form) if it]
-    looks = [f'fill="{ACCENT if "{full}" in it else DOWN}"' for it in LINE.split(form) if it]
-    told, looks = [*told, chart.marks], [*looks, ""]
-    return [it for text, look in zip(told, looks) for it in _lines(text, 11.5, look)]
+    places = {"full": isolated(chart.full), "broken": isolated(chart.broken)}
+    told = [(form.format(**places), look) for form, look in _key_forms(chart.speech.t(KEY))]
+    return [it for text, look in (*told, (chart.marks, "")) for it in _lines(text, 11.5, look)]
+
+
+@functools.lru_cache(maxsize=64)
+def _key_forms(form: str) -> list[tuple[str, str]]:
+    """What is said of each line in the words of the page's key, and its own colour."""
+    parts = [it for it in LINE.split(form) if it]
+    return [(TAG.sub("", it).strip(" ."), f'fill="{ACCENT if "{full}" in it else DOWN}"') for it in parts]
 
 
 @functools.lru_cache(maxsize=64)
@@ -109,6 +118,9 @@ def _lines(text: str, size: float, looks: str = "", above: float = 0.0) -> Seque
 
 def broken(text: str, most: float) -> Iterator[str]:
     """The lines of a text, each at most so many letters long; a longer word is cut."""
+    if sum(map(_width, text)) <= most:
+        yield from filter(None, [text.strip()])
+        return
     line, long = "", 0.0
     for word in re.findall(r"\S+\s*", text):
         size = sum(map(_width, word.rstrip()))
@@ -124,6 +136,7 @@ def broken(text: str, most: float) -> Iterator[str]:
         yield line.rstrip()
 
 
+@functools.lru_cache(maxsize=4096)
 def _width(letter: str) -> float:
     """How wide a letter is, in letters of the West; a mark upon another, or one that isn't seen, has no width."""
     if unicodedata.category(letter) in ("Mn", "Cf"):
