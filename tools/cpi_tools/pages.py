@@ -6,7 +6,7 @@ their folder, which is searched first.
 
 from __future__ import annotations
 
-from collections.abc import Callable, Mapping
+from collections.abc import Callable, Mapping, MutableMapping
 from pathlib import Path
 from typing import Any, Optional
 
@@ -52,11 +52,20 @@ def style() -> Markup:
     return Markup((TEMPLATES / "style.css").read_text(encoding="utf-8"))
 
 
+class Templates(jinja2.Environment):
+    """Templates that take the globals as they are when they are loaded: a pack has thousands of pages, and a mapping of
+    two mappings costs each of them as much as all of its texts."""
+
+    def make_globals(self, d: Optional[MutableMapping[str, Any]]) -> MutableMapping[str, Any]:
+        """Those of a template."""
+        return {**self.globals, **(d or {})}
+
+
 def environment(own: Optional[Path] = None, language: Language = ENGLISH) -> jinja2.Environment:
     """The templates of a tool, whose own stand in a folder; a name that isn't handed in is a fault. What a template has in
     `{% trans %}` or `_()` is a text of the language."""
     folders = [TEMPLATES] if own is None else [own, TEMPLATES]
-    made = jinja2.Environment(
+    made = Templates(
         loader=jinja2.FileSystemLoader([str(folder) for folder in folders]),
         autoescape=True,
         undefined=jinja2.StrictUndefined,

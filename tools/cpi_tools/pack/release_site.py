@@ -4,7 +4,7 @@ that is shown if there is none."""
 from __future__ import annotations
 
 from collections.abc import Sequence
-from functools import partial
+from functools import lru_cache, partial
 from pathlib import Path
 
 import jinja2
@@ -39,7 +39,9 @@ class ReleaseSite:
         """What templates of all pages may say of releases, and how they write moments: by the office's clock."""
         clock, latest = self.config.clock, self.releases.latest
         speech = self.speech
-        pages.filters.update(day=partial(clock.day, speech=speech), local=partial(clock.local, speech=speech), iso=iso)
+        # (all pages have the moment of the last table)
+        day = lru_cache(partial(clock.day, speech=speech))
+        pages.filters.update(day=day, local=partial(clock.local, speech=speech), iso=iso)
         pages.globals.update(
             clock=clock,
             calendar=self.calendar,

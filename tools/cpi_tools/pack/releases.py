@@ -7,6 +7,7 @@ change nothing of it; a later revision adds a line that leads to it.
 from __future__ import annotations
 
 from collections.abc import Callable, Iterator, Sequence
+from functools import cached_property
 from pathlib import Path
 from typing import NamedTuple, Optional
 
@@ -257,7 +258,7 @@ class ReleasePages:
         by_moment = sorted(self.all, key=lambda it: (it.table.moment, it.table.month, it.table.revision))
         return by_moment[: -LAST_RELEASES - 1 : -1]
 
-    @property
+    @cached_property
     def other_hundreds(self) -> frozenset[str]:
         """The names of those whose index is 100 in another period than that of the release before."""
         return frozenset(now.name for before, now in zip(self.all, self.all[1:]) if now.hundred != before.hundred)

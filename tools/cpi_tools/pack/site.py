@@ -11,7 +11,7 @@ import json
 import shutil
 from collections import defaultdict
 from collections.abc import Callable, Mapping, Sequence
-from functools import partial
+from functools import lru_cache, partial
 from pathlib import Path
 from typing import Optional
 
@@ -44,7 +44,17 @@ from .revised import all_revised
 from .shown import EXACT
 from .signature import Signature
 from .specials import Special
-from .spoken import FILES, RATES_TEXTS, ROUNDING_TEXTS, file_says, month_lead, node_lead, release_text, sections
+from .spoken import (
+    FILES,
+    RATES_TEXTS,
+    ROUNDING_TEXTS,
+    SECTIONS,
+    file_says,
+    month_lead,
+    node_lead,
+    release_text,
+    sections,
+)
 from .tables import Row, Table, before, link_of
 from .script_words import write_words
 from .versions import ALONE, Version
@@ -106,6 +116,8 @@ class Site:
         self._set_globals(signature)
         self.releases = ReleaseSite(known, config, cards, version)
         self.releases.prepare(self.pages)
+        self._template = lru_cache(self.pages.get_template)
+        self._known_ways: dict[tuple[str, str], Markup] = {}
 
     def _set_globals(self, signature: Optional[Signature]) -> None:
         """What each template knows."""
@@ -136,8 +148,18 @@ class Site:
             month_lead_of=partial(month_lead, speech),
             linked=self._linked,
             sections=sections(speech),
+            ways=self._ways,
             languages=self.versions,
         )
+
+    def _ways(self, root: str, here: str) -> Markup:
+        """The ways from a page to those that all pages lead to, which are the same for thousands of pages."""
+        key = root, here if here in SECTIONS else ""
+        found = self._known_ways.get(key)
+        if found is None:
+            text = self.pages.get_template("ways.html").render(root=key[0], here=key[1])
+            found = self._known_ways[key] = Markup(text)
+        return found
 
     def write(self, items: ItemFiles, told: Told) -> None:
         """All pages, and in the folder of the pack the file beside that of each item; tells how many of how many nodes
@@ -242,7 +264,7 @@ class Site:
 
     def _write(self, name: str, template: str, words: Mapping[str, object]) -> None:
         """Writes one of the thousands of pages, by its name in the folder of the language."""
-        text: str = self.pages.get_template(template).render(words)
+        text: str = self._template(template).render(words)
         self.files.write(self.version.folder + name, text.encode())
 
     def _pictures(self, code: str, charts: Sequence[Chart]) -> None:
@@ -363,7 +385,7 @@ class Site:
         """By month, the figures of the last month that rest on a revision under embargo; of a special aggregate none,
         and no change that is computed from the printed index."""
         row = self.series.row(self.month, code)
-        if row is None or code in self.series.specials:
+        if row is None or code in self.series.specials or not self.hidden:
             return {}
         return hidden_bases(self.series, row, self.shown.rates == EXACT, self.speech)
 
