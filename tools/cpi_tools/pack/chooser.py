@@ -66,7 +66,7 @@ def item_ends(known: Known, notes: Mapping[str, str], code: str, first: int = 0)
     """The cells of ITEM_HEAD after those of HEAD, in all months, or from one on that is counted from 0."""
     months, is_whole = known.series.months[first:], code == ALL_ITEMS
     kinds = (MONTH_CHANGE, YEAR_CHANGE, *(() if is_whole else (GIVEN_MONTH, GIVEN_YEAR)))
-    figures = [known.texts(kind, code, first) for kind in kinds]
+    figures = [known.texts_from(kind, code, first) for kind in kinds]
     figures += _given_by_all(known, months) if is_whole else []
     return [*zip(*figures, (notes.get(month, "") for month in months))]
 

@@ -11,8 +11,8 @@ from array import array
 from collections.abc import Callable, Iterable
 from typing import NamedTuple, Optional
 
-from ..exact import ALL_ITEMS, Ratio, fixed, scaled
-from .measures import Contributions
+from ..exact import ALL_ITEMS, fixed, scaled
+from .measures import Contributions, Parts
 from .rows import NO_CHANGE, NO_ROWS, Named
 from .shown import EXACT, Shown
 from .tables import Series
@@ -68,6 +68,8 @@ class Known:
         self._at = {code: at for at, code in enumerate(self.codes)}
         self._recent = recent
         self._columns: dict[tuple[str, int], list[array[int]]] = {}
+        self._of_months: dict[tuple[str, str], array[int]] = {}
+        self._written: dict[str, list[str]] = {}
         self._places: tuple[Optional[Named], list[Optional[int]]] = None, []
         self._texts: dict[int, Callable[[int], str]] = {
             0: _Texts(0).__getitem__,
@@ -80,28 +82,43 @@ class Known:
         none."""
         found = self._columns.get((figure.name, first))
         if found is None:
-            found = [self._column(figure, month) for month in self.series.months[first:]]
+            found = [self.column(figure, month) for month in self.series.months[first:]]
             self._columns[figure.name, first] = found
         return found
 
-    def _column(self, figure: Figure, month: str) -> array[int]:
+    def column(self, figure: Figure, month: str) -> array[int]:
+        """A kind of figure of a month by code."""
+        found = self._of_months.get((figure.name, month))
+        if found is None:
+            found = self._of_months[figure.name, month] = self._made(figure, month)
+        return found
+
+    def _made(self, figure: Figure, month: str) -> array[int]:
         recent = self._recent
         if recent is None or month < recent.series.months[0]:
             return array("q", (NONE if it is None else it for it in figure.of_month(self, month)))
-        column = recent.columns(figure)[recent.series.months.index(month)]
+        column = recent.column(figure, month)
         if recent.codes == self.codes:
             return column
         places = (recent._at.get(code) for code in self.codes)
         return array("q", (NONE if place is None else column[place] for place in places))
 
-    def texts(self, figure: Figure, code: str, first: int = 0) -> list[str]:
-        """A kind of figure of a node in all months, or from one on that is counted from 0, as texts."""
+    def texts(self, figure: Figure, code: str) -> list[str]:
+        """A kind of figure of a node in all months as texts. (Several forms have the same ones, so they are kept in one text
+        for each node.)"""
+        at, written = self._at[code], self._written.setdefault(figure.name, [""] * len(self.codes))
+        if not written[at]:
+            written[at] = ",".join(self.texts_from(figure, code, 0))
+        return written[at].split(",")
+
+    def texts_from(self, figure: Figure, code: str, first: int) -> list[str]:
+        """The same from a month on that is counted from 0."""
         at, text = self._at[code], self._texts[figure.digits]
         return [text(column[at]) for column in self.columns(figure, first)]
 
-    def texts_of_month(self, figure: Figure, month: int) -> list[str]:
-        """A kind of figure of all nodes in a month, which is counted from 0, as texts."""
-        return [*map(self._texts[figure.digits], self.columns(figure)[month])]
+    def texts_of_month(self, figure: Figure, month: str) -> list[str]:
+        """A kind of figure of all nodes in a month as texts."""
+        return [*map(self._texts[figure.digits], self.column(figure, month))]
 
     def values(self, month: str, name: str) -> list[Optional[int]]:
         """A column of a month's table, such as `chained`, in the order of codes."""
@@ -124,8 +141,7 @@ def _printed(known: Known, month: str) -> Iterable[Optional[int]]:
 
 
 def _shown(known: Known, month: str, digits: int) -> Iterable[Optional[int]]:
-    for code, chained in zip(known.codes, known.values(month, "chained")):
-        yield None if chained is None else scaled(*known.shown.of_level(chained, month, code), digits)
+    return known.shown.units_of_month(month, known.codes, known.values(month, "chained"), digits)
 
 
 def _changes(name: str, is_annual: bool) -> Callable[[Known, str], Iterable[Optional[int]]]:
@@ -143,14 +159,14 @@ def _given(is_annual: bool) -> Callable[[Known, str], Iterable[Optional[int]]]:
         if (month, is_annual) in contributions.unexplained:
             return (None for _ in known.codes)
         whole = contributions.whole(month, ALL_ITEMS)
-        given = whole.to_year if is_annual else whole.to_month
+        given = whole.parts_of_year if is_annual else whole.parts_of_month
         return (None if code == ALL_ITEMS else _millionths(given(code)) for code in known.codes)
 
     return of_month
 
 
-def _millionths(value: Optional[Ratio]) -> Optional[int]:
-    return None if value is None else scaled(value.over, value.under, 6)
+def _millionths(value: Optional[Parts]) -> Optional[int]:
+    return None if value is None else scaled(*value, 6)
 
 
 LEVEL = Figure("level", 6, _levels)

@@ -23,6 +23,10 @@ from ..exact import HUNDRED, Ratio
 from .tables import Series, Weighed, before, link_of
 
 
+Parts = tuple[int, int]
+"""A number as a whole number over another one; of millions of them no `Ratio` is made."""
+
+
 class Whole:
     """What all contributions to a node in a month have in common: its own weights and indices in the months that count.
 
@@ -40,39 +44,49 @@ class Whole:
 
     def to_month(self, code: str) -> Optional[Ratio]:
         """Percentage points that a node gives to the change on the month before; None if there is none."""
+        found = self.parts_of_month(code)
+        return Ratio(*found) if found else None
+
+    def to_year(self, code: str) -> Optional[Ratio]:
+        """Percentage points that a node gives to the change on the year before; None if there is none."""
+        found = self.parts_of_year(code)
+        return Ratio(*found) if found else None
+
+    def parts_of_month(self, code: str) -> Optional[Parts]:
+        """`to_month` over what."""
         now, whole = self._of_now(code), self._now
         if now is None or whole is None:
             return None
         if self._is_january:
-            return Ratio(100 * now[0] * (now[1] - HUNDRED), whole[0] * HUNDRED)
+            return 100 * now[0] * (now[1] - HUNDRED), whole[0] * HUNDRED
         then, whole_then = self._of_earlier(code), self._then
         if then is None or whole_then is None:
             return None
-        return Ratio(100 * now[0] * (now[1] - then[1]), whole[0] * whole_then[1])
+        return 100 * now[0] * (now[1] - then[1]), whole[0] * whole_then[1]
 
-    def to_year(self, code: str) -> Optional[Ratio]:
-        """Percentage points that a node gives to the change on the year before; None if there is none."""
+    def parts_of_year(self, code: str) -> Optional[Parts]:
+        """`to_year` over what."""
         whole = self._now
         if whole is None or not self._has_annual:
             return None
         now = self._of_now(code)
         if self._is_december:
-            return Ratio(now[0] * (now[1] - HUNDRED), whole[0] * 10**6) if now else None
+            return (now[0] * (now[1] - HUNDRED), whole[0] * 10**6) if now else None
         whole_link, whole_then = self._at_link, self._a_year_ago
         if whole_link is None or whole_then is None:
             return None
         old = self._old_year(code, whole_then)
         if now is None:
             return old
-        new = Ratio(whole_link[1] * now[0] * (now[1] - HUNDRED), whole_then[1] * whole[0] * 10**6)
-        return new.plus(old) if old else new
+        over, under = whole_link[1] * now[0] * (now[1] - HUNDRED), whole_then[1] * whole[0] * 10**6
+        return (over * old[1] + old[0] * under, under * old[1]) if old else (over, under)
 
-    def _old_year(self, code: str, whole_then: tuple[int, int]) -> Optional[Ratio]:
+    def _old_year(self, code: str, whole_then: tuple[int, int]) -> Optional[Parts]:
         """The part of an annual contribution up to December."""
         link, then = self._of_link(code), self._of_year(code)
         if link is None or then is None:
             return None
-        return Ratio(100 * then[0] * (link[1] - then[1]), whole_then[0] * whole_then[1])
+        return 100 * then[0] * (link[1] - then[1]), whole_then[0] * whole_then[1]
 
 
 class Contribution(NamedTuple):

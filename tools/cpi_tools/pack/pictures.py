@@ -13,6 +13,7 @@ from ..charts import OTHER, OWN, Line, Picture
 from ..exact import ALL_ITEMS, HUNDRED, decimal, depth_of
 from ..others import Worded, isolated, of_others, others, worded
 from ..speech import SPEAKS_ENGLISH, Speech, marked
+from .rows import Rows
 from .shown import Shown
 from .tables import Series, before, link_of
 
@@ -77,7 +78,8 @@ def of_node(shown: Shown, code: str) -> list[Chart]:
 
 def _between(speech: Speech, known: Sequence[tuple[str, float]]) -> str:
     """The least and the greatest of some changes in percent, each with its month."""
-    (low_month, low), (high_month, high) = (most(known, key=lambda it: it[1]) for most in (min, max))
+    values = [value for _, value in known]
+    (low_month, low), (high_month, high) = (known[values.index(most(values))] for most in (min, max))
     least, greatest = (speech.figure(charts.signed(it)) for it in (low, high))
     if len(known) == 1:
         return speech.t("{change} percent in {month}.", change=least, month=speech.month(low_month))
@@ -95,8 +97,12 @@ def _between(speech: Speech, known: Sequence[tuple[str, float]]) -> str:
 
 def base_text(shown: Shown, code: str) -> str:
     """The period in which the level of a node is 100, and the next one if the node left the index and came again."""
-    speech = shown.speech
-    first, *others = [(speech.month(month), speech.period(hundred)) for month, hundred in shown.hundreds(code)]
+    return _base_text(shown.speech, tuple(shown.hundreds(code)))
+
+
+@functools.lru_cache(maxsize=1024)
+def _base_text(speech: Speech, hundreds: tuple[tuple[str, str], ...]) -> str:
+    first, *others = [(speech.month(month), speech.period(hundred)) for month, hundred in hundreds]
     told = speech.t("{period} = 100", period=first[1])
     for month, period in others:
         told = speech.t("{bases}, from {month} on {period} = 100", bases=told, month=month, period=period)
@@ -136,13 +142,9 @@ def _chained(shown: Shown, month: str, code: str) -> Optional[int]:
 
 def _numbers(shown: Shown, months: Sequence[str], code: str) -> list[Optional[float]]:
     """Levels as numbers for a picture."""
-    found, first = list[Optional[float]](), shown.series.months[0]
-    for month, chained in zip(months, shown.series.column(months, code, "chained")):
-        if chained is None and month < first:
-            chained = HUNDRED
-        level = None if chained is None else shown.of_level(chained, month, code)
-        found.append(None if level is None else level.over / level.under)
-    return found
+    first, found = shown.series.months[0], shown.series.column(months, code, "chained")
+    chained = [HUNDRED if it is None and month < first else it for month, it in zip(months, found)]
+    return shown.numbers(months, code, chained)
 
 
 @functools.lru_cache(maxsize=64)
@@ -176,10 +178,15 @@ def _beside_in(shown: Shown, code: str, month: str, of_all: Optional[float]) -> 
 def _beside_text(shown: Shown, code: str) -> Worded:
     """What a picture says of the line of all items: their title, and their period if they are shown elsewhere with
     another one."""
-    periods, title = [hundred for _, hundred in shown.hundreds(code)], shown.series.title(ALL_ITEMS)
-    if periods == [hundred for _, hundred in shown.hundreds(ALL_ITEMS)]:
-        return of_others(title)
-    speech, named = shown.speech, of_others(title)
+    periods, of_all = (tuple(hundred for _, hundred in shown.hundreds(it)) for it in (code, ALL_ITEMS))
+    return _beside_in_periods(shown.speech, shown.series.title(ALL_ITEMS), periods, periods == of_all)
+
+
+@functools.lru_cache(maxsize=1024)
+def _beside_in_periods(speech: Speech, title: str, periods: tuple[str, ...], is_same: bool) -> Worded:
+    named = of_others(title)
+    if is_same:
+        return named
     if len(periods) == 1:
         return worded(speech.t("{title}, with {period} = 100 too"), title=named, period=speech.period(periods[0]))
     return worded(speech.t("{title}, each time with the same period = 100"), title=named)
@@ -231,13 +238,17 @@ class Imputed(NamedTuple):
         return self.chart.picture
 
 
+def _share_imputed(rows: Rows) -> str:
+    """How much of the weight is that of elementary aggregates in which a price was imputed, in percent."""
+    found = zip(rows.named.codes, rows.weight, rows.is_imputed)
+    imputed = sum(weight for code, weight, is_imputed in found if is_imputed and depth_of(code) == 5)
+    return decimal(100 * imputed, rows[ALL_ITEMS].weight, 0)
+
+
 def of_imputed(series: Series, speech: Speech = SPEAKS_ENGLISH) -> Imputed:
     """How much of the weight is that of aggregates in which a price was imputed."""
-    shares, months = [], series.months[-charts.MOST_MONTHS :]
-    for month in months:
-        rows = series.latest[month].rows
-        imputed = sum(row.weight for row in rows.values() if row.is_imputed and depth_of(row.code) == 5)
-        shares.append(decimal(100 * imputed, rows[ALL_ITEMS].weight, 0))
+    months = series.months[-charts.MOST_MONTHS :]
+    shares = [_share_imputed(series.latest[month].rows) for month in months]
     low, high = (most(shares, key=int) for most in (min, max))
     least, greatest = speech.figure(low), speech.figure(high)
     if low != high:

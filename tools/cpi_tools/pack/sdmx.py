@@ -194,17 +194,28 @@ class Months:
             [{it: (status, it, revision, moment) for it in ("", "0", "1")} for status, revision, moment in found]
             for found in of
         ]
+        self._said: dict[str, list[Attributes]] = {}
 
     def observations(self, it: Measure, code: str) -> list[Observation]:
         """The figures of a node."""
         known, months = self._known, self._known.series.months
         assert it.figure
-        values, imputed = (known.texts(figure, code) for figure in (it.figure, figures.IMPUTED))
         breaks = known.series.marks(code) if it.unit == "IX" else ()
-        said = self._attributes[0]
-        if breaks:
-            said = [self._attributes[month in breaks][at] for at, month in enumerate(months)]
-        return [(month, value, of[flag]) for month, value, flag, of in zip(months, values, imputed, said) if value]
+        said = self._broken(code, breaks) if breaks else self._usual(code)
+        found = zip(months, known.texts(it.figure, code), said)
+        return [observation for observation in found if observation[1]]
+
+    def _usual(self, code: str) -> list[Attributes]:
+        """The attributes of a node's figures, which are those of each measure."""
+        found = self._said.get(code)
+        if found is None:
+            found = self._said[code] = self._broken(code, ())
+        return found
+
+    def _broken(self, code: str, breaks: Sequence[str]) -> list[Attributes]:
+        """The same of levels, some of which come after a break."""
+        months, imputed = self._known.series.months, self._known.texts(figures.IMPUTED, code)
+        return [self._attributes[month in breaks][at][imputed[at]] for at, month in enumerate(months)]
 
 
 def observed(known: Known, config: Config) -> Iterator[Observed]:
@@ -312,10 +323,11 @@ class CsvForm:
         start, attributes = line_of([*self._start, *found.key]), self._attributes.get(found.attributes)
         if attributes is None:
             attributes = self._attributes[found.attributes] = line_of(found.attributes)
-        lines = []
-        for month, value, said in found.observations:
-            end = self._ends.get(said) or self._end(said)
-            lines.append(f"{start},{month},{value},{attributes},{end}")
+        ends = self._ends
+        lines = [
+            f"{start},{month},{value},{attributes},{ends.get(said) or self._end(said)}"
+            for month, value, said in found.observations
+        ]
         self._file.write("".join(lines))
 
     def _end(self, said: Attributes) -> str:
@@ -336,6 +348,9 @@ def _attribute(name: str, value: str) -> str:
     return attributes_of({name: value})
 
 
+OBSERVATION, OF_VALUE = f'<Obs {TIME}="', f'" {VALUE}="'
+
+
 class XmlForm:
     """SDMX-ML 2.1, StructureSpecificData."""
 
@@ -348,12 +363,13 @@ class XmlForm:
     def add(self, found: Observed) -> None:
         """Writes a series."""
         named = map(_attribute, self._names, (*found.key, *found.attributes))
-        lines = [f"<Series{''.join(named)}>\n"]
-        for month, value, said in found.observations:
-            # (months, figures and the ids of attributes have no character that would have to be escaped)
-            end = self._ends.get(said) or self._end(said)
-            lines.append(f'<Obs {TIME}="{month}" {VALUE}="{value}"{end}')
-        self._file.write("".join(lines) + "</Series>\n")
+        ends = self._ends
+        # (months, figures and the ids of attributes have no character that would have to be escaped)
+        lines = [
+            f'{OBSERVATION}{month}{OF_VALUE}{value}"{ends.get(said) or self._end(said)}'
+            for month, value, said in found.observations
+        ]
+        self._file.write(f"<Series{''.join(named)}>\n{''.join(lines)}</Series>\n")
 
     def _end(self, said: Attributes) -> str:
         """The end of the observations of some attributes."""

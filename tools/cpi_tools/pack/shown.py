@@ -8,10 +8,11 @@ the office says `rates = published`, they come from the printed index, which has
 from __future__ import annotations
 
 import copy
-from collections.abc import Iterable, Mapping, Sequence
+import functools
+from collections.abc import Iterable, Iterator, Mapping, Sequence
 from typing import Optional
 
-from ..exact import HUNDRED, Ratio, decimal, points, rounded
+from ..exact import HUNDRED, Ratio, decimal, points, rounded, scaled
 from ..speech import SPEAKS_ENGLISH, Speech
 from ..terminal import Fault, month_name
 from .measures import average, months_linked_to, reference_level, rereferenced
@@ -51,6 +52,7 @@ class Shown:
         """The same figures of a part of the tables, which need not have the reference period itself."""
         found = copy.copy(self)
         found.series, last = series, series.every[-1]
+        found.__dict__.pop("_factors", None)
         bases = ((code, self._bases.get(code)) for code in series.all_titles) if self.reference else ()
         found._bases = {code: base and (base[0], min(base[1], last), base[2]) for code, base in bases}
         return found
@@ -113,18 +115,40 @@ class Shown:
             return points(chained, digits)
         return decimal(*self.of_level(chained, month, code), digits)
 
-    def texts(self, months: Iterable[str], code: str, digits: int = 6) -> list[str]:
-        """The same in some months."""
-        found, base, months = [], self._bases.get(code), [*months]
-        first, last = (link_of(base[0]), base[1]) if base else ("", "")
-        for month, chained in zip(months, self.series.column(months, code, "chained")):
-            if chained is None:
-                found.append("")
-            elif base and first <= month <= last:
-                found.append(decimal(*rereferenced(chained, base[2]), digits))
-            else:
-                found.append(points(chained, digits))
-        return found
+    def units(self, months: Sequence[str], code: str, digits: int = 6) -> list[Optional[int]]:
+        """The same in some months, in units of the last decimal; None without a row."""
+        found = self._ratios(months, code, self.series.column(months, code, "chained"))
+        return [None if it is None else scaled(*it, digits) for it in found]
+
+    def units_of_month(
+        self, month: str, codes: Iterable[str], chained: Iterable[Optional[int]], digits: int
+    ) -> Iterator[Optional[int]]:
+        """Chained levels of some nodes in a month, in units of the last of some decimals."""
+        factors, by = self._factors, 10**digits
+        for code, level in zip(codes, chained):
+            it = factors.get(code)
+            over, under = it[2:] if it and it[0] <= month <= it[1] else (1, 10**6)
+            yield None if level is None else rounded(level * over * by, under)
+
+    @functools.cached_property
+    def _factors(self) -> Mapping[str, tuple[str, str, int, int]]:
+        """By node the months, December before a run among them, whose levels are linked to the reference period, and what a
+        chained level of these is multiplied by and divided by, to be in points of what is shown."""
+        bases = ((code, base) for code, base in self._bases.items() if base)
+        return {code: (link_of(it[0]), it[1], 100 * it[2].under, it[2].over * 10**6) for code, it in bases}
+
+    def numbers(self, months: Sequence[str], code: str, chained: Sequence[Optional[int]]) -> list[Optional[float]]:
+        """Chained levels of a node in some months as numbers for a picture, in points of what is shown."""
+        return [None if it is None else it[0] / it[1] for it in self._ratios(months, code, chained)]
+
+    def _ratios(
+        self, months: Sequence[str], code: str, chained: Sequence[Optional[int]]
+    ) -> Iterator[Optional[tuple[int, int]]]:
+        """Chained levels of a node in some months, in points of what is shown, as `of_level` has each of them."""
+        if code not in self._factors:
+            return (None if it is None else (it, 10**6) for it in chained)
+        (first, last, by, under), found = self._factors[code], zip(months, chained)
+        return (None if it is None else (by * it, under) if first <= at <= last else (it, 10**6) for at, it in found)
 
     def average(self, code: str, year: int) -> Optional[Ratio]:
         """The mean of a node's twelve levels in a year, in points of what is shown."""

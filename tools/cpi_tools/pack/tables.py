@@ -13,6 +13,7 @@ import csv
 import functools
 from collections.abc import Callable, Iterable, Iterator, Mapping, Sequence
 from datetime import datetime, timezone
+from itertools import groupby
 from typing import NamedTuple, Optional
 
 from ..exact import ALL_ITEMS, HUNDRED, at_and_above, depth_of, parent_of, rounded
@@ -111,6 +112,19 @@ Weighed = Callable[[str], Optional[tuple[int, int]]]
 """Tells of a node its weight in use and its index within the year; None if it has none."""
 
 
+Unexplained = tuple[str, bool]
+"""A month, and whether it is its annual change, or that on the month before."""
+
+Group = tuple[Mapping[str, int], list[Sequence[int]]]
+"""Months one after the other whose tables have the same nodes: the place of each node, and a figure's column by month."""
+
+
+def _groups(rows: Mapping[str, Rows], months: Sequence[str], name: str) -> list[Group]:
+    """A figure of some months in groups of these; of a month without a table no node has a place."""
+    named = groupby((rows.get(month, NO_ROWS) for month in months), key=lambda it: it.named.places)
+    return [(places, [getattr(it, name) for it in found]) for places, found in named]
+
+
 class Series:
     """All published tables.
 
@@ -142,13 +156,14 @@ class Series:
         """The tables up to a December or the last month, as if no later one were there; the figures of the months from
         a January on are written, of the nodes that are in one of these or in one of the year before."""
         part = copy.copy(self)
-        part.__dict__.pop("revised", None)
+        for known in ("revised", "_grouped"):
+            part.__dict__.pop(known, None)
         found = [(source, table) for source, table in zip(self.sources, self.vintages) if table.month <= last]
         part.sources, part.vintages = [source for source, _ in found], [table for _, table in found]
         part.latest = {month: table for month, table in self.latest.items() if month <= last}
         part.every = [month for month in self.every if month <= last]
         part.months = [month for month in part.every if first <= month]
-        part.every_title = _titles(part.latest[month].rows for month in part.every)
+        part.every_title = self.titles_to(last)
         written = {*_titles(part.latest[month].rows for month in part.every if before(first, 12) <= month)}
         part.titles = {code: title for code, title in part.every_title.items() if code in written}
         part._rows = {month: table.rows for month, table in part.latest.items()}
@@ -161,6 +176,10 @@ class Series:
                 part.specials[name] = it.part(last)
         part._twelve = {}
         return part
+
+    def titles_to(self, last: str) -> dict[str, str]:
+        """Each code of the tables up to a month, with its latest title there, in the order of codes."""
+        return _titles(self.latest[month].rows for month in self.every if month <= last)
 
     @property
     def base(self) -> str:
@@ -219,15 +238,15 @@ class Series:
             rows = self.specials[code].rows
             return [getattr(rows[month], name) if month in rows else None for month in months]
         found: list[Optional[int]] = []
-        named, place = NO_ROWS.named, None
-        for month in months:
-            of_month = self._rows.get(month, NO_ROWS)
-            # (most tables have the rows of the one before, so the place is the same)
-            if of_month.named is not named:
-                named, place = of_month.named, of_month.named.places.get(code)
-            value = None if place is None else getattr(of_month, name)[place]
-            found.append(None if value == NO_CHANGE else value)
-        return found
+        for places, columns in self._grouped((*months,), name):
+            place = places.get(code)
+            found += [None] * len(columns) if place is None else [column[place] for column in columns]
+        return [None if it == NO_CHANGE else it for it in found] if name == "year_change" else found
+
+    @functools.cached_property
+    def _grouped(self) -> Callable[[tuple[str, ...], str], list[Group]]:
+        """The groups of some months for a figure: thousands of nodes are asked for the same ones."""
+        return functools.lru_cache(maxsize=256)(functools.partial(_groups, self._rows))
 
     def twelve(self, month: str) -> dict[str, int]:
         """By code, the sum of the levels of the twelve months up to one, in millionths of a point; a node that has no
@@ -389,9 +408,9 @@ class Series:
                 return False
         return True
 
-    def unexplained(self) -> Iterator[tuple[str, bool]]:
-        """The months, and whether it is the annual change, whose changes aren't those of the published levels."""
-        for month in self.every:
+    def unexplained(self, months: Optional[Iterable[str]] = None) -> Iterator[Unexplained]:
+        """Those of some months whose changes aren't those of the published levels; of all months, if none are named."""
+        for month in self.every if months is None else months:
             for is_annual in (False, True):
                 if not self.is_shown(month, is_annual):
                     yield month, is_annual

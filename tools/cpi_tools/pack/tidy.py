@@ -172,8 +172,8 @@ def _contribution_lines(known: Known) -> Iterator[str]:
     """Of each node to all items, and to the node above it if that is another."""
     above = [(code, parent_of(code)) for code in known.series.titles]
     parents = dict.fromkeys(parent for _, parent in above if parent is not None and parent != ALL_ITEMS)
-    for at, month in enumerate(known.series.months):
-        given = (known.texts_of_month(figure, at) for figure in (GIVEN_MONTH, GIVEN_YEAR))
+    for month in known.series.months:
+        given = (known.texts_of_month(figure, month) for figure in (GIVEN_MONTH, GIVEN_YEAR))
         both = {parent: known.contributions.both(month, parent) for parent in parents}
         for (code, parent), to_month, to_year in zip(above, *given):
             if to_month or to_year:
@@ -188,8 +188,8 @@ def _contribution_lines(known: Known) -> Iterator[str]:
 def _printed_lines(known: Known) -> Iterator[str]:
     """The figures of the pages: the index with one decimal, and the changes in percent."""
     titles = csv_files.Cells()
-    for at, month in enumerate(known.series.months):
-        columns = (known.texts_of_month(figure, at) for figure in (PRINTED, MONTH_CHANGE, YEAR_CHANGE))
+    for month in known.series.months:
+        columns = (known.texts_of_month(figure, month) for figure in (PRINTED, MONTH_CHANGE, YEAR_CHANGE))
         for (code, title), index, *changes in zip(known.titles.items(), *columns):
             if index:
                 yield f"{month},{code},{titles[title]},{known.shown.hundred(month, code)},{index},{','.join(changes)}\n"
@@ -221,7 +221,7 @@ def _rate_lines(series: Series) -> Iterator[str]:
 def _rereferenced_lines(known: Known) -> Iterator[str]:
     """Points with six decimals; a node without a level in the whole reference period, or a link to it, has no row."""
     titles, shown = csv_files.Cells(), known.shown
-    for at, month in enumerate(known.series.months):
-        for (code, title), level in zip(known.titles.items(), known.texts_of_month(LEVEL, at)):
+    for month in known.series.months:
+        for (code, title), level in zip(known.titles.items(), known.texts_of_month(LEVEL, month)):
             if level and shown.is_rereferenced(month, code):
                 yield f"{month},{code},{titles[title]},{shown.reference},{level}\n"
