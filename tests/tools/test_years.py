@@ -16,9 +16,10 @@ from pathlib import Path
 
 import pytest
 
+from cpi_tools.folders import files_of
 from cpi_tools.pack import years
 from cpi_tools.pack.config import BadConfig, Config, read_config
-from cpi_tools.pack.manifest import differences, files_of
+from cpi_tools.pack.manifest import differences
 from cpi_tools.pack.public import Listed, Published
 from cpi_tools.pack.specials import Special
 from cpi_tools.pack.tables import Series, Table

@@ -15,6 +15,15 @@ class NotPlaced(Fault):
     """A folder that can't be put in its place; one line."""
 
 
+def files_of(folder: Path) -> list[str]:
+    """All files of a folder, by their names in it. (A pack has tens of thousands, and no `Path` is made of each.)"""
+    found = list[str]()
+    for top, _, names in os.walk(folder):
+        within = Path(top).relative_to(folder).as_posix()
+        found += names if within == "." else [f"{within}/{name}" for name in names]
+    return sorted(found)
+
+
 def refuse_shared(out: Path, what: str) -> None:
     """Raises NotPlaced where others can read what stands at `out`, so that something private doesn't take its place."""
     if out.exists() and out.stat().st_mode & 0o077:

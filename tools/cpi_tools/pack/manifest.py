@@ -14,6 +14,7 @@ from collections.abc import Iterator, Mapping
 from pathlib import Path
 from typing import Any, NamedTuple, Optional
 
+from ..folders import files_of
 from ..terminal import Fault, because_of
 from .tables import Series, iso
 
@@ -85,11 +86,6 @@ def changed_since(before: Manifest, series: Series) -> Iterator[str]:
 
 
 # ---- files
-
-
-def files_of(folder: Path) -> list[str]:
-    """All files of a folder, by their names in it."""
-    return sorted(it.relative_to(folder).as_posix() for it in folder.rglob("*") if not it.is_dir())
 
 
 def sum_of(path: Path) -> str:

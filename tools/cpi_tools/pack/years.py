@@ -21,10 +21,10 @@ from pathlib import Path
 from typing import Optional
 
 from ..csv_files import is_safe
+from ..folders import files_of
 from .before import Before
 from .clocks import UTC
 from .config import Config
-from .manifest import files_of
 from .part import Now, known_of, write_part
 from .shown import Shown
 from .tables import Series
