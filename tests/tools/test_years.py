@@ -2,30 +2,40 @@
 
 from __future__ import annotations
 
+import contextlib
 import csv
 import hashlib
 import io
 import json
 import os
+import re
 import signal
 import subprocess
 import sys
 import zipfile
 from collections.abc import Iterator
 from pathlib import Path
+from typing import Optional
 
 import pytest
 
+from cpi_tools.csv_files import formulas_told
+from cpi_tools.exact import Ratio
 from cpi_tools.folders import files_of
-from cpi_tools.pack import years
+from cpi_tools.pack import tidy, years
+from cpi_tools.pack.aggregated import series_of
+from cpi_tools.pack.before import Before
 from cpi_tools.pack.config import BadConfig, Config, read_config
+from cpi_tools.pack.figures import GIVEN_MONTH, GIVEN_YEAR, LEVEL, MONTH_CHANGE, PRINTED, YEAR_CHANGE, Figure, Known
 from cpi_tools.pack.manifest import differences
 from cpi_tools.pack.public import Listed, Published
+from cpi_tools.pack.shown import Shown
 from cpi_tools.pack.specials import Special
 from cpi_tools.pack.tables import Series, Table
 from cpi_tools.pack.tidy import Lines
 from cpi_tools.publish import check, publish
 from conftest import ROOT
+from published import REVISED
 
 SETS = (Special("FRUIT", "Fruit", ("01.1.6",)), Special("REST", "Without food", ("00",), ("01",)))
 CONFIG = Config("NSO", "XX", "Office of prices", reference="2025", years=1, specials=SETS)
@@ -249,6 +259,171 @@ def test_lines_of_months_that_were_provisional_are_written_anew(
         assert [*differences(out, anew(tables[:number], config, tmp_path / f"first{number}" / "public", kept))] == []
     # February's provisional months begin in December, and December was one in February still
     assert years_made[0] == {"2025", "2026", "2027"} and years_made[-1] == {"2027"}
+
+
+# ---- the lines of the files of data
+
+
+KINDS = (GIVEN_MONTH, GIVEN_YEAR, PRINTED, MONTH_CHANGE, YEAR_CHANGE, LEVEL)
+"""The figures that files of `data` have in lines of months."""
+
+OF_MONTHS = ["cpi.csv", "contributions.csv", "printed.csv", "twelve-month-rates.csv", "rereferenced.csv"]
+
+
+def asked(monkeypatch: pytest.MonkeyPatch) -> dict[str, set[str]]:
+    """By what is asked for, the months of which it is computed from now on: the lines of cpi.csv, figures of all nodes, and
+    whether changes are those of the published levels."""
+    made = dict[str, set[str]]()
+    of_table, texts, is_shown = Lines.of_table, Known.texts_of_month, Series.is_shown
+
+    def lines_kept(self: Lines, table: Table) -> str:
+        made.setdefault("lines", set()).add(table.month)
+        return of_table(self, table)
+
+    def texts_kept(self: Known, figure: Figure, month: str) -> list[str]:
+        made.setdefault(figure.name, set()).add(month)
+        return texts(self, figure, month)
+
+    def shown_kept(self: Series, month: str, is_annual: bool) -> bool:
+        made.setdefault("shown", set()).add(month)
+        return is_shown(self, month, is_annual)
+
+    monkeypatch.setattr(Lines, "of_table", lines_kept)
+    monkeypatch.setattr(Known, "texts_of_month", texts_kept)
+    monkeypatch.setattr(Series, "is_shown", shown_kept)
+    return made
+
+
+def test_the_files_of_data_get_the_lines_of_the_new_month(
+    published: list[Published], tmp_path: Path, monkeypatch: pytest.MonkeyPatch
+) -> None:
+    tables, out, kept = sorted(published), tmp_path / "public", tmp_path / "kept.json"
+    first = [number for number, it in enumerate(tables, 1) if it.listed.month == "2027-02"][-1]
+    written(tables[:first], CONFIG, out)
+    made = asked(monkeypatch)
+    for number in range(first + 1, len(tables) + 1):
+        kept.write_bytes((out / "manifest.json").read_bytes())
+        made.clear()
+        written(tables[:number], CONFIG, out)
+        month = tables[number - 1].listed.month
+        # (of the releases' pages only the months with an earlier revision are looked at)
+        assert month in made.pop("shown") <= {month, REVISED}
+        assert made == {name: {month} for name in ("lines", *(it.name for it in KINDS))}
+        assert [*differences(out, anew(tables[:number], CONFIG, tmp_path / f"first{number}" / "public", kept))] == []
+
+
+def test_a_new_full_year_is_added_to_the_averages(
+    published: list[Published], tmp_path: Path, monkeypatch: pytest.MonkeyPatch
+) -> None:
+    """With December a year has an average; the lines of the years before stay."""
+    tables = [it for it in sorted(published) if it.listed.month <= "2026-12"]
+    out, kept = written(tables[:-1], CONFIG, tmp_path / "public"), tmp_path / "kept.json"
+    kept.write_bytes((out / "manifest.json").read_bytes())
+    computed = set[int]()
+    average = tidy.average
+
+    def counted(series: Series, code: str, year: int) -> Optional[Ratio]:
+        computed.add(year)
+        return average(series, code, year)
+
+    monkeypatch.setattr(tidy, "average", counted)
+    written(tables, CONFIG, out)
+    assert computed == {2026}
+    assert [*differences(out, anew(tables, CONFIG, tmp_path / "first" / "public", kept))] == []
+
+
+def test_a_file_that_isnt_as_it_was_written_gets_all_its_lines(
+    published: list[Published], tmp_path: Path, monkeypatch: pytest.MonkeyPatch
+) -> None:
+    tables, kept = sorted(published), tmp_path / "kept.json"
+    made = asked(monkeypatch)
+    for number, name in enumerate([*OF_MONTHS, "averages.csv"]):
+        out = written(tables[:-1], CONFIG, tmp_path / f"public{number}")
+        kept.write_bytes((out / "manifest.json").read_bytes())
+        damage(out / "data" / name)
+        made.clear()
+        written(tables, CONFIG, out)
+        assert (len(made["lines"]) > 1) == (name == "cpi.csv"), name
+        assert (len(made[PRINTED.name]) > 1) == (name == "printed.csv"), name
+        assert [*differences(out, anew(tables, CONFIG, tmp_path / f"first{number}" / "public", kept))] == []
+
+
+def retitled(one: Published) -> Published:
+    """The table with another title of rice."""
+    assert b'"Rice, packed"' in one.table
+    return Published(one.listed, one.table.replace(b'"Rice, packed"', b'"Rice, in bags"'))
+
+
+@pytest.mark.parametrize("change", ["a title", "a revision", "the reference period", "safe", "provisional", "the tool"])
+def test_what_lines_are_made_of_makes_them_anew(
+    published: list[Published], tmp_path: Path, monkeypatch: pytest.MonkeyPatch, change: str
+) -> None:
+    tables, config = sorted(published), CONFIG
+    out, kept = written(tables[:-1], CONFIG, tmp_path / "public"), tmp_path / "kept.json"
+    kept.write_bytes((out / "manifest.json").read_bytes())
+    if change == "a title":
+        tables = [*tables[:-1], retitled(tables[-1])]
+    elif change == "a revision":
+        old = next(it for it in tables if it.listed.month == "2027-02")
+        tables = sorted([*tables, revised(old, "01.1.1.1-01")])
+    elif change == "the reference period":
+        config = config._replace(reference="2026")
+    elif change == "provisional":
+        config = config._replace(provisional=2)
+    elif change == "the tool":
+        monkeypatch.setattr(years, "tool", lambda: "another")
+    made = asked(monkeypatch)
+    with formulas_told("publish", True) if change == "safe" else contextlib.nullcontext():
+        written(tables, config, out)
+        months = {it.listed.month for it in tables if it.listed.month > "2026-12"}
+        assert months <= made["lines"] and months <= made[PRINTED.name]
+        assert [*differences(out, anew(tables, config, tmp_path / "first" / "public", kept))] == []
+
+
+def test_a_formula_in_a_line_that_is_kept_is_told(
+    published: list[Published], tmp_path: Path, capsys: pytest.CaptureFixture[str]
+) -> None:
+    """A title that only tables of earlier months have, in lines that the pack before wrote."""
+    tables = sorted(published)
+    old = next(number for number, it in enumerate(tables) if it.listed.month == "2027-02")
+    tables[old] = Published(tables[old].listed, tables[old].table.replace(b'"Rice, packed"', b"=1+1"))
+    out = tmp_path / "public"
+    for some in (tables[:-1], tables):
+        with formulas_told("publish", False):
+            written(some, CONFIG, out)
+        assert "would compute 2 texts, such as '=1+1'" in capsys.readouterr().err
+
+
+def test_odd_notes_of_what_was_made_keep_nothing(published: list[Published], tmp_path: Path) -> None:
+    tables = sorted(published)
+    out, kept = written(tables[:-1], CONFIG, tmp_path / "public"), tmp_path / "kept.json"
+    kept.write_bytes((out / "manifest.json").read_bytes())
+    made, sums = out / "data/years/made.json", (out / "SHA256SUMS").read_text(encoding="utf-8")
+    months = next(name for name in json.loads(made.read_bytes()) if "/" in name)
+    assert months == "2027-01/2027-04"
+    for odd in (
+        [],
+        {months: None},
+        {months: []},
+        {months: ["0"]},
+        {months: [0, [1]]},
+        {months: ["0", [["2027-04", 1]]]},
+    ):
+        made.write_text(json.dumps(odd), encoding="utf-8")
+        its_sum = hashlib.sha256(made.read_bytes()).hexdigest()
+        told = re.sub("[0-9a-f]{64}(?=  data/years/made.json)", its_sum, sums)
+        (out / "SHA256SUMS").write_text(told, encoding="utf-8")
+        assert next(kept_of(tables, out), None) is None
+    written(tables, CONFIG, out)
+    assert [*differences(out, anew(tables, CONFIG, tmp_path / "first" / "public", kept))] == []
+
+
+def kept_of(tables: list[Published], out: Path) -> Iterator[str]:
+    """Up to which month the files of a pack are of use for some tables."""
+    series = series_of(tables, CONFIG.specials)
+    span = years.Span(years.first_of(series, CONFIG.years), series.every[-1])
+    found = years.Archives(series, Shown(series, CONFIG.reference), CONFIG, Before(out), span).kept.to
+    yield from [found] if found else []
 
 
 def test_a_title_with_an_end_of_line_hides_no_line(published: list[Published], tmp_path: Path) -> None:

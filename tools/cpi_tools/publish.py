@@ -23,6 +23,7 @@ from .pack.cards import NO_CARDS, Cards, has_cards
 from .pack.config import Config, read_config
 from .pack.figures import Known
 from .pack.item_files import ItemFiles
+from .pack.kept_lines import KeptLines
 from .pack.manifest import (
     MANIFEST,
     Manifest,
@@ -47,7 +48,7 @@ from .pack.shown import Shown
 from .pack.stays import Earlier, changed_pages
 from .pack.tables import Series
 from .pack.tidy import write_whole
-from .pack.years import Archives, earlier_years, first_of
+from .pack.years import Archives, Span, earlier_years, first_of
 from .signing import kept, signed_by
 from .sources import add_source, read_source, test_source
 from .terminal import Fault, Progress, ToolWords, because_of, counted, needs, time_text
@@ -82,18 +83,19 @@ def write_pack(pack: Pack, folder: Path, now: Now, before: Before) -> None:
     series, config = pack.series, pack.config
     signature = _write_manifest(pack, folder)
     now("what each month is computed from")
-    contributions, shown = Contributions(series), Shown(series, config.reference, config.rates)
-    data = folder / "data"
+    shown, data = Shown(series, config.reference, config.rates), folder / "data"
     sums = _write_tables(series, data / "tables", before)
-    first = first_of(series, config.years)
-    years = earlier_years(series, first)
-    archives = Archives(series, contributions.unexplained, shown, config)
+    span = Span(first_of(series, config.years), series.every[-1])
+    years = earlier_years(series, span.first)
+    archives = Archives(series, shown, config, before, span)
+    contributions = Contributions(series, archives.unexplained)
     if years:
-        archives.write(years, data, before, now)
-    write_whole(series, shown, data)
+        archives.write(years, data, now)
+    kept = KeptLines(before, archives.titled_to)
+    write_whole(series, shown, data, kept)
     write_reasons(given_reasons(config.reasons, series, config.planned), data)
-    recent = known_of(series.part(first, series.every[-1]), contributions.unexplained, shown)
-    write_part(recent, config, data, now)
+    recent = known_of(series.part(*span), archives.unexplained, shown)
+    write_part(recent, config, data, now, kept)
     known = Known(series, contributions, shown, recent)
     files = NewFiles(folder)
     items = ItemFiles(known, Notes(shown, config.provisional), before, archives.same_to, files)

@@ -25,11 +25,8 @@ class Before:
         self.taken: dict[str, str] = {}
         """The files that were taken, by their names in the pack, and their sums."""
         self._sums = _sums_of(folder / SUMS) if folder else {}
-        self._made = self._read_made()
-
-    def is_made_of(self, year: str, sum_of_content: str) -> bool:
-        """Whether the archive of a year was made of the same."""
-        return self._made.get(year) == sum_of_content
+        self.made = self._read_made()
+        """What the archive of each year, and the months of the files of `data`, were made of."""
 
     def take(self, name: str, to: Path) -> bool:
         """Takes a file by its name in the pack if it has the sum that it was written with; whether it did."""
@@ -68,7 +65,7 @@ class Before:
         self.taken[name] = its_sum
 
     def _read_made(self) -> dict[str, Any]:
-        """What each archive was made of; nothing if the file isn't whole."""
+        """What is in the file of it; nothing if the file isn't whole."""
         path = self._path("data/years/made.json")
         with contextlib.suppress(OSError, ValueError):
             if path and sum_of(path) == self._sums.get("data/years/made.json"):

@@ -1,9 +1,9 @@
 """The file of each item, `node/CODE.csv`: the latest revision of each of its months, with what pages show of it.
 
-Such a file has all months, and a new month adds one line to it. So the lines of earlier years are those of the pack
-before as long as the archives of these years are made of the same (`years`), since whatever a line is made of is in the
-sum of its year's archive. All other lines are written anew: those of the years in the files of `data`, and those that
-say that a month is provisional.
+Such a file has all months, and a new month adds one line to it. So the lines of earlier months are those of the pack
+before as long as the archives of their years, or the files of `data`, are made of the same (`years`), since whatever a
+line is made of is in the sum of these. All other lines are written anew, and so are those that say that a month is
+provisional.
 """
 
 from __future__ import annotations

@@ -11,6 +11,7 @@ from pathlib import Path
 from .config import SDMX_FORMS, Config
 from .cube_files import write_cubes
 from .figures import Known
+from .kept_lines import NOTHING_KEPT, KeptLines
 from .measures import Contributions
 from .sdmx import write_data
 from .shown import Shown
@@ -29,10 +30,10 @@ def known_of(part: Series, unexplained: Iterable[tuple[str, bool]], shown: Shown
     return Known(part, Contributions(part, unexplained), shown.part(part))
 
 
-def write_part(known: Known, config: Config, folder: Path, now: Now) -> None:
+def write_part(known: Known, config: Config, folder: Path, now: Now, kept: KeptLines = NOTHING_KEPT) -> None:
     """Writes the files of some months into a folder."""
     now("CSV files")
-    write_months(known, folder)
+    write_months(known, folder, kept)
     write_specials(known.series, known.contributions, folder)
     if any(map(config.has, SDMX_FORMS)):
         now("SDMX files")

@@ -2,7 +2,7 @@
 
 from __future__ import annotations
 
-from collections.abc import Iterable, Iterator, Sequence
+from collections.abc import Callable, Iterable, Iterator, Sequence
 from itertools import groupby, repeat
 from pathlib import Path
 from typing import Optional
@@ -10,6 +10,7 @@ from typing import Optional
 from .. import csv_files
 from ..exact import ALL_ITEMS, Ratio, decimal, depth_of, parent_of, tenths
 from .figures import GIVEN_MONTH, GIVEN_YEAR, LEVEL, MONTH_CHANGE, PRINTED, YEAR_CHANGE, Known
+from .kept_lines import NOTHING_KEPT, KeptLines
 from .measures import Contribution, average, average_change, full_years, twelve_month_rate
 from .rows import NO_CHANGE, Rows
 from .shown import Shown
@@ -53,6 +54,11 @@ class Lines:
         self._series, self._titles = series, csv_files.Cells()
         self._tenths = {NO_CHANGE: ""}
         self._tables: dict[tuple[str, int], str] = {}
+
+    def look_at(self, titles: Iterable[str]) -> None:
+        """Looks at titles, of lines that are kept too, since a spreadsheet may take one for a formula."""
+        for title in titles:
+            self._titles[title]
 
     def of_node(self, tables: Iterable[Table], code: str, ends: Iterable[Sequence[str]] = repeat(())) -> str:
         """The lines of a node in some tables, with further cells at the end of each."""
@@ -107,32 +113,44 @@ class Lines:
         return found
 
 
-def write_lines(path: Path, head: Sequence[str], lines: Iterable[str]) -> None:
-    """Writes a CSV file of lines, each with its end."""
+def write_lines(path: Path, head: Sequence[str], lines: Iterable[str], kept: Optional[str] = None) -> None:
+    """Writes a CSV file of lines, each with its end, behind those that are kept with their head."""
     with path.open("w", encoding="utf-8", newline="") as file:
-        file.write(csv_files.line_of(head) + "\n")
+        file.write(csv_files.line_of(head) + "\n" if kept is None else kept)
         file.writelines(lines)
 
 
-def write_months(known: Known, folder: Path) -> None:
+def write_months(known: Known, folder: Path, kept: KeptLines = NOTHING_KEPT) -> None:
     """The CSV files with rows for months, but those of SDMX, of special aggregates and of the nodes."""
     series, shown = known.series, known.shown
-    lines = Lines(series)
-    write_lines(folder / "cpi.csv", HEAD, (lines.of_table(series.latest[month]) for month in series.months))
-    write_lines(folder / "contributions.csv", CONTRIBUTION_HEAD, _contribution_lines(known))
-    write_lines(folder / "printed.csv", PRINTED_HEAD, _printed_lines(known))
-    write_lines(folder / "twelve-month-rates.csv", ("month", "code", "title", "twelve_month_rate"), _rate_lines(series))
-    if shown.reference:
-        names = ("month", "code", "title", "reference", "rereferenced")
-        write_lines(folder / "rereferenced.csv", names, _rereferenced_lines(known))
+    rereferenced = ("month", "code", "title", "reference", "rereferenced")
+    files: list[tuple[str, Sequence[str], Callable[[Known, Sequence[str]], Iterable[str]]]] = [
+        ("cpi.csv", HEAD, _cpi_lines),
+        ("contributions.csv", CONTRIBUTION_HEAD, _contribution_lines),
+        ("printed.csv", PRINTED_HEAD, _printed_lines),
+        ("twelve-month-rates.csv", ("month", "code", "title", "twelve_month_rate"), _rate_lines),
+        *([("rereferenced.csv", rereferenced, _rereferenced_lines)] if shown.reference else []),
+    ]
+    for name, head, lines in files:
+        found = kept.read(name)
+        months = series.months if found is None else kept.later(series.months)
+        write_lines(folder / name, head, lines(known, months), found)
 
 
-def write_whole(series: Series, shown: Shown, folder: Path) -> None:
+def write_whole(series: Series, shown: Shown, folder: Path, kept: KeptLines = NOTHING_KEPT) -> None:
     """The CSV files that are of all years: each publication, what revisions changed, and averages."""
     releases = ((it.month, it.revision, iso(it.moment), len(it.rows), it.sha256) for it in series.vintages)
     write_rows(folder / "releases.csv", ("month", "revision", "published", "rows", "sha256"), releases)
     write_lines(folder / "vintages.csv", HEAD, _vintage_lines(series))
-    write_lines(folder / "averages.csv", AVERAGE_HEAD, _average_lines(shown))
+    write_lines(folder / "averages.csv", AVERAGE_HEAD, _average_lines(shown, kept))
+
+
+def _cpi_lines(known: Known, months: Sequence[str]) -> Iterator[str]:
+    """All that tables have."""
+    lines, latest = Lines(known.series), known.series.latest
+    for month in known.series.months:
+        lines.look_at(latest[month].rows.named.titles)
+    yield from (lines.of_table(latest[month]) for month in months)
 
 
 def _vintage_lines(series: Series) -> Iterator[str]:
@@ -168,11 +186,11 @@ def contribution_row(month: str, it: Contribution) -> Sequence[object]:
     return month, it.code, it.of, written(it.to_month, 6), written(it.to_year, 6)
 
 
-def _contribution_lines(known: Known) -> Iterator[str]:
+def _contribution_lines(known: Known, months: Sequence[str]) -> Iterator[str]:
     """Of each node to all items, and to the node above it if that is another."""
     above = [(code, parent_of(code)) for code in known.series.titles]
     parents = dict.fromkeys(parent for _, parent in above if parent is not None and parent != ALL_ITEMS)
-    for month in known.series.months:
+    for month in months:
         given = (known.texts_of_month(figure, month) for figure in (GIVEN_MONTH, GIVEN_YEAR))
         both = {parent: known.contributions.both(month, parent) for parent in parents}
         for (code, parent), to_month, to_year in zip(above, *given):
@@ -185,21 +203,25 @@ def _contribution_lines(known: Known) -> Iterator[str]:
                     yield f"{month},{code},{parent},{written(monthly, 6)},{written(annual, 6)}\n"
 
 
-def _printed_lines(known: Known) -> Iterator[str]:
+def _printed_lines(known: Known, months: Sequence[str]) -> Iterator[str]:
     """The figures of the pages: the index with one decimal, and the changes in percent."""
     titles = csv_files.Cells()
-    for month in known.series.months:
+    for month in months:
         columns = (known.texts_of_month(figure, month) for figure in (PRINTED, MONTH_CHANGE, YEAR_CHANGE))
         for (code, title), index, *changes in zip(known.titles.items(), *columns):
             if index:
                 yield f"{month},{code},{titles[title]},{known.shown.hundred(month, code)},{index},{','.join(changes)}\n"
 
 
-def _average_lines(shown: Shown) -> Iterator[str]:
+def _average_lines(shown: Shown, kept: KeptLines) -> Iterator[str]:
     """Averages in points with six decimals, as shown and of chained levels; their change in percent with one."""
-    series, years, titles = shown.series, full_years(shown.series), csv_files.Cells()
+    series, titles = shown.series, csv_files.Cells()
+    earlier, years = kept.by_code("averages.csv", series.all_titles.values()), full_years(series)
+    if earlier:
+        years = [int(month[:4]) for month in kept.later(f"{year:04}-12" for year in years)]
     for code, title in series.all_titles.items():
         cell = titles[title]
+        yield earlier.get(code, "")
         for year in years:
             chained = average(series, code, year)
             if chained is not None:
@@ -208,20 +230,20 @@ def _average_lines(shown: Shown) -> Iterator[str]:
                 yield f"{code},{cell},{year},{written(mean, 6)},{changed},{hundred},{written(chained, 6)}\n"
 
 
-def _rate_lines(series: Series) -> Iterator[str]:
+def _rate_lines(known: Known, months: Sequence[str]) -> Iterator[str]:
     """Percent with one decimal."""
-    titles = csv_files.Cells()
-    for month in series.months:
+    series, titles = known.series, csv_files.Cells()
+    for month in months:
         for code, title in series.all_titles.items():
             rate = twelve_month_rate(series, month, code)
             if rate is not None:
                 yield f"{month},{code},{titles[title]},{written(rate, 1)}\n"
 
 
-def _rereferenced_lines(known: Known) -> Iterator[str]:
+def _rereferenced_lines(known: Known, months: Sequence[str]) -> Iterator[str]:
     """Points with six decimals; a node without a level in the whole reference period, or a link to it, has no row."""
     titles, shown = csv_files.Cells(), known.shown
-    for month in known.series.months:
+    for month in months:
         for (code, title), level in zip(known.titles.items(), known.texts_of_month(LEVEL, month)):
             if level and shown.is_rereferenced(month, code):
                 yield f"{month},{code},{titles[title]},{shown.reference},{level}\n"

@@ -2,12 +2,14 @@
 
 An office of thirty years has millions of figures, of which a month brings one in 360. So the files of `data` have the
 latest years, and each earlier year has an archive `data/years/2019.zip`, which is made as if no later table were there.
-As long as all that it is made of stays as it was, the archive of the pack before is taken. `data/years/made.json` has a
-sum of that for each year, so the result is the same bytes whether a pack was there or not.
+As long as all that it is made of stays as it was, the archive of the pack before is taken, and so are the lines of the
+months in the files of `data`. `data/years/made.json` has a sum of that for each year and for those months, so the result
+is the same bytes whether a pack was there or not.
 """
 
 from __future__ import annotations
 
+import contextlib
 import hashlib
 import json
 import platform
@@ -15,10 +17,10 @@ import shutil
 import tempfile
 import zipfile
 import zlib
-from collections.abc import Iterable
+from collections.abc import Iterable, Iterator
 from functools import lru_cache
 from pathlib import Path
-from typing import Optional
+from typing import NamedTuple, Optional
 
 from ..csv_files import is_safe
 from ..folders import files_of
@@ -27,7 +29,7 @@ from .clocks import UTC
 from .config import Config
 from .part import Now, known_of, write_part
 from .shown import Shown
-from .tables import Series
+from .tables import Series, Unexplained
 from .workbook import WHEN_ZIPPED
 
 MOST_ROWS = 1 << 18
@@ -56,36 +58,82 @@ def earlier_years(series: Series, first: str) -> list[str]:
     return [*dict.fromkeys(month[:4] for month in series.every if month < first)]
 
 
+class Span(NamedTuple):
+    """The months from a January on up to one."""
+
+    first: str
+    last: str
+
+
+class Kept(NamedTuple):
+    """What the pack before has of the months of `data`: up to which month they are made of the same, and which changes
+    of all months up to it aren't those of the published levels; no month if nothing is."""
+
+    to: str = ""
+    unexplained: Iterable[Unexplained] = ()
+
+
 class Archives:
     """Writes the archives of some years, or takes those of the pack before."""
 
-    def __init__(self, series: Series, unexplained: Iterable[tuple[str, bool]], shown: Shown, config: Config):
-        self._series, self._shown, self._config = series, shown, config
-        self._unexplained = frozenset(unexplained)
-        self.same_to = ""
-        """The last month of the years whose archive in the pack before was made of the same; empty if there is none."""
+    def __init__(self, series: Series, shown: Shown, config: Config, before: Before, span: Span):
+        """`span` are the months of the files of `data`."""
+        self._series, self._shown, self._config, self._before, self._span = series, shown, config, before, span
+        self.kept = next(self._all_kept(), Kept())
+        """What the files of `data` in the pack before have of the same."""
+        after = (month for month in series.every if month > self.kept.to)
+        self.unexplained = frozenset({*self.kept.unexplained, *series.unexplained(after)})
+        self._years_to = ""
 
-    def write(self, years: Iterable[str], folder: Path, before: Before, now: Now) -> None:
-        """Writes them into the folder `data`."""
-        made = {}
+    @property
+    def same_to(self) -> str:
+        """The last month whose lines in the files of items are those of the pack before: nothing that they are made of has
+        changed, and they weren't provisional. Empty if there is none."""
+        kept = [month for month in self._series.every if month <= self.kept.to]
+        last = kept[: max(0, len(kept) - self._config.provisional)][-1:]
+        return max(self._years_to, *last, "")
+
+    @property
+    def titled_to(self) -> str:
+        """The last month of the files of `data` in the pack before that are made of the same, if no item has another title
+        since; else empty."""
+        then, now = self._series.titles_to(self.kept.to), self._series.every_title
+        return self.kept.to if all(now[code] == title for code, title in then.items()) else ""
+
+    def write(self, years: Iterable[str], folder: Path, now: Now) -> None:
+        """Writes them into the folder `data`, and what they and the files there are made of."""
+        made: dict[str, object] = {}
         (folder / YEARS).mkdir()
         for year in years:
-            part = self._series.part(f"{year}-01", f"{year}-12")
-            made[year] = self.made_of(part)
-            name = f"data/{YEARS}/{year}.zip"
-            is_same = before.is_made_of(year, made[year])
-            self.same_to = part.every[-1] if is_same else self.same_to
-            if not is_same or not before.take(name, folder / YEARS / f"{year}.zip"):
-                self._write(part, folder / YEARS / f"{year}.zip", lambda what: now(f"{year}: {what}"))
+            span = Span(f"{year}-01", f"{year}-12")
+            made[year] = its_sum = self.made_of(span, self.unexplained)
+            name, is_same = f"data/{YEARS}/{year}.zip", self._before.made.get(year) == its_sum
+            self._years_to = max(it for it in self._series.every if it <= span.last) if is_same else self._years_to
+            if not is_same or not self._before.take(name, folder / YEARS / f"{year}.zip"):
+                self._write(span, folder / YEARS / f"{year}.zip", lambda what: now(f"{year}: {what}"))
+        made["/".join(self._span)] = [self.made_of(self._span, self.unexplained), sorted(self.unexplained)]
         (folder / YEARS / MADE).write_text(json.dumps(made, indent=1) + "\n", encoding="utf-8")
 
-    def made_of(self, part: Series) -> str:
-        """The sum of all that the archive of a year is made of: the tool, the configuration, the tables up to that
-        year, and the levels of the reference period, which may be a later one."""
-        tables = [(it.month, it.revision, it.moment, it.sha256) for it in part.vintages]
-        hidden = sorted(it for it in self._unexplained if it[0] <= part.every[-1])
+    def _all_kept(self) -> Iterator[Kept]:
+        """What the pack before has of the months of `data`, if they begin with the same one, up to its last month."""
+        for months, found in self._before.made.items():
+            first, _, last = months.partition("/")
+            if first == self._span.first and first <= last <= self._span.last and isinstance(found, list):
+                with contextlib.suppress(TypeError, ValueError):
+                    its_sum, pairs = found
+                    hidden = [(str(month), bool(is_annual)) for month, is_annual in pairs]
+                    if self.made_of(Span(first, last), hidden) == its_sum:
+                        yield Kept(last, hidden)
+
+    def made_of(self, span: Span, unexplained: Iterable[Unexplained]) -> str:
+        """The sum of all that the files of some months are made of: the tool, the configuration, the tables up to the last
+        one, and the levels of the reference period, which may be a later one."""
+        tables = [
+            (it.month, it.revision, it.moment, it.sha256) for it in self._series.vintages if it.month <= span.last
+        ]
+        hidden = sorted(it for it in unexplained if it[0] <= span.last)
         own = self._config
-        # (which has no part in an archive: what only pages say, releases to come, and what earlier releases had)
+        # (which has no part in these files: what only pages say, releases to come, and what earlier releases had)
         config = own._replace(
             without=frozenset(), years=None, address="", clock=UTC, planned=(), reasons=(), references=(), all_rates=(),
             all_provisional=(),
@@ -97,12 +145,21 @@ class Archives:
             is_safe(),
             tables,
             hidden,
-            sorted(self._shown.part(part).bases.items()),
+            [*self._bases(span)],
         )
         return hashlib.sha256(repr(content).encode()).hexdigest()
 
-    def _write(self, part: Series, to: Path, now: Now) -> None:
-        known = known_of(part, self._unexplained, self._shown)
+    def _bases(self, span: Span) -> Iterator[str]:
+        """The levels of the reference period of all that is in a table up to the last month, each with the months that are
+        linked to it."""
+        codes, last = {*self._series.titles_to(span.last), *self._series.specials}, span.last
+        for code, base in self._shown.bases.items():
+            if base and code in codes and base[0] <= last:
+                first, linked, (over, under) = base
+                yield f"{code} {first} {min(linked, last)} {over}/{under}"
+
+    def _write(self, span: Span, to: Path, now: Now) -> None:
+        known = known_of(self._series.part(*span), self.unexplained, self._shown)
         with tempfile.TemporaryDirectory(prefix=".", dir=to.parent) as folder:
             write_part(known, self._config, Path(folder), now)
             now("the archive")
