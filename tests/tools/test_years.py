@@ -9,6 +9,7 @@ import io
 import json
 import os
 import re
+import shutil
 import signal
 import subprocess
 import sys
@@ -424,6 +425,18 @@ def kept_of(tables: list[Published], out: Path) -> Iterator[str]:
     span = years.Span(years.first_of(series, CONFIG.years), series.every[-1])
     found = years.Archives(series, Shown(series, CONFIG.reference), CONFIG, Before(out), span).kept.to
     yield from [found] if found else []
+
+
+def test_the_tool_is_another_one_with_other_catalogues(tmp_path: Path, monkeypatch: pytest.MonkeyPatch) -> None:
+    """Forms of data have texts of the catalogues, and months by the package of CLDR."""
+    found = [years.tool.__wrapped__()]
+    shutil.copytree(years.PO, tmp_path / "po")
+    monkeypatch.setattr(years, "PO", tmp_path / "po")
+    assert years.tool.__wrapped__() == found[0]
+    (tmp_path / "po/fr.po").write_bytes((tmp_path / "po/fr.po").read_bytes() + b"\n")
+    found.append(years.tool.__wrapped__())
+    monkeypatch.setattr(years, "names_by", lambda: "another")
+    assert len({*found, years.tool.__wrapped__()}) == 3
 
 
 def test_a_title_with_an_end_of_line_hides_no_line(published: list[Published], tmp_path: Path) -> None:

@@ -7,6 +7,7 @@ from __future__ import annotations
 
 import argparse
 from collections.abc import Callable
+from importlib import metadata
 from pathlib import Path
 from typing import Any, NamedTuple, Union
 
@@ -62,6 +63,14 @@ def a_language(text: str) -> str:
     if text not in known():
         raise argparse.ArgumentTypeError(f"{text!r} has no catalogue: one of {', '.join(known())}")
     return text
+
+
+def names_by() -> str:
+    """The version of the package that names months in other languages; nothing if it isn't there."""
+    try:
+        return metadata.version("babel")
+    except metadata.PackageNotFoundError:
+        return ""
 
 
 def language_of(code: str) -> Language:

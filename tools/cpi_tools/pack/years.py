@@ -24,6 +24,7 @@ from typing import NamedTuple, Optional
 
 from ..csv_files import is_safe
 from ..folders import files_of
+from ..languages import PO, names_by
 from .before import Before
 from .clocks import UTC
 from .config import Config
@@ -180,9 +181,11 @@ def put(archive: zipfile.ZipFile, path: Path, name: str) -> None:
 
 @lru_cache(maxsize=None)
 def tool() -> str:
-    """The sum of the tool's own sources, and of what packs: another one could write other bytes."""
+    """The sum of the tool's own sources and catalogues, and of what packs and names months: another one could write other
+    bytes."""
     top = Path(__file__).resolve().parents[1]
-    found = hashlib.sha256(f"{platform.python_version()} {zlib.ZLIB_RUNTIME_VERSION}".encode())
-    for path in sorted(top.rglob("*.py")):
-        found.update(f"{path.relative_to(top)} {hashlib.sha256(path.read_bytes()).hexdigest()}\n".encode())
+    found = hashlib.sha256(f"{platform.python_version()} {zlib.ZLIB_RUNTIME_VERSION} {names_by()}".encode())
+    sources = {path.relative_to(top).as_posix(): path for path in top.rglob("*.py")}
+    for name, path in sorted({**sources, **{path.name: path for path in PO.glob("*.po")}}.items()):
+        found.update(f"{name} {hashlib.sha256(path.read_bytes()).hexdigest()}\n".encode())
     return found.hexdigest()
