@@ -117,9 +117,9 @@ static void list(const Collector &collector, int first, int last) {
 }
 
 static void collect(const vector<string_view> &field, long now) {
-    auto bearer = numbers.find(string(field[1]));
-    if (bearer == numbers.end()) return refuse(11);
-    Collector &collector = collectors[bearer->second];
+    auto known = numbers.find(string(field[1]));
+    if (known == numbers.end()) return refuse(11);
+    Collector &collector = collectors[known->second];
     long slot, price;
     int first, last;
     if (field[2] == "quote" && field.size() >= 7) {

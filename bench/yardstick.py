@@ -51,13 +51,13 @@ class Office:
         moment, caller, word, *rest = fields
         if caller == "desk":
             return self.command(word, rest)
-        bearer = self.one("SELECT number FROM collector WHERE key = ?", caller)
-        if not bearer:
+        collector = self.one("SELECT number FROM collector WHERE key = ?", caller)
+        if not collector:
             return {"refused": 11}
         if word == "quotes":
-            rows = self.db.execute(QUOTES, (bearer[0], month(rest[0]), month(rest[1])))
+            rows = self.db.execute(QUOTES, (collector[0], month(rest[0]), month(rest[1])))
             return {"quotes": [[slot, text_of(at), *values] for slot, at, *values in rows]}
-        return self.submit(bearer[0], int(moment), int(rest[0]), month(rest[1]), int(rest[3]), len(rest) == 5)
+        return self.submit(collector[0], int(moment), int(rest[0]), month(rest[1]), int(rest[3]), len(rest) == 5)
 
     def command(self, word, rest):
         if word == "item":

@@ -111,10 +111,10 @@ def listed(rows: Rows) -> Iterator[tuple[Record, Reply]]:
 def receipt_again(stream: Stream, answered: int, rows: Rows) -> Pairs:
     """The last quote with a line that still stands, and its line."""
     standing = {row[:3]: row[3:] for row in rows["quote_2"]}
-    bearers = {key: collector for collector, key in rows["collector"]}
+    collector_of = {key: collector for collector, key in rows["collector"]}
     for record, line in zip(reversed(stream.records[:answered]), reversed(stream.lines[:answered])):
         if record[2] == "quote" and line.startswith(b'{"receipt":'):
-            place = bearers[record[1]], int(record[3]), int(record[4].replace("-", ""))
+            place = collector_of[record[1]], int(record[3]), int(record[4].replace("-", ""))
             if standing[place][2] == json.loads(line)["receipt"]:
                 return [(record, line)]
     return []

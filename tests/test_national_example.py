@@ -130,7 +130,7 @@ class Ran:
             slots[number].append((slot, first, last))
         for record, reply in zip(self.sent, self.told):
             if record[2] == "work":
-                number, month = self.survey.bearer[record[1]], record[3]
+                number, month = self.survey.collector_of[record[1]], record[3]
                 own = [slot for slot, first, last in slots[number] if first <= month <= last]
                 if [row[0] for row in reply["work"]] != own:
                     yield f"the work list of collector {number} in {month}"
@@ -146,7 +146,7 @@ class Ran:
         shown = {}
         for record, reply in zip(self.sent, self.told):
             if record[2] == "work":
-                number = self.survey.bearer[record[1]]
+                number = self.survey.collector_of[record[1]]
                 shown.update({(number, row[0], record[3]): row[6] for row in reply["work"]})
         for series, _, new, month in handed:
             earlier = {at: price for at, price in self.survey.last.get(series, {}).items() if at < month}

@@ -53,7 +53,7 @@ class Survey:
     def __init__(self, prices: list[Record]) -> None:
         self.items = {row["item"]: row for row in data("items")}
         self.months = sorted(CALENDAR)
-        self.bearer = {row["key"]: int(row["collector"]) for row in data("collectors")}
+        self.collector_of = {row["key"]: int(row["collector"]) for row in data("collectors")}
         self.series: dict[Place, tuple[str, str, str]] = {}  # item, first and last month
         slots = collections.Counter[int]()
         for outlet in data("outlets"):
@@ -75,7 +75,7 @@ class Survey:
         self.refused = collections.Counter[int]()
         for moment, key, _, body in prices:
             for _, slot, month, mark, value, *confirm in rows_of(body):
-                place, first, last = self.slots[self.bearer[key], int(slot)]
+                place, first, last = self.slots[self.collector_of[key], int(slot)]
                 if first <= month <= last:
                     quote = Quote(mark, None if mark == "missing" else int(value))
                     self.take(int(moment), place, month, quote, bool(confirm))

@@ -78,14 +78,14 @@ class Office:
     def answer(self, now: int, caller: str, request: Request | None) -> Reply:
         if request is None:
             return refused(10)
-        bearer = next((number for number, key in self.keys.items() if key == caller), None)
-        if caller not in ("public", "desk") and bearer is None:
+        collector = next((number for number, key in self.keys.items() if key == caller), None)
+        if caller not in ("public", "desk") and collector is None:
             return refused(11)
         word, *parts = request
         if word in self.OF_ALL:
             return self.OF_ALL[word](self, now, *parts)
         if word in self.OF_COLLECTORS:
-            return refused(12) if bearer is None else self.OF_COLLECTORS[word](self, now, bearer, *parts)
+            return refused(12) if collector is None else self.OF_COLLECTORS[word](self, now, collector, *parts)
         if caller != "desk":
             return refused(12)
         return self.freeze(now, *parts) if word == "freeze" else self.OF_THE_DESK[word](self, *parts)

@@ -16,10 +16,10 @@ from ..terminal import Fault, month_text
 from ..told import Told, whole
 from ..told import told as _
 from .asked import desk, month_of
-from .bearers import Bearer, NotABearer, bearer_of
 from .field_forms import Refused, sent_of
 from .field_limits import MOST_MESSAGE_BYTES, MOST_NOTES
 from .field_notes import FieldNotes, Of, TooMany
+from .known_collectors import KnownCollector, NoCollector, collector_of_field
 from .photographs import NotAPicture, without_traces
 
 views = flask.Blueprint("field", __name__, url_prefix="/notes")
@@ -33,11 +33,11 @@ def kept() -> FieldNotes:
     return found
 
 
-def bearer(month: int) -> Bearer:
+def caller(month: int) -> KnownCollector:
     """The collector whose key the request has, with the quotes of a month. Raises Refused, or Fault."""
     try:
-        return bearer_of(desk(), flask.request.headers.get("Authorization", ""), month)
-    except NotABearer as fault:
+        return collector_of_field(desk(), flask.request.headers.get("Authorization", ""), month)
+    except NoCollector as fault:
         raise Refused(fault.status, refused=fault.number) from fault
 
 
@@ -50,7 +50,7 @@ def send(month: str, slot: int) -> Response:
         raise Refused(
             413, fault="long", field="photo", wanted=_("At most {most} bytes.", most=whole(MOST_MESSAGE_BYTES))
         )
-    who = bearer(number)
+    who = caller(number)
     photo = flask.request.files.get("photo")
     sent = sent_of(flask.request.form, photo.read() if photo else b"")
     if number < notes.first_month():
@@ -75,7 +75,7 @@ def own(month: str) -> Response:
     """The notes of a month that this collector has sent: number, slot, receipt, moment, whether it is a sale, brand,
     quantity, text, whether there is a photograph."""
     notes, number = kept(), month_of(month)
-    found = notes.of_month(number, bearer(number).collector)
+    found = notes.of_month(number, caller(number).collector)
     return flask.jsonify(notes=[[it.number, it.slot, *it[4:]] for it in found])
 
 
@@ -83,7 +83,7 @@ def own(month: str) -> Response:
 def own_photo(month: str, number: int) -> Response:
     """The photograph of a note of this collector's; of anybody else's it is as if there were none."""
     notes = kept()
-    found = notes.photo(number, bearer(month_of(month)).collector)
+    found = notes.photo(number, caller(month_of(month)).collector)
     if found is None:
         flask.abort(404)
     return flask.Response(found, mimetype="image/jpeg")

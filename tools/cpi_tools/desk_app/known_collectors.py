@@ -13,12 +13,12 @@ from .desk import Desk
 FIELD = re.compile("[ \t]*CPI-Key +([0-9a-f]{32})[ \t]*", re.ASCII | re.IGNORECASE)
 
 NOBODY, DESK = 11, 12
-"""How the office refuses a key that nobody bears, and one that isn't a collector's."""
+"""How the office refuses a key that nobody has, and one that isn't a collector's."""
 
 STATUS = {NOBODY: 401, DESK: 403}
 
 
-class NotABearer(Exception):
+class NoCollector(Exception):
     """A request without a collector's key: a status, and the office's number of the refusal."""
 
     def __init__(self, number: int):
@@ -26,23 +26,23 @@ class NotABearer(Exception):
         self.number, self.status = number, STATUS.get(number, 409)
 
 
-class Bearer(NamedTuple):
+class KnownCollector(NamedTuple):
     """A collector, and by slot the receipt of the quote that the office has of a month."""
 
     collector: int
     receipts: dict[int, int]
 
 
-def bearer_of(desk: Desk, field: str, month: int) -> Bearer:
-    """The collector of a field Authorization. Raises NotABearer, or Fault if the office can't be asked."""
+def collector_of_field(desk: Desk, field: str, month: int) -> KnownCollector:
+    """The collector of a field Authorization. Raises NoCollector, or Fault if the office can't be asked."""
     found = FIELD.fullmatch(field)
     if not found or found[1] != found[1].lower():
-        raise NotABearer(NOBODY)
+        raise NoCollector(NOBODY)
     reply = desk.office.quotes(found[1], month_text(month))
     if "refused" in reply:
-        raise NotABearer(int(reply["refused"]))
+        raise NoCollector(int(reply["refused"]))
     receipts = {int(row[0]): int(row[4]) for row in reply.get("quotes", [])}
-    return Bearer(_number_of(desk, found[1]), receipts)
+    return KnownCollector(_number_of(desk, found[1]), receipts)
 
 
 def _number_of(desk: Desk, key: str) -> int:
