@@ -149,7 +149,9 @@ def test_a_website_that_couldn_t_be_written_says_why_and_stays(
             " the website again: the table of 2025-12, revision 1, isn't the one" in words
         )
     assert (tmp_path / "public/SHA256SUMS").read_bytes() == before
-    assert ada.words("/log").count("the website couldn't be written") == 1
+    assert (
+        ada.words("/log").count("the website couldn't be written: the table of 2025-12, revision 1, isn't the one") == 1
+    )
     (tmp_path / "office.ini").write_text("[office]\n", encoding="utf-8")
     assert "agency" in ada.words("/publish")
 

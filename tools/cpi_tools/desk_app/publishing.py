@@ -81,6 +81,14 @@ class Release(NamedTuple):
     page: str
 
 
+class NotWritten(Fault):
+    """`cpi-tools publish` ended without a website; `line` is what it said."""
+
+    def __init__(self, says: Told, line: str):
+        super().__init__(says)
+        self.line = line
+
+
 class Publisher:
     """Writes the website of an office's file; `program` is cpi."""
 
@@ -175,19 +183,19 @@ class Publisher:
             self.told, self.fault = self._written(by), Worded("")
             self._done()
         except Fault as fault:
-            self._failed(by, says(fault))
+            self._failed(by, says(fault), fault.line if isinstance(fault, NotWritten) else str(fault))
         except Exception as fault:
             # (a fault of ours: it is on the page too, and the journal has all of it)
-            self._failed(by, met(fault))
+            self._failed(by, met(fault), repr(fault))
             raise
         finally:
             self.running = None
 
-    def _failed(self, by: str, why: Worded) -> None:
-        """Keeps why the website wasn't written; the log has it once, however often it is tried again."""
+    def _failed(self, by: str, why: Worded, line: str) -> None:
+        """Keeps why the website wasn't written; the log has its line once, however often it is tried again."""
         self._failed_at = time.monotonic()
         if why != self.fault:
-            self._log.append(by, SAID, text=f"the website couldn't be written: {why}")
+            self._log.append(by, SAID, text=f"the website couldn't be written: {line}")
         self.fault = why
 
     def _written(self, by: str) -> Worded:
@@ -204,7 +212,7 @@ class Publisher:
         ) as self._process:
             told, errors = self._process.communicate()
         if self._process.returncode:
-            raise Fault(_because(self._process.returncode, errors))
+            raise _ended(self._process.returncode, errors)
         self._log.append(by, SAID, text=f"the website was written, with what is out at {time_text(at)}: {told.strip()}")
         return own_line(" ".join([told.strip(), *errors.strip().splitlines()]))
 
@@ -251,13 +259,17 @@ class Publisher:
         return min(LOOKS_EVERY, wait) if wait > 0 else 1.0
 
 
-def _because(status: int, errors: str) -> Told:
+def _ended(status: int, errors: str) -> NotWritten:
     """Why `cpi-tools publish` ended with a status, by what it wrote."""
     lines = errors.strip().splitlines()
     if not lines:
-        return _("cpi-tools publish ended with the status {status}.", status=status)
-    line = own_line(lines[-1].removeprefix(BEGINS))
-    return _("Mend what cpi-tools publish names in this line, then write the website again: {line}", line=line)
+        ended = _("cpi-tools publish ended with the status {status}.", status=status)
+        return NotWritten(ended, str(ended))
+    line = lines[-1].removeprefix(BEGINS)
+    says = _(
+        "Mend what cpi-tools publish names in this line, then write the website again: {line}", line=own_line(line)
+    )
+    return NotWritten(says, line)
 
 
 def named(it: Planned) -> str:
