@@ -206,3 +206,26 @@ def test_the_list_can_be_read_touched_and_enlarged(phone: Phone, stage: Stage, w
     browser.click("summary")
     found["folded"] = looked_at(browser)
     assert found == {name: [] for name in found}
+
+
+ENDS = """
+scrollTo(0, document.documentElement.scrollHeight);
+await new Promise((end) => requestAnimationFrame(() => requestAnimationFrame(end)));
+const last = [...document.querySelectorAll("[data-slot]")].at(-1).getBoundingClientRect().bottom;
+return document.getElementById("notice").getBoundingClientRect().top - last;
+"""
+"""How far the last row is above a notice, in pixels, once the page is scrolled to its end."""
+
+
+def test_a_notice_over_the_end_of_the_page_hides_no_row_and_moves_none_as_it_goes(phone: Phone) -> None:
+    phone.sign_in()
+    phone.show("all")
+    phone.browser.run("location.hash = 'key=none'")
+    phone.browser.wait_shown("#notice button")
+    assert phone.browser.run_until(ENDS) >= 0
+    before = phone.places()
+    phone.browser.run("document.querySelector('#notice button').click()")
+    phone.browser.wait(
+        lambda: phone.browser.run("return document.getElementById('notice').hidden"), "the notice is gone"
+    )
+    assert phone.places() == before
