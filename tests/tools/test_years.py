@@ -238,8 +238,8 @@ def test_the_lines_of_earlier_years_are_those_of_the_pack_before(
     damage(out / "node/07.2.2.1-01.csv")
     made = lines_written(monkeypatch)
     written(tables, CONFIG, out)
-    # flour left after 2025
-    assert {month[:4] for month in made["01.1.1.1-01"] | made["01.1.1.2-01"]} == {"2027"}
+    # (flour left after 2025)
+    assert made["01.1.1.1-01"] | made["01.1.1.2-01"] == {tables[-1].listed.month} == {"2027-05"}
     assert {month[:4] for month in made["07.2.2.1-01"]} == {"2025", "2026", "2027"}
     assert [*differences(out, anew(tables, CONFIG, tmp_path / "first" / "public", kept))] == []
 
@@ -251,15 +251,17 @@ def test_lines_of_months_that_were_provisional_are_written_anew(
     first = [number for number, it in enumerate(tables, 1) if it.listed.month == "2027-01"][-1]
     out, kept = written(tables[:first], config, tmp_path / "public"), tmp_path / "kept.json"
     made = lines_written(monkeypatch)
-    years_made = []
+    months_made = []
     for number in range(first + 1, len(tables) + 1):
         kept.write_bytes((out / "manifest.json").read_bytes())
         made.clear()
         written(tables[:number], config, out)
-        years_made.append({month[:4] for month in made["01.1.1.1-01"]})
+        months_made.append({*made["01.1.1.1-01"]})
         assert [*differences(out, anew(tables[:number], config, tmp_path / f"first{number}" / "public", kept))] == []
     # February's provisional months begin in December, and December was one in February still
-    assert years_made[0] == {"2025", "2026", "2027"} and years_made[-1] == {"2027"}
+    assert {month[:4] for month in months_made[0]} == {"2025", "2026", "2027"}
+    # those that are provisional in May, and February, which was one in April
+    assert months_made[-1] == {"2027-02", "2027-03", "2027-04", "2027-05"}
 
 
 # ---- the lines of the files of data

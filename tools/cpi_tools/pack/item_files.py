@@ -63,7 +63,8 @@ class ItemFiles:
         data = None if code in self._broken else self._before.read(f"node/{code}.csv")
         if data is None:
             return None
-        end = data.find(self._next) + 1
+        # (the pack before has mostly nothing of the later months, or the first of them)
+        end = data.find(self._next) + 1 or len(data)
         if data.count(b"\n", 0, end) == rows + 1:
             found = data[:end]
         else:
