@@ -8,6 +8,7 @@
 
 from __future__ import annotations
 
+import functools
 from collections.abc import Iterable, Mapping
 from typing import NamedTuple, Optional
 
@@ -146,6 +147,10 @@ def said(speech: Speech) -> dict[str, str]:
 
 def present(speech: Speech, letters: dict[str, str]) -> list[tuple[str, str, str]]:
     """The notes that some months have: letter, name and what it says."""
-    found = {letter for each in letters.values() for letter in each}
+    return _told(speech, frozenset("".join(letters.values())))
+
+
+@functools.lru_cache(maxsize=64)
+def _told(speech: Speech, letters: frozenset[str]) -> list[tuple[str, str, str]]:
     names, says = note_names(speech), said(speech)
-    return [(letter, names[letter], says[letter]) for letter in NAMES if letter in found]
+    return [(letter, names[letter], says[letter]) for letter in NAMES if letter in letters]

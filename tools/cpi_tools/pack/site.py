@@ -11,7 +11,7 @@ import json
 import shutil
 from collections import defaultdict
 from collections.abc import Callable, Mapping, Sequence
-from functools import lru_cache, partial
+from functools import cached_property, lru_cache, partial
 from pathlib import Path
 from typing import Optional
 
@@ -216,7 +216,7 @@ class Site:
         part = given(Known(self.series, self.contributions, self.shown), self.month)
         self._page("how-to-read.html", changes=[*filter(None, changes)], part=part)
         has_titles = bool(self.series.other_titles)
-        known = known_to_page(self.series, self.config, self._source(), self.version.up, has_titles)
+        known = known_to_page(self.series, self.config, self._source, self.version.up, has_titles)
         self._page("choose.html", known=known, says=said(self.speech))
         if self.config.has(PICTURES):
             stands = self.version.standing("../", EMBED, EMBED)
@@ -270,13 +270,14 @@ class Site:
     def _pictures(self, code: str, charts: Sequence[Chart]) -> None:
         """Writes each picture of a node as a file, and the page that other sites embed, which shows the first one if
         its address names none."""
-        title, source = self.series.title(code), self._source()
+        title, source = self.series.title(code), self._source
         for it in charts:
             text = drawing(it, title, source)
             self.files.write(f"{self.version.folder}picture/{code}-{it.kind}.svg", text.encode())
         words = {"code": code, "title": title, "charts": [*charts][::-1], "top": f"../{self.version.up}"}
         self._write(f"embed/{page_of(code)}", "embed.html", words)
 
+    @cached_property
     def _source(self) -> str:
         """The line at the foot of a picture's file."""
         places = {
