@@ -23,12 +23,14 @@ import pytest
 from cpi_tools.csv_files import formulas_told
 from cpi_tools.exact import Ratio
 from cpi_tools.folders import files_of
+from cpi_tools.languages import PO
 from cpi_tools.pack import tidy, years
 from cpi_tools.pack.aggregated import series_of
 from cpi_tools.pack.before import Before
 from cpi_tools.pack.config import BadConfig, Config, read_config
 from cpi_tools.pack.figures import GIVEN_MONTH, GIVEN_YEAR, LEVEL, MONTH_CHANGE, PRINTED, YEAR_CHANGE, Figure, Known
 from cpi_tools.pack.manifest import differences
+from cpi_tools.pack.measures import average
 from cpi_tools.pack.public import Listed, Published
 from cpi_tools.pack.shown import Shown
 from cpi_tools.pack.specials import Special
@@ -323,7 +325,6 @@ def test_a_new_full_year_is_added_to_the_averages(
     out, kept = written(tables[:-1], CONFIG, tmp_path / "public"), tmp_path / "kept.json"
     kept.write_bytes((out / "manifest.json").read_bytes())
     computed = set[int]()
-    average = tidy.average
 
     def counted(series: Series, code: str, year: int) -> Optional[Ratio]:
         computed.add(year)
@@ -432,7 +433,7 @@ def kept_of(tables: list[Published], out: Path) -> Iterator[str]:
 def test_the_tool_is_another_one_with_other_catalogues(tmp_path: Path, monkeypatch: pytest.MonkeyPatch) -> None:
     """Forms of data have texts of the catalogues, and months by the package of CLDR."""
     found = [years.tool.__wrapped__()]
-    shutil.copytree(years.PO, tmp_path / "po")
+    shutil.copytree(PO, tmp_path / "po")
     monkeypatch.setattr(years, "PO", tmp_path / "po")
     assert years.tool.__wrapped__() == found[0]
     (tmp_path / "po/fr.po").write_bytes((tmp_path / "po/fr.po").read_bytes() + b"\n")
