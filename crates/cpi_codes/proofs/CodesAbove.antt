@@ -122,4 +122,4 @@ in_path k c h = cases (k.division == 0) refl (sym (at_or_below_parts k c) ∙ h)
         (made k 0 None None None None none g (under.0 g) (under.1 (under.0 g)) (under.2 (under.1 (under.0 g))))
     cases false e f = in_rest k (code_with 0 None None None None) (from_division c)
         (by_group k c (number c.division k.division (and_first _ _ f)) k.group refl
-            (and_second (c.division == k.division) _ f))
+        (and_second (c.division == k.division) _ f))

@@ -122,7 +122,7 @@ module _ (p : Plan) (v : IsPlan p) where
   weighed =
       all_both (λ n. is_node p.weights n.code) (λ n. n.weight == weight_under n.code p.weights) p.nodes
       (all_among (λ m n. is_same_code m.code n.code) (λ n. same_code_itself n.code) (λ n. is_node p.weights n.code)
-          p.nodes
+      p.nodes
       (λ n h. v.complete n.code ∙ h))
       v.weighed
 

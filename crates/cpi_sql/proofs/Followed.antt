@@ -181,7 +181,7 @@ module _ {change : Change} {fits : Office → Type 0} {A E F : Type 0} {u : A} {
           headers = λ t. headers_stand old.now.trees new.now.trees done.made.rows same c.headers (st.cached.headers t);
           lists = lists_stand old.now.trees new.now.trees done.made.rows
               (λ key r. subst (λ rs. row_at release_cmp release_key key rs ≡ Some r) (sym same)) c.lists
-                  st.cached.lists;
+              st.cached.lists;
           samples = tt;
         };
       }

@@ -36,7 +36,7 @@ after_end_goes_on (term.Any t) c = refl
 in_field_ends_well : (cfg : Config) (c : ℕ) → EndsWell (in_field cfg c)
 in_field_ends_well cfg c = picked (c == cfg.delimiter) _ _ (goes_on st.StartField act.EndField refl)
     (picked (ends_with cfg.terminator c) _ _ (λ _. after_end_goes_on cfg.terminator c)
-        (goes_on st.InField act.Copy refl))
+    (goes_on st.InField act.Copy refl))
 
 start_field_ends_well : (cfg : Config) (c : ℕ) → EndsWell (start_field cfg c)
 start_field_ends_well cfg c = picked (cfg.quoting && (c == cfg.quote)) _ _ (goes_on st.InQuoted act.Skip refl)
