@@ -57,10 +57,13 @@ class Copies:
         self._copying, self._lock = threading.Lock(), threading.Lock()
         self._latest: Optional[Held] = None
         self._old: list[Held] = []
+        self._is_closed = False
 
     def renew(self) -> bool:
-        """Takes a new copy if the office's file changed; whether it did. Raises Fault."""
+        """Takes a new copy if the office's file changed; whether it did. Raises Fault, also once the copies are closed."""
         with self._copying:
+            if self._is_closed:
+                raise self._closed()
             try:
                 if self._latest and state_of(self._file) == self._latest.state:
                     return False
@@ -73,6 +76,9 @@ class Copies:
                 self._sweep()
             return True
 
+    def _closed(self) -> Fault:
+        return Fault(f"{self._file}: no copy is taken, since the application ends")
+
     @contextlib.contextmanager
     def latest(self) -> Iterator[Copy]:
         """The latest copy, which stays there meanwhile. Raises Fault if there is none and none can be taken."""
@@ -80,7 +86,8 @@ class Copies:
             self.renew()
         with self._lock:
             held = self._latest
-            assert held
+            if not held:
+                raise self._closed()
             held.readers += 1
         try:
             yield held.copy
@@ -95,8 +102,9 @@ class Copies:
             it.remove()
 
     def close(self) -> None:
-        """Removes all copies."""
-        with self._lock:
+        """Removes all copies. A copy that is being taken is waited for; afterwards there is none."""
+        with self._copying, self._lock:
+            self._is_closed = True
             for it in [*self._old, *([self._latest] if self._latest else [])]:
                 it.remove()
             self._old, self._latest = [], None
