@@ -9,13 +9,13 @@ import argparse
 import hashlib
 import os
 import re
-import tempfile
 import time
 from pathlib import Path
 from typing import NamedTuple, Optional
 
 from .copying import EMPTIED_BYTES, PATIENCE, has_frames, log_beside, right_copy
 from .program import LAST_MOMENT, Cpi, CpiFailed, add_program, record
+from .rooms import new_room
 from .terminal import Fault, Progress, ToolWords, a_file, at_least, because_of, counted, time_text
 
 
@@ -116,15 +116,15 @@ def back_up(
     try:
         _look_at(path, to, is_replacing)
         to.parent.mkdir(mode=0o700, parents=True, exist_ok=True)
-        with tempfile.TemporaryDirectory(prefix=".cpi-backup-", dir=to.parent) as folder:
+        with new_room(".cpi-backup-", to.parent) as room:
             now(f"copying {path}")
             begun = int(time.time())
-            copy = right_copy(path, Path(folder), patience, pause)
+            copy = right_copy(path, room, patience, pause)
             now("cpi opens the copy")
             tables = settle(cpi, copy, path)
             now("writing it to the disk")
             note = Note(path.name, begun, tables, copy.stat().st_size, hash_of(copy))
-            written = Path(folder) / "note"
+            written = room / "note"
             written.write_text(note_text(note, to.name), encoding="utf-8")
             written.chmod(0o600)
             _put(copy, written, to, is_replacing)

@@ -5,11 +5,11 @@ from __future__ import annotations
 import contextlib
 import shutil
 import subprocess
-import tempfile
 from collections.abc import Iterator, Sequence
 from pathlib import Path
 
 from .cells import label_of
+from .rooms import new_room
 from .terminal import Fault, because_of
 
 KINDS = (".ods", ".xls", ".xlsb")
@@ -34,8 +34,8 @@ def converted(files: Sequence[Path]) -> Iterator[dict[Path, Path]]:
     if not wanted or not shutil.which(PROGRAM):
         yield {}
         return
-    with tempfile.TemporaryDirectory(prefix="cpi-tools-") as room:
-        yield _workbooks_of(wanted, Path(room))
+    with new_room("cpi-tools-") as room:
+        yield _workbooks_of(wanted, room)
 
 
 def _workbooks_of(files: Sequence[Path], room: Path) -> dict[Path, Path]:

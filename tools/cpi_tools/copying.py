@@ -25,13 +25,13 @@ import contextlib
 import os
 import signal
 import stat
-import tempfile
 import time
 from collections.abc import Iterator
 from io import RawIOBase
 from pathlib import Path
 from typing import NamedTuple, Optional
 
+from .rooms import new_room
 from .terminal import Fault, because_of, naming
 
 BLOCK = 1 << 20
@@ -114,8 +114,8 @@ def right_copy(path: Path, folder: Path, patience: float = PATIENCE, pause: Opti
 @contextlib.contextmanager
 def private_copy(path: Path, patience: float = PATIENCE) -> Iterator[Path]:
     """A right copy in a folder of its own that nobody else can read, and that goes at the end."""
-    with tempfile.TemporaryDirectory(prefix="cpi-tools-") as folder:
-        yield right_copy(path, Path(folder), patience)
+    with new_room("cpi-tools-") as room:
+        yield right_copy(path, room, patience)
 
 
 def has_frames(path: Path) -> bool:

@@ -4,10 +4,10 @@ from __future__ import annotations
 
 import contextlib
 import os
-import tempfile
 from collections.abc import Iterator
 from pathlib import Path
 
+from .rooms import new_room, stays
 from .terminal import Fault, because_of, naming
 
 
@@ -56,11 +56,13 @@ def written_folder(out: Path, known_by: str, is_private: bool = True) -> Iterato
         raise NotPlaced(f"{out} is there already, and isn't a folder that this tool wrote: it has no {known_by}")
     try:
         out.parent.mkdir(parents=True, exist_ok=True)
-        with naming(out), tempfile.TemporaryDirectory(prefix=f".{out.name}-", dir=out.parent) as beside:
-            new = Path(beside) / "new"
+        with naming(out), new_room(f".{out.name}-", out.parent) as room:
+            new = room / "new"
             new.mkdir(mode=0o700 if is_private else 0o777)
             yield new
-            _put(new, out, Path(beside) / "old")
+            # (what stood there is in the room for a moment)
+            stays(room)
+            _put(new, out, room / "old")
     except OSError as fault:
         raise NotPlaced(because_of(fault)) from fault
 

@@ -3,7 +3,6 @@
 from __future__ import annotations
 
 import itertools
-import tempfile
 from collections import Counter, defaultdict
 from collections.abc import Collection, Iterable, Iterator, Sequence
 from dataclasses import dataclass, field
@@ -16,6 +15,7 @@ from .odd_cells import odd_columns
 from .office_files import Taken
 from .plan_faults import faulty_cells, has_too_many_rows, unreadable
 from .program import LAST_MOMENT, Cpi, Reply, Session, record
+from .rooms import new_room
 from .sent import DESK, MOST_RECORDS, MOST_ROWS, Bundle, Problem, Sent, bundled
 from .stored import stored_office
 from .others import of_others
@@ -41,8 +41,8 @@ def moments_of(cpi: Cpi, texts: Iterable[str], zone: str) -> dict[str, int]:
     for start in range(0, len(civil), len(months)):
         asked = dict(zip(months, civil[start : start + len(months)]))
         sent = [record(0, DESK, "calendar", it, text, LAST_MOMENT, LAST_MOMENT) for it, text in asked.items()]
-        with tempfile.TemporaryDirectory(prefix="cpi-tools-") as folder:
-            clock = Path(folder) / "clock.db"
+        with new_room("cpi-tools-") as room:
+            clock = room / "clock.db"
             cpi.replay(sent, db=clock, zone=zone)
             with stored_office(clock) as stored:
                 found.update((asked[month_text(it.month)], it.opens) for it in stored.calendar())
@@ -110,8 +110,8 @@ class Judge:
         """
         self._confirm = taken.store.confirm
         bundles = iter(taken.bundles)
-        with tempfile.TemporaryDirectory(prefix="cpi-tools-") as folder:
-            file = db or (Path(folder) / "judged.db" if taken.bundles.most > most else None)
+        with new_room("cpi-tools-") as room:
+            file = db or (room / "judged.db" if taken.bundles.most > most else None)
             for first in bundles:
                 with self._cpi.session(db=file, zone=self._zone) as session:
                     self._send(session, first)

@@ -9,7 +9,6 @@ from __future__ import annotations
 import argparse
 import os
 import sqlite3
-import tempfile
 from collections import Counter, defaultdict
 from collections.abc import Iterable, Sequence
 from pathlib import Path
@@ -19,6 +18,7 @@ from . import draft_faults
 from .copying import private_copy
 from .next_sample import next_sample, sample_of
 from .program import Cpi, add_program
+from .rooms import new_room
 from .stored import Assignment, Plan, Release, Series, Slot, StoredOffice, stored_office
 from .take_in import write_rows
 from .take_out import COLUMNS, Held, Line, held_by
@@ -223,13 +223,13 @@ def next_year(cpi: Cpi, file: Path, year: int, folder: Path) -> tuple[Now, Lists
     if os.path.lexists(folder):
         raise Fault(draft_faults.is_there(folder))
     folder.parent.mkdir(parents=True, exist_ok=True)
-    with private_copy(file) as copy, tempfile.TemporaryDirectory(prefix=".cpi-next-", dir=folder.parent) as room:
+    with private_copy(file) as copy, new_room(".cpi-next-", folder.parent) as room:
         # (the program opens it first, so it is an office, and of the schema that is read here)
         cpi.open(copy, file)
         with stored_office(copy) as stored:
             now = read(stored, year)
         found = lists(now, next_sample(cpi, copy, now.plan, now.last.month))
-        made = Path(room) / "lists"
+        made = room / "lists"
         made.mkdir(mode=0o700)
         write_next_year(made, now, found)
         made.rename(folder)

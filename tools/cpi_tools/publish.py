@@ -8,7 +8,6 @@ from __future__ import annotations
 
 import argparse
 import sys
-import tempfile
 import time
 from collections.abc import Callable, Iterable, Sequence
 from pathlib import Path
@@ -49,6 +48,7 @@ from .pack.stays import Earlier, changed_pages
 from .pack.tables import Series
 from .pack.tidy import write_whole
 from .pack.years import Archives, Span, earlier_years, first_of
+from .rooms import new_room
 from .signing import kept, signed_by
 from .sources import add_source, read_source, test_source
 from .terminal import Fault, Progress, ToolWords, because_of, counted, needs, time_text
@@ -189,8 +189,8 @@ def check(published: Iterable[Published], config: Config, out: Path, before: Opt
     series = series_of(published, config.specials)
     previous = previous_of(read_manifest(before), series) if before else read_manifest(out / MANIFEST).previous
     try:
-        with tempfile.TemporaryDirectory(prefix="cpi-pack-") as folder:
-            new = Path(folder) / "pack"
+        with new_room("cpi-pack-") as room:
+            new = room / "pack"
             new.mkdir()
             with compared_only():
                 write_pack(Pack(series, config, previous, kept(out), cards_like(out)), new, now, Before())

@@ -3,11 +3,11 @@
 from __future__ import annotations
 
 import subprocess
-import tempfile
 from pathlib import Path
 from typing import Optional
 
 from .pack.signature import NAMESPACE, SIGNATURE, SIGNERS, CannotSign, Sign, Signature, signature_in, unsigned
+from .rooms import new_room
 
 
 def signed(key: Path, identity: str, manifest: bytes) -> Signature:
@@ -44,10 +44,10 @@ def kept(folder: Path) -> Sign:
 
 def verify(signature: Signature, manifest: bytes) -> None:
     """Raises CannotSign if a signature isn't that of a manifest by the key that is named next to it."""
-    with tempfile.TemporaryDirectory(prefix="cpi-signature-") as folder:
-        signature.write(Path(folder))
+    with new_room("cpi-signature-") as room:
+        signature.write(room)
         named = ["-I", signature.identity, "-n", NAMESPACE]
-        files = ["-f", f"{folder}/{SIGNERS}", "-s", f"{folder}/{SIGNATURE}"]
+        files = ["-f", f"{room}/{SIGNERS}", "-s", f"{room}/{SIGNATURE}"]
         _ran(["-Y", "verify", *files, *named], manifest)
 
 

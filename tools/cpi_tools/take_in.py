@@ -30,6 +30,7 @@ from .office_sheets import SHEETS
 from .private_files import private_file, write_rows as write_rows
 from .program import Cpi, add_program
 from .report_language import ENGLISH, Teller, add_speech, chosen_speech
+from .rooms import new_room
 from .sent import MOST_RECORDS, Bundle
 from .sheets import Source, files_of
 from .known_rows import known_of
@@ -116,8 +117,8 @@ def write_records(out: Path, taken: Taken, most: int = MOST_RECORDS) -> list[Pat
     A key that was drawn is in `keys.csv` next to them, and in no other place but the records.
     """
     out.parent.mkdir(parents=True, exist_ok=True)
-    with tempfile.TemporaryDirectory(prefix=".cpi-take-in-", dir=out.parent) as room:
-        made = Path(room) / "records"
+    with new_room(".cpi-take-in-", out.parent) as room:
+        made = room / "records"
         made.mkdir(mode=0o700)
         names = []
         for number, part in enumerate(parted(taken.bundles, most), 1):

@@ -11,7 +11,6 @@ import argparse
 import os
 import sqlite3
 import sys
-import tempfile
 from collections.abc import Iterable, Iterator, Sequence
 from pathlib import Path
 
@@ -20,6 +19,7 @@ from .office_sheets import SHEETS
 from .price_cells import COMPARABLE, MISSING, PRICE, REASONS
 from .private_files import write_rows
 from .program import Cpi, add_program
+from .rooms import new_room
 from .stored import Assignment, Quote, Release, Series, Slot, StoredOffice, Window, stored_office
 from .terminal import Fault, Progress, ToolWords, because_of, month_text
 
@@ -195,10 +195,10 @@ def take_out(cpi: Cpi, file: Path, folder: Path) -> dict[str, int]:
     if os.path.lexists(folder):
         raise Fault(f"{folder} is there already: name a folder that isn't")
     folder.parent.mkdir(parents=True, exist_ok=True)
-    with private_copy(file) as copy, tempfile.TemporaryDirectory(prefix=".cpi-take-out-", dir=folder.parent) as room:
+    with private_copy(file) as copy, new_room(".cpi-take-out-", folder.parent) as room:
         # (the program opens it first, so it is an office, and of the schema that is read here)
         cpi.open(copy, file)
-        made = Path(room) / "files"
+        made = room / "files"
         made.mkdir(mode=0o700)
         with stored_office(copy) as stored:
             counts = write_files(stored, made)

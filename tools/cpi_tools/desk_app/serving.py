@@ -6,12 +6,12 @@ from __future__ import annotations
 import contextlib
 import os
 import sys
-import tempfile
 import threading
 from pathlib import Path
 
 import waitress
 
+from ..rooms import new_room
 from ..terminal import Fault, because_of
 from .app import MOST_BYTES, make_app
 from .desk import Desk, Given
@@ -28,8 +28,8 @@ def serve(given: Given, listen: str, front: str) -> None:
     behind a front or nothing. Raises Fault."""
     room(given.room)
     reached = Reached(listen, front or None)
-    with tempfile.TemporaryDirectory(prefix="cpi-desk-copies-", dir=given.copies) as folder:
-        desk = Desk(given._replace(copies=Path(folder)))
+    with new_room("cpi-desk-copies-", given.copies) as copies:
+        desk = Desk(given._replace(copies=copies))
         try:
             listening(desk, reached)
         finally:
