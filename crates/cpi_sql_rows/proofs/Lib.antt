@@ -2,6 +2,7 @@ pub mod Listed
 pub mod Asking
 pub mod Streaming
 pub mod Texts
+pub mod MarkWords
 pub mod Reading
 pub mod Distinct
 pub mod PlanYears

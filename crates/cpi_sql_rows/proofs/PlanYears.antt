@@ -1,5 +1,5 @@
 -- The rowids and the years that a query shows of a table of plans.
-use Rattle.std.proofs.Common.{◌≡◌, ℕ, ℤ, Less, List, [], ◌∷◌, map, Option, Some, is_some, refl, sym, ap, subst, ◌∙◌}
+use Rattle.std.proofs.Common.{◌≡◌, ℕ, ℤ, Less, List, [], ◌∷◌, map, Some, is_some, refl, ap, subst, ◌∙◌}
 use Rattle.std.specs.List.{AllByRecursion}
 use Rattle.std.specs.List.Sorted.{IsPermutation, IsStrictlySortedBy}
 use Rattle.std.specs.Ordering.{int_cmp}
@@ -9,7 +9,6 @@ use Rattle.sqlite.specs.Order.{Row, column}
 use Rattle.sqlite.specs.Program.{overlay}
 use Rattle.sqlite.specs.State.{State, Shown}
 use Rattle.sqlite.proofs.Callers.{reads_as}
-use Rattle.sqlite_rules.specs.Lists.{Has}
 use Rattle.sqlite_rules.proofs.ProbeLemmas.{mapped_has}
 use Rattle.sqlite_trees.proofs.ListLemmas.{map-map}
 use Rattle.cpi_rows.specs.Keyed.{IsInOrder}
@@ -18,7 +17,7 @@ use Rattle.cpi_sql_rows.specs.declared.rowids.Rowid.{Rowid}
 use Rattle.cpi_sql_rows.specs.Finding.{AreOfYears, ArePlanRows, AsksYears, plan_row_from, rowid_from}
 use Rattle.cpi_sql_rows.specs.WholeRows.{year_in}
 use Rattle.cpi_sql_rows.specs.Read.{AreRead}
-use Rattle.cpi_sql_rows.specs.Shelf.{AllStand, HasRowids}
+use Rattle.cpi_sql_rows.specs.Shelf.{AllStand}
 use Rattle.cpi_sql_rows.specs.Texts.{select, columns, by_columns}
 use Rattle.cpi_sql_rows.proofs.Distinct.{rowids_read, shown_all}
 use Rattle.cpi_sql_rows.proofs.Lists.{bound_is, some_is, stands_as}

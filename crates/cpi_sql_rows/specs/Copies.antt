@@ -1,5 +1,5 @@
 -- The rows of schema 1 as schema 2 has them: the tables that schema 2 has anew hold a copy of each, and nothing else.
-use Rattle.std.specs.Prelude.{ℕ, pos, List, [], ◌∷◌, map, drop}
+use Rattle.std.specs.Prelude.{pos, List, [], ◌∷◌, map, drop}
 use Rattle.std.specs.List.Sorted.{IsPermutation}
 use Rattle.sqlite.specs.declared.types.Value.TheVariants.{Null, Int}
 use Rattle.sqlite.specs.Order.{Row, column}

@@ -4,7 +4,7 @@ ghost use Rattle.cpi_codes.specs.Key.{key_of};
 ghost use Rattle.cpi_codes.specs.CodeOf.{spelled_code};
 ghost use Rattle.cpi_codes.specs.ItemCode.{item_code_of};
 ghost use Rattle.cpi_codes.specs.declared.limits.TheConstants.{GREATEST_SLOT, GREATEST_COLLECTOR, GREATEST_OUTLET};
-ghost use Rattle.cpi_sql_rows.specs.Common.{IfOk, Int, OnOk, Some, pos, string_bytes};
+ghost use Rattle.cpi_sql_rows.specs.Common.{IfOk, Int, None, OnErr, OnOk, Some, pos, string_bytes};
 ghost use Rattle.cpi_sql_rows.specs.Lists.{mark_from, mark_word, month_at, name_of, number_within, receipt_from};
 
 use crate::stored::Unread;
@@ -121,6 +121,7 @@ pub fn mark_value(mark: Mark) -> u32
 pub fn receipt_number(receipt: u32) -> Result<u32, Unread>
     ensures value { IfOk result (λ n. n ≡ receipt) }
     ensures range { OnOk result (receipt_from (Int (pos receipt)) ≡ Some receipt) }
+    ensures refused { OnErr result (receipt_from (Int (pos receipt)) ≡ None) }
 {
     if 1 <= receipt && receipt <= LAST_RECEIPT {
         Ok(receipt)

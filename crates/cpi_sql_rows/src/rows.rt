@@ -2,12 +2,12 @@
 ghost use Rattle.std.specs.Prelude.{◌≡◌};
 ghost use Rattle.cpi_codes.specs.CodeOf.{spelled_code};
 ghost use Rattle.cpi_codes.specs.declared.limits.TheConstants.{GREATEST_SLOT, GREATEST_COLLECTOR};
-ghost use Rattle.cpi_sql_rows.specs.Common.{IfSome, Some, column};
+ghost use Rattle.cpi_sql_rows.specs.Common.{IfSome, Some, column, option_map};
 ghost use Rattle.cpi_sql_rows.specs.Lists.{registration_from, calendar_from, code_from, item_from, item_of_values};
 ghost use Rattle.cpi_sql_rows.specs.Lists.{mark_from};
 ghost use Rattle.cpi_sql_rows.specs.Lists.{mark_in, month_from, name_from, number_in_value, outlet_from, price_or_none};
-ghost use Rattle.cpi_sql_rows.specs.Lists.{number_within, receipt_from, shown_node, shown_place, shown_reference};
-ghost use Rattle.cpi_sql_rows.specs.Lists.{text_in};
+ghost use Rattle.cpi_sql_rows.specs.Lists.{number_within, receipt_from, series_from, shown_node, shown_place};
+ghost use Rattle.cpi_sql_rows.specs.Lists.{shown_reference, text_in};
 
 use crate::reference_months::ReferenceMonth;
 use crate::stored::Stored;
@@ -24,7 +24,7 @@ use std::str;
 
 /// The text in the column, lent; none if the column has no text.
 pub fn text_at(row: &Row, at: usize) -> Option<&[u8]>
-    ensures { IfSome result (λ t. text_in (column row.now at) ≡ Some t.now) }
+    ensures { option_map (λ t. t.now) result ≡ text_in (column row.now at) }
 {
     match row.get_ref(at).ok()? {
         ValueRef::Text(text) => Some(text),
@@ -34,14 +34,17 @@ pub fn text_at(row: &Row, at: usize) -> Option<&[u8]>
 
 /// The whole number in the column; none if the column has none, or one below 0.
 pub fn number_at(row: &Row, at: usize) -> Option<u64>
-    ensures { IfSome result (λ n. number_in_value (column row.now at) ≡ Some n) }
+    ensures { result ≡ number_in_value (column row.now at) }
 {
-    row.get(at).ok()
+    match row.get_ref(at).ok()? {
+        ValueRef::Int(number) => u64::try_from(number).ok(),
+        _ => None,
+    }
 }
 
 /// The month in the column, written as year * 100 + month.
 pub fn read_month(row: &Row, at: usize) -> Option<Month>
-    ensures { IfSome result (λ m. month_from (column row.now at) ≡ Some m) }
+    ensures { result ≡ month_from (column row.now at) }
 {
     let number = number_at(row, at)?;
     let year = u16::try_from(number / 100).ok()?;
@@ -57,7 +60,7 @@ pub fn read_name(alloc: Global, row: &Row, at: usize) -> Option<Name>
 
 /// The code of an item in the column.
 pub fn read_item_code(row: &Row, at: usize) -> Option<ItemCode>
-    ensures { IfSome result (λ c. item_from (column row.now at) ≡ Some c) }
+    ensures { result ≡ item_from (column row.now at) }
 {
     ItemCode::parse(text_at(row, at)?)
 }
@@ -65,7 +68,7 @@ pub fn read_item_code(row: &Row, at: usize) -> Option<ItemCode>
 // The mark of a word and a price in minor units; none if no mark has the word, or if the mark needs a price and this is
 // none.
 fn mark_of(text: &str, value: u64) -> Option<Mark>
-    ensures { IfSome result (λ m. mark_from text.now value ≡ Some m) }
+    ensures { result ≡ mark_from text.now value }
 {
     match text {
         "price" => Some(Mark::Price(Price::new(value)?)),
@@ -125,21 +128,20 @@ impl Stored for CalendarRow {
     }
 }
 
-/// The price that was copied when the series was handed over, if there is one.
+/// The price that was copied when the series was handed over, if there is one. A column past the end is NULL.
 pub fn read_copied(row: &Row, at: usize) -> Option<Option<Price>>
-    ensures { IfSome result (λ p. price_or_none (column row.now at) ≡ Some p) }
+    ensures { result ≡ price_or_none (column row.now at) }
 {
-    match row.get(at).ok()? {
-        None => Some(None),
-        Some(units) => Price::new(units).map(Some),
+    match row.get_ref(at).unwrap_or(ValueRef::Null) {
+        ValueRef::Null => Some(None),
+        ValueRef::Int(units) => Price::new(u64::try_from(units).ok()?).map(Some),
+        _ => None,
     }
 }
 
 /// The series of a collector and a slot.
 pub fn read_series(row: &Row, collector: usize, slot: usize) -> Option<SeriesId>
-    ensures collector { IfSome result (λ s.
-        number_within 1 GREATEST_COLLECTOR (column row.now collector) ≡ Some s.collector) }
-    ensures slot { IfSome result (λ s. number_within 1 GREATEST_SLOT (column row.now slot) ≡ Some s.slot) }
+    ensures { result ≡ series_from (column row.now collector) (column row.now slot) }
 {
     let collector = CollectorId::new(number_at(row, collector)?)?;
     let slot = Slot::new(number_at(row, slot)?)?;
@@ -148,7 +150,7 @@ pub fn read_series(row: &Row, collector: usize, slot: usize) -> Option<SeriesId>
 
 /// The mark of an observation, from its word and its price.
 pub fn read_mark(row: &Row, mark: usize, value: usize) -> Option<Mark>
-    ensures { IfSome result (λ m. mark_in (column row.now mark) (column row.now value) ≡ Some m) }
+    ensures { result ≡ mark_in (column row.now mark) (column row.now value) }
 {
     let word = str::from_utf8(text_at(row, mark)?).ok()?;
     mark_of(word, number_at(row, value)?)
@@ -163,14 +165,14 @@ pub fn code_of(text: &[u8]) -> Option<Code>
 
 /// The code of a node in the column.
 pub fn read_code(row: &Row, at: usize) -> Option<Code>
-    ensures { IfSome result (λ c. code_from (column row.now at) ≡ Some c) }
+    ensures { result ≡ code_from (column row.now at) }
 {
     code_of(text_at(row, at)?)
 }
 
 /// The whole number in the column, if it is in the range.
 pub fn read_between(row: &Row, at: usize, least: u64, most: u64) -> Option<u64>
-    ensures { IfSome result (λ n. number_within least most (column row.now at) ≡ Some n) }
+    ensures { result ≡ number_within least most (column row.now at) }
 {
     let number = number_at(row, at)?;
     if least <= number && number <= most {
@@ -182,14 +184,14 @@ pub fn read_between(row: &Row, at: usize, least: u64, most: u64) -> Option<u64>
 
 /// The receipt in the column, 1 to 1,000,000.
 pub fn read_receipt(row: &Row, at: usize) -> Option<u32>
-    ensures { IfSome result (λ n. receipt_from (column row.now at) ≡ Some n) }
+    ensures { result ≡ receipt_from (column row.now at) }
 {
     u32::try_from(read_between(row, at, 1, LAST_RECEIPT.into())?).ok()
 }
 
 // The year of a plan in the first column, 2000 to 2199.
 fn read_year(row: &Row) -> Option<u64>
-    ensures { IfSome result (λ y. number_within 2000 2199 (column row.now 0) ≡ Some y) }
+    ensures { result ≡ number_within 2000 2199 (column row.now 0) }
 {
     read_between(row, 0, 2000, 2199)
 }

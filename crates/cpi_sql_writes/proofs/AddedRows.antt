@@ -1,5 +1,5 @@
 -- Rows added to those of a holder one by one, and rows dropped before.
-use Rattle.std.proofs.Common.{◌≡◌, ◌⊎◌, inl, inr, ℕ, List, [], ◌∷◌, ◌++◌, Bool, true, false, Some, Option}
+use Rattle.std.proofs.Common.{◌≡◌, ◌⊎◌, inl, inr, ℕ, List, [], ◌∷◌, ◌++◌, Bool, true, Some, Option}
 use Rattle.std.proofs.Common.{Result, refl, sym, ap, subst, ◌∙◌, ◌+◌, arith, take, drop, slice_range}
 use Rattle.std.proofs.lemmas.Bool.{cases_Bool, true≢false}
 use Rattle.std.proofs.Math.Seq.{take-add}
