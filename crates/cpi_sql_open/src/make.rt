@@ -1,5 +1,5 @@
 //! The tables of an empty database, and those that schema 2 adds.
-ghost use Rattle.std.specs.Prelude.{◌≡◌};
+ghost use Rattle.std.specs.Prelude.{◌≡◌, ◌≢◌};
 ghost use Rattle.cpi_sql_rows.specs.Common.{HasCleanDisk, IsTrue, KeepsCommit, OnErr, OnOk, Survives, false};
 ghost use Rattle.cpi_sql_rows.specs.Common.{first_schema, map, state};
 ghost use Rattle.cpi_sql_rows.specs.Making.{IsBlank, IsNewDatabase, no_schema};
@@ -122,7 +122,8 @@ pub fn make_unnumbered<S: Alter>(conn: &mut Connection<S>, more: &[&str]) -> Res
 
 /// Whether the database has nothing in it.
 pub fn is_blank<S: Alter>(conn: &Connection<S>) -> bool
-    ensures { IsTrue result → (state S.Store conn.now).now.schema ≡ no_schema }
+    ensures blank { IsTrue result → (state S.Store conn.now).now.schema ≡ no_schema }
+    ensures filled { result ≡ false → (state S.Store conn.now).now.schema ≢ no_schema }
 {
     let schema = conn.schema();
     schema.tables.is_empty() && schema.indexes.is_empty() && schema.views.is_empty()

@@ -2,10 +2,10 @@
 ghost use Rattle.std.specs.Prelude.{◌≡◌};
 ghost use Rattle.cpi_sql_rows.specs.Common.{[], HasCleanDisk, IfOk, IsCleanBook, IsTrue, KeepsCommit, Shown};
 ghost use Rattle.cpi_sql_rows.specs.Common.{Survives, false, office_schema, state};
-ghost use Rattle.cpi_sql_rows.specs.Numbered.{IsVersion, ShowsOther, version_text};
+ghost use Rattle.cpi_sql_rows.specs.Numbered.{IsVersion, version_text};
 ghost use Rattle.cpi_sql_rows.specs.Tables.{table_of_version};
-ghost use Rattle.cpi_sql_open.specs.declared.version.Version.TheVariants.{Second, Other};
-ghost use Rattle.cpi_sql_open.specs.Said.{SaysVersion};
+ghost use Rattle.cpi_sql_open.specs.declared.version.Version.TheVariants.{Second};
+ghost use Rattle.cpi_sql_open.specs.Said.{SaysVersion, ShowsVersion};
 
 use cpi_sql_rows::settle;
 use sqlite::{Alter, Connection, Error, Row, Transaction};
@@ -63,8 +63,7 @@ pub fn read_version<S: Alter>(conn: &mut Connection<S>) -> Result<Version, Error
     ensures second { HasCleanDisk (state S.Store conn.new) → IfOk result (λ v. v ≡ Second →
         (state S.Store conn.old).now.schema ≡ office_schema →
         IsVersion 2 ((state S.Store conn.old).now.trees table_of_version.tree)) }
-    ensures other { HasCleanDisk (state S.Store conn.new) →
-        IfOk result (λ v. v ≡ Other → ShowsOther S.Store conn.old) }
+    ensures shown { HasCleanDisk (state S.Store conn.new) → IfOk result (ShowsVersion S.Store conn.old) }
     ensures survives { Survives (state S.Store conn.old) (state S.Store conn.new) (λ _. ⊥) }
 {
     settle(conn);

@@ -16,20 +16,12 @@ returns-clause-second g c = λ clean.
     if_ok c.look-found.result _ _ (c.look-found.ensures.shown disk)
     (λ v it is has. second_found s begun looked it.0 start has it.1 (subst (λ w. SaysVersion w it.0) is it.2))
 
-pub returns-clause-other : goal.returns-clause-other
-returns-clause-other g c = λ clean.
+pub returns-clause-shown : goal.returns-clause-shown
+returns-clause-shown g c = λ clean.
     let s = state g.S.Store c.args.conn.now in
     let begun = state g.S.Store c.transaction-tx.result.conn.now in
     let looked = state g.S.Store c.look-found.new.tx.conn.now in
     let disk : HasCleanDisk looked = search rules in
     let start : begun.now ≡ s.now = search rules in
-    if_ok c.look-found.result _ _ (c.look-found.ensures.shown disk) (λ v it is.
-    let said = subst (λ w. SaysVersion w it.0) is it.2 in (
-      c.transaction-tx.result.conn.now,
-      c.look-found.new.tx.conn.now,
-      start,
-      it.0,
-      it.1,
-      said.0,
-      said.1,
-    ))
+    if_ok c.look-found.result _ _ (c.look-found.ensures.shown disk)
+    (λ v it. (c.transaction-tx.result.conn.now, c.look-found.new.tx.conn.now, start, it.0, it.1, it.2))
