@@ -31,6 +31,9 @@ module _ (old new : State) (n m : ℕ) (tables : IsCleanBook old → HasTables o
     ];
   }
 
+  pub same_rows : IsLook old new → IsCleanBook new → new.now ≡ old.now
+  same_rows look clean = (look.kept clean (tables (look.clean clean))).now
+
   pub looks : {T E F : Type 0} {Shown : T → Type 0} (found : Result T E) (result : Result T F)
       → Looks old new found → IsCounted found result n m → (IsCleanBook new → (x : T) → found ≡ Ok x → Shown x)
       → Reads (office_state old n) (office_state new m) result Shown

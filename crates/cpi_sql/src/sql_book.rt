@@ -245,6 +245,7 @@ impl<S: Alter> Groups for SqlBook<S> {
         ensures reads { ReadsOffice S.Store self.old self.new result (λ office rows.
             IsFit (office_sources office) → _year ≡ year_of month → IsAfterFrozen (office_sources office) month →
             rows.items ≡ group_of (office_sources office) month code) }
+        ensures now { KeepsRows S.Store self.old self.new }
         ensures taken { RestsOn S.Store self.old self.new result AreTaken }
         ensures headers { RestsOn S.Store self.old self.new result HeadersTaken }
         ensures lists { RestsOn S.Store self.old self.new result (SamplesTaken month) }
@@ -267,6 +268,7 @@ impl<S: Alter> Groups for SqlBook<S> {
     fn chained(&mut self, month: Month, code: Code) -> Result<Option<ChainedLevel>, GroupFault>
         ensures reads { ReadsOffice S.Store self.old self.new result (λ office level.
             IsFit (office_sources office) → level ≡ level_at_month (office_sources office).releases month code) }
+        ensures now { KeepsRows S.Store self.old self.new }
         ensures headers { RestsOn S.Store self.old self.new result HeadersTaken }
         ensures rows { RestsOn S.Store self.old self.new result
             (LatestStands level_in_row table_of_levels_2.tree month) }
@@ -299,6 +301,7 @@ impl<S: Alter> Book for SqlBook<S> {
 
     fn registration_of(&mut self, key: Key) -> Result<Option<Registration>, StoreFault>
         ensures reads { Finds S.Store self.old self.new result (λ office. registration_of key office.collectors) }
+        ensures now { KeepsRows S.Store self.old self.new }
         ensures taken { RestsOn S.Store self.old self.new result AreTaken }
     {
         self.ready_survey()?;
@@ -308,6 +311,7 @@ impl<S: Alter> Book for SqlBook<S> {
     fn registration_at(&mut self, number: CollectorId) -> Result<Option<Registration>, StoreFault>
         ensures reads { Finds S.Store self.old self.new result
             (λ office. row_by_number (λ b. b.number) number office.collectors) }
+        ensures now { KeepsRows S.Store self.old self.new }
         ensures taken { RestsOn S.Store self.old self.new result AreTaken }
     {
         self.ready_survey()?;
@@ -316,6 +320,7 @@ impl<S: Alter> Book for SqlBook<S> {
 
     fn collector_of(&mut self, key: Key) -> Result<Option<CollectorId>, StoreFault>
         ensures reads { Finds S.Store self.old self.new result (λ office. collector_of key office.collectors) }
+        ensures now { KeepsRows S.Store self.old self.new }
         ensures taken { RestsOn S.Store self.old self.new result AreTaken }
     {
         self.ready_survey()?;
@@ -328,6 +333,7 @@ impl<S: Alter> Book for SqlBook<S> {
 
     fn collector_key(&mut self, number: CollectorId) -> Result<Option<Key>, StoreFault>
         ensures reads { Finds S.Store self.old self.new result (λ office. collector_key number office.collectors) }
+        ensures now { KeepsRows S.Store self.old self.new }
         ensures taken { RestsOn S.Store self.old self.new result AreTaken }
     {
         self.ready_survey()?;
@@ -342,7 +348,7 @@ impl<S: Alter> Book for SqlBook<S> {
         ensures* reads { sem 𝓛 (EndsAs (the_row S.row S.Store) self.entry (λ book.
             ReadsOffice S.Store self.old book result (λ office found.
             option_copied found ≡ row_by_number (λ u. u.number) number office.outlets)
-            × RestsOn S.Store self.old book result AreTaken)) }
+            × KeepsRows S.Store self.old book × RestsOn S.Store self.old book result AreTaken)) }
     {
         self.ready_survey()?;
         Ok(self.survey.outlet(number))
@@ -351,7 +357,7 @@ impl<S: Alter> Book for SqlBook<S> {
     fn public_part(&mut self) -> Result<&Public, StoreFault>
         ensures* reads { sem 𝓛 (EndsAs (the_row S.row S.Store) self.entry (λ book.
             ReadsOffice S.Store self.old book result (λ office public. public.now ≡ public_part office)
-            × RestsOn S.Store self.old book result AreTaken)) }
+            × KeepsRows S.Store self.old book × RestsOn S.Store self.old book result AreTaken)) }
     {
         self.ready_survey()?;
         Ok(self.survey.public())
@@ -360,7 +366,7 @@ impl<S: Alter> Book for SqlBook<S> {
     fn own(&mut self, collector: CollectorId) -> Result<&Own, StoreFault>
         ensures* reads { sem 𝓛 (EndsAs (the_row S.row S.Store) self.entry (λ book.
             ReadsOffice S.Store self.old book result (λ office own. own.now ≡ own_part collector office)
-            × RestsOn S.Store self.old book result AreTaken)) }
+            × KeepsRows S.Store self.old book × RestsOn S.Store self.old book result AreTaken)) }
     {
         self.ready_survey()?;
         Ok(self.survey.own(collector))
@@ -370,7 +376,7 @@ impl<S: Alter> Book for SqlBook<S> {
         ensures* reads { sem 𝓛 (EndsAs (the_row S.row S.Store) self.entry (λ book.
             ReadsOffice S.Store self.old book result (λ office parts.
             (parts.public.now ≡ public_part office) × (parts.own.now ≡ own_part collector office))
-            × RestsOn S.Store self.old book result AreTaken)) }
+            × KeepsRows S.Store self.old book × RestsOn S.Store self.old book result AreTaken)) }
     {
         self.ready_survey()?;
         Ok(self.survey.parts(collector))
@@ -379,6 +385,7 @@ impl<S: Alter> Book for SqlBook<S> {
     fn given(&mut self, collector: CollectorId, slot: Slot) -> Result<Option<Given>, StoreFault>
         ensures reads { Finds S.Store self.old self.new result (λ office.
             row_by_number (λ g. g.assignment.slot) slot (held_by collector office.assignments)) }
+        ensures now { KeepsRows S.Store self.old self.new }
         ensures taken { RestsOn S.Store self.old self.new result AreTaken }
     {
         self.ready_survey()?;
@@ -388,6 +395,7 @@ impl<S: Alter> Book for SqlBook<S> {
     fn frozen_months(&mut self) -> Result<Vec<FrozenMonth>, StoreFault>
         ensures reads { ReadsOffice S.Store self.old self.new result (λ office found.
             found.items ≡ frozen_months office.releases) }
+        ensures now { KeepsRows S.Store self.old self.new }
         ensures headers { RestsOn S.Store self.old self.new result HeadersTaken }
     {
         self.ready_headers()?;
@@ -399,6 +407,7 @@ impl<S: Alter> Book for SqlBook<S> {
         ensures reads { ReadsOffice S.Store self.old self.new result (λ office found.
             are_by_series frozen_serial (quotes_of_month month office) ≡ true →
             found.items ≡ quotes_of_month month office) }
+        ensures now { KeepsRows S.Store self.old self.new }
         ensures taken { RestsOn S.Store self.old self.new result AreTaken }
     {
         self.ready_survey()?;
@@ -409,6 +418,7 @@ impl<S: Alter> Book for SqlBook<S> {
     fn tables_until(&mut self, until: Moment) -> Result<Vec<FrozenMonth>, StoreFault>
         ensures reads { ReadsOffice S.Store self.old self.new result (λ office found.
             found.items ≡ map frozen_month_of (published_until until office.releases)) }
+        ensures now { KeepsRows S.Store self.old self.new }
         ensures headers { RestsOn S.Store self.old self.new result HeadersTaken }
     {
         self.ready_headers()?;
@@ -423,6 +433,7 @@ impl<S: Alter> Book for SqlBook<S> {
     ) -> Result<Option<Revision>, StoreFault>
         ensures reads { Finds S.Store self.old self.new result (λ office.
             option_map (λ t. t.revision) (table_until month None until office.releases)) }
+        ensures now { KeepsRows S.Store self.old self.new }
         ensures headers { RestsOn S.Store self.old self.new result HeadersTaken }
     {
         self.ready_headers()?;
@@ -438,6 +449,7 @@ impl<S: Alter> Book for SqlBook<S> {
         ensures* reads { sem 𝓛 (EndsAs (the_row S.row S.Store) self.entry (λ book.
             ReadsOffice S.Store self.old book result (λ office found.
             option_copied found ≡ option_map (λ t. t.levels) (table_until month (Some revision) until office.releases))
+            × KeepsRows S.Store self.old book
             × RestsOn S.Store self.old book result (IsTableTaken month revision until))) }
     {
         self.ready_headers()?;

@@ -7,7 +7,7 @@ use Rattle.cpi_store.specs.Tables.{table_until}
 use Rattle.cpi_sql_reads.specs.Headers.{holds_release, is_header_there}
 use Rattle.cpi_sql_rows.specs.Shelf.{IsCleanBook}
 use Rattle.cpi_sql_reads.proofs.HeaderLists.{table_shown, there_has}
-use Rattle.cpi_sql.proofs.Calls.{looks, then_fault, then_read, then_shown}
+use Rattle.cpi_sql.proofs.Calls.{looks, same_rows, then_fault, then_read, then_shown}
 use Rattle.cpi_sql.proofs.Counted.{on_ok}
 use Rattle.cpi_sql.proofs.Followed.{lists_sound, tables_of}
 use Rattle.cpi_sql.proofs.TablesTaken.{rests_not, table_stands, table_taken}
@@ -32,6 +32,7 @@ returns-then-not-is_there g c =
               (λ never. absurd (let e = never in cc))
               ∙ ap (λ (o : Office). option_map (λ (t : PublishedTable). t.levels)
               (table_until c.args.month (Some c.args.revision) c.args.until o.releases)) (read.keeps.kept clean)),
+          same,
           (λ clean. table_taken (state g.S.Store c.args.self.now.held).now now.now _ _ _ false (same clean) (told clean)
               ((c.self.invariant clean).cached.headers ready).taken (λ never. absurd (let e = never in cc))),
         ),
@@ -84,6 +85,8 @@ returns g c =
               ∙ ap (λ (o : Office). option_map (λ (t : PublishedTable). t.levels)
               (table_until c.args.month (Some c.args.revision) c.args.until o.releases))
               (read.keeps.kept (before clean))),
+          (λ clean. same_rows now new 0 0 (tables_of now _ c.self.invariant) c.ready_table-read.ensures.look.still clean
+              ∙ same (before clean)),
           (λ clean. table_taken (state g.S.Store c.args.self.now.held).now now.now _ _ _ true (same (before clean))
               (told clean) (headers clean).taken (λ _. table_stands now.now.trees c.args.month c.args.revision
               c.ready_table-read.new.lists.levels.items (tables clean) there)),
@@ -96,7 +99,9 @@ pub returns-in_err-counted : goal.returns-in_err-counted
 returns-in_err-counted g c =
     let now = state g.S.Store c.self.inside.conn in
     let new = state g.S.Store c.ready_table-read.new.conn in
-    let read = rw (← c.self.view_is) at c.in_ok-ready_headers.ensures.reads in (
+    let read = rw (← c.self.view_is) at c.in_ok-ready_headers.ensures.reads in
+    let same = rw (← c.self.view_is) at c.in_ok-ready_headers.ensures.now in
+    let look = c.ready_table-read.ensures.look.still in (
       (
         refl,
         (λ _. tt),
@@ -104,6 +109,7 @@ returns-in_err-counted g c =
           then_fault _ _ _ _ _ refl c.from_residual-in_err-counted.ensures.0
               (then_read _ _ _ _ _ _ read (looks now new _ _ (tables_of now _ c.self.invariant) {Shown = λ _. ⊤} _ _
               c.ready_table-read.ensures.look c.in_err-counted.ensures (λ _ _ _. tt))),
+          (λ clean. same_rows now new 0 0 (tables_of now _ c.self.invariant) look clean ∙ same (look.clean clean)),
           rests_not _ _ c.from_residual-in_err-counted.ensures.0,
         ),
       ),

@@ -6,7 +6,7 @@ use Rattle.cpi_release.specs.Releases.{level_at_month}
 use Rattle.cpi_store.specs.Office.{Office}
 use Rattle.cpi_sql_rows.specs.Lists.{level_in_row}
 use Rattle.cpi_sql_reads.specs.Headers.{LatestStands}
-use Rattle.cpi_sql.proofs.Calls.{looks, then_read}
+use Rattle.cpi_sql.proofs.Calls.{looks, same_rows, then_read}
 use Rattle.cpi_sql.proofs.Counted.{answers, was_ok}
 use Rattle.cpi_sql.proofs.Followed.{lists_sound, tables_of}
 use Rattle.cpi_sql.proofs.sql_book.SqlBookGroups.chained.Goals as goal
@@ -35,6 +35,14 @@ returns-clause-reads g c =
     (rw is at (c.chained_level-found.ensures.read clean st.tables
     (c.deref.ensures.value ∙ (st.cached.headers (ready g c)).read) st.cached.lists))
     ∙ ap (λ (o : Office). level_at_month o.releases c.args.month c.args.code) (read.keeps.kept before)))
+
+pub returns-clause-now : goal.returns-clause-now
+returns-clause-now g c = λ clean.
+    let now = state g.S.Store c.self.inside.conn in
+    let same = rw (← c.self.view_is) at c.ready_headers.ensures.now in
+    let look = c.chained_level-found.ensures.look.still in
+    same_rows now (state g.S.Store c.chained_level-found.new.conn) 0 0 (tables_of now _ c.self.invariant) look clean
+    ∙ same (look.clean clean)
 
 pub returns-clause-rows : goal.returns-clause-rows
 returns-clause-rows g c = λ clean.

@@ -9,8 +9,9 @@ use Rattle.cpi_release.specs.GroupCalls.{IsAfterFrozen, group_of}
 use Rattle.cpi_store.specs.Office.{Office}
 use Rattle.cpi_store.specs.Sources.{office_sources}
 use Rattle.cpi_sql_rows.specs.Lists.{office_in}
+use Rattle.cpi_sql_rows.specs.Shelf.{IsCleanBook}
 use Rattle.cpi_sql_reads.specs.Samples.{SamplesTaken}
-use Rattle.cpi_sql.proofs.Calls.{looks, then_fault, then_read}
+use Rattle.cpi_sql.proofs.Calls.{looks, same_rows, then_fault, then_read}
 use Rattle.cpi_sql.proofs.Counted.{answers, was_ok}
 use Rattle.cpi_sql.proofs.Followed.{look_sound, tables_of}
 use Rattle.cpi_sql.proofs.sql_book.SqlBookGroups.rows.Goals as goal
@@ -56,14 +57,26 @@ returns-clause-reads g c =
     st.cached.lists (st.cached.survey (ready g c).1).read st.cached.samples fit
     (late (office_sources (office_in now.now.trees)) c.args.month fit.0 after)))))
 
+-- the rows are as they were when the headers and the survey are read
+same : (g : _) (c : goal.After-counted g) → IsCleanBook (state g.S.Store c.self.inside.conn)
+    → (state g.S.Store c.self.inside.conn).now ≡ (state g.S.Store c.args.self.now.held).now
+same g c before =
+    let second = rw (← c.self.view_is) at c.ready_survey.ensures.reads in
+    (rw (← c.self.view_is) at c.ready_survey.ensures.now) before
+    ∙ c.ready_headers.ensures.now (second.keeps.was_clean before)
+
+pub returns-clause-now : goal.returns-clause-now
+returns-clause-now g c = λ clean.
+    let now = state g.S.Store c.self.inside.conn in
+    let look = c.sample_of-found.ensures.look.still in
+    same_rows now (state g.S.Store c.sample_of-found.new.conn) 0 0 (tables_of now _ c.self.invariant) look clean
+    ∙ same g c (look.clean clean)
+
 pub returns-clause-lists : goal.returns-clause-lists
 returns-clause-lists g c = λ clean.
     let before = c.sample_of-found.ensures.look.still.clean clean in
-    let second = rw (← c.self.view_is) at c.ready_survey.ensures.reads in
-    let same = (rw (← c.self.view_is) at c.ready_survey.ensures.now) before
-    ∙ c.ready_headers.ensures.now (second.keeps.was_clean before) in
     let st = c.self.invariant before in
-    subst (λ (d : Database). OnOk c.counted.result (SamplesTaken c.args.month d.trees)) same
+    subst (λ (d : Database). OnOk c.counted.result (SamplesTaken c.args.month d.trees)) (same g c before)
     (answers _ _ _ c.counted.ensures
     (c.sample_of-found.ensures.taken clean st.tables (c.deref.ensures.value ∙ (st.cached.headers (ready g c).0).read)
     st.cached.lists (st.cached.survey (ready g c).1).read st.cached.samples))
