@@ -137,6 +137,8 @@ def document_fault(name: str) -> Fault:
 
 RECORDS = os.path.join(TOP, "examples/table.csv")
 EXAMPLE = re.compile(r"^Example: +(cpi (?:.*\\\n)*.*)$", re.M)
+BARE = re.compile(r"^ +(?:-\w, )?--[\w-]+(?: <[\w-]+>)? *$", re.M)
+"""An option of which nothing is said."""
 PARTS = ["Reads: ", "Writes: ", "Example: ", "Exit status:\n", "  0 ", "  1 ", "  2 "]
 COMMANDS: list[list[str]] = [[], ["replay"], ["table"], ["serve"]]
 
@@ -161,9 +163,10 @@ def help_fault(program: Program, command: list[str]) -> Fault:
     text = program.run(*command, "--help").out.decode()
     lacking = [part for part in PARTS if f"\n{part}" not in text]
     wide = [line for line in text.splitlines() if len(line) > 100]
+    bare = BARE.findall(text)
     example = EXAMPLE.search(text)
-    if lacking or wide or not example:
-        return f"it lacks {lacking}, and has wide lines {wide}"
+    if lacking or wide or bare or not example:
+        return f"it lacks {lacking}, has wide lines {wide}, and says nothing of {bare}"
     with tempfile.TemporaryDirectory() as room:
         shutil.copy(RECORDS, f"{room}/records.csv")
         with open(f"{room}/desk-key", "w", encoding="utf-8") as file:

@@ -1,5 +1,5 @@
 //! A writer that offers a response to a peer, who may leave before its end.
-ghost use Rattle.std.specs.Prelude.{IsOk};
+ghost use Rattle.std.specs.Prelude.{◌≡◌, [], IfOk, IsOk, false, true};
 ghost use Rattle.std.specs.Io.{WritesAtMost};
 
 use std::io;
@@ -15,7 +15,10 @@ pub struct Offered<W> {
 
 impl<W: Write> Offered<W> {
     /// Offers to the writer whatever is written.
-    pub fn new(writer: W) -> Offered<W> {
+    pub fn new(writer: W) -> Offered<W>
+        ensures writer { result.writer ≡ writer }
+        ensures taken { result.is_taken ≡ true }
+    {
         Offered {
             writer,
             is_taken: true,
@@ -23,7 +26,9 @@ impl<W: Write> Offered<W> {
     }
 
     /// Whether the writer below took all that was written.
-    pub fn is_taken(&self) -> bool {
+    pub fn is_taken(&self) -> bool
+        ensures { result ≡ self.now.is_taken }
+    {
         self.is_taken
     }
 }
@@ -32,6 +37,8 @@ impl<W: Write> Write for Offered<W> {
     fn write(&mut self, buf: &[u8]) -> io::Result<usize>
         ensures bound { WritesAtMost result buf.now }
         ensures takes { IsOk result }
+        ensures some { IfOk result (λ n. n ≡ 0 → buf.now ≡ []) }
+        ensures once { self.old.is_taken ≡ false → self.new ≡ self.old }
     {
         if self.is_taken {
             match self.writer.write(buf) {
@@ -42,7 +49,10 @@ impl<W: Write> Write for Offered<W> {
         Ok(buf.len())
     }
 
-    fn flush(&mut self) -> io::Result<()> {
+    fn flush(&mut self) -> io::Result<()>
+        ensures takes { IsOk result }
+        ensures once { self.old.is_taken ≡ false → self.new ≡ self.old }
+    {
         if self.is_taken && self.writer.flush().is_err() {
             self.is_taken = false;
         }

@@ -17,7 +17,7 @@ use Rattle.sqlite.specs.Order.{Row}
 use Rattle.sqlite.specs.Tree.{Trees}
 use Rattle.sqlite_rules.specs.Lists.{Has}
 use Rattle.sqlite_rules.proofs.ListLemmas.{all_from, all_has, has_filtered, has_kept, some_from, some_has}
-use Rattle.sqlite_rules.proofs.ProbeLemmas.{has_mapped, mapped_has}
+use Rattle.sqlite_rules.proofs.ProbeLemmas.{mapped_has}
 use Rattle.cpi_rows.specs.Keyed.{IsInOrder, row_at}
 use Rattle.cpi_rows.specs.Held.{held_by, held_cmp, held_key}
 use Rattle.cpi_rows.proofs.Found.{row_key}
@@ -25,7 +25,7 @@ use Rattle.cpi_release.specs.FrozenMonths.{ReleaseKey, frozen_month, frozen_mont
 use Rattle.cpi_release.specs.Latest.{latest_row}
 use Rattle.cpi_release.specs.PublishedTables.{PublishedTable, asked_table, is_asked, published_table, published_until}
 use Rattle.cpi_release.specs.PublishedTables.{frozen_month_of}
-use Rattle.cpi_release.specs.Releases.{latest_release, levels_of}
+use Rattle.cpi_release.specs.Releases.{latest_release}
 use Rattle.cpi_release.specs.declared.level.Level.{Level}
 use Rattle.cpi_release.specs.declared.release.Release.{Release}
 use Rattle.cpi_release.proofs.LatestRows.{latest_all}

@@ -1,5 +1,5 @@
 -- The lists of earlier months that a month's samples are made from.
-use Rattle.std.specs.Prelude.{◌≡◌, ◌≢◌, ℕ, IfSome, List, [], Option}
+use Rattle.std.specs.Prelude.{◌≢◌, ℕ, IfSome, List, [], Option}
 use Rattle.std.specs.Option.{option_map_or}
 use Rattle.sqlite.specs.Tree.{Trees}
 use Rattle.cpi_index.specs.Carried.{Carried}

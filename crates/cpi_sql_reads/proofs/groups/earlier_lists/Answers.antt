@@ -3,7 +3,7 @@ use Rattle.sqlite.specs.Held.{state}
 use Rattle.cpi_sql_rows.specs.HeldTables.{carried_table, frozen_table}
 use Rattle.cpi_sql_rows.specs.Lists.{headers_in}
 use Rattle.cpi_sql_reads.specs.ReleaseLists.{AreListsOf, IsLatest}
-use Rattle.cpi_sql_reads.proofs.Looking.{later, looks_both, looks_done, looks_refused}
+use Rattle.cpi_sql_reads.proofs.Looking.{later, looks_both, looks_refused}
 use Rattle.cpi_sql_reads.proofs.groups.earlier_lists.Goals as goal
 
 pub returns-in_err-link_carried-clause-look : goal.returns-in_err-link_carried-clause-look

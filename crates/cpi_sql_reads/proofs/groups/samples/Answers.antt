@@ -8,10 +8,10 @@ use Rattle.cpi_release.specs.GroupCalls.{Sources}
 use Rattle.cpi_release.specs.Releases.{carried_of, frozen_of}
 use Rattle.cpi_store.specs.Sources.{office_sources}
 use Rattle.cpi_sql_rows.specs.HeldTables.{carried_table}
-use Rattle.cpi_sql_rows.specs.Lists.{carried_in_row, frozen_in, office_in, releases_in}
+use Rattle.cpi_sql_rows.specs.Lists.{carried_in_row, frozen_in, office_in}
 use Rattle.cpi_sql_rows.proofs.FoundTables.{on_any}
 use Rattle.cpi_sql_rows.proofs.Whole.{if_ok}
-use Rattle.cpi_sql_reads.specs.Earlier.{AreEarlier, rows_of_list}
+use Rattle.cpi_sql_reads.specs.Earlier.{AreEarlier}
 use Rattle.cpi_sql_reads.specs.Headers.{LatestStands}
 use Rattle.cpi_sql_reads.specs.ReleaseLists.{IsLatest}
 use Rattle.cpi_sql_reads.specs.declared.groups.EarlierLists.{EarlierLists}
