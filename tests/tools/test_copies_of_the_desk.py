@@ -34,6 +34,6 @@ def test_no_copy_is_taken_once_the_application_ends(office: Path, tmp_path: Path
     copies = Copies(office, tmp_path)
     copies.close()
     for ask in (copies.renew, copies.latest().__enter__):
-        with pytest.raises(Fault, match="no copy is taken, since the application ends"):
+        with pytest.raises(Fault, match="takes no further copy of the office"):
             ask()
     assert list(tmp_path.glob("cpi-desk-*")) == []

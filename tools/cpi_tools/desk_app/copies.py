@@ -13,6 +13,7 @@ from typing import NamedTuple, Optional
 
 from ..copying import log_beside, mark_of, right_copy
 from ..terminal import Fault
+from ..told import told as _
 
 
 class Copy(NamedTuple):
@@ -49,6 +50,11 @@ def state_of(file: Path) -> tuple[object, ...]:
     return (mark_of(file), *((it.st_size, it.st_mtime_ns) for it in parts))
 
 
+def closed() -> Fault:
+    """Why no copy is taken any more."""
+    return Fault(_("The application ends, so it takes no further copy of the office."))
+
+
 class Copies:
     """The copies of an office's file; the folders of copies are made in `room`."""
 
@@ -63,7 +69,7 @@ class Copies:
         """Takes a new copy if the office's file changed; whether it did. Raises Fault, also once the copies are closed."""
         with self._copying:
             if self._is_closed:
-                raise self._closed()
+                raise closed()
             try:
                 if self._latest and state_of(self._file) == self._latest.state:
                     return False
@@ -76,9 +82,6 @@ class Copies:
                 self._sweep()
             return True
 
-    def _closed(self) -> Fault:
-        return Fault(f"{self._file}: no copy is taken, since the application ends")
-
     @contextlib.contextmanager
     def latest(self) -> Iterator[Copy]:
         """The latest copy, which stays there meanwhile. Raises Fault if there is none and none can be taken."""
@@ -87,7 +90,7 @@ class Copies:
         with self._lock:
             held = self._latest
             if not held:
-                raise self._closed()
+                raise closed()
             held.readers += 1
         try:
             yield held.copy
