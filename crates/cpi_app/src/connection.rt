@@ -15,7 +15,7 @@ use std::alloc::Global;
 use std::io::{BufReader, Read, Write};
 
 /// Serves one message of the reader, which it reads through a buffer: bytes after the message may have been read too,
-/// and are thrown away. Without routes, which want memory, it makes them for this message. The errors are those of
+/// and are thrown away. Without routes it makes them for this message, which takes memory. The errors are those of
 /// `serve_one` of `cpi_http`, and a lack of memory for the buffer.
 pub fn serve_front<R: Read, W: Write, B: Book>(
     alloc: Global,
