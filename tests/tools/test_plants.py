@@ -185,10 +185,15 @@ def test_a_list_that_can_not_be_read_is_refused(small: Small, kept: str, why: st
     assert said.startswith(f"plants: {small.top}/tests/plants/cpi_rows.txt: ") and said.endswith(why)
 
 
+def test_each_crate_has_a_list_and_no_reason_is_weak() -> None:
+    lists = {file.stem: file.read_text(encoding="utf-8") for file in (ROOT / "tests/plants").iterdir()}
+    assert set(lists) == set(listed(ROOT))
+    assert [crate for crate, text in lists.items() if re.search("^ +WEAK", text, re.M)] == []
+
+
 def test_the_lists_of_this_repository_are_of_functions_that_are_there() -> None:
     ran = subprocess.run([ROOT / "tools/plants", "--list"], capture_output=True, text=True, check=False)
     assert (ran.returncode, ran.stderr) == (0, "")
-    assert {file.stem for file in (ROOT / "tests/plants").glob("*")} <= listed(ROOT).keys()
     for line in re.sub(r"^    .*\n", "", ran.stdout, flags=re.M).splitlines():
         found = re.fullmatch(r"(\w+): (?:proves|no-ensures) (\S+) .*?(\w+)(?:: \{ .*|\(\).*)", line)
         assert found, line

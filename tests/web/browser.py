@@ -86,6 +86,7 @@ class Browser:
             self.driver.switch_to.window(other)
             self.driver.close()
         self.driver.switch_to.window(first)
+        self.in_front()
         self.offline(False)
         self.cdp("Emulation.setTouchEmulationEnabled", enabled=False)
         self.shown_as("light")
@@ -134,6 +135,10 @@ class Browser:
             yield
         finally:
             self.cdp("Emulation.setCPUThrottlingRate", rate=1)
+
+    def in_front(self) -> None:
+        """From here on the page in this tab has the focus. (On a busy machine Chromium was seen to give it to none.)"""
+        self.cdp("Emulation.setFocusEmulationEnabled", enabled=True)
 
     @contextlib.contextmanager
     def on_each_page(self, script: str) -> Iterator[None]:

@@ -116,6 +116,7 @@ return found;
 FOCUS = (
     COLOURS
     + """
+if (!document.hasFocus()) return ["the page has no focus"];
 for (const element of all("input, select, textarea, button, a, summary, [tabindex]")) {
   if (element.disabled) continue;
   const marked = element.closest(".choice label") ?? element;
@@ -194,7 +195,8 @@ def faults_of_texts(browser: Browser, texts: Sequence[str]) -> list[str]:
 
 
 def faults_for_keys(browser: Browser) -> list[str]:
-    """What is wrong with a page for who has a keyboard alone."""
+    """What is wrong with a page for a person who uses only a keyboard."""
+    browser.in_front()
     found: list[str] = browser.run(FOCUS)
     return found
 

@@ -11,7 +11,7 @@ from browser import Browser
 from cpi_tools.command_line import main
 from cpi_tools.program import Cpi
 from offices import ARABIC, LEAVING, OVERRIDE, TURNING, lived
-from readable import FOCUS, faults_of_texts
+from readable import faults_for_keys, faults_of_texts
 
 CONFIG = f"""[office]
 agency = NSO
@@ -93,4 +93,4 @@ def test_what_the_calculator_says_isnt_turned(browser: Browser, folder: Path) ->
 def test_the_focus_ring_is_seen(browser: Browser, folder: Path, name: str, scheme: str) -> None:
     browser.shown_as(scheme)
     opened(browser, folder / name, 1280)
-    assert browser.run(FOCUS) == []
+    assert faults_for_keys(browser) == []

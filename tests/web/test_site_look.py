@@ -142,8 +142,9 @@ def test_pages_are_readable_in_both_schemes(browser: Browser, site: Path, width:
         open_page(browser, site, name, width)
         ground = browser.run("return getComputedStyle(document.body).backgroundColor")
         assert ground == {"light": "rgb(255, 255, 255)", "dark": "rgb(18, 25, 31)"}[scheme]
-        for look in (readable.CONTRASTS, readable.EDGES, readable.NAMELESS, readable.WIDE, readable.FOCUS):
+        for look in (readable.CONTRASTS, readable.EDGES, readable.NAMELESS, readable.WIDE):
             assert browser.run(look) == [], name
+        assert readable.faults_for_keys(browser) == [], name
         assert browser.run(readable.MARKS, "svg .line, svg .dot, svg .bar.last, svg .zero") == [], name
         assert browser.faults() == [], name
 
