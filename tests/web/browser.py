@@ -137,7 +137,7 @@ class Browser:
             self.cdp("Emulation.setCPUThrottlingRate", rate=1)
 
     def in_front(self) -> None:
-        """From here on the page in this tab has the focus. (On a busy machine Chromium was seen to give it to none.)"""
+        """From here on the page in this tab has the focus, whatever the system gives it to."""
         self.cdp("Emulation.setFocusEmulationEnabled", enabled=True)
 
     @contextlib.contextmanager
