@@ -1,6 +1,7 @@
 //! A writer that offers a response to a peer, who may leave before its end.
 ghost use Rattle.std.specs.Prelude.{◌≡◌, [], IfOk, IsOk, false, true};
 ghost use Rattle.std.specs.Io.{WritesAtMost};
+ghost use Rattle.std.specs.Io.KnownBytes.{WriteAppends};
 
 use std::io;
 use std::io::Write;
@@ -38,6 +39,8 @@ impl<W: Write> Write for Offered<W> {
         ensures bound { WritesAtMost result buf.now }
         ensures takes { IsOk result }
         ensures some { IfOk result (λ n. n ≡ 0 → buf.now ≡ []) }
+        ensures goes_on { self.new.is_taken ≡ true →
+            WriteAppends (W.contents self.old.writer) (W.contents self.new.writer) result buf.now }
         ensures once { self.old.is_taken ≡ false → self.new ≡ self.old }
     {
         if self.is_taken {
