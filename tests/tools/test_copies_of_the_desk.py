@@ -6,6 +6,7 @@ from pathlib import Path
 
 import pytest
 
+from cpi_tools.copying import right_copy
 from cpi_tools.desk_app.copies import Copies
 from cpi_tools.program import Cpi
 from cpi_tools.terminal import Fault
@@ -36,4 +37,19 @@ def test_no_copy_is_taken_once_the_application_ends(office: Path, tmp_path: Path
     for ask in (copies.renew, copies.latest().__enter__):
         with pytest.raises(Fault, match="takes no further copy of the office"):
             ask()
+    assert list(tmp_path.glob("cpi-desk-*")) == []
+
+
+def test_a_copy_that_is_taken_while_the_application_ends_goes(
+    office: Path, tmp_path: Path, monkeypatch: pytest.MonkeyPatch
+) -> None:
+    copies = Copies(office, tmp_path)
+
+    def ends_meanwhile(file: Path, folder: Path) -> Path:
+        copies.close()
+        return right_copy(file, folder)
+
+    monkeypatch.setattr("cpi_tools.desk_app.copies.right_copy", ends_meanwhile)
+    with pytest.raises(Fault, match="takes no further copy of the office"):
+        copies.renew()
     assert list(tmp_path.glob("cpi-desk-*")) == []

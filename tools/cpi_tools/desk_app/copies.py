@@ -68,8 +68,6 @@ class Copies:
     def renew(self) -> bool:
         """Takes a new copy if the office's file changed; whether it did. Raises Fault, also once the copies are closed."""
         with self._copying:
-            if self._is_closed:
-                raise closed()
             try:
                 if self._latest and state_of(self._file) == self._latest.state:
                     return False
@@ -77,6 +75,9 @@ class Copies:
             except OSError as fault:
                 raise Fault(f"{self._file}: {fault.strerror}") from fault
             with self._lock:
+                if self._is_closed:
+                    held.remove()
+                    raise closed()
                 self._old += [self._latest] if self._latest else []
                 self._latest = held
                 self._sweep()
@@ -105,8 +106,8 @@ class Copies:
             it.remove()
 
     def close(self) -> None:
-        """Removes all copies. A copy that is being taken is waited for; afterwards there is none."""
-        with self._copying, self._lock:
+        """Removes all copies. One that is being taken meanwhile isn't waited for; it goes once it is there."""
+        with self._lock:
             self._is_closed = True
             for it in [*self._old, *([self._latest] if self._latest else [])]:
                 it.remove()
