@@ -5,32 +5,16 @@ from __future__ import annotations
 import importlib.util
 import os
 import shutil
-import sys
 from collections.abc import Callable
 from pathlib import Path
 
 import pytest
 
-HERE = Path(__file__).resolve().parent
-ROOT = HERE.parents[1]
-
-sys.dont_write_bytecode = True
-sys.path[:0] = [str(HERE), str(ROOT / "tests/tools"), str(ROOT / "tools"), str(ROOT / "tests")]
-
-from lib import fixtures  # noqa: E402
-from lib.fixtures import cpi  # noqa: E402, F401
-
-
-def pytest_addoption(parser: pytest.Parser) -> None:
-    fixtures.pytest_addoption(parser)
-    parser.addoption("--leave-out", action="append", default=[], help="what isn't here on purpose")
-    parser.addoption("--kills", type=int, default=100, help="how often the first machine is killed")
-
 
 @pytest.fixture(scope="session")
-def program(request: pytest.FixtureRequest) -> Path:
-    """The program cpi."""
-    return Path(request.config.getoption("--program"))
+def program(program_file: str) -> Path:
+    """The program that is tried."""
+    return Path(program_file)
 
 
 @pytest.fixture(scope="session")

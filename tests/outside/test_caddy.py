@@ -18,7 +18,7 @@ from typing import NamedTuple
 
 import pytest
 
-from conftest import ROOT
+from lib.places import ROOT
 from lib.served import free_port
 
 KEY = "0123456789abcdef0123456789abcdef"

@@ -10,7 +10,7 @@ from pathlib import Path
 import pytest
 
 from cpi_tools.program import Cpi, record
-from ran import run
+from tools.ran import run
 
 EXAMPLE = Path(__file__).resolve().parents[2] / "examples/national/run"
 

@@ -7,11 +7,11 @@ from pathlib import Path
 
 import pytest
 
-import surveys
-from chromium import Browser, browser
+from tools import surveys
+from .chromium import Browser, browser
 from cpi_tools.program import Cpi
-from ran import run
-from test_published import OVERLAPS
+from tools.ran import run
+from .test_published import OVERLAPS
 
 Needed = Callable[[str], str]
 

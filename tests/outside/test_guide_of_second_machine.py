@@ -11,10 +11,10 @@ from pathlib import Path
 
 import pytest
 
-import clients
+from tools import clients
 from cpi_tools.gaps import MISSING
-from conftest import ROOT
-from systems import FIRST, SECOND, System, indented, section, two_systems
+from lib.places import ROOT
+from .systems import FIRST, SECOND, System, indented, section, two_systems
 
 GUIDE = (ROOT / "docs/run/SECOND-MACHINE.md").read_text()
 USER, KEY, ALLOWED, FOLLOW, PROBE = indented(section(GUIDE, "## To set it up"))

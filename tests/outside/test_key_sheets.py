@@ -9,9 +9,9 @@ from pathlib import Path
 
 import pytest
 
-from chromium import Browser, browser
+from .chromium import Browser, browser
 from cpi_tools.program import Cpi, record
-from ran import run
+from tools.ran import run
 
 Needed = Callable[[str], str]
 

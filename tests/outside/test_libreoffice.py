@@ -13,9 +13,9 @@ import pytest
 from cpi_tools.office_sheets import SHEETS
 from cpi_tools.program import Cpi
 from cpi_tools.sheets import Source
-from conftest import ROOT
-from ran import Ran, rows_of, run
-from spreadsheets import Sheets, replayed, sheets, tables, written
+from lib.places import ROOT
+from tools.ran import Ran, rows_of, run
+from tools.spreadsheets import Sheets, replayed, sheets, tables, written
 
 
 @pytest.fixture(autouse=True)

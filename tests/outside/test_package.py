@@ -9,7 +9,7 @@ from pathlib import Path
 
 import pytest
 
-from conftest import ROOT
+from lib.places import ROOT
 
 
 @pytest.fixture(scope="module")

@@ -15,12 +15,12 @@ from pathlib import Path
 
 import pytest
 
-from chromium import Browser, browser
+from .chromium import Browser, browser
 from cpi_tools.pack.config import Config
 from cpi_tools.pack.public import from_file
 from cpi_tools.program import Cpi
 from cpi_tools.publish import publish
-from published import Office, made, shown
+from tools.published import Office, made, shown
 
 Needed = Callable[[str], str]
 

@@ -17,10 +17,10 @@ import pytest
 
 from cpi_tools.program import Cpi
 from cpi_tools.second_copies import NAMES, OFFICE, state_of
-from conftest import ROOT
-from ran import run
-from second_machines import Kill, Machine, kill_and_promote, machine, surveyed
-from systems import LINKS, NETWORK_NAMES, SECOND, two_networks
+from lib.places import ROOT
+from tools.ran import run
+from tools.second_machines import Kill, Machine, kill_and_promote, machine, surveyed
+from .systems import LINKS, NETWORK_NAMES, SECOND, two_networks
 
 PORT = 2222
 

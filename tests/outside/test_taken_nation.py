@@ -8,9 +8,9 @@ from pathlib import Path
 import pytest
 
 from cpi_tools.program import Cpi, record
-from ran import run
-from test_take_in import sums
-from wide import in_percent, rewrite, wide_prices
+from tools.ran import run
+from tools.test_take_in import sums
+from tools.wide import in_percent, rewrite, wide_prices
 
 
 EXAMPLE = Path(__file__).resolve().parents[2] / "examples/national/run"

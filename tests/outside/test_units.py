@@ -8,7 +8,7 @@ import subprocess
 from collections.abc import Callable
 from pathlib import Path
 
-from conftest import ROOT
+from lib.places import ROOT
 
 KEY = "0123456789abcdef0123456789abcdef"
 

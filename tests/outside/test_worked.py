@@ -12,7 +12,7 @@ from pathlib import Path
 
 import pytest
 
-from conftest import ROOT
+from lib.places import ROOT
 
 MAKE = ROOT / "examples/worked/make"
 FIGURES = ["weight in use", "index, link month = 100", "chained index", "change on the month, percent",

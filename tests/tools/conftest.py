@@ -1,34 +1,19 @@
-"""What these tests share: the program that is tested, and an office that it made."""
+"""What these tests share: an office that the program made."""
 
 from __future__ import annotations
 
-import sys
 from collections.abc import Iterator
 from pathlib import Path
 
 import pytest
 
-HERE = Path(__file__).resolve().parent
-ROOT = HERE.parents[1]
+from cpi_tools.pack.public import Published, from_file
+from cpi_tools.program import Cpi
 
-sys.dont_write_bytecode = True
-sys.path[:0] = [str(HERE), str(ROOT / "tools"), str(ROOT / "tests")]
-
-import surveys  # noqa: E402
-from cpi_tools.program import Cpi  # noqa: E402
-from cpi_tools.pack.public import Published, from_file  # noqa: E402
-from desk_apps import ADA, Application, Person, applied  # noqa: E402
-from lib import fixtures  # noqa: E402
-from offices import lived  # noqa: E402
-from published import Office, made as made_public  # noqa: E402
-
-cpi = fixtures.cpi
-
-
-def pytest_addoption(parser: pytest.Parser) -> None:
-    fixtures.pytest_addoption(parser)
-    parser.addoption("--times", type=int, default=20, help="how many backups each test under load makes")
-    parser.addoption("--office", default=None, help="the office of these tests, made before (else it is made)")
+from . import surveys
+from .desk_apps import ADA, Application, Person, applied
+from .offices import lived
+from .published import Office, made as made_public
 
 
 @pytest.fixture(scope="session")

@@ -17,7 +17,7 @@ from cpi_tools.pack.clocks import clock_of
 from cpi_tools.program import Cpi
 from cpi_tools.speech import SPEAKS_ENGLISH, Speech
 from lib.served import free_port
-from loads import DESK_KEY, served
+from .loads import DESK_KEY, served
 
 LISTEN = "127.0.0.1:8090"
 CLOCK = clock_of("Europe/Prague")

@@ -16,7 +16,7 @@ from zipfile import ZIP_DEFLATED, ZipFile
 import openpyxl
 from openpyxl.utils import get_column_letter
 
-from spreadsheets import sheets, written
+from .spreadsheets import sheets, written
 
 MINOR = ("--minor", "100")
 
@@ -187,7 +187,7 @@ def put_cell(at: str, value: object, number_format: str = "") -> Callable[[Any],
 
 def computed(folder: Path, value: str, kind: str = "n") -> Sequence[str]:
     """The price of flour in 2026-01 as a formula with its value, as a spreadsheet program saves it."""
-    from test_sheets import SHEET, changed
+    from .test_sheets import SHEET, changed
 
     book(lambda _: None)(folder)
     plain = f'<c r="{FLOUR}" t="n"><v>0.84</v></c>'.encode()

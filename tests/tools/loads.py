@@ -17,7 +17,7 @@ from typing import Optional
 
 from cpi_tools.program import Cpi
 from lib.served import free_port, heard, message, peer_of, reset, words_of
-from offices import LOAD_COLLECTOR, LOAD_KEY, LOAD_MONTH, LOAD_SLOTS
+from .offices import LOAD_COLLECTOR, LOAD_KEY, LOAD_MONTH, LOAD_SLOTS
 
 DESK_KEY = "d" * 32
 BEFORE_COPIES = 30

@@ -19,12 +19,12 @@ from collections.abc import Callable, Iterator, Sequence
 from pathlib import Path
 from typing import NamedTuple
 
-import clients
+from . import clients
 from cpi_tools.follow import mark_beside
 from cpi_tools.gaps import MISSING
 from cpi_tools.program import Cpi
 from cpi_tools.second_copies import state_of
-from conftest import ROOT
+from lib.places import ROOT
 from lib.served import free_port
 
 TOOL, CLIENTS = str(ROOT / "cpi-tools"), str(Path(clients.__file__))

@@ -21,8 +21,8 @@ from cpi_tools.pack.config import Config
 from cpi_tools.pack.planned import Planned
 from cpi_tools.pack.public import Published
 from cpi_tools.publish import publish
-from published import LONG_AFTER, REVISED
-from test_site import words_of
+from .published import LONG_AFTER, REVISED
+from .test_site import words_of
 
 ADDRESS = "https://prices.example/index/"
 OFFICE = 'Office </script><b> & "prices"'

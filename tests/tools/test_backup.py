@@ -20,9 +20,9 @@ from cpi_tools.copying import log_beside
 from cpi_tools.drill import drill
 from cpi_tools.program import Cpi, CpiFailed, record
 from cpi_tools.terminal import time_text
-from conftest import ROOT
-from loads import Connections, Load, Quotes, faults_of
-from offices import LOAD_KEY, LOAD_MONTH, TABLES
+from lib.places import ROOT
+from .loads import Connections, Load, Quotes, faults_of
+from .offices import LOAD_KEY, LOAD_MONTH, TABLES
 
 TOOL = ROOT / "cpi-tools"
 

@@ -20,11 +20,11 @@ from cpi_tools.program import Cpi
 from cpi_tools.sheets import Source
 from cpi_tools.terminal import Fault
 from cpi_tools.workbook_parts import MOST_CELLS, MOST_HELD, MOST_SHEET_ROWS, MOST_TEXT, MOST_UNPACKED
-from conftest import ROOT
-from habits import base, book, unpacks_to_much
-from ran import rows_of, run
-from spreadsheets import sheets, written
-from test_sheets import SHEET, changed
+from lib.places import ROOT
+from .habits import base, book, unpacks_to_much
+from .ran import rows_of, run
+from .spreadsheets import sheets, written
+from .test_sheets import SHEET, changed
 
 RUN = """\
 import sys

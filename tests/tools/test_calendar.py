@@ -14,9 +14,9 @@ import pytest
 from cpi_tools.calendar_file import windows_since
 from cpi_tools.program import Cpi, record
 from cpi_tools.stored import Window
-from offices import KEY, MONTHS
-from ran import run
-from test_take_in import sums
+from .offices import KEY, MONTHS
+from .ran import run
+from .test_take_in import sums
 
 BEFORE = '{"months": [{"month": "2026-11", "opens": 1793487600, "closes": 1796079599}]}'
 """A calendar as somebody else may write it, in one line."""

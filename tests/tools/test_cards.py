@@ -15,9 +15,9 @@ from cpi_tools.pack.cards import NO_CARDS, Cards, Drawing, is_from, with_source
 from cpi_tools.pack.config import Config
 from cpi_tools.publish import check, publish
 from cpi_tools.terminal import Fault
-from ran import run
-from test_addresses import Head
-from test_measures import two_years
+from .ran import run
+from .test_addresses import Head
+from .test_measures import two_years
 
 CONFIG = Config("NSO", "XX", "Office of <prices>", address="https://prices.example/")
 

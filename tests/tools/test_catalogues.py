@@ -16,7 +16,7 @@ import pytest
 from babel.messages.catalog import Catalog, Message
 from babel.messages.jslexer import Token, tokenize
 
-from conftest import ROOT
+from lib.places import ROOT
 
 sys.path.insert(0, str(ROOT / "tools"))
 

@@ -13,8 +13,8 @@ from cpi_tools.certificates import Certificate, Place, Server, certificate_at, p
 from cpi_tools.machine_clock import MachineClock, machine_clock, timex
 from cpi_tools.terminal import Fault
 from lib.served import free_port
-from test_ops import needed
-from test_probe import answering
+from .test_ops import needed
+from .test_probe import answering
 
 KINDS = {
     "rsa": ["-newkey", "rsa:2048"],

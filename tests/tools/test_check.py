@@ -12,7 +12,7 @@ from typing import NamedTuple
 
 import pytest
 
-from conftest import ROOT
+from lib.places import ROOT
 
 CRATES = "low:\nleft: low itoa\nhigh: low left\nhigher serve: low high # the program\n"
 

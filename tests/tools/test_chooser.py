@@ -20,7 +20,7 @@ from cpi_tools.pack.chooser import ITEM_HEAD, OF_FRAMES, SEARCH, SOURCES, script
 from cpi_tools.pack.config import Config
 from cpi_tools.pack.public import Published
 from cpi_tools.publish import publish
-from published import REVISED
+from .published import REVISED
 
 CONFIG = Config("NSO", "XX", "Office of prices", reference="2025", rates="published")
 PEARS, FLOUR, PHONES = "01.1.6.2-01", "01.1.1.2-01", "08"

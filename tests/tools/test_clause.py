@@ -11,12 +11,12 @@ from typing import Any
 
 import pytest
 
-from conftest import ROOT
+from lib.places import ROOT
 from cpi_tools.pack.config import Config
 from cpi_tools.pack.public import Published
 from cpi_tools.pack.specials import Special
 from cpi_tools.publish import publish
-from published import REVISED
+from .published import REVISED
 
 pytestmark = pytest.mark.skipif(shutil.which("node") is None, reason="node isn't there")
 

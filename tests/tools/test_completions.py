@@ -17,11 +17,11 @@ import pytest
 
 from completions import SHELLS, completions
 from completions.words import help_of, of_help, of_parser, with_paths
-from conftest import ROOT
+from lib.places import ROOT
 from cpi_tools.command_line import parser
 from cpi_tools.program import Cpi
 from manual import tools_of
-from test_ops import needed, script
+from .test_ops import needed, script
 
 SECONDS = 20
 """How long a shell may take to complete a word."""

@@ -10,8 +10,8 @@ from cpi_tools.copying import right_copy
 from cpi_tools.desk_app.copies import Copies
 from cpi_tools.program import Cpi
 from cpi_tools.terminal import Fault
-from loads import faults_of
-from test_copying import send
+from .loads import faults_of
+from .test_copying import send
 
 
 def test_a_copy_that_is_read_stays_while_a_newer_one_is_taken(cpi: Cpi, office: Path, tmp_path: Path) -> None:

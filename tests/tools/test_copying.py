@@ -21,8 +21,8 @@ import pytest
 from cpi_tools import copying
 from cpi_tools.copying import CopyFailed, has_frames, log_beside, mark_of, private_copy, right_copy
 from cpi_tools.program import Cpi, Session
-from loads import faults_of, price_of, slot_of
-from offices import LOAD_KEY, LOAD_MONTH
+from .loads import faults_of, price_of, slot_of
+from .offices import LOAD_KEY, LOAD_MONTH
 
 
 def send(session: Session, begin: int, count: int) -> int:

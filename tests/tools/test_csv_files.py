@@ -8,10 +8,10 @@ from pathlib import Path
 
 import pytest
 
-import surveys
+from . import surveys
 from cpi_tools.csv_files import Writer, formulas_told, is_formula
 from cpi_tools.program import Cpi
-from ran import rows_of, run
+from .ran import rows_of, run
 
 TITLE, OUTLET = "=1+1", "@SUM(A1)"
 

@@ -12,8 +12,8 @@ from typing import Optional
 import pytest
 
 from cpi_tools.program import Cpi
-from conftest import ROOT
-from ran import Ran
+from lib.places import ROOT
+from .ran import Ran
 
 START = str(ROOT / "tools/cpi_tools/start")
 SECONDS = 60

@@ -14,7 +14,7 @@ from cpi_tools.pack.config import Config
 from cpi_tools.pack.public import Listed, Published
 from cpi_tools.publish import publish
 from lib.pack_forms import read_json_stat, read_px
-from test_specials import config
+from .test_specials import config
 
 CONFIG_OF_SETS = config
 """The fixture of an office with special aggregates and 2025 = 100."""

@@ -18,15 +18,15 @@ from pathlib import Path
 
 import pytest
 
-import surveys
+from . import surveys
 from cpi_tools.command_line import main
 from cpi_tools.desk import aggregates, influence, unusual
 from cpi_tools.program import Cpi, record
-from conftest import ROOT
+from lib.places import ROOT
 from lib.served import free_port
-from loads import served
-from ran import Ran, rows_of, run
-from surveys import bytes_of, closes, key_of, number_of, opens, publishes
+from .loads import served
+from .ran import Ran, rows_of, run
+from .surveys import bytes_of, closes, key_of, number_of, opens, publishes
 
 
 @pytest.fixture

@@ -13,7 +13,7 @@ from typing import Any
 
 import pytest
 
-import surveys
+from . import surveys
 from cpi_tools.desk_app.glance import Glance, Share
 from cpi_tools.desk_app.month_views import time_left
 from cpi_tools.desk_app.observed import Observed, Seen
@@ -24,11 +24,11 @@ from cpi_tools.desk_app.tries import FREE_TRIES, MOST_ADDRESSES, Tries
 from cpi_tools.program import Cpi
 from cpi_tools.stored import Window
 from cpi_tools.trial import State
-from desk_apps import ADA, Application, Person, applied, words_of
+from .desk_apps import ADA, Application, Person, applied, words_of
 from lib.served import heard, message, peer_of
-from loads import DESK_KEY
-from ran import run
-from surveys import key_of
+from .loads import DESK_KEY
+from .ran import run
+from .surveys import key_of
 
 WRONG_KEY = "e" * 32
 

@@ -14,15 +14,15 @@ from typing import Any, NoReturn
 
 import pytest
 
-import surveys
+from . import surveys
 from cpi_tools.program import Cpi
 from cpi_tools.speech import Speech, speech_of
-from desk_apps import ADA, BEN, Application, Person, applied
+from .desk_apps import ADA, BEN, Application, Person, applied
 from lib.served import free_port
-from loads import served
-from nobodys import greek, nobodys_in, seen_of
-from test_desk_app_languages import left_on
-from test_desk_app_publish import frozen as published_at, waited, with_site
+from .loads import served
+from .nobodys import greek, nobodys_in, seen_of
+from .test_desk_app_languages import left_on
+from .test_desk_app_publish import frozen as published_at, waited, with_site
 
 MONTH = "2026-02"
 

@@ -9,12 +9,12 @@ from typing import Any
 
 import pytest
 
-import surveys
+from . import surveys
 from cpi_tools.program import Cpi
 from cpi_tools.speech import speech_of
-from desk_apps import ADA, BEN, LISTEN, Application, Person, applied
-from nobodys import NAMES, greek, left_in_english, nobodys_in, seen_of, unmarked
-from test_desk_app_publish import frozen as published_at, waited, with_site
+from .desk_apps import ADA, BEN, LISTEN, Application, Person, applied
+from .nobodys import NAMES, greek, left_in_english, nobodys_in, seen_of, unmarked
+from .test_desk_app_publish import frozen as published_at, waited, with_site
 
 MONTH, CODE = "2026-02", "01.1.1.2-01"
 WHY = {f"why-{CODE}": "\u03b3\u03b4 \u03b5"}

@@ -8,7 +8,7 @@ from pathlib import Path
 
 import pytest
 
-import surveys
+from . import surveys
 from cpi_tools.desk_app.freezes import PreparedFreeze
 from cpi_tools.desk_app.lines import line_of
 from cpi_tools.report_language import ENGLISH
@@ -16,10 +16,10 @@ from cpi_tools.desk_app.marks import NOTE, SEEN, UNSEEN, Marks, Price
 from cpi_tools.desk_app.tables_kept import TablesKept
 from cpi_tools.program import Cpi, record
 from cpi_tools.terminal import Fault
-from desk_apps import ADA, BEN, LISTEN, Application, Person, applied, words_of
+from .desk_apps import ADA, BEN, LISTEN, Application, Person, applied, words_of
 from lib.served import heard, message, peer_of
-from loads import DESK_KEY
-from surveys import key_of
+from .loads import DESK_KEY
+from .surveys import key_of
 
 MONTH = "2026-02"
 CODE = "01.1.1.2-01"

@@ -11,12 +11,12 @@ from typing import Any
 
 import pytest
 
-import surveys
+from . import surveys
 from cpi_tools.command_line import main
 from cpi_tools.desk_app.publishing import Planned, Publisher, Site
 from cpi_tools.program import Cpi, record
-from desk_apps import ADA, BEN, PATIENCE, Application, Person, applied, words_of
-from ran import run
+from .desk_apps import ADA, BEN, PATIENCE, Application, Person, applied, words_of
+from .ran import run
 
 OFFICE = "[office]\nagency = EX\narea = XX\noffice = Office of the example\naddress = https://prices.example/index/\n"
 MONTH = "2026-02"

@@ -12,7 +12,7 @@ import pytest
 from cpi_tools.desk_app import records_views
 from cpi_tools.desk_app.app import MOST_BYTES
 from cpi_tools.desk_app.judging import lines_of
-from desk_apps import LISTEN, Application, Person, words_of
+from .desk_apps import LISTEN, Application, Person, words_of
 
 PLAN = """T,00,All
 T,01,Food

@@ -15,9 +15,9 @@ from cpi_tools.desk_app.pasted import pasted
 from cpi_tools.desk_app.sample_kinds import KINDS
 from cpi_tools.desk_app.year_calendar import moved
 from cpi_tools.stored import Assignment, read_copy
-from desk_apps import ADA, BEN, Application, Person, words_of
+from .desk_apps import ADA, BEN, Application, Person, words_of
 from lib.served import free_port
-from surveys import key_of
+from .surveys import key_of
 
 
 def judged(person: Person, kind: str, **form: str) -> str:

@@ -9,7 +9,7 @@ from typing import Any, Optional
 
 import pytest
 
-import surveys
+from . import surveys
 from cpi_tools.desk_app.desk_log import ANSWERED, LOOKED_UP, NOT_SENT, SENT, DeskLog, Entry
 from cpi_tools.desk_app.office import MOST_BYTES, NoReply, NotSent, Office, messages_of
 from cpi_tools.desk_app.sending import Sender
@@ -18,9 +18,9 @@ from cpi_tools.program import Cpi, Reply, record
 from cpi_tools.stored import read_copy
 from cpi_tools.terminal import Fault
 from cpi_tools.copying import private_copy
-from desk_apps import ADA, applied
+from .desk_apps import ADA, applied
 from lib.served import free_port
-from loads import DESK_KEY, served
+from .loads import DESK_KEY, served
 
 OUTLET, OTHER = ["outlet", "12", "Harbour"], ["outlet", "13", "Market, east"]
 

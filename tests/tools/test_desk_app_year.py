@@ -13,7 +13,7 @@ from cpi_tools.desk_app.draft_sheets import Draft, Settings
 from cpi_tools.desk_app.drafts import Checked
 from cpi_tools.desk_app.year_views import too_long
 from cpi_tools.stored import StoredOffice, read_copy
-from desk_apps import ADA, PATIENCE, Application, Person, words_of
+from .desk_apps import ADA, PATIENCE, Application, Person, words_of
 
 RICE, FLOUR = "01.1.1.1-01", "01.1.1.2-01"
 PAGE = "/year/2027/"

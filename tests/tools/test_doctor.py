@@ -21,10 +21,10 @@ from cpi_tools import doctor
 from cpi_tools.copying import log_beside
 from cpi_tools.holders import LOCK_BEGIN, Holder, holders_of, is_held, unit_in
 from cpi_tools.program import Cpi, CpiFailed
-from conftest import ROOT
-from offices import LOAD_KEY, LOAD_MONTH
-from ran import Ran, run
-from test_ops import needed, script
+from lib.places import ROOT
+from .offices import LOAD_KEY, LOAD_MONTH
+from .ran import Ran, run
+from .test_ops import needed, script
 
 NOBODY = 65534
 

@@ -29,9 +29,9 @@ from cpi_tools.drill import (
 )
 from cpi_tools.program import Cpi
 from cpi_tools.stored import Level, stored_office
-from conftest import ROOT
-from offices import LOAD_KEY, LOAD_MONTH, TABLES, registered
-from ran import Ran, run
+from lib.places import ROOT
+from .offices import LOAD_KEY, LOAD_MONTH, TABLES, registered
+from .ran import Ran, run
 
 ROWS, CARRIED = 13 * 13 + 2 * 11, 13 * 6 + 2 * 4
 """Rows of the tables, and carried prices: of 2025 with its revision, and of two months of 2026, which have two nodes

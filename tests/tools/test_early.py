@@ -13,11 +13,11 @@ from typing import NamedTuple
 
 import pytest
 
-import surveys
+from . import surveys
 from cpi_tools.desk.early import LINK, MONTH, WEIGHTS, YEAR, ways
 from cpi_tools.program import LAST_MOMENT, Cpi, record
-from ran import run
-from surveys import DAY, MONTHS, bytes_of, closes, opens, publishes
+from .ran import run
+from .surveys import DAY, MONTHS, bytes_of, closes, opens, publishes
 
 Rows = dict[str, list[str]]
 """The rows of a table by their codes: code, weight in use, index, level, both changes, a flag, the title."""

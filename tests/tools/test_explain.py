@@ -15,7 +15,7 @@ from pathlib import Path
 
 import pytest
 
-import surveys
+from . import surveys
 from cpi_tools.command_line import main
 from cpi_tools.explain import words as words_of_explain
 from cpi_tools.explain.expressions import NoExpression, value_of
@@ -23,8 +23,8 @@ from cpi_tools.explain.lines import Explanation, Line, change_expression
 from cpi_tools.explain.sources import Sources
 from cpi_tools.program import Cpi
 from cpi_tools.terminal import month_name
-from ran import run
-from surveys import Life, bytes_of, key_of, number_of
+from .ran import run
+from .surveys import Life, bytes_of, key_of, number_of
 
 Whole = tuple[Path, Life]
 

@@ -9,10 +9,10 @@ from pathlib import Path
 
 import pytest
 
-import surveys
+from . import surveys
 from cpi_tools.program import Cpi
-from nobodys import NAMES, left_in_english, nobodys_in, seen
-from ran import run
+from .nobodys import NAMES, left_in_english, nobodys_in, seen
+from .ran import run
 
 SAME = re.compile(rf"{NAMES.pattern}|round|(?:carried|level|release)_2|RICE|FLOUR")
 """What each language has: the word of an expression, the tables of the file, and codes of items."""

@@ -36,12 +36,12 @@ from cpi_tools.second_copies import (
 )
 from cpi_tools.stored import stored_office
 from cpi_tools.terminal import Fault
-from conftest import ROOT
-from loads import Quotes, faults_of
-from offices import TABLES
-from ran import run
-from second_machines import receiver
-from test_second_machine import SHELL
+from lib.places import ROOT
+from .loads import Quotes, faults_of
+from .offices import TABLES
+from .ran import run
+from .second_machines import receiver
+from .test_second_machine import SHELL
 
 TOOL = ROOT / "cpi-tools"
 

@@ -7,7 +7,7 @@ import subprocess
 import pytest
 
 from cpi_tools.program import Cpi
-from conftest import ROOT
+from lib.places import ROOT
 
 HEAD = "aggregate,weight,2025-12,2026-01,2026-02\n"
 

@@ -11,8 +11,8 @@ from pathlib import Path
 import pytest
 
 from cpi_tools.program import Cpi
-from conftest import ROOT
-from ran import Ran, run
+from lib.places import ROOT
+from .ran import Ran, run
 
 HEADS = "collector,slot,month,mark,value,receipt\n"
 

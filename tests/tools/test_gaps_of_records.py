@@ -9,8 +9,8 @@ from pathlib import Path
 import pytest
 
 from cpi_tools.program import Cpi
-from conftest import ROOT
-from ran import Ran, run
+from lib.places import ROOT
+from .ran import Ran, run
 
 KEY = "c" * 32
 

@@ -8,9 +8,9 @@ import subprocess
 from pathlib import Path
 
 from cpi_tools.program import Cpi
-from conftest import ROOT
+from lib.places import ROOT
 from lib.served import free_port
-from loads import served
+from .loads import served
 
 
 def block_behind(guide: str, words: str) -> str:

@@ -8,7 +8,7 @@ from pathlib import Path
 
 import pytest
 
-from conftest import ROOT
+from lib.places import ROOT
 from lib import guides
 
 NAMES = guides.translations()

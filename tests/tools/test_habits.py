@@ -16,10 +16,10 @@ from cpi_tools.cells import Origin
 from cpi_tools.program import Cpi
 from cpi_tools.stored import stored_office
 from cpi_tools.taken_page import place
-from conftest import ROOT
-from habits import HABITS, MINOR, Habit, Quotes, base
-from ran import Ran, rows_of, run
-from spreadsheets import replayed
+from lib.places import ROOT
+from .habits import HABITS, MINOR, Habit, Quotes, base
+from .ran import Ran, rows_of, run
+from .spreadsheets import replayed
 
 GUIDE = ROOT / "docs/decide/MIGRATING-AN-OFFICE.md"
 TABLE = Path(__file__).with_name("habits.txt")

@@ -18,9 +18,9 @@ import pytest
 from cpi_tools.command_line import main
 from cpi_tools.keys.page import code_of
 from cpi_tools.program import Cpi, record
-from offices import KEY, LOAD_KEY, OTHER_KEY
-from ran import Ran, run
-from test_take_in import sums
+from .offices import KEY, LOAD_KEY, OTHER_KEY
+from .ran import Ran, run
+from .test_take_in import sums
 
 URL = "https://prices.example.org"
 

@@ -8,11 +8,11 @@ import subprocess
 
 import pytest
 
-from conftest import ROOT
+from lib.places import ROOT
 from cpi_tools.command_line import parser
 from cpi_tools.words import PLAN_FAULTS, REFUSALS, Words
 from manual import manual
-from test_ops import needed
+from .test_ops import needed
 
 
 @pytest.fixture(scope="module")

@@ -20,7 +20,7 @@ from cpi_tools.pack.measures import (
 )
 from cpi_tools.pack.public import Listed, Published
 from cpi_tools.pack.tables import Series
-from published import HIDDEN_REVISION
+from .published import HIDDEN_REVISION
 
 # ---- two years by hand
 #

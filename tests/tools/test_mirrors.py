@@ -14,7 +14,7 @@ from cpi_tools import mirrors
 from cpi_tools.copying import BLOCK, CopyFailed, log_beside
 from cpi_tools.mirrors import PAGE, SUMMED, Mirror, MirroredOffice, sum_of
 from cpi_tools.program import Cpi
-from loads import Quotes, faults_of
+from .loads import Quotes, faults_of
 
 
 def sum_by_hand(content: bytes) -> str:

@@ -25,7 +25,7 @@ from cpi_tools.pack.public import Published
 from cpi_tools.pack.reasons import Reason
 from cpi_tools.pack.specials import Special
 from cpi_tools.publish import publish
-from published import HIDDEN_REVISION, LAST, REVISED
+from .published import HIDDEN_REVISION, LAST, REVISED
 
 ADDRESS = "https://prices.example/index/"
 FIRST, SECOND_YEAR = "2025-05", "2026-01"

@@ -16,7 +16,7 @@ from cpi_tools.pack.public import Listed, Published
 from cpi_tools.pack.tables import Series
 from cpi_tools.program import Cpi, record
 from lib.offices import plan_with
-from published import ITEMS, KEY, TITLES, Office, lived, registered
+from .published import ITEMS, KEY, TITLES, Office, lived, registered
 
 RICE, FLOUR, FUEL, PHONE, PEAR = ITEMS.values()
 

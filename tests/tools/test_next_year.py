@@ -11,9 +11,9 @@ import pytest
 
 from cpi_tools.program import Cpi, Session, record
 from cpi_tools.stored import Release, stored_office
-from ran import Ran, rows_of, run
-from spreadsheets import replayed
-from test_take_in import sums
+from .ran import Ran, rows_of, run
+from .spreadsheets import replayed
+from .test_take_in import sums
 
 MONTHS = ["2025-12", *(f"2026-{month:02}" for month in range(1, 13))]
 KEYS = {number: f"{number}" * 32 for number in (7, 8, 9)}

@@ -17,9 +17,9 @@ from cpi_tools.pack.public import Published
 from cpi_tools.pack.shown import Shown
 from cpi_tools.pack.tables import Series
 from cpi_tools.publish import publish
-from published import REVISED
-from test_measures import over_another_december, tea_again, two_years
-from test_site import words_of
+from .published import REVISED
+from .test_measures import over_another_december, tea_again, two_years
+from .test_site import words_of
 
 CONFIG = Config("NSO", "XX", "Office", currency="crowns")
 

@@ -15,7 +15,7 @@ from typing import Any, Optional
 import pytest
 from PIL import Image
 
-import surveys
+from . import surveys
 from cpi_tools.desk_app import field_limits, field_notes
 from cpi_tools.desk_app.field_limits import (
     MOST_BRAND_LETTERS,
@@ -30,11 +30,11 @@ from cpi_tools.desk_app.field_notes import FieldNotes, Of, Said, TooMany
 from cpi_tools.desk_app.photographs import NotAPicture, without_traces
 from cpi_tools.program import Cpi
 from cpi_tools.terminal import Fault
-from desk_apps import ADA, LISTEN, Application, Person, applied
+from .desk_apps import ADA, LISTEN, Application, Person, applied
 from lib.hostile import HOSTILE
 from lib.served import heard, message, peer_of
-from loads import DESK_KEY
-from surveys import key_of
+from .loads import DESK_KEY
+from .surveys import key_of
 
 ROOT = Path(__file__).resolve().parents[2]
 

@@ -21,7 +21,7 @@ from zoneinfo import ZoneInfo
 import pytest
 
 from cpi_tools.program import Cpi
-from conftest import ROOT
+from lib.places import ROOT
 
 OPS = ROOT / "ops"
 KEY = "0123456789abcdef0123456789abcdef"

@@ -12,13 +12,13 @@ from typing import Any, Optional
 
 import pytest
 
-import surveys
+from . import surveys
 from cpi_tools.others import Worded, cited, closed, isolated, others
 from cpi_tools.pack.config import Config
 from cpi_tools.pack.public import from_file
 from cpi_tools.program import Cpi, record
 from cpi_tools.publish import publish
-from ran import run
+from .ran import run
 
 MARK = "\u00a7"
 """Each text of others in these offices begins with it, and nothing of ours has it."""

@@ -10,11 +10,11 @@ from pathlib import Path
 
 import pytest
 
-import surveys
-from conftest import ROOT
+from . import surveys
+from lib.places import ROOT
 from cpi_tools.output import shown
 from cpi_tools.program import Cpi
-from ran import Ran, run
+from .ran import Ran, run
 
 FULL = Path("/dev/full")
 

@@ -17,8 +17,8 @@ import pytest
 
 import cpi_tools
 from cpi_tools.program import Cpi
-from conftest import ROOT
-from test_ops import UNITS, needed
+from lib.places import ROOT
+from .test_ops import UNITS, needed
 
 INPUTS = ["tools", "docs", "ops", "web", "po", "examples", "dist", "README.md", "LICENSE", "CHANGELOG.md", "THIRD-PARTY.md",
           "SECURITY.md", "CONTRIBUTING.md", "crates.txt"]  # fmt: skip

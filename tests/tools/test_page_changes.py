@@ -22,10 +22,10 @@ from cpi_tools.places import Elsewhere
 from cpi_tools.program import Cpi
 from cpi_tools.second_copies import NAMES, NOTE, OFFICE, RECEIVED, fault_of, state_of, write_promotion
 from cpi_tools.terminal import Fault
-from loads import Quotes, faults_of
-from offices import TABLES
-from ran import run
-from second_machines import receiver
+from .loads import Quotes, faults_of
+from .offices import TABLES
+from .ran import run
+from .second_machines import receiver
 
 
 @pytest.fixture

@@ -13,7 +13,7 @@ import pytest
 
 from cpi_tools import charts, exact, pages, terminal
 from cpi_tools.charts import OTHER, OWN, Line, Picture
-from conftest import ROOT
+from lib.places import ROOT
 
 MONTHS = [f"{2025 + at // 12}-{at % 12 + 1:02}" for at in range(24)]
 SVG = "{http://www.w3.org/2000/svg}"

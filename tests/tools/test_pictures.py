@@ -21,8 +21,8 @@ from cpi_tools.pack.tables import Series
 from cpi_tools.pages import TEMPLATES
 from cpi_tools.publish import publish
 from cpi_tools.speech import SPEAKS_ENGLISH, speech_of
-from test_measures import tea_again, two_years
-from test_site import words
+from .test_measures import tea_again, two_years
+from .test_site import words
 
 CONFIG = Config("NSO", "XX", "Office <of> prices", title="Prices & more")
 SVG = "{http://www.w3.org/2000/svg}"

@@ -12,7 +12,7 @@ from typing import NamedTuple
 
 import pytest
 
-from conftest import ROOT
+from lib.places import ROOT
 from crates import listed
 
 COUNTS = (

@@ -30,11 +30,11 @@ from cpi_tools.writes import Writes
 from cpi_tools.second_copies import CopyNote, Sum, write_note, write_promotion
 from cpi_tools.stored import Window
 from cpi_tools.terminal import Fault
-from conftest import ROOT
+from lib.places import ROOT
 from lib.served import free_port
-from loads import served
-from offices import TABLES
-from test_ops import needed
+from .loads import served
+from .offices import TABLES
+from .test_ops import needed
 
 NOW = 1_800_000_000
 NOTHING_NAMED = "not checked: the file, writes, backups, the second copy, the certificate, the clock"

@@ -13,7 +13,7 @@ import pytest
 
 from cpi_tools import program
 from cpi_tools.program import Cpi, CpiFailed, find_program, record
-from conftest import ROOT
+from lib.places import ROOT
 
 
 def test_a_record_is_quoted_where_it_has_to_be() -> None:

@@ -18,8 +18,8 @@ from cpi_tools.mirrors import sum_of
 from cpi_tools.places import Folder
 from cpi_tools.program import Cpi
 from cpi_tools.second_copies import MARK, NAMES, NOTE, OFFICE, second_text, state_of
-from offices import LOAD_KEY, LOAD_MONTH, TABLES
-from ran import Ran, run
+from .offices import LOAD_KEY, LOAD_MONTH, TABLES
+from .ran import Ran, run
 
 
 @pytest.fixture

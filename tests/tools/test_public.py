@@ -15,8 +15,8 @@ import pytest
 from cpi_tools.pack.public import Listed, NotPublic, Published, from_file, from_url, listed_in
 from cpi_tools.pack.tables import NotATable, Series, table_of
 from cpi_tools.program import Cpi
-from conftest import ROOT
-from published import HIDDEN_REVISION, LAST, LONG_AFTER, MONTHS, Office, shown
+from lib.places import ROOT
+from .published import HIDDEN_REVISION, LAST, LONG_AFTER, MONTHS, Office, shown
 
 PACKAGE = ROOT / "tools" / "cpi_tools"
 

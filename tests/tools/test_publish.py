@@ -35,11 +35,11 @@ from cpi_tools.pack.sdmx import KNOWN_IDS
 from cpi_tools.pack.tables import Series
 from cpi_tools.program import Cpi
 from cpi_tools.publish import CannotPublish, check, publish
-from conftest import ROOT
+from lib.places import ROOT
 from lib.served import free_port
-from loads import served
-from published import CODES, HIDDEN_REVISION, LAST, LONG_AFTER, REVISED, Office, lived, shown
-from test_measures import tea_again, two_years
+from .loads import served
+from .published import CODES, HIDDEN_REVISION, LAST, LONG_AFTER, REVISED, Office, lived, shown
+from .test_measures import tea_again, two_years
 
 INI = """\
 [office]

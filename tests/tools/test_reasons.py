@@ -22,8 +22,8 @@ from cpi_tools.pack.reasons import BadReasons, GivenReason, Reason, reasons_of
 from cpi_tools.pack.rows import NO_ROWS
 from cpi_tools.pack.tables import Table
 from cpi_tools.publish import check, publish
-from published import HIDDEN_REVISION, REVISED
-from test_site import words_of
+from .published import HIDDEN_REVISION, REVISED
+from .test_site import words_of
 
 CONFIG = Config("NSO", "XX", "Office of prices")
 ADDRESS = "https://prices.example/"

@@ -14,8 +14,8 @@ from cpi_tools.pack.config import BadConfig, Config, read_config
 from cpi_tools.pack.planned import BadCalendar, Planned, planned_of
 from cpi_tools.program import Cpi
 from cpi_tools.publish import check, publish
-from test_measures import two_years
-from test_site import words_of
+from .test_measures import two_years
+from .test_site import words_of
 
 PRAGUE = "CET-1CEST,M3.5.0,M10.5.0/3"
 HEAD = ["month", "opens", "closes", "publishes"]

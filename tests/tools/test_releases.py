@@ -18,9 +18,9 @@ from cpi_tools.pack.reasons import Reason
 from cpi_tools.pack.releases import releases_of
 from cpi_tools.publish import publish
 from cpi_tools.speech import SPEAKS_ENGLISH
-from published import REVISED, TITLES
-from test_measures import tea_again, two_years
-from test_site import words_of
+from .published import REVISED, TITLES
+from .test_measures import tea_again, two_years
+from .test_site import words_of
 
 ADDRESS = "https://prices.example/index/"
 CONFIG = Config("NSO", "XX", "Office <of> prices", country="Exampleland", reference="2025", address=ADDRESS)

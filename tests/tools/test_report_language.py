@@ -7,13 +7,13 @@ from pathlib import Path
 
 import pytest
 
-import surveys
+from . import surveys
 from cpi_tools.program import Cpi
 from cpi_tools.report_language import VARIABLE, teller_of
 from cpi_tools.told import Figure, moment_of, month_of, row, sentences, told, told_of, whole
-from nobodys import greek, left_in_english, nobodys_in, seen
-from ran import Ran, run
-from surveys import closes
+from .nobodys import greek, left_in_english, nobodys_in, seen
+from .ran import Ran, run
+from .surveys import closes
 
 
 @pytest.fixture

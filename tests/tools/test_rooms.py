@@ -10,7 +10,7 @@ from pathlib import Path
 
 from cpi_tools.program import Cpi
 from cpi_tools.rooms import MARK, YOUNG, new_room, stays
-from conftest import ROOT
+from lib.places import ROOT
 
 
 def aged(room: Path) -> Path:

@@ -9,7 +9,7 @@ from typing import Any
 
 import pytest
 
-from conftest import ROOT
+from lib.places import ROOT
 
 pytestmark = pytest.mark.skipif(shutil.which("node") is None, reason="node isn't there")
 

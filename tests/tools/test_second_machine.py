@@ -10,7 +10,7 @@ import pytest
 
 from cpi_tools.gaps import MISSING
 from cpi_tools.program import Cpi
-from second_machines import LEAST, Answered, gaps_of, kill_and_promote, machine, receiver, surveyed
+from .second_machines import LEAST, Answered, gaps_of, kill_and_promote, machine, receiver, surveyed
 
 SHELL = '#!/bin/sh\nshift\nexec sh -c "$*"\n'
 """A stand-in for ssh, which runs the command on this machine."""

@@ -15,13 +15,13 @@ from typing import Optional
 
 import pytest
 
-import surveys
+from . import surveys
 from cpi_tools.explain import wording
 from cpi_tools.explain.sentences import way
 from cpi_tools.explain.spoken import count_words
 from cpi_tools.program import Cpi
-from ran import run
-from surveys import key_of
+from .ran import run
+from .surveys import key_of
 
 EUR = ("--currency", "EUR")
 

@@ -21,9 +21,9 @@ from cpi_tools.pack.specials import Special
 from cpi_tools.pack.tables import Series
 from cpi_tools.program import Cpi
 from cpi_tools.publish import publish
-from published import Office
-from test_measures import tea_again, two_years
-from test_site import are_near, drawn_in, words_of
+from .published import Office
+from .test_measures import tea_again, two_years
+from .test_site import are_near, drawn_in, words_of
 
 CONFIG = Config("NSO", "XX", "Office of prices", reference="2025", rates="published")
 Levels = dict[tuple[str, str], Fraction]

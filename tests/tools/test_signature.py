@@ -16,8 +16,8 @@ from cpi_tools.pack.signature import CannotSign
 from cpi_tools.program import Cpi
 from cpi_tools.publish import CannotPublish, check, publish
 from cpi_tools.signing import signed
-from published import Office
-from test_site import words_of
+from .published import Office
+from .test_site import words_of
 
 CONFIG = Config("NSO.PRICES", "XX", "Office of prices")
 FILES = {"manifest.json.sig", "allowed_signers", "check.html"}

@@ -14,7 +14,7 @@ from typing import Optional
 
 import pytest
 
-import surveys
+from . import surveys
 from cpi_tools.pack.config import Config
 from cpi_tools.pack.pictures import of_imputed, of_node
 from cpi_tools.pack.public import Listed, Published, from_file
@@ -22,8 +22,8 @@ from cpi_tools.pack.shown import Shown
 from cpi_tools.pack.tables import Series
 from cpi_tools.program import Cpi
 from cpi_tools.publish import publish
-from published import CODES, LONG_AFTER, REVISED, shown
-from test_measures import over_another_december, tea_again, two_years
+from .published import CODES, LONG_AFTER, REVISED, shown
+from .test_measures import over_another_december, tea_again, two_years
 
 CONFIG = Config("NSO", "XX", "Office <of> prices", country="Exampleland", reference="2025", currency="crowns")
 

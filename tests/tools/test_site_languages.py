@@ -20,10 +20,10 @@ from cpi_tools.pack.office_languages import OfficeLanguages, Own
 from cpi_tools.pack.public import Published
 from cpi_tools.pack.specials import Special
 from cpi_tools.publish import check, publish
-from conftest import ROOT
+from lib.places import ROOT
 from lib.pack_forms import read_json_stat, read_px
 from lib.pseudo import write_catalogue
-from test_measures import two_years
+from .test_measures import two_years
 
 OFFICE = "[office]\nagency = NSO\narea = XX\noffice = Office\n"
 

@@ -9,7 +9,7 @@ import pytest
 from cpi_tools.desk.sparse import is_quarterly, months_until
 from cpi_tools.program import Cpi, record
 from lib.offices import key_of, plan_with
-from ran import rows_of, run
+from .ran import rows_of, run
 
 MONTHS = ["2025-12", *(f"2026-{number:02}" for number in range(1, 13)), "2027-01", "2027-02"]
 RICE, RENT, FRUIT, BREAD = "01.1.1.1-01", "04.1.1.1-01", "01.1.6.1-01", "01.1.1.3-01"

@@ -24,9 +24,9 @@ from cpi_tools.pack.tables import Series
 from cpi_tools.program import Cpi
 from cpi_tools.publish import publish
 from lib.sets import Elementary, Figures, figures, given
-from published import HIDDEN_REVISION, Office
-from test_measures import over_another_december
-from test_site import drawn_in, words_of
+from .published import HIDDEN_REVISION, Office
+from .test_measures import over_another_december
+from .test_site import drawn_in, words_of
 
 FILE = """\
 id,title,in,out

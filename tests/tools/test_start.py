@@ -9,8 +9,8 @@ from pathlib import Path
 
 import pytest
 
-from conftest import ROOT
-from ran import Ran
+from lib.places import ROOT
+from .ran import Ran
 
 START = ROOT / "tools/cpi_tools/start"
 STARTERS = ("cpi-tools", "ops/try")

@@ -22,8 +22,8 @@ from cpi_tools.sent import Bundle, Sent, bundled
 from cpi_tools.sheets import Source
 from cpi_tools.stored import stored_office
 from cpi_tools.take_in import parted
-from ran import Ran, rows_of, run
-from spreadsheets import KEY_7, KEY_8, Change, Sheets, add, drop, put, replayed, sheets, tables, without, written
+from .ran import Ran, rows_of, run
+from .spreadsheets import KEY_7, KEY_8, Change, Sheets, add, drop, put, replayed, sheets, tables, without, written
 
 Cell = tuple[str, int, str, str]
 """File, row, column and number of a problem."""

@@ -12,11 +12,11 @@ import openpyxl
 import pytest
 
 from cpi_tools.program import Cpi, record
-from offices import KEY, TABLES
-from ran import rows_of, run
-from spreadsheets import replayed, sheets, tables, written
-from test_take_in import sums
-from wide import in_percent, wide_prices
+from .offices import KEY, TABLES
+from .ran import rows_of, run
+from .spreadsheets import replayed, sheets, tables, written
+from .test_take_in import sums
+from .wide import in_percent, wide_prices
 
 STORED = ("collector", "outlet", "item", "node", "plan_item", "plan_ref", "calendar", "assignment_2", "quote_2",
           "release_2", "frozen_2", "carried_2", "level_2")  # fmt: skip

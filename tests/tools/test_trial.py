@@ -8,12 +8,12 @@ from pathlib import Path
 
 import pytest
 
-import surveys
+from . import surveys
 from cpi_tools.copying import private_copy
 from cpi_tools.program import Cpi, record
 from cpi_tools.stored import NotAnOffice, read_copy
 from cpi_tools.trial import Refused, as_frozen, freeze_on_copy, reopened, state_of
-from surveys import bytes_of, key_of
+from .surveys import bytes_of, key_of
 
 
 @pytest.fixture

@@ -11,8 +11,8 @@ from pathlib import Path
 
 import pytest
 
-from conftest import ROOT
-from test_package import dpkg, package  # noqa: F401
+from lib.places import ROOT
+from .test_package import dpkg, package  # noqa: F401
 
 OFFICE_CONF = """\
 # /etc/cpi/office.conf: what the units hand to the programs. No secret stands here.

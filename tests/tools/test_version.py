@@ -13,8 +13,8 @@ from pathlib import Path
 import pytest
 
 from cpi_tools import program, version
-from conftest import ROOT
-from ran import Ran
+from lib.places import ROOT
+from .ran import Ran
 
 SUM = "a" * 64
 PROGRAM, OTHER = "#!/bin/sh\nexit 0\n", "#!/bin/sh\nexit 1\n"

@@ -11,8 +11,8 @@ from pathlib import Path
 
 import pytest
 
-from conftest import ROOT
-from test_ops import needed
+from lib.places import ROOT
+from .test_ops import needed
 from versions import Version, fault, release, sum_of_sources, versions
 
 HEAD = "# Changes\n\nWhat changed.\n\n"

@@ -25,9 +25,9 @@ from cpi_tools.said import Journal, Line, OutputFile
 from cpi_tools.terminal import Fault
 from cpi_tools.writes import Writes, last_commit, writes_of
 from lib.served import SECONDS, free_port, heard, message, peer_of, words_of
-from loads import DESK_KEY, price_of, slot_of
-from offices import LOAD_KEY, LOAD_MONTH
-from test_ops import script
+from .loads import DESK_KEY, price_of, slot_of
+from .offices import LOAD_KEY, LOAD_MONTH
+from .test_ops import script
 
 REFUSED = "cpi: a request was refused by 90, opening the file again"
 OPEN = "cpi: the file is open again"

@@ -37,8 +37,8 @@ from cpi_tools.pack.specials import Special
 from cpi_tools.pack.tables import Series, Table
 from cpi_tools.pack.tidy import Lines
 from cpi_tools.publish import check, publish
-from conftest import ROOT
-from published import REVISED
+from lib.places import ROOT
+from .published import REVISED
 
 SETS = (Special("FRUIT", "Fruit", ("01.1.6",)), Special("REST", "Without food", ("00",), ("01",)))
 CONFIG = Config("NSO", "XX", "Office of prices", reference="2025", years=1, specials=SETS)

@@ -7,7 +7,7 @@ from collections.abc import Sequence
 from decimal import Decimal
 from pathlib import Path
 
-from ran import rows_of
+from .ran import rows_of
 
 Cells = list[list[str]]
 

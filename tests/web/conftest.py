@@ -1,29 +1,22 @@
-"""What these tests share: the program, one nginx and one Chromium, each fresh for each test."""
+"""What these tests share: one nginx and one Chromium, each fresh for each test."""
 
 from __future__ import annotations
 
-import sys
 from collections.abc import Iterator
 from pathlib import Path
 
 import pytest
 
-HERE = Path(__file__).resolve().parent
-ROOT = HERE.parents[1]
+from cpi_tools.program import Cpi
 
-sys.dont_write_bytecode = True
-sys.path[:0] = [str(HERE), str(ROOT / "tools"), str(ROOT / "tests")]
-
-from browser import Browser  # noqa: E402
-from languages import ARABIC, ENGLISH, Speech, spoken  # noqa: E402
-from cpi_tools.program import Cpi  # noqa: E402
-from desk_pages import DeskPages, Person, desk_pages  # noqa: E402
-from lib.fixtures import cpi, pytest_addoption  # noqa: E402, F401
-from offices import lived  # noqa: E402
-from phone import Phone  # noqa: E402
-from pseudo import pages_with  # noqa: E402
-from stage import Stage  # noqa: E402
-from websites import published  # noqa: E402
+from .browser import Browser
+from .desk_pages import DeskPages, Person, desk_pages
+from .languages import ARABIC, ENGLISH, Speech, spoken
+from .offices import lived
+from .phone import Phone
+from .pseudo import pages_with
+from .stage import Stage
+from .websites import published
 
 
 @pytest.fixture(scope="session")

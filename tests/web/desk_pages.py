@@ -13,9 +13,9 @@ from typing import Any, Optional
 from selenium.webdriver.common.action_chains import ActionChains
 from selenium.webdriver.common.keys import Keys
 
-from browser import Browser
-from offices import DESK
-from stage import ROOT, Stage
+from .browser import Browser
+from .offices import DESK
+from .stage import ROOT, Stage
 
 PREFIX = "/desk"
 

@@ -10,7 +10,7 @@ from typing import NamedTuple, Optional, Union
 
 from babel import Locale
 
-from stage import ROOT, Stage
+from .stage import ROOT, Stage
 
 CONFIG = """\
 export const office = Object.freeze({{

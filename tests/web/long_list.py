@@ -5,9 +5,9 @@ from __future__ import annotations
 import time
 
 from cpi_tools.program import record
-from offices import BEFORE, DESK, MONTH_SECONDS, NOBODY, NOW
-from phone import Phone
-from stage import Stage
+from .offices import BEFORE, DESK, MONTH_SECONDS, NOBODY, NOW
+from .phone import Phone
+from .stage import Stage
 
 ROWS_AN_OUTLET = 20
 FIRST_OUTLET = 100

@@ -11,11 +11,11 @@ from typing import Any
 
 from PIL import Image
 
-from desk_pages import DeskPages
-from languages import CONFIG, ENGLISH, Speech
-from offices import NOW
-from phone import Phone
-from stage import ROOT, Stage
+from .desk_pages import DeskPages
+from .languages import CONFIG, ENGLISH, Speech
+from .offices import NOW
+from .phone import Phone
+from .stage import ROOT, Stage
 
 AGES = "12000"
 """So many months that a note is kept whatever the clock says."""

@@ -12,8 +12,8 @@ from collections.abc import Callable
 from concurrent.futures import ThreadPoolExecutor
 from typing import Optional, TypeVar
 
-from offices import NOW
-from stage import Stage
+from .offices import NOW
+from .stage import Stage
 
 T = TypeVar("T")
 

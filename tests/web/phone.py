@@ -7,9 +7,9 @@ from typing import Any, Optional
 from selenium.webdriver.common.action_chains import ActionChains
 from selenium.webdriver.common.keys import Keys
 
-from browser import Browser
-from languages import Speech, Words
-from offices import ANNA
+from .browser import Browser
+from .languages import Speech, Words
+from .offices import ANNA
 
 
 EDITED = "const it = document.getElementById('entry'); return it.open ? it.dataset.entry : null;"

@@ -4,12 +4,12 @@ from __future__ import annotations
 
 from pathlib import Path
 
-from noted import choose, unfold
-from offices import ANNA, BEFORE
-from phone import Phone
-from stage import Stage
-from unsent import CLOSED, act, desk
-from walks import Walk
+from .noted import choose, unfold
+from .offices import ANNA, BEFORE
+from .phone import Phone
+from .stage import Stage
+from .unsent import CLOSED, act, desk
+from .walks import Walk
 
 
 def walk_over(phone: Phone, stage: Stage, walk: Walk) -> None:

@@ -6,7 +6,7 @@ import shutil
 import subprocess
 from pathlib import Path
 
-from conftest import ROOT
+from lib.places import ROOT
 from lib.pseudo import write_catalogue
 
 

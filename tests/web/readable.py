@@ -4,7 +4,7 @@ from __future__ import annotations
 
 from collections.abc import Sequence
 
-from browser import Browser
+from .browser import Browser
 
 LEAST_PIXELS = 44
 """What is touched is at least so wide and high, links in a text aside."""

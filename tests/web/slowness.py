@@ -6,7 +6,7 @@ import contextlib
 import statistics
 from collections.abc import Iterator
 
-from browser import Browser
+from .browser import Browser
 
 PHONE = 24.0
 """Milliseconds that the phone of the tests needs for YARD, of which a server or a desk computer needs some four."""

@@ -18,8 +18,8 @@ from typing import Any, NamedTuple, Optional
 from cpi_tools.front import Front, Place, draw_certificate, free_port
 from cpi_tools.program import Cpi
 
-from offices import DESK, NOW
-from relay import Relay
+from .offices import DESK, NOW
+from .relay import Relay
 
 ROOT = Path(__file__).resolve().parents[2]
 LOGS = ("access.log", "access.log-errors", "error.log")

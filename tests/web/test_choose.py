@@ -13,13 +13,13 @@ from typing import Any
 
 import pytest
 
-from browser import Browser
+from .browser import Browser
 from cpi_tools.program import Cpi
-from offices import SCRIPT, TURNING
-from readable import MARKS, faults_enlarged, faults_for_keys, faults_of_page, faults_of_texts
-from stage import Stage
-from websites import published
-from years import BREAD, FLOUR, RICE, SUGAR, lived
+from .offices import SCRIPT, TURNING
+from .readable import MARKS, faults_enlarged, faults_for_keys, faults_of_page, faults_of_texts
+from .stage import Stage
+from .websites import published
+from .years import BREAD, FLOUR, RICE, SUGAR, lived
 
 PAGE = "/published/choose.html"
 

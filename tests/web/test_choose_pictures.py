@@ -11,15 +11,15 @@ from typing import Any
 
 import pytest
 
-from browser import Browser
+from .browser import Browser
 from cpi_tools.program import Cpi
-from other_site import other_site
-from readable import faults_enlarged, faults_of_page
-from stage import Stage
-from test_choose import opened
-from test_pictures_elsewhere import PIXELS
-from websites import published
-from years import BREAD, RICE, lived
+from .other_site import other_site
+from .readable import faults_enlarged, faults_of_page
+from .stage import Stage
+from .test_choose import opened
+from .test_pictures_elsewhere import PIXELS
+from .websites import published
+from .years import BREAD, RICE, lived
 
 SVG = "{http://www.w3.org/2000/svg}"
 SMALL = "/published/embed/chosen.html"

@@ -7,7 +7,7 @@ from pathlib import Path
 
 import pytest
 
-from browser import Browser
+from .browser import Browser
 from cpi_tools.pack.clocks import clock_of
 from cpi_tools.pack.config import Config
 from cpi_tools.pack.public import Listed, Published

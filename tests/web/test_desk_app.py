@@ -12,11 +12,11 @@ from cpi_tools.csv_files import line_of
 from cpi_tools.desk_app.desk_log import DeskLog
 from lib import hostile
 
-from browser import Browser
-from desk_pages import Person
-from offices import ANNA, ARABIC, BENO, IMAGE, LEAVING, OVERRIDE, SCRIPT
-from readable import faults_at_sizes
-from stage import Stage
+from .browser import Browser
+from .desk_pages import Person
+from .offices import ANNA, ARABIC, BENO, IMAGE, LEAVING, OVERRIDE, SCRIPT
+from .readable import faults_at_sizes
+from .stage import Stage
 
 HOSTILE = tuple(text.replace("\u2029", "") for text in hostile.HOSTILE)
 """Names of outlets, each of which is a line of its own where it is pasted."""

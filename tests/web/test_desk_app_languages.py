@@ -8,13 +8,13 @@ from pathlib import Path
 
 import pytest
 
-from browser import Browser
-from desk_pages import DeskPages, Person
-from offices import ANNA, BENO, DESK
-from readable import CUT, faults_of_page
-from stage import Stage
-from test_desk_app import FAR, MONTH, priced
-from walks import COVERED, HIDDEN, LEFT, PICTURES
+from .browser import Browser
+from .desk_pages import DeskPages, Person
+from .offices import ANNA, BENO, DESK
+from .readable import CUT, faults_of_page
+from .stage import Stage
+from .test_desk_app import FAR, MONTH, priced
+from .walks import COVERED, HIDDEN, LEFT, PICTURES
 
 SAME = re.compile(
     r"[A-Za-z0-9/_.-]*\.(?:csv|py|ini|html)\b|\b(?:UTC|CET|CEST|CSV|TSV|SHA|cpi|tools|publish|keys|RICE|FLOUR|round)\b"

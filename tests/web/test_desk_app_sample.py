@@ -8,12 +8,12 @@ from pathlib import Path
 from cpi_tools.csv_files import line_of
 from lib import hostile
 
-from browser import Browser
-from desk_pages import DeskPages, Person
-from offices import ANNA, ARABIC, LEAVING, NOW
-from readable import faults_at_sizes, faults_of_page
-from stage import Stage
-from websites import CONFIG
+from .browser import Browser
+from .desk_pages import DeskPages, Person
+from .offices import ANNA, ARABIC, LEAVING, NOW
+from .readable import faults_at_sizes, faults_of_page
+from .stage import Stage
+from .websites import CONFIG
 
 KINDS = ("items", "outlets", "collectors", "assignments", "handovers", "calendar")
 

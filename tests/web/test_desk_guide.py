@@ -12,13 +12,13 @@ from pathlib import Path
 
 import pytest
 
-from browser import Browser
-from conftest import ROOT
+from .browser import Browser
+from lib.places import ROOT
 from cpi_tools.program import Cpi
-from desk_pages import PREFIX, Person, desk_pages
+from .desk_pages import PREFIX, Person, desk_pages
 from lib.nation import ZONE
-from readable import faults_for_keys, faults_of_page
-from stage import Stage
+from .readable import faults_for_keys, faults_of_page
+from .stage import Stage
 
 MONTH = "2025-12"
 IN_MEMORY = "/dev/shm"

@@ -15,11 +15,11 @@ from selenium.common.exceptions import WebDriverException
 from cpi_tools.desk_app.desk_log import SENT, DeskLog
 from lib.offices import RICE_AND_FLOUR
 
-from browser import Browser
-from desk_pages import PREFIX, DeskPages, Person, desk_pages
-from offices import ANNA, BENO
-from phone import Phone
-from stage import Stage
+from .browser import Browser
+from .desk_pages import PREFIX, DeskPages, Person, desk_pages
+from .offices import ANNA, BENO
+from .phone import Phone
+from .stage import Stage
 
 YEAR = datetime.date.today().year
 DECEMBER, JANUARY = f"{YEAR - 1}-12", f"{YEAR}-01"

@@ -7,10 +7,10 @@ from pathlib import Path
 
 import pytest
 
-from browser import Browser
-from conftest import ROOT
-from readable import faults_enlarged, faults_for_keys, faults_of_page
-from stage import Stage
+from .browser import Browser
+from lib.places import ROOT
+from .readable import faults_enlarged, faults_for_keys, faults_of_page
+from .stage import Stage
 
 
 @pytest.mark.parametrize("scheme", ["light", "dark"])

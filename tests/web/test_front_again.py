@@ -12,9 +12,9 @@ from typing import Optional
 
 import pytest
 
-from offices import ANNA, BENO, NOW
-from relay import whole_message
-from stage import Stage
+from .offices import ANNA, BENO, NOW
+from .relay import whole_message
+from .stage import Stage
 
 ASKED: tuple[tuple[str, str, str, Optional[str]], ...] = (
     ("GET", f"/api/work/{NOW}", ANNA, None),

@@ -12,11 +12,11 @@ from concurrent.futures import ThreadPoolExecutor
 from threading import Barrier
 from typing import NamedTuple, Optional
 
-from conftest import ROOT
+from lib.places import ROOT
 from lib.offices import key_of
-from offices import DESK, ITEMS, NOW
-from peers import SECONDS, address_of, all_at_once
-from stage import Stage
+from .offices import DESK, ITEMS, NOW
+from .peers import SECONDS, address_of, all_at_once
+from .stage import Stage
 
 COLLECTORS = range(100, 140)
 GATEWAY = 600

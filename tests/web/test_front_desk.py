@@ -8,13 +8,13 @@ from pathlib import Path
 
 import pytest
 
-from browser import Browser
-from conftest import ROOT
-from desk_pages import PREFIX, DeskPages, Person, desk_pages
-from offices import ANNA, DESK, NOBODY
-from peers import Peer
-from readable import faults_enlarged, faults_of_page
-from stage import Answer, Stage
+from .browser import Browser
+from lib.places import ROOT
+from .desk_pages import PREFIX, DeskPages, Person, desk_pages
+from .offices import ANNA, DESK, NOBODY
+from .peers import Peer
+from .readable import faults_enlarged, faults_of_page
+from .stage import Answer, Stage
 
 FORM = {"Content_Type": "application/x-www-form-urlencoded"}
 

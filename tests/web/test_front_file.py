@@ -8,7 +8,7 @@ from pathlib import Path
 
 import pytest
 
-from conftest import ROOT
+from lib.places import ROOT
 from cpi_tools.front import draw_certificate, free_port, system_program, whole_configuration
 
 HOST = "prices.example"

@@ -14,9 +14,9 @@ from collections.abc import Iterator
 from concurrent.futures import ThreadPoolExecutor
 from typing import Any, Optional
 
-from offices import ANNA, BENO, NOBODY, NOW
-from peers import SECONDS, Peer, address_of, all_at_once, drawn_key, once, timed
-from stage import Stage
+from .offices import ANNA, BENO, NOBODY, NOW
+from .peers import SECONDS, Peer, address_of, all_at_once, drawn_key, once, timed
+from .stage import Stage
 
 OWN = (
     ("GET", f"/work/{NOW}", None),

@@ -6,8 +6,8 @@ import struct
 
 import pytest
 
-from browser import Browser
-from stage import Stage
+from .browser import Browser
+from .stage import Stage
 
 ICONS = {"icon-180.png": 180, "icon-192.png": 192, "icon-512.png": 512, "icon-512-maskable.png": 512}
 """Each with its width and height in pixels."""

@@ -15,8 +15,8 @@ from collections.abc import Iterator
 import pytest
 
 from lib import messages, served
-from offices import DESK, NOW
-from stage import Stage
+from .offices import DESK, NOW
+from .stage import Stage
 
 COUNT = 10_000
 SECONDS = 20.0

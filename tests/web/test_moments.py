@@ -9,9 +9,9 @@ import time
 from collections.abc import Callable
 from typing import NamedTuple
 
-from offices import DESK
-from peers import SECONDS, address_of
-from stage import Stage
+from .offices import DESK
+from .peers import SECONDS, address_of
+from .stage import Stage
 
 REVISIONS = 9
 WITHIN = 2

@@ -12,7 +12,7 @@ from typing import Any, Optional, Union
 
 import pytest
 
-from browser import Browser
+from .browser import Browser
 
 MOST = 100_000_000
 

@@ -7,11 +7,11 @@ from pathlib import Path
 
 import pytest
 
-from browser import Browser
+from .browser import Browser
 from cpi_tools.command_line import main
 from cpi_tools.program import Cpi
-from offices import ARABIC, LEAVING, OVERRIDE, TURNING, lived
-from readable import faults_for_keys, faults_of_texts
+from .offices import ARABIC, LEAVING, OVERRIDE, TURNING, lived
+from .readable import faults_for_keys, faults_of_texts
 
 CONFIG = f"""[office]
 agency = NSO

@@ -14,13 +14,13 @@ from typing import Any
 import pytest
 from selenium.webdriver.common.keys import Keys
 
-from browser import Browser
-from conftest import ROOT
-from languages import ENGLISH, Speech
-from offices import ANNA, BEFORE, BENO, DESK, IMAGE, NOBODY, NOW, SCRIPT
-from phone import Phone
-from readable import faults_enlarged, faults_for_keys, faults_of_page
-from stage import Stage
+from .browser import Browser
+from lib.places import ROOT
+from .languages import ENGLISH, Speech
+from .offices import ANNA, BEFORE, BENO, DESK, IMAGE, NOBODY, NOW, SCRIPT
+from .phone import Phone
+from .readable import faults_enlarged, faults_for_keys, faults_of_page
+from .stage import Stage
 
 NEXT = 10
 """The receipt that Anna gets next: nine of hers were given before."""

@@ -6,11 +6,11 @@ import time
 from collections.abc import Callable
 from typing import NamedTuple
 
-from offices import NOBODY
-from phone import Phone
-from stage import Stage
-from unsent import NEXT, clock_faster, desk, stored
-from wire import Wire, through
+from .offices import NOBODY
+from .phone import Phone
+from .stage import Stage
+from .unsent import NEXT, clock_faster, desk, stored
+from .wire import Wire, through
 
 UNKNOWN = "Not known if 1 entry is stored. The page asks again."
 BUSY = "The office is busy: 1 entry kept on this phone"

@@ -13,13 +13,13 @@ from typing import NamedTuple, Optional
 
 import pytest
 
-from browser import Browser
-from languages import ENGLISH, Speech, Words
-from offices import BEFORE, DESK, NOBODY, NOW
-from phone import Phone
-from stage import Stage
-from test_wire import MOST
-from wire import Wire, through
+from .browser import Browser
+from .languages import ENGLISH, Speech, Words
+from .offices import BEFORE, DESK, NOBODY, NOW
+from .phone import Phone
+from .stage import Stage
+from .test_wire import MOST
+from .wire import Wire, through
 
 SHOPS = (
     "Corner shop", "Market hall", "Market hall, upper floor", "سوق المدينة", "Bäckerei Müller", "Baker, 12 High Street",

@@ -10,10 +10,10 @@ from typing import Union
 
 import pytest
 
-from offices import ANNA, NOW, month_now
-from phone import Phone
-from readable import faults_enlarged, faults_of_page
-from stage import Stage
+from .offices import ANNA, NOW, month_now
+from .phone import Phone
+from .readable import faults_enlarged, faults_of_page
+from .stage import Stage
 
 HOUR, DAY = 3600, 86_400
 AFTER = month_now(1)

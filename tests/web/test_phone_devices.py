@@ -9,12 +9,12 @@ from pathlib import Path
 import pytest
 from selenium.webdriver.common.keys import Keys
 
-from browser import Browser
-from offices import NOW
-from phone import Phone
-from stage import Stage
-from unsent import CLOSED, NEXT, act, clock_faster, desk, listed, press_alarm, put, stored, wait_alarm, without_line
-from wire import Wire, through
+from .browser import Browser
+from .offices import NOW
+from .phone import Phone
+from .stage import Stage
+from .unsent import CLOSED, NEXT, act, clock_faster, desk, listed, press_alarm, put, stored, wait_alarm, without_line
+from .wire import Wire, through
 
 # ---- two devices
 

@@ -12,15 +12,15 @@ from pathlib import Path
 
 import pytest
 
-from browser import Browser
-from desk_pages import desk_pages
-from languages import ARABIC, Speech, spoken
-from noted import AGES, camera_file, takes_notes
-from phone import Phone
-from phone_walks import walk_over, walk_over_notes
-from pseudo import pages_with
-from stage import Stage
-from walks import Enlarged
+from .browser import Browser
+from .desk_pages import desk_pages
+from .languages import ARABIC, Speech, spoken
+from .noted import AGES, camera_file, takes_notes
+from .phone import Phone
+from .phone_walks import walk_over, walk_over_notes
+from .pseudo import pages_with
+from .stage import Stage
+from .walks import Enlarged
 
 TWICE = 32
 """Pixels of a text of twice the usual size."""

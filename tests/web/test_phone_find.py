@@ -4,10 +4,10 @@ from __future__ import annotations
 
 import pytest
 
-from long_list import open_list
-from offices import ANNA, DESK, NOBODY
-from phone import Phone
-from stage import Stage
+from .long_list import open_list
+from .offices import ANNA, DESK, NOBODY
+from .phone import Phone
+from .stage import Stage
 
 
 @pytest.fixture

@@ -7,12 +7,12 @@ from typing import Any
 import pytest
 from selenium.webdriver.common.keys import Keys
 
-from browser import Browser
-from long_list import LONG_ITEM, LONG_OUTLET, LONG_UNIT, give_list
-from offices import ANNA, NOBODY, NOW
-from phone import Phone
-from readable import faults_enlarged, faults_for_keys, faults_of_page
-from stage import Stage
+from .browser import Browser
+from .long_list import LONG_ITEM, LONG_OUTLET, LONG_UNIT, give_list
+from .offices import ANNA, NOBODY, NOW
+from .phone import Phone
+from .readable import faults_enlarged, faults_for_keys, faults_of_page
+from .stage import Stage
 
 
 WATCH = """

@@ -7,12 +7,12 @@ import gettext
 import pytest
 from babel.messages.pofile import read_po
 
-from languages import ARABIC, FRENCH, Speech, spoken
-from offices import ANNA, NOW
-from phone import Phone
-from phone_walks import walk_over
-from stage import ROOT, Stage
-from walks import Walk
+from .languages import ARABIC, FRENCH, Speech, spoken
+from .offices import ANNA, NOW
+from .phone import Phone
+from .phone_walks import walk_over
+from .stage import ROOT, Stage
+from .walks import Walk
 
 
 def test_nothing_is_cut_covered_or_left_in_english(phone: Phone, stage: Stage, pseudo: str) -> None:

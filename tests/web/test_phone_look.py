@@ -9,9 +9,9 @@ from typing import Iterator
 import pytest
 from selenium.webdriver.common.keys import Keys
 
-from offices import ANNA, NOW
-from phone import Phone
-from stage import Stage
+from .offices import ANNA, NOW
+from .phone import Phone
+from .stage import Stage
 
 
 @contextmanager

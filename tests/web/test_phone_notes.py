@@ -8,14 +8,14 @@ from pathlib import Path
 import pytest
 from selenium.webdriver.common.keys import Keys
 
-from desk_pages import DeskPages, Person, desk_pages
-from languages import ARABIC
+from .desk_pages import DeskPages, Person, desk_pages
+from .languages import ARABIC
 from lib.hostile import HOSTILE
-from noted import AGES, PLACE, at_the_desk, camera_file, choose, kept, sizes_of, takes_notes, unfold
-from offices import ANNA, BENO, DESK, NOBODY, NOW
-from phone import Phone
-from readable import faults_for_keys, faults_of_page, faults_of_texts
-from stage import Stage
+from .noted import AGES, PLACE, at_the_desk, camera_file, choose, kept, sizes_of, takes_notes, unfold
+from .offices import ANNA, BENO, DESK, NOBODY, NOW
+from .phone import Phone
+from .readable import faults_for_keys, faults_of_page, faults_of_texts
+from .stage import Stage
 
 NEXT = 10
 """The next receipt of Anna's."""

@@ -8,12 +8,12 @@ from typing import Any
 
 import pytest
 
-from browser import Browser
-from languages import Speech
-from offices import ANNA, BEFORE, NOW
-from phone import Phone
-from stage import Stage
-from unsent import CLOSED, NEXT, OPEN, act, desk, file_of, listed, press_alarm, put, stored, wait_alarm, without_line
+from .browser import Browser
+from .languages import Speech
+from .offices import ANNA, BEFORE, NOW
+from .phone import Phone
+from .stage import Stage
+from .unsent import CLOSED, NEXT, OPEN, act, desk, file_of, listed, press_alarm, put, stored, wait_alarm, without_line
 
 Row = tuple[int, int, int]
 Rows = list[Row]

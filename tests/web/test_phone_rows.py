@@ -6,12 +6,12 @@ from typing import Any
 
 import pytest
 
-from browser import Browser
-from long_list import LONG_ITEM, LONG_OUTLET, give_list, open_list
-from offices import ARABIC, DESK, LEAVING, NOBODY, NOW, OVERRIDE
-from phone import Phone
-from readable import faults_enlarged, faults_for_keys, faults_of_page, faults_of_texts
-from stage import Stage
+from .browser import Browser
+from .long_list import LONG_ITEM, LONG_OUTLET, give_list, open_list
+from .offices import ARABIC, DESK, LEAVING, NOBODY, NOW, OVERRIDE
+from .phone import Phone
+from .readable import faults_enlarged, faults_for_keys, faults_of_page, faults_of_texts
+from .stage import Stage
 
 
 @pytest.fixture

@@ -10,10 +10,10 @@ from urllib.parse import quote
 from selenium.webdriver.common.keys import Keys
 
 from cpi_tools.check_character import check_character
-from offices import ANNA, BENO, LEAVING, NOBODY, SCRIPT
-from phone import Phone
-from readable import faults_enlarged, faults_for_keys, faults_of_page, faults_of_texts
-from stage import Stage
+from .offices import ANNA, BENO, LEAVING, NOBODY, SCRIPT
+from .phone import Phone
+from .readable import faults_enlarged, faults_for_keys, faults_of_page, faults_of_texts
+from .stage import Stage
 
 
 def checked(key: str) -> str:

@@ -11,11 +11,11 @@ from collections.abc import Iterator
 
 import pytest
 
-from long_list import give_list
-from offices import NOBODY, NOW
-from phone import Phone
-from slowness import as_a_phone
-from stage import Stage
+from .long_list import give_list
+from .offices import NOBODY, NOW
+from .phone import Phone
+from .slowness import as_a_phone
+from .stage import Stage
 
 ROWS, SERIES, SAVES = 400, 6, 20
 

@@ -5,10 +5,10 @@ from __future__ import annotations
 import time
 from pathlib import Path
 
-from offices import ANNA, NOW
-from phone import Phone
-from stage import Stage
-from unsent import CLOSED_TEXT, NEXT, desk, file_of, press_alarm, refused, rows_of, stored, wait_alarm
+from .offices import ANNA, NOW
+from .phone import Phone
+from .stage import Stage
+from .unsent import CLOSED_TEXT, NEXT, desk, file_of, press_alarm, refused, rows_of, stored, wait_alarm
 
 HEAD = ["month", "slot", "outlet", "item", "unit", "mark", "value", "confirmed", "written", "state"]
 

@@ -6,10 +6,10 @@ import time
 
 from selenium.webdriver.common.keys import Keys
 
-from offices import ANNA, BEFORE, BENO, NOW, month_now
-from phone import Phone
-from stage import Stage
-from unsent import (
+from .offices import ANNA, BEFORE, BENO, NOW, month_now
+from .phone import Phone
+from .stage import Stage
+from .unsent import (
     CLOSED_TEXT,
     NEXT,
     OPEN,

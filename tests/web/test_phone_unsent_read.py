@@ -2,12 +2,12 @@
 
 from __future__ import annotations
 
-from browser import Browser
-from offices import NOW
-from phone import Phone
-from readable import faults_enlarged, faults_for_keys, faults_of_page
-from stage import Stage
-from unsent import CLOSED, act, desk, press_alarm, put, wait_alarm, without_line
+from .browser import Browser
+from .offices import NOW
+from .phone import Phone
+from .readable import faults_enlarged, faults_for_keys, faults_of_page
+from .stage import Stage
+from .unsent import CLOSED, act, desk, press_alarm, put, wait_alarm, without_line
 
 
 def look(browser: Browser) -> None:

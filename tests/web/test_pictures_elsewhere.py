@@ -12,9 +12,9 @@ from pathlib import Path
 
 import pytest
 
-from browser import Browser
-from other_site import other_site
-from stage import Stage
+from .browser import Browser
+from .other_site import other_site
+from .stage import Stage
 
 PLACE = "/published"
 """Where the front has the website."""

@@ -6,9 +6,9 @@ from pathlib import Path
 
 import pytest
 
-from browser import Browser
-from conftest import ROOT
-from stage import Stage
+from .browser import Browser
+from lib.places import ROOT
+from .stage import Stage
 
 PAGES = (
     "index.html",

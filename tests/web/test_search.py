@@ -7,7 +7,7 @@ from pathlib import Path
 
 import pytest
 
-from browser import Browser
+from .browser import Browser
 from cpi_tools.pack.config import Config
 from cpi_tools.pack.public import Listed, Published
 from cpi_tools.publish import publish

@@ -13,15 +13,15 @@ from pathlib import Path
 
 import pytest
 
-from browser import Browser
-from conftest import ROOT
+from .browser import Browser
+from lib.places import ROOT
 from cpi_tools import languages
 from cpi_tools.pack.office_languages import OfficeLanguages
 from cpi_tools.publish import publish
 from lib.pseudo import write_catalogue
-from readable import CUT, NAMELESS, SEEN, WIDE
-from stage import Stage
-from test_site_look import CONFIG, PAGES, made_up
+from .readable import CUT, NAMELESS, SEEN, WIDE
+from .stage import Stage
+from .test_site_look import CONFIG, PAGES, made_up
 
 PICTURES = os.environ.get("CPI_PICTURES")
 """A folder for pictures of each page, if somebody wants to look."""

@@ -13,15 +13,15 @@ from pathlib import Path
 
 import pytest
 
-import readable
-from browser import Browser
+from . import readable
+from .browser import Browser
 from cpi_tools.front import system_program
 from cpi_tools.pack.config import Config
 from cpi_tools.pack.public import Listed, Published
 from cpi_tools.pack.reasons import Reason
 from cpi_tools.pack.specials import Special
 from cpi_tools.publish import publish
-from other_site import other_site
+from .other_site import other_site
 
 MONTHS = 61
 BOUND = 15_000

@@ -19,11 +19,11 @@ from pathlib import Path
 
 import pytest
 
-from conftest import ROOT
+from lib.places import ROOT
 from cpi_tools.front import children_of, fingerprint, free_port
 from cpi_tools.program import Cpi
-from offices import ANNA, NOW
-from stage import Stage
+from .offices import ANNA, NOW
+from .stage import Stage
 
 TRY = ROOT / "ops/try"
 SECONDS = 30.0

@@ -8,11 +8,11 @@ from collections.abc import Iterator
 
 import pytest
 
-from browser import Browser
-from offices import ANNA, NOW
-from peers import once
-from stage import Stage
-from wire import Wire, through
+from .browser import Browser
+from .offices import ANNA, NOW
+from .peers import once
+from .stage import Stage
+from .wire import Wire, through
 
 MOST = 600
 """Bytes that a save may cost both ways."""

@@ -4,7 +4,7 @@ from __future__ import annotations
 
 import subprocess
 
-from conftest import ROOT
+from lib.places import ROOT
 
 
 def test_what_is_made_of_other_files_is_theirs() -> None:

@@ -10,10 +10,10 @@ from collections.abc import Iterator
 from pathlib import Path
 from typing import Any
 
-from browser import SECONDS, Browser
-from offices import ANNA, DESK, NOW
-from phone import Phone
-from stage import Stage
+from .browser import SECONDS, Browser
+from .offices import ANNA, DESK, NOW
+from .phone import Phone
+from .stage import Stage
 
 LISTED = """
 return [...document.querySelectorAll("[data-unsent]")].map((it) => [it.dataset.unsent, it.innerText.split(/\\n+/)]);

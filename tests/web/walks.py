@@ -5,8 +5,8 @@ from __future__ import annotations
 import os
 from pathlib import Path
 
-from browser import Browser
-from readable import CUT, SEEN, faults_enlarged, faults_for_keys, faults_of_page
+from .browser import Browser
+from .readable import CUT, SEEN, faults_enlarged, faults_for_keys, faults_of_page
 
 PICTURES = os.environ.get("CPI_PICTURES")
 """A folder for pictures of each step, if somebody wants to look."""

@@ -8,7 +8,7 @@ import threading
 from collections.abc import Iterator
 from typing import NamedTuple
 
-from browser import Browser
+from .browser import Browser
 
 
 class Counted(NamedTuple):

@@ -17,7 +17,7 @@ from collections.abc import Iterator
 
 from cpi_tools.program import record
 from lib.offices import plan_with
-from offices import ANNA
+from .offices import ANNA
 
 ITEMS = {"RICE": "01.1.1.1-01", "FLOUR": "01.1.1.2-01", "BREAD": "01.1.1.3-01", "SUGAR": "01.1.8.1-01"}
 TITLES = {

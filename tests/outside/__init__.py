@@ -1,0 +1,1 @@
+"""The tests of what other programs make of what is made here."""

@@ -1,0 +1,1 @@
+"""The tests of cpi-tools, tool by tool, and of tools/."""
