@@ -5,15 +5,18 @@ from __future__ import annotations
 import os
 import sys
 from pathlib import Path
+from typing import TYPE_CHECKING
 
 import pytest
+
+if TYPE_CHECKING:
+    from cpi_tools.program import Cpi
 
 HERE = Path(__file__).resolve().parent
 
 sys.dont_write_bytecode = True
 sys.path[:0] = [str(HERE), str(HERE.parent / "tools")]
 
-from cpi_tools.program import Cpi  # noqa: E402
 from lib.program import Program  # noqa: E402
 from lib.sample import Sample, sample_of  # noqa: E402
 
@@ -46,6 +49,8 @@ def program(program_file: str) -> Program:
 @pytest.fixture(scope="session")
 def cpi(program_file: str) -> Cpi:
     """The program that is tried, as cpi-tools runs it."""
+    from cpi_tools.program import Cpi
+
     return Cpi(program_file)
 
 

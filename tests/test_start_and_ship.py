@@ -1,4 +1,3 @@
-#!/usr/bin/env python3
 """Tests what starts, builds and ships the program: ./cpi, ./cpi-build, ./test, tools/ and test_shipped_program.py.
 
 They run in copies of a small repository of five crates, with stand-ins for `rt`, for `objdump`, for the program and for
@@ -6,6 +5,8 @@ the parts of ./test (lib/small_repository.py). In this repository itself there i
 folders only; the notices of third parties are next to the program too; and CHANGELOG.md says what changed since the
 last release.
 """
+
+from __future__ import annotations
 
 import fcntl
 import hashlib
@@ -21,8 +22,12 @@ from collections.abc import Callable, Iterator
 from functools import partial
 from pathlib import Path
 
-from lib.harness import Checks, Fault, Job, words_of
-from lib.small_repository import BUILT, CRATES, KIT, NOTICE, NOTICES, SHIPPED, TOP, TRIED, Ran, Repository, made_of, put
+import pytest
+
+from lib.small_repository import BUILT, CRATES, KIT, NOTICE, NOTICES, SHIPPED, TOP, Ran, Repository, made_of, put
+from parts import Parts, Result
+
+pytestmark = pytest.mark.spread
 
 Seen = tuple[str, bool]
 """What is looked at, and whether it is as it should be."""
@@ -250,57 +255,117 @@ def sums(it: Repository) -> Iterator[Seen]:
     yield "each change is another sum", len(set(found)) == 6
 
 
-def stand_in(it: Repository, name: str, last: str, status: int = 0) -> None:
-    """Puts something in place of a part of ./test that ends with this line and this status."""
-    put(it.top / "tests" / name, f"#!/bin/sh\necho '{last}'\nexit {status}\n", 0o755)
+# ---- the parts of ./test
 
 
-def parts_of_test() -> set[str]:
-    """The scripts that ./test runs."""
-    text = (TOP / "test").read_text()
-    looped = re.search(r"for name in ([\w\s\\]+); do", text)
-    assert looped
-    # (those that need no program are named one by one)
-    alone = re.findall(r"^part .* tests/(test_\w+\.py)$", text, re.MULTILINE)
-    return {*alone, *(f"test_{name}.py" for name in looped[1].replace("\\", "").split())}
+def begin_test(it: Repository) -> None:
+    """Makes stand-ins of the parts of ./test that pass: so many tests each, beside the gate's two."""
+    it.stand_in("tests/run", "10 passed, 0 failed")
+    it.stand_in("tools/refused", "3 passed, 0 failed")
 
 
-def begin_test(it: Repository) -> int:
-    """Makes the parts of ./test, of which all but two are stand-ins; how many checks pass."""
-    parts = parts_of_test() - {*TRIED}
-    for name in parts:
-        stand_in(it, name, "1 passed, 0 failed")
-    for name, text in {"args": "echo\nhi\n", "stdin": "", "stdout": "hi\n", "status": "0\n"}.items():
-        put(it.top / "tests/cases/one" / name, text)
-    # (two of the gate, and one case)
-    return len(parts) + 3
+PASSED = 2 + 3 + 10 + 10
+"""How many tests pass, if all do: of the gate, of the edits, of the tests, and of the shipped program."""
+
+FAULTS = [
+    ("that fails", "1 passed, 1 failed", 1, 1),
+    ("that ends without its line", "Traceback", 1, 0),
+    ("that ends with no line and no status", "", 0, 0),
+    ("with another status than its line says", "1 passed, 0 failed", 3, 1),
+]
 
 
 def parts_that_fail(it: Repository) -> Iterator[Seen]:
-    count, part = begin_test(it), "test_command_line.py"
-    # (one is run only before a release)
-    scripts = {path.name for path in (TOP / "tests").glob("test_*.py")} - {"test_outside.py"}
-    yield "each script of tests/ is a part", scripts == parts_of_test()
+    begin_test(it)
     yield "nothing is shipped without a test", "wasn't green" in it.run("tools/dist").err
-    for how, last, status in (
-        ("that fails", "1 passed, 1 failed", 1),
-        ("that ends without its line", "Traceback", 1),
-        ("that ends with no line and no status", "", 0),
-        ("with another status than its line says", "1 passed, 0 failed", 3),
-    ):
-        stand_in(it, part, last, status)
-        ran, passed = it.run("test"), count - (" passed" not in last)
-        yield f"a part {how} fails it all", ran.status == 1 and ran.out.endswith(f"{passed} passed, 1 failed\n")
-        yield f"nothing is shipped after a part {how}", "wasn't green" in it.run("tools/dist").err and it.kept() == []
+    for how, last, status, passed in FAULTS:
+        it.stand_in("tools/refused", last, status)
+        ran, whole = it.run("test"), PASSED - 3 + passed
+        yield f"edits {how} fail it all", ran.status == 1 and ran.out.endswith(f"{whole} passed, 1 failed\n")
+        yield f"nothing is shipped after edits {how}", "wasn't green" in it.run("tools/dist").err and it.kept() == []
+    begin_test(it)
+    for how, last, status, passed in FAULTS:
+        # (the last part is run by the same script, so it fails too)
+        it.stand_in("tests/run", last, status)
+        ran, whole = it.run("test"), PASSED - 20 + 2 * passed
+        yield f"tests {how} fail it all", ran.status == 1 and ran.out.endswith(f"{whole} passed, 2 failed\n")
 
 
-def tests_and_shipping(it: Repository) -> Iterator[Seen]:
+def a_gate_that_fails(it: Repository) -> Iterator[Seen]:
+    begin_test(it)
+    it.write("low", "low is stuck")
+    ran = it.run("test")
+    yield "no edit is tried over its libraries", "the gate failed, so no edit was tried" in ran.out
+    yield "there is no program to try", "there is no program" in ran.out and it.calls("tests/run")[:-1] == []
+    yield "each of them is a failure", ran.status == 1 and ran.out.endswith("10 passed, 3 failed\n")
+
+
+def a_copy_for_the_gate(it: Repository) -> Iterator[Seen]:
+    begin_test(it)
+    put(it.crates / "low/must-fail/one.edit", "file: src/lib.rt\n")
+    put(it.crates / "low/out/incremental/kept", "by a check")
+    it.run("test")
+    seen = (it.room / "gate").read_text().splitlines()
+    yield "the gate sees the sources", "crates/low/src/lib.rt" in seen and "HANDLES" in seen
+    yield "and no edit, and nothing that was built", not any("must-fail" in each or "/out" in each for each in seen)
+    yield "the edits stay where they are", (it.crates / "low/must-fail/one.edit").exists()
+    yield "what was built is here", (it.crates / "cpi/out/cpi").exists()
+    yield "what a check keeps stays", (it.crates / "low/out/incremental/kept").read_text() == "by a check"
+    left = [each.name for each in (it.room / "temporary").iterdir()]
+    yield "no copy is left", left == []
+
+
+def what_is_tried(it: Repository) -> Iterator[Seen]:
+    begin_test(it)
+    built, shipped = f"--program={it.crates}/cpi/out/cpi", f"--program={it.shipped}"
+    it.run("test", "--seed", "7")
+    calls = it.calls("tests/run")
+    yield "without dist/ the tests run over what the gate built", calls[0].startswith(f"tests {built} ")
+    yield "a short run, by the seed", "--seed=7" in calls[0] and "--long" not in calls[0]
+    yield "at last dist/ is compared", calls[1:] == [f"tests/test_shipped_program.py {built}"]
+    it.ship()
+    it.run("test", "--long", "--processes", "3")
+    calls = it.calls("tests/run")
+    yield "over dist/ if it was made of the sources at hand", calls[0] == f"tests {shipped} -n 3 --long"
+    it.ship(sources="0")
+    ran = it.run("test")
+    yield "not if it was made of others", it.calls("tests/run")[0].startswith(f"tests {built} ")
+    yield "a line says so", "made of other sources" in ran.out
+
+
+def second_tries(it: Repository) -> Iterator[Seen]:
+    begin_test(it)
+    it.stand_in("tests/run", "passed at its second try only: test_a.py::test_b\n10 passed, 0 failed")
+    ran = it.run("test")
+    line = "passed at its second try only: test_a.py::test_b\n"
+    yield "they are named beside the last line", ran.status == 0 and ran.out.endswith(
+        f"{line}{PASSED} passed, 0 failed\n"
+    )
+
+
+def tests_broken_off(it: Repository, number: int) -> Iterator[Seen]:
+    begin_test(it)
+    it.stand_in("tests/run", "sleeping", sleeps=60)
+    running = it.start("test", start_new_session=True)
+    yield "the tests go on", within_seconds(lambda: it.calls("tests/run", keep=True) != [])
+    running.send_signal(number)
+    running.communicate(timeout=20)
+    yield "it ends", running.returncode == 130
+    yield "so does what it began", within_seconds(lambda: not it.is_sleeping())
+    yield "nothing is shipped", "wasn't green" in it.run("tools/dist").err
+
+
+def green_tests_and_shipping(it: Repository) -> Iterator[Seen]:
     begin_test(it)
     ran = it.run("test")
     yield "a green test names the kit", ran.status == 0 and ran.out.startswith(f"{KIT}\n")
-    yield "there is no dist/ to compare", "no program to compare" in ran.out
-    minutes = [f"minutes: {each}: " in ran.err for each in ("low, proof", "gate", "command line")]
-    yield "it tells the minutes of each part, and of each crate", all(minutes)
+    yield "its last line has all parts", ran.out.endswith(f"{PASSED} passed, 0 failed\n")
+    minutes = [f"minutes: {each}: " in ran.out for each in ("low, proof", "gate", "refused edits", "tests")]
+    yield "it prints the minutes of each part, and of each crate", all(minutes)
+    table = ran.out.partition("processor minutes:\n")[2]
+    yield "and a table of them", all(
+        f"{each}: 0." in table for each in ("gate", "refused edits", "tests", "  low, proof")
+    )
     yield "./cpi runs what it built", it.run("cpi", "echo", "a b") == Ran(0, "a b\n", "")
     program = it.crates / "cpi/out/cpi"
     built = program.read_bytes()
@@ -319,12 +384,10 @@ def tests_and_shipping(it: Repository) -> Iterator[Seen]:
     yield "another program isn't shipped", "isn't the program" in it.run("tools/dist").err
     it.write("low", "low as it is")
     yield "nor one of other sources", "other sources" in it.run("tools/dist").err
-    it.write("low", "low is stuck")
-    yield "nor is it tried", it.run("test").status == 1 and "there is no program" in it.last.out and it.told() != []
     it.write("low", "low as it was")
     shutil.rmtree(it.out / it.sources())
+    it.told()
     yield "./cpi runs it where it lies", it.run("cpi", "echo", "a b") == Ran(0, "a b\n", "") and it.told() == []
-    yield from comparing(it, built)
 
 
 def comparing(it: Repository, text: bytes) -> Iterator[Seen]:
@@ -369,70 +432,63 @@ def notices_of_libraries(it: Repository) -> Iterator[Seen]:
 
 
 CASES: dict[str, Callable[[Repository], Iterator[Seen]]] = {
-    **{case.__name__: case for case in (parts_that_fail, tests_and_shipping, a_fresh_clone)},
-    **{
-        case.__name__: case
-        for case in (sources_that_did_not_change, many_at_once, damage, a_checkout_that_can_not_be_written, lanes, sums)
-    },
-    **{
-        case.__name__: case
-        for case in (sources_that_changed, programs_of_no_use, proofs_that_fail, notices_of_libraries)
-    },
+    **{case.__name__: case for case in (parts_that_fail, a_gate_that_fails, a_copy_for_the_gate, what_is_tried)},
+    **{case.__name__: case for case in (second_tries, green_tests_and_shipping, comparing, a_fresh_clone)},
+    **{case.__name__: case for case in (sources_that_did_not_change, many_at_once, damage, lanes, sums)},
+    **{case.__name__: case for case in (a_checkout_that_can_not_be_written, sources_that_changed, programs_of_no_use)},
+    **{case.__name__: case for case in (proofs_that_fail, notices_of_libraries)},
     **{f"broken_off_by_{it.name}": partial(broken_off, number=it) for it in signal.Signals if it in (2, 9, 15)},
+    **{
+        f"tests_broken_off_by_{it.name}": partial(tests_broken_off, number=it) for it in signal.Signals if it in (2, 15)
+    },
 }
 
 
-def try_case(checks: Checks, name: str) -> None:
-    """Counts each check of a case, in a repository of its own."""
+@pytest.mark.parametrize("name", CASES)
+def test_of_a_small_repository(name: str) -> None:
+    """Each case, in a repository of its own that another user can read."""
+    os.umask(0o022)
+    count = 0
     with tempfile.TemporaryDirectory() as room:
         os.chmod(room, 0o755)
         it = Repository(Path(room))
         for check, is_right in CASES[name](it):
-            checks.count(f"{name}: {check}", None if is_right else f"the last call: {it.last}")
+            assert is_right, f"{check}; the last call: {it.last}"
+            count += 1
+    assert count
 
 
-def links() -> Fault:
-    """The links in this repository, but for what is built in it."""
+def test_a_part_that_hangs_is_ended(tmp_path: Path, capsys: pytest.CaptureFixture[str]) -> None:
+    """It fails, with all that it began; a part that ends by itself doesn't wait for the others."""
+    mark = tmp_path / "goes on"
+    with Parts(tmp_path / "minutes") as parts:
+        slow = f"import time; open({str(mark)!r}, 'w'); time.sleep(60)"
+        result = parts.run("slow", sys.executable, "-c", slow, hours=2 / 3600)
+        assert (result.passed, result.failed) == (0, 1)
+        assert parts.run("well", "echo", "1 passed, 0 failed") == Result(1, 0)
+    assert mark.exists() and "slow: it goes on after 0 minutes, and is ended\n" in capsys.readouterr().out
+    assert parts.total() == Result(1, 1)
+
+
+def test_no_link_stands_in_the_repository() -> None:
+    """But for what is built in it."""
     found: list[str] = []
     for folder, folders, names in os.walk(TOP):
         paths = [os.path.join(folder, name) for name in [*folders, *names]]
         found += [os.path.relpath(path, TOP) for path in paths if os.path.islink(path)]
         folders[:] = [name for name in folders if name not in (".git", "out")]
-    return f"{', '.join(sorted(found))}: put the file or folder itself there" if found else None
+    assert not found, "put the file or folder itself there"
 
 
-def notices_here() -> Fault:
-    """What the notices of this repository lack."""
+def test_notices_of_third_parties() -> None:
+    """They are whole, and lie next to the program too."""
     ran = subprocess.run([TOP / "tools/notices.py"], capture_output=True, text=True, check=False)
-    if (ran.returncode, ran.stderr) != (0, ""):
-        return ran.stderr.strip() or f"status {ran.returncode}"
-    beside = TOP / "dist/THIRD-PARTY.md"
-    if (TOP / "dist/MADE").exists() and not beside.exists():
-        return "dist/ has a program without THIRD-PARTY.md: copy that there"
-    is_same = not beside.exists() or beside.read_bytes() == (TOP / "THIRD-PARTY.md").read_bytes()
-    return None if is_same else "dist/THIRD-PARTY.md isn't THIRD-PARTY.md: copy that there"
+    assert (ran.returncode, ran.stderr) == (0, "")
+    if (TOP / "dist/MADE").exists():
+        assert (TOP / "dist/THIRD-PARTY.md").read_bytes() == (TOP / "THIRD-PARTY.md").read_bytes()
 
 
-def changes_here() -> Fault:
-    """What CHANGELOG.md lacks of this repository. (This needs no git: a sum tells whether a source changed.)"""
+def test_what_changed_since_the_last_release() -> None:
+    """CHANGELOG.md says it. (This needs no git: a sum tells whether a source changed.)"""
     ran = subprocess.run([TOP / "tools/versions.py"], capture_output=True, text=True, check=False)
-    return None if (ran.returncode, ran.stderr) == (0, "") else ran.stderr.strip() or f"status {ran.returncode}"
-
-
-def main() -> int:
-    words = words_of(__doc__)
-    words.add_argument("--only", choices=[*CASES], help="one case alone")
-    chosen = words.parse_args()
-    # (another user reads these folders)
-    os.umask(0o022)
-    with Checks() as checks:
-        names = [chosen.only] if chosen.only else CASES
-        checks.count("no link stands in the repository", links())
-        checks.count("the notices of third parties", notices_here())
-        checks.count("what changed since the last release", changes_here())
-        checks.do((Job(name, partial(try_case, checks, name)) for name in names), lanes=4)
-    return checks.status
-
-
-if __name__ == "__main__":
-    sys.exit(main())
+    assert (ran.returncode, ran.stderr) == (0, "")

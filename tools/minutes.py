@@ -1,17 +1,18 @@
 #!/usr/bin/env python3
-"""Runs a command and tells how many processor minutes it took, user and system time, of all processors together.
+"""Runs a command and prints how many processor minutes it took, user and system time, of all processors together.
 
     tools/minutes.py FILE NAME COMMAND..
 
-The command's output passes through, and its exit status is this one's. FILE gets one line more: NAME and the minutes.
-Of the gate, `rt ci`, it gets lines for each crate besides, and for each kind of check: the proof, the proof of the
-tests, and the edits with the check that they begin from. These are seen by looking every half second at which checks
-the command is running: a check names its crate, one in a folder of edits is an edit's, and one of the tests says so in
-its words. What ends between two looks is counted up to the last one, so they are a little short.
+The command's output passes through, and its exit status is this one's. FILE gets one line more: NAME, the processor
+minutes, and those of the clock. Of the gate (tools/gate, or `rt ci`) it gets lines for each crate besides, and for each
+kind of check: the proof, the proof of the tests, and, of a plain `rt ci`, the edits with the check that they begin from.
+These are seen by looking every half second at which checks the command is running: a check names its crate, one in a
+folder of edits is an edit's, and one of the tests says so in its words. What ends between two looks is counted up to the
+last one, so they are a little short.
 
-On standard error all of this is told as it ends, so that a run that is cut off tells where it was: a kind of check of a
-crate once none has been seen for half a minute (where more of it comes, that is told with it). The minutes of the clock
-are counted from the second TEST_BEGUN, where that is set.
+Standard error gets all of this as it ends, so that a run that is cut off says where it was: a kind of check of a crate
+once none has been seen for half a minute (if more of it comes, that is printed with it). The minutes of the clock are
+counted from the second TEST_BEGUN, if that is set.
 """
 
 import os
@@ -98,11 +99,12 @@ def tell(name: str, minutes: float) -> None:
 def main() -> int:
     if len(sys.argv) < 4:
         sys.exit(__doc__)
-    told, name, command = sys.argv[1], sys.argv[2], sys.argv[3:]
-    seen = Seen()
+    file, name, command = sys.argv[1], sys.argv[2], sys.argv[3:]
+    is_gate = os.path.basename(command[0]) in ("rt", "gate")
+    seen, begun = Seen(), time.time()
     running = subprocess.Popen(command)
     while True:
-        if command[0] == "rt":
+        if is_gate:
             seen.look(running.pid)
             seen.tell_quiet(time.time() - QUIET)
         try:
@@ -114,8 +116,9 @@ def main() -> int:
     used = resource.getrusage(resource.RUSAGE_CHILDREN)
     minutes = (used.ru_utime + used.ru_stime) / 60
     tell(name, minutes)
-    with open(told, "a", encoding="utf-8") as it:
-        it.writelines([f"{name}: {minutes:.1f}\n", *(seen.lines() if command[0] == "rt" else [])])
+    clock = (time.time() - begun) / 60
+    with open(file, "a", encoding="utf-8") as it:
+        it.writelines([f"{name}: {minutes:.1f} ({clock:.1f} by the clock)\n", *(seen.lines() if is_gate else [])])
     return running.returncode if running.returncode >= 0 else 1
 
 

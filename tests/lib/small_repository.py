@@ -19,14 +19,15 @@ SCRIPTS = [
     "cpi",
     "cpi-build",
     "test",
-    "tools/setup",
+    "tools/gate",
     "tools/sources",
     "tools/dist",
     "tools/minutes.py",
     "tools/notices.py",
+    "tools/parts.py",
 ]
-TRIED = ["test_shipped_program.py", "test_cases.py"]
-"""The parts of ./test that are run as they are; the others have stand-ins."""
+SETUPS = ["tools/setup", "tests/linters/setup.sh", "tests/web/setup.sh"]
+"""What ./test installs first; here nothing."""
 
 CRATES = "low:\nleft: low\nright: low\ncpi: low left right # the program\ncpi_tests: low left right\n"
 KIT = "rattle-kit-0 logic 0123"
@@ -47,6 +48,7 @@ tell() { echo "$1 $name" >> "$RT_LOG"; }
 case $1 in
 version) echo "KIT" ;;
 ci)
+  find . -type f | sed 's:^./::' | sort > "$GATE"
   if grep -q stuck crates/*/src/*; then echo "0 passed, 1 failed"; exit 2; fi
   mkdir -p crates/cpi/out && cp /usr/bin/env crates/cpi/out/cpi
   (exec -a rattle bash -c 'sleep 0.7; true' check --crate-name low)
@@ -133,9 +135,10 @@ class Repository:
         self.room, self.top, self.last = room, room / "a folder/repository", Ran(0, "", "")
         self.out, self.made, self.crates = self.top / "out", self.top / "dist/MADE", self.top / "crates"
         self.shipped = self.top / "dist/cpi"
-        library = [str(it.relative_to(TOP)) for it in (TOP / "tests/lib").glob("*.py")]
-        for name in [*SCRIPTS, *(f"tests/{it}" for it in TRIED), *library]:
+        for name in SCRIPTS:
             put(self.top / name, (TOP / name).read_text(encoding="utf-8"), 0o755)
+        for name in SETUPS:
+            put(self.top / name, "#!/bin/sh\n", 0o755)
         put(self.top / "crates.txt", CRATES)
         put(self.top / "HANDLES", "Handles allowed: none.\n")
         put(self.top / "THIRD-PARTY.md", NOTICES)
@@ -146,15 +149,38 @@ class Repository:
         put(room / "program", PROGRAM)
         put(room / "log", "")
         (room / "tools").mkdir()
+        (room / "temporary").mkdir()
         for name, path in [("python3", sys.executable), *((it, shutil.which(it)) for it in TOOLS.split())]:
             if path:
                 (room / "tools" / name).symlink_to(path)
         self.no_rt = {"PATH": f"{room}/tools", "HOME": f"{room}/home", "LC_ALL": "C"}
         self.environment = {**self.no_rt, "PATH": f"{room}/tools:{room}/rt"}
-        self.environment.update(RT_LOG=f"{room}/log", PROGRAM=f"{room}/program")
+        self.environment.update(RT_LOG=f"{room}/log", PROGRAM=f"{room}/program", GATE=f"{room}/gate")
+        self.environment.update(TMPDIR=f"{room}/temporary", CALLS=f"{room}/calls")
 
     def write(self, crate: str, text: str, name: str = "lib.rt") -> None:
         put(self.crates / crate / "src" / name, text)
+
+    def stand_in(self, name: str, last: str, status: int = 0, sleeps: int = 0) -> None:
+        """Puts something in place of a part of ./test that prints these last lines, and ends with this status."""
+        calls = self.room / "calls" / name
+        calls.parent.mkdir(parents=True, exist_ok=True)
+        text = f"#!/bin/sh\necho \"$*\" >> '{calls}'\necho '{last}'\n"
+        text += f"sleep {sleeps}.{os.getpid()}\n" if sleeps else ""
+        put(self.top / name, f"{text}exit {status}\n", 0o755)
+
+    def calls(self, name: str, keep: bool = False) -> list[str]:
+        """The words of each call of a stand-in since this was asked last."""
+        file = self.room / "calls" / name
+        lines = file.read_text(encoding="utf-8").splitlines() if file.exists() else []
+        if not keep:
+            file.unlink(missing_ok=True)
+        return lines
+
+    def is_sleeping(self) -> bool:
+        """Whether a stand-in still sleeps."""
+        ran = subprocess.run(["pgrep", "-f", f"^sleep [0-9]+[.]{os.getpid()}$"], stdout=subprocess.PIPE, check=False)
+        return ran.returncode == 0
 
     def start(self, *words: str, **how: Any) -> subprocess.Popen[bytes]:
         streams = {it: subprocess.PIPE for it in ("stdin", "stdout", "stderr")}

@@ -13,7 +13,7 @@ if not it.find_spec("babel-stubs"): raise ImportError' 2> /dev/null
 packages=(mypy python3-typeshed black pyflakes3 shellcheck codespell node-typescript)
 packages+=(python3-jinja2 python3-openpyxl python3-pytest python3-segno python3-selenium python3-flask)
 packages+=(python3-waitress)
-install() { DEBIAN_FRONTEND=noninteractive apt-get install -y -q --no-install-recommends "${packages[@]}"; }
+install() { DEBIAN_FRONTEND=noninteractive apt-get -o DPkg::Lock::Timeout=600 install -y -q --no-install-recommends "${packages[@]}"; }
 there && exit
 told=$({ install || { apt-get update -q && install; }; } 2>&1)
 there && exit

@@ -11,7 +11,7 @@ there() {
 }
 packages=(chromium chromium-driver python3-selenium python3-pytest python3-babel python3-jinja2 python3-flask)
 packages+=(python3-waitress python3-pil nginx-light libnss3-tools openssl poppler-utils)
-install() { DEBIAN_FRONTEND=noninteractive RUNLEVEL=1 apt-get install -y -q --no-install-recommends "${packages[@]}"; }
+install() { DEBIAN_FRONTEND=noninteractive RUNLEVEL=1 apt-get -o DPkg::Lock::Timeout=600 install -y -q --no-install-recommends "${packages[@]}"; }
 there && exit
 told=$({ install || { apt-get update -q && install; }; } 2>&1)
 there && exit
