@@ -1,4 +1,4 @@
-"""What all tests share: the program that is tried, and how much of what is exhaustive a run takes."""
+"""What all tests share: the program that is tried, and how many of the exhaustive checks a run takes."""
 
 from __future__ import annotations
 
@@ -56,7 +56,7 @@ def cpi(program_file: str) -> Cpi:
 
 @pytest.fixture(scope="session")
 def sample(request: pytest.FixtureRequest) -> Sample:
-    """How much of what is exhaustive this run takes."""
+    """How many of the exhaustive checks this run takes."""
     return sample_of(request.config)
 
 

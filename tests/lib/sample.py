@@ -1,4 +1,4 @@
-"""How much a run takes of what is exhaustive: all of it in a long run, and else a part that a seed draws."""
+"""How many of the exhaustive checks a run takes: all of them in a long run, and else a part that a seed draws."""
 
 from __future__ import annotations
 

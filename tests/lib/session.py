@@ -2,7 +2,7 @@
 
     tests/run tests -n 4 --program dist/cpi --seed 7
 
-- A short run takes a sample of what is exhaustive, by a seed that its first lines print; a long one (--long) takes all.
+- A short run takes a sample of the exhaustive checks, by a seed that its first line prints; a long one (--long) takes all.
 - The tests of a file go to one process, as they share what is dear to make, unless the file is marked `spread`.
 - A few tests that failed are tried once more, each in a process of its own after all others. One that passes then counts
   as passed, and is printed. tests/second_tries.txt has how many these may be, and which are known.
@@ -40,7 +40,7 @@ def pytest_addoption(parser: pytest.Parser) -> None:
     """The options of a run."""
     group = parser.getgroup("cpi")
     group.addoption("--program", default=None, help="the program cpi that is tried (else crates/cpi/out/cpi)")
-    group.addoption("--long", action="store_true", help="take all of what is exhaustive, and no sample")
+    group.addoption("--long", action="store_true", help="take all exhaustive checks, and no sample")
     group.addoption("--seed", type=int, default=None, help="what draws the sample (else it is drawn)")
     group.addoption("--one-try", action="store_true", help="try no test twice")
 
