@@ -19,15 +19,13 @@ import subprocess
 import sys
 from collections import defaultdict
 from collections.abc import Iterator
-from pathlib import Path
 from typing import Any
 
 import pytest
 
 from .sample import Sample, sample_of
 
-TESTS = Path(__file__).resolve().parents[1]
-SECOND_TRIES = TESTS / "second_tries.txt"
+SECOND_TRIES = "second_tries.txt"
 PROCESSOR = "processor seconds"
 SECONDS = pytest.StashKey[float]()
 """What this process and those that it waited for had used when the last test ended."""
@@ -178,7 +176,7 @@ class Counts:
     @pytest.hookimpl(tryfirst=True)  # type: ignore[misc]
     def pytest_sessionfinish(self, session: pytest.Session) -> None:
         """Tries a few tests that failed once more."""
-        most, known = known_second_tries(SECOND_TRIES.read_text(encoding="utf-8"))
+        most, known = known_second_tries((self.config.rootpath / SECOND_TRIES).read_text(encoding="utf-8"))
         again = sorted(self.failed)
         if not self.unread and not self.config.option.one_try and 0 < len(again) <= most:
             self.second = [name for name in again if self.passes_by_itself(name)]
@@ -194,12 +192,14 @@ class Counts:
         words = [f"--seed={option.seed}", *["--long"] * option.long]
         words += [f"--program={os.path.abspath(option.program)}"] if option.program else []
         ran = subprocess.run(
-            [sys.executable, "-B", "-m", "pytest", "-n", "0", "--one-try", *words, str(TESTS / name)],
-            cwd=TESTS, stdout=subprocess.PIPE, stderr=subprocess.STDOUT, text=True, check=False,
+            [sys.executable, "-B", "-m", "pytest", "-n", "0", "--one-try", *words, str(self.config.rootpath / name)],
+            cwd=self.config.rootpath, stdout=subprocess.PIPE, stderr=subprocess.STDOUT, text=True, check=False,
         )  # fmt: skip
-        if ran.returncode:
+        # (a test can end the process with status 0, and then there is no last line)
+        is_well = ran.returncode == 0 and ran.stdout.endswith("\n1 passed, 0 failed\n")
+        if not is_well:
             print(f"\ntried once more, {name} failed again:\n{ran.stdout}", flush=True)
-        return ran.returncode == 0
+        return is_well
 
     @pytest.hookimpl(trylast=True)  # type: ignore[misc]
     def pytest_unconfigure(self, config: pytest.Config) -> None:
