@@ -1,0 +1,160 @@
+"""The edits of a crate, `must-fail/*.edit`, as `rt` reads them, and the functions that each of them changes."""
+
+from __future__ import annotations
+
+import os
+import re
+from collections.abc import Mapping
+from pathlib import Path
+from typing import NamedTuple, Optional
+
+from .sources import Crate, Item
+
+NAME = re.compile(r"[A-Za-z0-9_-][A-Za-z0-9_.-]*\.edit")
+"""The names that `rt` reads as those of edits."""
+
+FOLDER = "must-fail"
+
+
+class Pair(NamedTuple):
+    """A text of a file, which stands there once, and the text that takes its place; each is a line or a part of one."""
+
+    file: str
+    old: str
+    new: str
+
+
+class Edit(NamedTuple):
+    """An edit of a crate.
+
+    `functions` are those that it changes. `is_wide` says that it may change any other function too. `fault` says why it
+    can't be tried, and is empty if it can.
+    """
+
+    name: str
+    pairs: tuple[Pair, ...] = ()
+    functions: tuple[Item, ...] = ()
+    is_wide: bool = True
+    fault: str = ""
+
+    def names(self) -> set[str]:
+        return {it.name for it in self.functions}
+
+    def files(self) -> set[str]:
+        return {it.file for it in self.pairs}
+
+    def function_at(self, file: str, line: int) -> str:
+        """The name of the function that it changes around this line, or ``. (An edit never moves a line.)"""
+        return next((it.name for it in self.functions if it.file == file and it.first <= line <= it.last), "")
+
+    def function_of(self, name: str) -> str:
+        """The function that it changes and that has this name, or in which the closure of this name stands, or ``."""
+        plain = "::".join(part for part in name.split("::") if part != "fn")
+        return next((it for it in sorted(self.names()) if plain == it or plain.startswith(f"{it}::")), "")
+
+    def is_alone(self) -> bool:
+        """Whether it never shares a run."""
+        return self.is_wide or not self.functions
+
+
+def list_edits(folder: Path) -> tuple[list[Path], list[Path]]:
+    """The edits of the crate in a folder, and other files of `must-fail/` that are no notes (.md)."""
+    good, bad = [], []
+    for path in sorted((folder / FOLDER).rglob("*")):
+        if path.is_file() and path.parent.name == FOLDER and NAME.fullmatch(path.name):
+            good.append(path)
+        elif path.is_file() and path.suffix != ".md":
+            bad.append(path)
+    return good, bad
+
+
+def read_edits(folder: Path, crate: Crate) -> list[Edit]:
+    """Reads all edits of the crate in a folder. One that can't be tried has a fault."""
+    good, bad = list_edits(folder)
+    misplaced = "an edit stands right in must-fail/, and its name ends in .edit"
+    return [
+        *(read_edit(path.stem, path.read_text(encoding="utf-8", errors="replace"), crate) for path in good),
+        *(Edit(path.relative_to(folder / FOLDER).as_posix(), fault=misplaced) for path in bad),
+    ]
+
+
+def read_edit(name: str, text: str, crate: Crate) -> Edit:
+    """Reads an edit: lines `file: PATH`, and pairs of lines `old: TEXT` and `new: TEXT`; other lines say nothing."""
+    pairs, fault = parse(text, crate)
+    if fault:
+        return Edit(name, fault=fault)
+    texts = dict(crate.texts)
+    if fault := apply(pairs, texts):
+        return Edit(name, fault=fault)
+    if texts == crate.texts:
+        return Edit(name, fault="it changes nothing")
+    functions = {it.name: it for pair in pairs for it in list_changed(crate, pair)}
+    is_wide = any(not is_local(crate, pair) for pair in pairs)
+    return Edit(name, tuple(pairs), tuple(functions.values()), is_wide)
+
+
+def parse(text: str, crate: Crate) -> tuple[list[Pair], str]:
+    """The pairs of an edit, and why it can't be read, or ``."""
+    pairs: list[Pair] = []
+    file, old = "", ""
+    for line in text.split("\n"):
+        if line.startswith("file: "):
+            file = line[len("file: ") :].strip()
+            if os.path.normpath(file) != file or not file.startswith(("src/", "specs/", "proofs/")):
+                return [], "a 'file:' line names no file below src/, specs/ or proofs/"
+        elif line.startswith("old: "):
+            old = line[len("old: ") :]
+        elif line.startswith("new:"):
+            if not file or not old:
+                return [], "a 'new:' line stands before any 'file:' or 'old:' line"
+            if file not in crate.texts:
+                return [], f"there is no file {file}"
+            pairs.append(Pair(file, old, re.sub(r"\A ", "", line[len("new:") :])))
+            old = ""
+    return pairs, "" if pairs else "it has no 'old:' and 'new:' pair"
+
+
+def apply(pairs: tuple[Pair, ...] | list[Pair], texts: dict[str, str]) -> str:
+    """Applies pairs to texts by their paths, all of them or none. Returns why they can't be applied, or ``."""
+    made: dict[str, str] = {}
+    for file, old, new in pairs:
+        text = made.get(file, texts[file])
+        if text.count(old) != 1:
+            return f"an 'old:' text is in {file} {text.count(old)} times, and not once"
+        made[file] = text.replace(old, new)
+    texts.update(made)
+    return ""
+
+
+def line_of(texts: Mapping[str, str], pair: Pair) -> Optional[int]:
+    """The line of a pair's old text, counted from 1; None if an earlier pair makes that text."""
+    before, found, _ = texts[pair.file].partition(pair.old)
+    return before.count("\n") + 1 if found else None
+
+
+def items_around(crate: Crate, pair: Pair) -> list[Item]:
+    line = line_of(crate.texts, pair)
+    return [] if line is None else crate.items_at(pair.file, line)
+
+
+def is_local(crate: Crate, pair: Pair) -> bool:
+    """Whether a pair changes an item or a comment, or only brings more names in. What stands elsewhere, such as a ghost
+    item or a definition of specs/, may change any function."""
+    names, more = (set(re.findall(r"\w+", text)) for text in (pair.old, pair.new))
+    is_note = pair.old.startswith("//") or pair.old.startswith("use ") and names <= more
+    return bool(items_around(crate, pair)) or pair.file.endswith(".rt") and is_note
+
+
+def list_changed(crate: Crate, pair: Pair) -> list[Item]:
+    """The functions that a pair changes: the one around it, and its callers too if its contract changes, since it may
+    still be proved, and they aren't. For a constant or a macro: all functions that name it."""
+    found = items_around(crate, pair)
+    line = line_of(crate.texts, pair) or 0
+    found += [user for it in found if line < it.first + len(it.header()) for user in crate.users_of(it)]
+    for item in found:
+        if item.kind != "fn":
+            more = crate.users_of(item)
+            in_contract = [it for it in more if item.word() in "\n".join(it.header())]
+            more += [user for it in in_contract for user in crate.users_of(it)]
+            found += [it for it in more if it not in found]
+    return [it for it in found if it.kind == "fn"]

@@ -1,0 +1,102 @@
+"""What the prover prints of a crate with edits: which functions aren't proved, and at which goals.
+
+It prints `fn NAME: proved`, or why not, for each function. A goal that is open has a line `note: src/FILE:LINE:COLUMN:
+it is not proved that ..`. A proof that it doesn't take has `proofs/FUNCTION/FILE:LINE:COLUMN: error: ..`.
+"""
+
+from __future__ import annotations
+
+import re
+from collections.abc import Sequence
+from typing import NamedTuple
+
+from .edits import Edit
+
+GOAL = re.compile(r"note: (src/\S+?):(\d+):\d+: it is not proved that .*?\(`([^`]*)`\)")
+PROOF = re.compile(r"(?:\./)?(proofs/(\S+)/[^/]+\.antt:\d+):\d+: error: `([^`]*)`: (.*)")
+FUNCTION = re.compile(r"fn \w+::(\S+): (.*)")
+FOLLOWS = re.compile(r"was not admitted|was rejected|were not checked")
+"""What is said of a proof that only cites another one which isn't taken."""
+
+GONE = re.compile(r"has no field|is not in scope|has no `")
+"""What is said of a proof that names what an edit took away."""
+
+ERROR = re.compile(r"(?:\./)?(\S+?):\d+:\d+: error(\[[\w-]+\])?: (`[^`]*`: )?(.*)")
+UNREAD = re.compile(r"is not in scope|has no field|is no name|operand is missing|expected the end|cannot continue")
+"""What is said of a declaration that can't be read. One that is only false reads well."""
+
+UNKNOWN = re.compile(r"has no function `([^`]*)`")
+PLACED = re.compile(r"(note: )?\S+:\d+:\d+:")
+LITTLE = "(little: a proof file names what the edit took away)"
+NOTHING_REFUSED, REFUSED, NOT_CALLED_WELL = 0, 1, 2
+KILLED = -9
+
+
+class Report(NamedTuple):
+    """The exit status of a run of the prover (below 0: the signal that ended it), and the lines that it printed."""
+
+    status: int
+    lines: Sequence[str]
+
+    def last(self) -> str:
+        return self.lines[-1][:200] if self.lines else ""
+
+    def first_note(self) -> str:
+        """The first line that says something of a place."""
+        return next((it[:200] for it in self.lines if PLACED.match(it)), self.last())
+
+    def has_verdict(self) -> bool:
+        """Whether the prover came to its end and doesn't prove all that it was asked for."""
+        return self.status == REFUSED and self.last().startswith(("only=", "logic=not-proved"))
+
+    def functions(self) -> dict[str, str]:
+        """What is said of each function, by its name without the crate."""
+        return {it[1]: it[2] for it in map(FUNCTION.match, self.lines) if it}
+
+    def unknown_function(self) -> str:
+        """The name that the prover doesn't know, or ``."""
+        found = UNKNOWN.search("\n".join(self.lines)) if self.status == NOT_CALLED_WELL else None
+        return found[1] if found else ""
+
+    def calls(self, crate: str) -> dict[str, set[str]]:
+        """By the name of each function that isn't proved, the functions of the crate that it calls and that aren't."""
+        called = {name: said.partition("it calls ")[2] for name, said in self.functions().items()}
+        return {name: set(re.findall(rf"`{crate}::([^`]*)`", text)) for name, text in called.items() if text}
+
+
+def find_refusal(edit: Edit, report: Report) -> str:
+    """The function that an edit changes and that a run refuses, with the place and the goal: `FUNCTION, FILE:LINE,
+    GOAL`. It is `` if no note stands at such a function."""
+    if not report.has_verdict():
+        return ""
+    said = report.functions().items()
+    unproved = {edit.function_of(name) for name, what in said if what.startswith(("not proved", "no proof"))} - {""}
+    weak = ""
+    for line in report.lines:
+        if goal := GOAL.match(line):
+            name = edit.function_at(goal[1], int(goal[2]))
+            if name in unproved:
+                return f"{name}, {goal[1]}:{goal[2]}, {goal[3]}"
+        elif (proof := PROOF.match(line)) and not FOLLOWS.search(proof[4]):
+            name = edit.function_of(proof[2].replace("/", "::"))
+            if name in unproved and not GONE.search(proof[4]):
+                return f"{name}, {proof[1]}, {proof[3]}"
+            if name in unproved:
+                weak = weak or f"{name}, {proof[1]}, {proof[3]} {LITTLE}"
+    return weak
+
+
+def is_proved(edit: Edit, report: Report) -> bool:
+    """Whether a run proves each function that an edit changes."""
+    functions = report.functions()
+    return bool(edit.names()) and all(functions.get(it) == "proved" for it in edit.names())
+
+
+def find_unread(edit: Edit, report: Report) -> str:
+    """The line by which the compiler or the prover says that it can't read a file of an edit, or ``."""
+    for line in report.lines:
+        error = ERROR.match(line)
+        if report.status == REFUSED and error and error[1] in edit.files():
+            if error[2] or not error[3] or UNREAD.search(re.sub(r"`[^`]*`", "", error[4])):
+                return line[:200]
+    return ""

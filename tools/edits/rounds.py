@@ -1,0 +1,94 @@
+"""What becomes of each edit of a crate: tried with others first, and by itself if that says too little of it."""
+
+from __future__ import annotations
+
+from collections.abc import Sequence
+from typing import NamedTuple
+
+from .cache import Cache
+from .edits import Edit
+from .groups import group_edits
+from .prover import Prover
+from .report import Report, find_refusal, find_unread, is_proved
+from .sources import Crate
+
+REFUSED, NOT_REFUSED, BAD_EDIT, NOT_TRIED = "refused", "NOT REFUSED", "BAD EDIT", "NOT TRIED"
+
+
+class Verdict(NamedTuple):
+    """What an edit came to, one of the four words above, and why."""
+
+    word: str
+    text: str
+
+
+Verdicts = dict[str, Verdict]
+"""By the name of an edit, what it came to."""
+
+
+class Trial:
+    """The edits of a crate, and what became of those that are tried so far."""
+
+    def __init__(self, crate: Crate, edits: Sequence[Edit], prover: Prover, cache: Cache) -> None:
+        self.crate, self.prover, self.cache = crate, prover, cache
+        self.verdicts: Verdicts = {it.name: Verdict(BAD_EDIT, it.fault) for it in edits if it.fault}
+        self.left = [it for it in edits if not it.fault]
+        self.single = {it.name for it in self.left if it.is_alone()}
+        self.calls: dict[str, set[str]] = {}
+
+    def take_kept(self) -> int:
+        """Takes what an earlier run has refused; how many edits that are."""
+        for edit in self.left:
+            text = self.cache.find(edit)
+            if text is not None:
+                self.verdicts[edit.name] = Verdict(REFUSED, text)
+        before = len(self.left)
+        self.left = [it for it in self.left if it.name not in self.verdicts]
+        return before - len(self.left)
+
+    def next_group(self) -> list[Edit]:
+        """The edits that are tried next: as many as can share a run, or one by itself."""
+        groups = group_edits(self.crate, [it for it in self.left if it.name not in self.single], self.calls)
+        return groups[0] if groups else self.left[:1]
+
+    def try_all(self) -> Verdicts:
+        """Tries all edits, a group at a time. What a run says of calls decides which edits share the next one."""
+        while self.left:
+            self.try_group(self.next_group())
+            self.left = [it for it in self.left if it.name not in self.verdicts]
+        return self.verdicts
+
+    def try_group(self, group: Sequence[Edit]) -> None:
+        """Tries a group in one run, and each of its edits that the run proves by itself."""
+        names = {name for edit in group for name in edit.names()}
+        report = self.prover.check(self.crate, group, names) if names else Report(0, [])
+        decided = False
+        for edit in group:
+            if text := find_refusal(edit, report):
+                self.settle(edit, Verdict(REFUSED, text))
+            elif len(group) == 1 or is_proved(edit, report):
+                self.settle(edit, self.try_alone(edit))
+            decided = decided or edit.name in self.verdicts
+        for name, called in report.calls(self.crate.name).items():
+            self.calls.setdefault(name, set()).update(called)
+        if not decided:
+            # (if the compiler stops at some of them, the others are tried together once more)
+            self.single.update(it.name for it in [it for it in group if find_unread(it, report)] or group)
+
+    def try_alone(self, edit: Edit) -> Verdict:
+        """What a check of the whole crate, from nothing, says of an edit."""
+        report = self.prover.check(self.crate, [edit], keep=False)
+        if text := find_refusal(edit, report):
+            return Verdict(REFUSED, text)
+        if text := find_unread(edit, report):
+            return Verdict(BAD_EDIT, f"it can't be read, so no contract was tried: {text}")
+        if report.status == 0:
+            return Verdict(NOT_REFUSED, "the crate is still proved with this edit")
+        if report.has_verdict():
+            return Verdict(REFUSED, f"(at no function that it changes) {report.first_note()}")
+        return Verdict(NOT_TRIED, f"its check ended with status {report.status}: {report.last()}")
+
+    def settle(self, edit: Edit, verdict: Verdict) -> None:
+        self.verdicts[edit.name] = verdict
+        if verdict.word == REFUSED:
+            self.cache.keep(edit, verdict.text)
