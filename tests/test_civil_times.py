@@ -1,27 +1,28 @@
-#!/usr/bin/env python3
 """Compares the civil times that `cpi replay --zone` reads with the clocks of the C library.
 
-For each zone below it takes N civil times from 2000 to 2199, most of them within three hours of a change of the clock.
+For each zone below it takes 200 civil times from 2000 to 2199, most of them within three hours of a change of the clock.
 The program is sent each one as the opening of a window, then a quote one second before the moment at which the C
 library's clock shows it, which has to be refused by 23, and the quote at that moment, which has to get its receipt. A
 time that the clock shows twice is the earlier moment; one that it leaves out is as much later as the clock is moved.
-The first time is the beginning of 2026, whose moment is given below for some of the zones.
-
-A check is a zone, or that times were met which the clock shows twice, once and not at all.
+The first time is the beginning of 2026, whose moment is given below for some of the zones. Among the times there are some
+that the clock shows twice, some that it shows once, and some that it doesn't show.
 """
 
 from __future__ import annotations
 
 import calendar
+import contextlib
 import os
 import random
-import sys
 import time
 from collections.abc import Iterator
-from functools import partial
+from functools import lru_cache
+from typing import NamedTuple
 
-from lib.harness import Check, Checks, Fault, program_of, words_of
+import pytest
+
 from lib.program import Program
+from lib.records import first_difference
 
 Time = tuple[int, ...]
 """Year, month, day, hour and minute."""
@@ -55,6 +56,26 @@ DESK = [
 LAST = 9_999_999_999
 DONE = '{"done":true}'
 HOURS = 3 * 3600
+TIMES = 200
+"""So many civil times are drawn for each zone."""
+
+
+class Sent(NamedTuple):
+    """Records and their lines under a zone, and how often its clock shows the times in them."""
+
+    records: list[str]
+    lines: list[str]
+    shown: set[int]
+
+
+@contextlib.contextmanager
+def with_clock(zone: str) -> Iterator[None]:
+    """Within it the clock of this process is that of a zone."""
+    with pytest.MonkeyPatch.context() as changed:
+        changed.setenv("TZ", zone)
+        time.tzset()
+        yield
+    time.tzset()
 
 
 def offset(moment: int) -> int:
@@ -101,48 +122,36 @@ def moments_of(shown: Time) -> tuple[list[int], int]:
     return found, found[0] if found else in_utc - min(offsets)
 
 
-def sent(zone: str, count: int, met: set[int]) -> Iterator[tuple[str, str]]:
-    """Records and their lines under a zone, by the clock of this process; how often a time is shown goes to `met`."""
-    yield from ((record, DONE) for record in DESK)
-    for price, shown in enumerate([NEW_YEAR, *drawn_times(random.Random(zone), count)], 1):
-        found, moment = moments_of(shown)
-        moment = NEW_YEARS.get(zone, moment) if shown == NEW_YEAR else moment
-        met.add(len(found))
-        year, month, day, hour, minute = shown
-        opens = f"{year:04}-{month:02}-{day:02}T{hour:02}:{minute:02}"
-        quote = f"{KEY},quote,1,2026-01,price,{price}"
-        yield f"0,desk,calendar,2026-01,{opens},{LAST},{LAST}", DONE
-        yield f"{moment - 1},{quote}", '{"refused":23}'
-        yield f"{moment},{quote}", f'{{"receipt":{price}}}'
+def records_of(price: int, shown: Time, moment: int) -> Iterator[tuple[str, str]]:
+    """A window that opens at a time, a quote one second before that moment and one at it, each with its line."""
+    year, month, day, hour, minute = shown
+    opens = f"{year:04}-{month:02}-{day:02}T{hour:02}:{minute:02}"
+    quote = f"{KEY},quote,1,2026-01,price,{price}"
+    yield f"0,desk,calendar,2026-01,{opens},{LAST},{LAST}", DONE
+    yield f"{moment - 1},{quote}", '{"refused":23}'
+    yield f"{moment},{quote}", f'{{"receipt":{price}}}'
 
 
-def fault_of(program: Program, zone: str, count: int, met: set[int]) -> Fault:
-    """What differs first under one zone, if anything does."""
-    os.environ["TZ"] = zone
-    time.tzset()
-    pairs = [*sent(zone, count, met)]
-    data = "".join(f"{record}\n" for record, _ in pairs).encode()
-    ran = program.replay(data, None, "--zone", zone)
-    lines = ran.out.decode().split("\n")[:-1]
-    differs = (
-        f"{record}: wrote {line}, wanted {wanted}" for (record, wanted), line in zip(pairs, lines) if line != wanted
-    )
-    is_whole = (ran.status, len(lines)) == (0, len(pairs))
-    return next(differs, None if is_whole else f"status {ran.status}, {len(lines)} lines for {len(pairs)} records")
+@lru_cache(maxsize=None)
+def sent(zone: str) -> Sent:
+    """What is sent under a zone, by the clock of the C library."""
+    pairs, met = [(record, DONE) for record in DESK], set[int]()
+    with with_clock(zone):
+        for price, shown in enumerate([NEW_YEAR, *drawn_times(random.Random(zone), TIMES)], 1):
+            found, moment = moments_of(shown)
+            met.add(len(found))
+            pairs += records_of(price, shown, NEW_YEARS.get(zone, moment) if shown == NEW_YEAR else moment)
+    return Sent([record for record, _ in pairs], [line for _, line in pairs], met)
 
 
-def main() -> int:
-    words = words_of(__doc__)
-    words.add_argument("--times", type=int, default=200, metavar="N", help="civil times for each zone (200)")
-    chosen, met = program_of(words), set[int]()
-    with Checks() as checks:
-        # (one after the other, since a process has one clock)
-        zones = (Check(zone, partial(fault_of, chosen.program, zone, chosen.times, met)) for zone in ZONES)
-        checks.run(zones, lanes=1)
-        for count in (0, 1, 2):
-            checks.count(f"times that are shown {count} times", None if count in met else "none was met")
-    return checks.status
+@pytest.mark.parametrize("zone", ZONES)
+def test_civil_times(program: Program, zone: str) -> None:
+    records, wanted, _ = sent(zone)
+    ran = program.replay("".join(f"{it}\n" for it in records).encode(), None, "--zone", zone)
+    assert ran.status == 0
+    assert first_difference(records, ran.out.decode().split("\n")[:-1], wanted) is None
 
 
-if __name__ == "__main__":
-    sys.exit(main())
+@pytest.mark.parametrize("count", [0, 1, 2])
+def test_times_that_the_clock_shows_so_often_are_met(count: int) -> None:
+    assert any(count in sent(zone).shown for zone in ZONES)

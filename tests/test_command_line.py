@@ -1,4 +1,3 @@
-#!/usr/bin/env python3
 """Gives `cpi` words that it refuses, words that ask for help, and words of each job.
 
 - Words that are refused: numbers past their ranges, options that are left out, have no value or exclude each other, and
@@ -7,7 +6,7 @@
 - A zone, a key or a month that is none: its line, and status 1. The numbers beside it are at the ends of their ranges.
 - A file with the desk's key: what of it is the key, and what is none.
 - A table of a file that isn't there: `no table`, and the file isn't made.
-- Words of jobs that are done: what they print, their line and their status. The zone is UTC0 where none is given, and
+- Words of jobs that are done: what they print, their line and their status. The zone is UTC0 if none is given, and
   options come in any order.
 
 In all but the last nothing is read from standard input, and no file is made.
@@ -17,13 +16,13 @@ from __future__ import annotations
 
 import os
 import re
-import sys
 import tempfile
-from collections.abc import Callable, Iterator, Sequence
-from functools import partial
+from collections.abc import Sequence
+from pathlib import Path
 from typing import Any, Union
 
-from lib.harness import Check, Checks, Fault, program_of, words_of
+import pytest
+
 from lib.program import Program, Ran, failed
 
 Words = Sequence[Union[str, bytes]]
@@ -85,25 +84,33 @@ BAD = [
 KEY = b"0123456789abcdef" * 2
 
 # What a file with the desk's key holds. White space at the ends is none of the key, and 1,024 bytes are read.
-KEYS = [KEY, KEY + b"\n", b" \t\r\n" + KEY + b"\n\n", KEY + b"\n" * 992, KEY + b"\n" * 2000, b"\n" * 992 + KEY]
-NO_KEYS = [
-    b"",
-    b"\n",
-    KEY[1:],
-    KEY + b"0",
-    KEY.upper(),
-    KEY + b"\0",
-    KEY + b"\xff",
-    KEY + b"\n" + KEY,
-    b"\n" * 993 + KEY,
-]
+KEYS = {
+    "the key": KEY,
+    "the key and the end of its line": KEY + b"\n",
+    "the key between white space": b" \t\r\n" + KEY + b"\n\n",
+    "the key in 1,024 bytes": KEY + b"\n" * 992,
+    "the key in 2,032 bytes": KEY + b"\n" * 2000,
+    "the key at the end of 1,024 bytes": b"\n" * 992 + KEY,
+}
+NO_KEYS = {
+    "nothing": b"",
+    "an empty line": b"\n",
+    "31 digits": KEY[1:],
+    "33 digits": KEY + b"0",
+    "capital letters": KEY.upper(),
+    "the key and a byte of 0": KEY + b"\0",
+    "the key and a byte of no text": KEY + b"\xff",
+    "two keys": KEY + b"\n" + KEY,
+    "the key past 1,024 bytes": b"\n" * 993 + KEY,
+}
 
-# Words with what comes of them, one after the other in one folder.
-DONE = [
+REPLAYS = [
     (["replay"], IN_UTC),
     (["replay", "--zone", "EST5"], FIVE_HOURS_BEHIND),
     (["replay", "--db", "utc.db"], IN_UTC),
     (["replay", "--db", "other.db", "--zone", "EST5"], FIVE_HOURS_BEHIND),
+]
+TABLES = [
     (table("utc.db", at="1767225599"), failed("no table")),
     (table("utc.db", at="1767225600"), FIRST_TABLE),
     (table("utc.db", form="csv"), Ran(0, b"", b"")),
@@ -114,7 +121,17 @@ DONE = [
 ]
 
 
-def run(program: Program, words: Words, room: str, **streams: Any) -> tuple[Ran, int]:
+def name_of(words: Words) -> str:
+    """Words as the name of a test."""
+    return " ".join(it if it and isinstance(it, str) else repr(it) for it in words) or "no words"
+
+
+def names_of(pairs: Sequence[tuple[Words, object]]) -> list[str]:
+    """The words of pairs as names of tests."""
+    return [name_of(words) for words, _ in pairs]
+
+
+def run(program: Program, room: str, words: Words, **streams: Any) -> tuple[Ran, int]:
     """A run over the records, and how many bytes of these it read."""
     with tempfile.TemporaryFile() as given:
         given.write(RECORDS)
@@ -123,77 +140,85 @@ def run(program: Program, words: Words, room: str, **streams: Any) -> tuple[Ran,
         return ran, os.lseek(given.fileno(), 0, os.SEEK_CUR)
 
 
-def is_refused(ran: Ran) -> bool:
-    return (ran.status, ran.out) == (2, b"") and ran.err.endswith(b"\n")
+def run_without_a_job(program: Program, room: str, words: Words, **streams: Any) -> Ran:
+    """A run that begins no job: it reads no record, and makes no file."""
+    before = os.listdir(room)
+    ran, count = run(program, room, words, **streams)
+    assert (count, os.listdir(room)) == (0, before)
+    return ran
 
 
-def is_version(ran: Ran) -> bool:
-    return (ran.status, ran.err) == (0, b"") and re.fullmatch(rb"cpi \d+\.\d+(-dev)?\n", ran.out) is not None
+@pytest.mark.parametrize("words", REFUSED, ids=name_of)
+def test_words_that_are_refused(program: Program, room: str, words: Words) -> None:
+    ran = run_without_a_job(program, room, words)
+    assert (ran.status, ran.out) == (2, b"")
+    assert ran.err.endswith(b"\n")
 
 
-def is_helped(ran: Ran) -> bool:
-    return (ran.status, ran.err) == (0, b"") and b"\nExit status:\n" in ran.out
+@pytest.mark.parametrize("words", HELP, ids=name_of)
+def test_a_help(program: Program, room: str, words: Words) -> None:
+    ran = run_without_a_job(program, room, words)
+    assert (ran.status, ran.err) == (0, b"")
+    assert b"\nExit status:\n" in ran.out
 
 
-def without_a_job(program: Program, words: Words, is_right: Callable[[Ran], bool]) -> Fault:
-    """What goes wrong with words that give no job, or none that is begun."""
-    with tempfile.TemporaryDirectory() as room:
-        ran, count = run(program, words, room)
-        made = os.listdir(room)
-    return None if is_right(ran) and not count and not made else f"{ran}, {count} bytes were read, and {made} made"
+@pytest.mark.parametrize("words", VERSION, ids=name_of)
+def test_the_version(program: Program, room: str, words: Words) -> None:
+    ran = run_without_a_job(program, room, words)
+    assert (ran.status, ran.err) == (0, b"")
+    assert re.fullmatch(rb"cpi \d+\.\d+(-dev)?\n", ran.out)
 
 
-def with_a_job(program: Program, room: str, words: Words, wanted: Ran) -> Fault:
-    ran, _ = run(program, words, room)
-    return None if ran == wanted else f"{ran}, wanted {wanted}"
+def ran_with_key_file(program: Program, room: str, text: bytes) -> Ran:
+    """A run that is given a file of the desk's key. If this holds a key, the next fault is that F is a folder."""
+    Path(room, "F").mkdir()
+    Path(room, "KA").write_bytes(text)
+    return run_without_a_job(program, room, serve(key="--desk-key-file"))
 
 
-def with_key_file(program: Program, text: bytes, wanted: Ran) -> Fault:
-    """What goes wrong with a file of the desk's key. If it holds one, the next fault is that F is a folder."""
-    with tempfile.TemporaryDirectory() as room:
-        os.mkdir(f"{room}/F")
-        with open(f"{room}/KA", "wb") as file:
-            file.write(text)
-        ran, _ = run(program, serve(key="--desk-key-file"), room)
-    return None if ran == wanted else f"{ran}, wanted {wanted}"
+@pytest.mark.parametrize("text", KEYS.values(), ids=KEYS)
+def test_a_file_of_the_key(program: Program, room: str, text: bytes) -> None:
+    assert ran_with_key_file(program, room, text) == failed("database failed")
 
 
-def behind_a_full_disk(program: Program, stream: str, words: Words, wanted: Ran) -> Fault:
-    """Words are refused also where that can't be told; help that can't be written is a fault."""
-    with open("/dev/full", "wb") as full, tempfile.TemporaryDirectory() as room:
-        ran, count = run(program, words, room, **{stream: full})
-    return None if (ran, count) == (wanted, 0) else f"{ran}, and {count} bytes were read"
+@pytest.mark.parametrize("text", NO_KEYS.values(), ids=NO_KEYS)
+def test_a_file_of_no_key(program: Program, room: str, text: bytes) -> None:
+    assert ran_with_key_file(program, room, text) == failed("bad key")
 
 
-def checks_of(program: Program) -> Iterator[Check]:
-    """All that need no other one before them."""
-    for words in REFUSED:
-        yield Check(f"{words}", partial(without_a_job, program, words, is_refused))
-    for words in HELP:
-        yield Check(f"{words}", partial(without_a_job, program, words, is_helped))
-    for words in VERSION:
-        yield Check(f"{words}", partial(without_a_job, program, words, is_version))
-    for text, wanted in [*((it, "database failed") for it in KEYS), *((it, "bad key") for it in NO_KEYS)]:
-        name = f"a key file with {text[:40]!r}, {len(text)} bytes"
-        yield Check(name, partial(with_key_file, program, text, failed(wanted)))
-    missing = partial(without_a_job, program, table("none.db"), failed("no table").__eq__)
-    yield Check("a table of a file that isn't there", missing)
-    for words, name in BAD:
-        yield Check(f"{words}", partial(without_a_job, program, words, failed(f"bad {name}").__eq__))
-    told = partial(behind_a_full_disk, program, "stderr", ["replay", "F"], Ran(2, b"", b""))
-    yield Check("refused words behind a full disk", told)
-    helped = partial(behind_a_full_disk, program, "stdout", ["--help"], failed("write failed"))
-    yield Check("help behind a full disk", helped)
+def test_a_table_of_a_file_that_is_not_there(program: Program, room: str) -> None:
+    assert run_without_a_job(program, room, table("none.db")) == failed("no table")
 
 
-def main() -> int:
-    chosen = program_of(words_of(__doc__))
-    with Checks() as checks, tempfile.TemporaryDirectory() as room:
-        checks.run(checks_of(chosen.program))
-        done = (Check(f"{words}", partial(with_a_job, chosen.program, room, words, ran)) for words, ran in DONE)
-        checks.run(done, lanes=1)
-    return checks.status
+@pytest.mark.parametrize("words, name", BAD, ids=names_of(BAD))
+def test_a_zone_a_key_or_a_month_that_is_none(program: Program, room: str, words: Words, name: str) -> None:
+    assert run_without_a_job(program, room, words) == failed(f"bad {name}")
 
 
-if __name__ == "__main__":
-    sys.exit(main())
+def test_words_are_refused_though_that_cannot_be_told(program: Program, room: str) -> None:
+    with open("/dev/full", "wb") as full:
+        assert run_without_a_job(program, room, ["replay", "F"], stderr=full) == Ran(2, b"", b"")
+
+
+def test_a_help_that_cannot_be_written_is_a_fault(program: Program, room: str) -> None:
+    with open("/dev/full", "wb") as full:
+        assert run_without_a_job(program, room, ["--help"], stdout=full) == failed("write failed")
+
+
+@pytest.mark.parametrize("words, wanted", REPLAYS, ids=names_of(REPLAYS))
+def test_a_replay(program: Program, room: str, words: Words, wanted: Ran) -> None:
+    assert run(program, room, words)[0] == wanted
+
+
+@pytest.fixture(scope="module")
+def files(program: Program, tmp_path_factory: pytest.TempPathFactory) -> str:
+    """A folder with the files of the replays."""
+    room = str(tmp_path_factory.mktemp("files"))
+    for words, _ in REPLAYS:
+        run(program, room, words)
+    return room
+
+
+@pytest.mark.parametrize("words, wanted", TABLES, ids=names_of(TABLES))
+def test_a_table(program: Program, files: str, words: Words, wanted: Ran) -> None:
+    assert run(program, files, words)[0] == wanted

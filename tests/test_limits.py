@@ -1,4 +1,3 @@
-#!/usr/bin/env python3
 """Asks `cpi` and a second office round each limit of a number that docs/ names, and compares both with the documents.
 
 Each limit is asked with values one below, at and one above its ends, and everything else in order: in a record, in a
@@ -13,33 +12,56 @@ table has to find each of these wrong limits.
 
 from __future__ import annotations
 
-import sys
 import tempfile
 from collections.abc import Callable, Iterator, Sequence
-from functools import partial
 from pathlib import Path
 from typing import Any
 
-from lib.harness import TOP, Check, Checks, Fault, program_of, words_of
+import pytest
+
+from lib.harness import Fault
 from lib.limits import bodies, messages, months, numbers, released, standing, stored, texts, words
 from lib.limits.elsewhere import ELSEWHERE
 from lib.limits.limit import Limit, unsaid
 from lib.limits.sides import IN_MEMORY, Sides, fault_of, second_message, second_records, second_stored
-from lib.limits.wrong import unfound, wrong_ends
+from lib.limits.wrong import NAMES, unfound, wrong_ends
 from lib.messages import Compared
+from lib.places import ROOT
+from lib.program import Program
 
-RECORDS = [*numbers.LIMITS, *texts.LIMITS, *bodies.LIMITS, *standing.LIMITS, *months.LIMITS]
+pytestmark = pytest.mark.spread
+
+Limits = Sequence[Limit[Any]]
+
+RECORDS: dict[str, Limits] = {
+    "numbers": numbers.LIMITS,
+    "texts": texts.LIMITS,
+    "bodies": bodies.LIMITS,
+    "standing": standing.LIMITS,
+    "months": months.LIMITS,
+}
+FILES: dict[str, Limits] = {"stored": stored.LIMITS, "released": released.LIMITS}
+ALL_RECORDS = [limit for limits in RECORDS.values() for limit in limits]
+ALL_FILES = [limit for limits in FILES.values() for limit in limits]
 RECEIPTS = [limit for limit in stored.LIMITS if limit.rule]
-FILES = [*stored.LIMITS, *released.LIMITS]
-EVERY: list[Limit[Any]] = [*RECORDS, *messages.LIMITS, *words.LIMITS, *FILES]
+EVERY: list[Limit[Any]] = [*ALL_RECORDS, *messages.LIMITS, *words.LIMITS, *ALL_FILES]
 
 Answer = Callable[[Any], str]
+SECOND: dict[str, tuple[Limits, Answer]] = {
+    "records": (ALL_RECORDS, second_records),
+    "receipts": (RECEIPTS, second_stored),
+    "messages": (messages.LIMITS, second_message),
+}
 
 
+# ---- the documents
+
+
+@pytest.fixture(scope="module")
 def documents() -> str:
     """The text of the documents that have limits."""
     names = "docs/reference/OFFICE.md", "docs/reference/FORMATS.md"
-    return "".join(Path(TOP, name).read_text(encoding="utf-8") for name in names)
+    return "".join((ROOT / name).read_text(encoding="utf-8") for name in names)
 
 
 def rows_of_limits(text: str) -> Iterator[str]:
@@ -48,76 +70,85 @@ def rows_of_limits(text: str) -> Iterator[str]:
     yield from (line for line in table.splitlines()[3:] if line.startswith("|"))
 
 
-def unknown_row(row: str) -> Fault:
-    """That a row of the documents has no limit here."""
+def test_the_documents_say_each_limit(documents: str) -> None:
+    found = {limit.name: unsaid(limit, documents) for limit in EVERY}
+    assert {name: fault for name, fault in found.items() if fault} == {}
+
+
+def test_each_limit_of_the_documents_is_asked_for(documents: str) -> None:
     known = [*(limit.said for limit in EVERY), *(other.said for other in ELSEWHERE)]
-    return None if any(said in row for said in known) else "no value is asked of it"
+    rows = [*rows_of_limits(documents)]
+    assert rows
+    assert [row for row in rows if not any(said in row for said in known)] == []
 
 
-def elsewhere_unsaid(said: str, file: str | None, text: str) -> Fault:
-    """That the documents don't have a limit which is tested elsewhere, or that there is no such file."""
-    if file is not None and not Path(TOP, file).exists():
-        return f"there is no {file}"
-    return None if said in text else "the documents don't say it"
+@pytest.mark.parametrize("said, file", [other[:2] for other in ELSEWHERE])
+def test_a_limit_that_is_tested_elsewhere(documents: str, said: str, file: str | None) -> None:
+    assert said in documents
+    assert file is None or Path(ROOT, file).exists()
 
 
-def of_documents() -> Iterator[Check]:
-    """The words of the limits in the documents, and the rows of the documents here."""
-    text = documents()
-    yield from (Check(f"the words of {limit.name}", partial(unsaid, limit, text)) for limit in EVERY)
-    yield from (Check(row, partial(unknown_row, row)) for row in rows_of_limits(text))
-    yield from (Check(one.said, partial(elsewhere_unsaid, one.said, one.file, text)) for one in ELSEWHERE)
+# ---- the program and the second office
 
 
-def asked(limits: Sequence[Limit[Any]], side: str, answer: Answer) -> Iterator[Check]:
-    """Each value of some limits, as a side answers it."""
-    for limit in limits:
-        for value in limit.values():
-            yield Check(f"{limit.name} with {value}, by {side}", partial(fault_of, limit, value, answer))
+@pytest.fixture(scope="module")
+def sides(program: Program) -> Iterator[Sides]:
+    """The program, and a room for its files."""
+    with tempfile.TemporaryDirectory(dir=IN_MEMORY) as room:
+        yield Sides(program, room)
 
 
-def of_files(sides: Sides) -> Iterator[Check]:
-    """The ends of limits in records that are carried out, each in a file of its own that is then read again."""
-    for limit in RECORDS:
-        for value in sorted({end for end in (limit.least, limit.most) if end is not None}):
-            if "refused" not in limit.told(value):
-                yield Check(f"{limit.name} with {value}, in a file", partial(fault_of, limit, value, sides.kept))
+def faults_of(limits: Limits, answer: Answer) -> list[str]:
+    """Which values of some limits a side answers otherwise than the documents do."""
+    pairs = [(limit, value) for limit in limits for value in limit.values()]
+    assert pairs
+    found = ((f"{limit.name} with {value}", fault_of(limit, value, answer)) for limit, value in pairs)
+    return [f"{name}: {fault}" for name, fault in found if fault]
 
 
-def of_the_program(sides: Sides) -> Iterator[Check]:
-    """All but the messages, each by a run of its own."""
-    yield from asked(RECORDS, "the program", sides.records)
-    yield from of_files(sides)
-    yield from asked(words.LIMITS, "the program", sides.words)
-    yield from asked(FILES, "the program", sides.stored)
+@pytest.mark.parametrize("name", RECORDS)
+def test_records(sides: Sides, name: str) -> None:
+    assert faults_of(RECORDS[name], sides.records) == []
 
 
-def of_the_second_office() -> Iterator[Check]:
-    """What has a limit there; then each limit there as another one."""
-    pairs: list[tuple[Sequence[Limit[Any]], Answer]] = [
-        (RECORDS, second_records),
-        (RECEIPTS, second_stored),
-        (messages.LIMITS, second_message),
-    ]
-    for limits, answer in pairs:
-        yield from asked(limits, "the second office", answer)
-    every = [(limit, answer) for limits, answer in pairs for limit in limits]
-    for wrong in wrong_ends():
-        yield Check(f"the second office with {wrong}", partial(unfound, wrong, every))
+def ends_of(limit: Limit[Any]) -> list[int]:
+    """The ends of a limit at which a record is carried out."""
+    ends = sorted({end for end in (limit.least, limit.most) if end is not None})
+    return [value for value in ends if "refused" not in limit.told(value)]
 
 
-def main() -> int:
-    chosen = program_of(words_of(__doc__))
-    with Checks() as checks, tempfile.TemporaryDirectory(dir=IN_MEMORY) as room:
-        checks.run(of_documents())
-        checks.run(of_the_program(Sides(chosen.program, room)))
-        count = sum(len(limit.values()) for limit in messages.LIMITS)
-        with Compared(chosen.program, room, count) as served:
-            checks.run(asked(messages.LIMITS, "the program", served.told), lanes=1)
-        # (in one lane, since the limits of the second office are changed)
-        checks.run(of_the_second_office(), lanes=1)
-    return checks.status
+@pytest.mark.parametrize("name", RECORDS)
+def test_records_at_the_ends_over_a_file(sides: Sides, name: str) -> None:
+    """Each is carried out over a file of its own, which is then read again."""
+    pairs = [(limit, value) for limit in RECORDS[name] for value in ends_of(limit)]
+    assert pairs
+    found: list[tuple[str, int, Fault]] = [(it.name, value, fault_of(it, value, sides.kept)) for it, value in pairs]
+    assert [it for it in found if it[2]] == []
 
 
-if __name__ == "__main__":
-    sys.exit(main())
+def test_words(sides: Sides) -> None:
+    assert faults_of(words.LIMITS, sides.words) == []
+
+
+@pytest.mark.parametrize("name", FILES)
+def test_rows_of_files(sides: Sides, name: str) -> None:
+    assert faults_of(FILES[name], sides.stored) == []
+
+
+def test_messages(program: Program, sides: Sides) -> None:
+    count = sum(len(limit.values()) for limit in messages.LIMITS)
+    with Compared(program, sides.room, count) as served:
+        assert faults_of(messages.LIMITS, served.told) == []
+
+
+@pytest.mark.parametrize("name", SECOND)
+def test_the_second_office(name: str) -> None:
+    assert faults_of(*SECOND[name]) == []
+
+
+@pytest.mark.parametrize("name", NAMES)
+def test_a_wrong_limit_of_the_second_office_is_found(name: str) -> None:
+    every = [(limit, answer) for limits, answer in SECOND.values() for limit in limits]
+    tried = [*wrong_ends(name)]
+    assert tried
+    assert [wrong for wrong in tried if unfound(wrong, every)] == []

@@ -1,7 +1,6 @@
-#!/usr/bin/env python3
 """Asks the queries of docs/data/QUERIES.md of an office in a file; each has to give the rows that are written below.
 
-The office has three months frozen, and a series that is handed over. A check is a query.
+The office has three months frozen, and a series that is handed over.
 """
 
 from __future__ import annotations
@@ -9,14 +8,13 @@ from __future__ import annotations
 import contextlib
 import re
 import sqlite3
-import sys
-import tempfile
-from functools import partial
 from typing import Any
 
-from lib.cases import content
+import pytest
+
 from lib.filed import HAND_OVER, office
-from lib.harness import TOP, Check, Checks, Fault, program_of, words_of
+from lib.places import ROOT
+from lib.program import Program
 
 Rows = list[list[Any]]
 
@@ -46,29 +44,25 @@ ROWS: list[Rows] = [
 
 
 def queries() -> list[str]:
-    """All of the document; there are as many as rows are known."""
-    found = re.findall(r"```sql\n(.*?)```", content(TOP, "docs/data/QUERIES.md").decode(), re.S)
-    if len(found) != len(ROWS):
-        raise ValueError(f"docs/data/QUERIES.md has {len(found)} queries, and not {len(ROWS)}")
-    return found
+    """All of the document."""
+    text = (ROOT / "docs/data/QUERIES.md").read_text(encoding="utf-8")
+    return re.findall(r"```sql\n(.*?)```", text, re.S)
 
 
-def asked(path: str, query: str, wanted: Rows) -> Fault:
-    """What a query gives otherwise."""
+@pytest.fixture(scope="module")
+def path(program: Program, tmp_path_factory: pytest.TempPathFactory) -> str:
+    """The file of the office."""
+    made = office(program, str(tmp_path_factory.mktemp("office")))
+    program.replay(HAND_OVER, made)
+    return made
+
+
+def test_as_many_queries_as_rows_are_known() -> None:
+    assert len(queries()) == len(ROWS)
+
+
+@pytest.mark.parametrize("at", range(len(ROWS)))
+def test_a_query(path: str, at: int) -> None:
     with contextlib.closing(sqlite3.connect(path)) as file:
-        given = [*map(list, file.execute(query).fetchall())]
-    return None if given == wanted else f"{given}, wanted {wanted}"
-
-
-def main() -> int:
-    chosen = program_of(words_of(__doc__))
-    with Checks() as checks, tempfile.TemporaryDirectory() as room:
-        path = office(chosen.program, room)
-        chosen.program.replay(HAND_OVER, path)
-        pairs = zip(queries(), ROWS)
-        checks.run(Check(query.strip()[:120], partial(asked, path, query, rows)) for query, rows in pairs)
-    return checks.status
-
-
-if __name__ == "__main__":
-    sys.exit(main())
+        given = [*map(list, file.execute(queries()[at]).fetchall())]
+    assert given == ROWS[at]

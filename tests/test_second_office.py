@@ -1,4 +1,3 @@
-#!/usr/bin/env python3
 """Compares `cpi replay` with a second office, line by line, over random records.
 
 The second office (tests/second_office) follows the rules in docs/ and has no code in common with the program. Every
@@ -23,31 +22,56 @@ the former stored before that price, or stores afterwards, stays changed; that b
 Two runs in ten are carried out once more over a new database file, in two runs of the program, cut at some record: the
 lines are the same. Each revision of each month that was frozen there is then printed by `cpi table`.
 
-A check is a run, or a kind of reply that some run has to meet.
+A long run takes 100 of them, of which some one has to meet each kind of reply; a short one takes a sample of these.
 """
 
 from __future__ import annotations
 
-import sys
-from functools import partial
+import pytest
 
-from lib.harness import Check, Checks, program_of, words_of
+from lib.harness import Fault
 from lib.kinds import KINDS
+from lib.program import Program
 from lib.runs import fault_of
 
-
-def main() -> int:
-    words = words_of(__doc__)
-    words.add_argument("--runs", type=int, default=100, metavar="N", help="how many runs (100)")
-    words.add_argument("--first", type=int, default=0, metavar="SEED", help="the seed of the first run (0)")
-    chosen, met = program_of(words), set[str]()
-    seeds = range(chosen.first, chosen.first + chosen.runs)
-    with Checks() as checks:
-        checks.run(Check(f"run {seed}", partial(fault_of, chosen.program, seed, met)) for seed in seeds)
-        for kind in sorted(KINDS):
-            checks.count(kind, None if kind in met else "no run met it")
-    return checks.status
+RUNS = range(100)
+"""The seeds of the runs. The even ones are of the first kind."""
 
 
-if __name__ == "__main__":
-    sys.exit(main())
+class Runs:
+    """The runs that were done, each once, and the kinds of replies that they met."""
+
+    def __init__(self, program: Program) -> None:
+        self.program = program
+        self.faults: dict[int, Fault] = {}
+        self.met: set[str] = set()
+
+    def fault(self, seed: int) -> Fault:
+        """What differs first in a run, if anything does."""
+        if seed not in self.faults:
+            self.faults[seed] = fault_of(self.program, seed, self.met)
+        return self.faults[seed]
+
+
+@pytest.fixture(scope="module")
+def runs(program: Program) -> Runs:
+    return Runs(program)
+
+
+@pytest.mark.sampled(6)
+@pytest.mark.parametrize("seed", RUNS[::2])
+def test_records_round_every_limit(runs: Runs, seed: int) -> None:
+    assert runs.fault(seed) is None
+
+
+@pytest.mark.sampled(6)
+@pytest.mark.parametrize("seed", RUNS[1::2])
+def test_the_life_of_an_office(runs: Runs, seed: int) -> None:
+    assert runs.fault(seed) is None
+
+
+@pytest.mark.long
+def test_the_runs_meet_each_kind_of_reply(runs: Runs) -> None:
+    for seed in RUNS:
+        runs.fault(seed)
+    assert sorted(KINDS - runs.met) == []

@@ -15,16 +15,19 @@ Wrong = tuple[str, str, float]
 """The name of a range, an end of it, and another number for that."""
 
 
-def wrong_ends() -> Iterator[Wrong]:
-    """Each end of each range changed by one, and each most doubled."""
-    for name, one in vars(ranges).items():
-        if isinstance(one, ranges.Range):
-            for end in ("least", "most"):
-                was = getattr(one, end)
-                if abs(was) != ranges.ENDLESS:
-                    yield from ((name, end, number) for number in (was - 1, was + 1))
-            if one.most != ranges.ENDLESS:
-                yield name, "most", 2 * one.most
+NAMES = [name for name, one in vars(ranges).items() if isinstance(one, ranges.Range)]
+"""The ranges of the second office."""
+
+
+def wrong_ends(name: str) -> Iterator[Wrong]:
+    """Each end of a range changed by one, and its most doubled."""
+    one: ranges.Range = getattr(ranges, name)
+    for end in ("least", "most"):
+        was = getattr(one, end)
+        if abs(was) != ranges.ENDLESS:
+            yield from ((name, end, number) for number in (was - 1, was + 1))
+    if one.most != ranges.ENDLESS:
+        yield name, "most", 2 * one.most
 
 
 @contextlib.contextmanager
