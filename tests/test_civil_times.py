@@ -12,7 +12,6 @@ from __future__ import annotations
 
 import calendar
 import contextlib
-import os
 import random
 import time
 from collections.abc import Iterator

@@ -1,4 +1,3 @@
-#!/usr/bin/env python3
 """Opens files that can't be offices, or that hold rows which no office has.
 
 A folder, a path that leads nowhere, a text, versions that aren't known, other tables, rows outside the limits or
@@ -11,14 +10,14 @@ limits shuts out only that table.
 from __future__ import annotations
 
 import os
-import sys
-import tempfile
-from functools import partial
+from pathlib import Path
 
-from lib.damage import NO_ROWS, NO_YEARS, OTHER_LEVEL, OTHER_VERSIONS, Way, of_no_type, opened, opened_each
-from lib.damage import read_in_part
+import pytest
+
+from lib.damage import (
+    NO_ROWS, NO_YEARS, OTHER_LEVEL, OTHER_VERSIONS, Begin, Way, of_no_type, opened, opened_each, read_in_part,
+)  # fmt: skip
 from lib.filed import KEY, QUOTE, answered, empty, listed_otherwise, office, office_case
-from lib.harness import Checklist, Checks, Fault, program_of, words_of
 from lib.program import Program
 from lib.stored import change, stored
 from second_office.records import text_of
@@ -26,30 +25,24 @@ from second_office.rows import TABLES
 
 FAILED = "database failed"
 
-check = Checklist()
 
-
-@check
-def a_folder(program: Program, room: str) -> Fault:
+def test_a_folder(program: Program, room: str) -> None:
     os.mkdir(f"{room}/folder")
-    return opened(program, f"{room}/folder", FAILED)
+    assert opened(program, f"{room}/folder", FAILED) is None
 
 
-@check
-def a_path_that_leads_nowhere(program: Program, room: str) -> Fault:
-    return opened(program, f"{room}/none/office.db", FAILED)
+def test_a_path_that_leads_nowhere(program: Program, room: str) -> None:
+    assert opened(program, f"{room}/none/office.db", FAILED) is None
 
 
-@check
-def a_text(program: Program, room: str) -> Fault:
-    with open(f"{room}/text.db", "w", encoding="ascii") as file:
-        file.write("Prices of March\n" * 400)
-    return opened(program, f"{room}/text.db", FAILED)
+def test_a_text(program: Program, room: str) -> None:
+    Path(room, "text.db").write_text("Prices of March\n" * 400, encoding="ascii")
+    assert opened(program, f"{room}/text.db", FAILED) is None
 
 
-@check
-def an_unknown_version(program: Program, room: str) -> Fault:
-    return opened_each(program, room, OTHER_VERSIONS, "unknown schema", office, empty)
+@pytest.mark.parametrize("begin", [office, empty])
+def test_an_unknown_version(program: Program, room: str, begin: Begin) -> None:
+    assert opened_each(program, room, OTHER_VERSIONS, "unknown schema", begin) == []
 
 
 REFERENCES, OTHER_COLUMNS = "CREATE TABLE plan_ref (year INTEGER PRIMARY KEY", ["at INTEGER", "month TEXT"]
@@ -67,30 +60,29 @@ OTHER_TABLES: list[Way] = [
 ]
 
 
-@check
-def other_tables(program: Program, room: str) -> Fault:
+@pytest.mark.parametrize("begin", [office, empty])
+def test_other_tables(program: Program, room: str, begin: Begin) -> None:
     """Each table left out, one too many, columns that lack or have another name or type, an index, a view, a trigger,
     and the number of the schema before."""
-    return opened_each(program, room, OTHER_TABLES, FAILED, office, empty)
+    assert opened_each(program, room, OTHER_TABLES, FAILED, begin) == []
 
 
-@check
-def rows_that_cannot_be(program: Program, room: str) -> Fault:
+def test_rows_that_cannot_be(program: Program, room: str) -> None:
     """Rows whose parents are gone, rows of the small tables outside the limits, and rows of plans of no year."""
     gone = [["DELETE FROM assignment_2 WHERE slot = 2"], ["DELETE FROM release_2 WHERE month = 202601"]]
     references = [[f"INSERT INTO plan_ref VALUES ({year}, 202512)"] for year in NO_YEARS]
     texts = [of_no_type("node", "'x', '00', 'All items', 1"), of_no_type("plan_item", "'x', 'RICE', '01.1.1.1'")]
-    return opened_each(program, room, [*NO_ROWS, *gone, *references, *texts], FAILED, office)
+    assert opened_each(program, room, [*NO_ROWS, *gone, *references, *texts], FAILED, office) == []
 
 
-@check
-def rows_of_the_first_and_the_last_year(program: Program, room: str) -> Fault:
+def test_rows_of_the_first_and_the_last_year(program: Program, room: str) -> None:
     """Such rows make no plan, but are of years that one can have: the file is opened."""
     path = office(program, room)
     change(path, [f"INSERT INTO node VALUES ({year}, '00', 'All items', 1)" for year in (2000, 2199)])
     change(path, [f"INSERT INTO plan_ref VALUES ({year}, 202512)" for year in (2000, 2199)])
     ran = program.replay(TABLES_TOLD, path)
-    return None if ran.status == 0 and b"tables" in ran.out else f"{ran}"
+    assert ran.status == 0
+    assert b"tables" in ran.out
 
 
 Records = list[bytes]
@@ -117,53 +109,37 @@ READ_IN_PART: list[tuple[str, Records, Records]] = [
 ]
 
 
-def read_in_part_after(way: str, told: Records, refused: Records, program: Program, room: str) -> Fault:
-    """What is wrong, if not these records alone are refused by 90 once the office is changed so."""
+@pytest.mark.parametrize("way, told, refused", READ_IN_PART, ids=[way for way, _, _ in READ_IN_PART])
+def test_rows_that_stand_for_nothing(program: Program, room: str, way: str, told: Records, refused: Records) -> None:
+    """Once the office is changed so, only these records are refused by 90."""
     path = office(program, room)
     change(path, [way])
-    return read_in_part(program, path, told, refused)
+    assert read_in_part(program, path, told, refused) is None
 
 
 # Months that no plan of 2026 can have as its reference: one after its link month, and numbers that are no month.
 NO_REFERENCES = [202601, 209912, 202513, 202500, 199912, 0, -1]
 
 
-@check
-def reference_months_of_no_plan(program: Program, room: str) -> Fault:
+@pytest.mark.parametrize("month", NO_REFERENCES)
+def test_a_reference_month_of_no_plan(program: Program, room: str, month: int) -> None:
     """A plan with such a month can't be read, and so nothing that takes a plan; what was published can."""
-    for month in NO_REFERENCES:
-        with tempfile.TemporaryDirectory(dir=room) as inner:
-            path = office(program, inner)
-            change(path, [f"INSERT INTO plan_ref VALUES (2026, {month})"])
-            ran = program.replay(b"5000,public,tables\n5000,public,items\n" + WORK, path)
-            lines = ran.out.split(b"\n")
-            if ran.status or b"tables" not in lines[0] or lines[1:3] != [b'{"refused":90}'] * 2:
-                return f"the month {month}: {ran}"
-    return None
+    path = office(program, room)
+    change(path, [f"INSERT INTO plan_ref VALUES (2026, {month})"])
+    ran = program.replay(b"5000,public,tables\n5000,public,items\n" + WORK, path)
+    assert ran.status == 0
+    tables, *others = ran.lines()
+    assert b"tables" in tables
+    assert others == [b'{"refused":90}'] * 2
 
 
-@check
-def a_reference_month_without_a_plan(program: Program, room: str) -> Fault:
+def test_a_reference_month_without_a_plan(program: Program, room: str) -> None:
     """It stands for nothing, and is gone once there is a plan of its year."""
     path = office(program, room)
     plan = text_of([["T", row[1], "Of 2027"] for row in stored(path)["node"]])
     plan += "W,01.1.1.1-01,600000\nW,01.1.1.2-01,400000\n"
     change(path, ["INSERT INTO plan_ref VALUES (2027, 202612)"])
-    found = listed_otherwise(program, path, answered(office_case().given)[0])
+    assert listed_otherwise(program, path, answered(office_case().given)[0]) is None
     ran = program.replay(text_of([["5000", "desk", "plan", "2027", plan]] * 2).encode(), path)
-    left = stored(path)["plan_ref"]
-    is_right = ran == (0, b'{"done":true}\n' * 2, b"") and not left
-    return found or (None if is_right else f"{ran}, the rows {left} are left")
-
-
-def main() -> int:
-    chosen = program_of(words_of(__doc__))
-    for way, told, refused in READ_IN_PART:
-        check.put(way, partial(read_in_part_after, way, told, refused))
-    with Checks() as checks:
-        checks.run(check.of(chosen.program))
-    return checks.status
-
-
-if __name__ == "__main__":
-    sys.exit(main())
+    assert ran == (0, b'{"done":true}\n' * 2, b"")
+    assert stored(path)["plan_ref"] == []

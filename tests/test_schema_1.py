@@ -1,11 +1,11 @@
-#!/usr/bin/env python3
 """Opens files of schema 1, which databases had before, and looks at what becomes of them.
 
 - The first records of a case, of which none freezes a month again, puts a plan with a reference month or hands a series
-  over, are in a file that Python makes of the second office; the rest is replayed over it.
+  over, are in a file that Python makes of the second office; the rest is replayed over it. A long run takes up to three
+  places of each case, a short one draws some.
 - Three files in tests/data were written by the program that had schema 1: they are migrated, and stay as they are from
-  then on. So are those that Python makes, also where they hold rows that stand for nothing.
-- Where there is no room, no right to write, or an office that can't be, a file stays of schema 1; where the log of the
+  then on. So are those that Python makes, also if they hold rows that stand for nothing.
+- If there is no room, no right to write, or an office that can't be, a file stays of schema 1; if the log of the
   migration is cut, or copied into the file in part, it is of one schema, whole.
 """
 
@@ -14,29 +14,32 @@ from __future__ import annotations
 import gzip
 import os
 import shutil
-import sys
 import tempfile
 from collections.abc import Iterator
-from functools import partial
+
+import pytest
 
 from lib.cases import Case, content, names
-from lib.damage import NO_ROWS, OTHER_LEVEL, OTHER_VERSIONS, Way, opened_each, read_in_part
+from lib.damage import NO_ROWS, OTHER_LEVEL, OTHER_VERSIONS, Begin, Way, opened_each, read_in_part
 
 from lib.filed import (
     QUOTE, answered, kept_otherwise, listed_otherwise, listing, office_case, rows_in, told_otherwise, unsound,
 )  # fmt: skip
-from lib.harness import TOP, Check, Checklist, Checks, Fault, program_of, words_of
+from lib.harness import Fault
+from lib.places import ROOT
 from lib.program import WELL, Program, failed, with_disk
 from lib.records import record_ends
 from lib.refusing import spread
-from lib.stored import copied, change, stored
+from lib.sample import Sample
+from lib.stored import change, copied, stored
 from second_office.office import month_text
 from second_office.requests import Record
 from second_office.rows import FIRST_TABLES, Kept, Rows, first_of, make_first, migrated, rows_of
 
-PLACES = 3  # in how many places a case is cut at most whose first records are in a file of schema 1
+pytestmark = pytest.mark.spread
 
-check = Checklist()
+PLACES = 3  # in how many places a case is cut at most whose first records are in a file of schema 1
+PARTS = 8  # so many tests share the cases
 
 
 # ---- cases
@@ -61,7 +64,7 @@ def first_places(case: Case) -> list[int]:
 
 
 def rest_replayed(program: Program, case: Case, place: int) -> Fault:
-    """What is wrong where the first records are in a file of schema 1, and the rest is replayed over it."""
+    """What is wrong if the first records are in a file of schema 1, and the rest is replayed over it."""
     office, lines = answered(case.given[:place])
     with tempfile.TemporaryDirectory() as room:
         path = f"{room}/office.db"
@@ -70,6 +73,21 @@ def rest_replayed(program: Program, case: Case, place: int) -> Fault:
         if ran[:2] != (case.status, b"".join(case.lines[len(lines) :])):
             return f"{ran}"
         return kept_otherwise(program, case, path)
+
+
+def places_of(name: str) -> list[int]:
+    """Where a case is cut, of these ends."""
+    places = first_places(Case(name))[::-1]
+    return [places[at - 1] for at in spread(len(places), PLACES)]
+
+
+@pytest.mark.parametrize("part", range(PARTS))
+def test_cases_whose_first_records_are_of_schema_1(program: Program, sample: Sample, part: int) -> None:
+    some = sample.of(names()[part::PARTS], 6, f"cases {part}")
+    cuts = sample.of([(name, place) for name in some for place in places_of(name)], 8, f"places {part}")
+    assert cuts
+    found = [(name, place, rest_replayed(program, Case(name), place)) for name, place in cuts]
+    assert [it for it in found if it[2]] == []
 
 
 # ---- written files
@@ -82,13 +100,14 @@ WRITTEN = {
 }
 
 
-def written(name: str, program: Program, room: str) -> Fault:
-    """What is wrong with such a file."""
+@pytest.mark.parametrize("name", WRITTEN)
+def test_a_file_that_the_program_wrote(program: Program, room: str, name: str) -> None:
     case, path = Case(name), f"{room}/office.db"
-    with gzip.open(f"{TOP}/tests/data/{name}.db.gz") as packed, open(path, "wb") as file:
+    with gzip.open(ROOT / f"tests/data/{name}.db.gz") as packed, open(path, "wb") as file:
         shutil.copyfileobj(packed, file)
     place = record_ends(case.given)[WRITTEN[name] - 1]
-    return opened_and_kept(program, case, path, place) or goes_on(program, case, path, place)
+    assert opened_and_kept(program, case, path, place) is None
+    assert goes_on(program, case, path, place) is None
 
 
 def opened_and_kept(program: Program, case: Case, path: str, place: int) -> Fault:
@@ -141,13 +160,13 @@ def first_empty(_: Program, room: str) -> str:
     return f"{room}/office.db"
 
 
-@check
-def versions_of_schema_1(program: Program, room: str) -> Fault:
-    return opened_each(program, room, OTHER_VERSIONS, "unknown schema", first_office, first_empty)
+@pytest.mark.parametrize("begin", [first_office, first_empty])
+def test_versions_of_schema_1(program: Program, room: str, begin: Begin) -> None:
+    assert opened_each(program, room, OTHER_VERSIONS, "unknown schema", begin) == []
 
 
-@check
-def tables_other_than_of_schema_1(program: Program, room: str) -> Fault:
+@pytest.mark.parametrize("begin", [first_office, first_empty])
+def test_tables_other_than_of_schema_1(program: Program, room: str, begin: Begin) -> None:
     ways: list[Way] = [
         *([f"DROP TABLE {table}"] for table in FIRST_TABLES),
         ["CREATE TABLE note (text TEXT) STRICT"],
@@ -158,51 +177,47 @@ def tables_other_than_of_schema_1(program: Program, room: str) -> Fault:
         ["CREATE VIEW prices AS SELECT value FROM quote"],
         ["UPDATE version SET number = 2"],
     ]
-    return opened_each(program, room, ways, "database failed", first_office, first_empty)
+    assert opened_each(program, room, ways, "database failed", begin) == []
 
 
-@check
-def rows_of_schema_1_that_cannot_be(program: Program, room: str) -> Fault:
+def test_rows_of_schema_1_that_cannot_be(program: Program, room: str) -> None:
     ways = [*NO_ROWS, ["DELETE FROM assignment WHERE slot = 2"], ["DELETE FROM release WHERE month = 202601"]]
-    return opened_each(program, room, ways, "database failed", first_office)
+    assert opened_each(program, room, ways, "database failed", first_office) == []
 
 
-@check
-def rows_of_schema_1_that_stand_for_nothing(program: Program, room: str) -> Fault:
+def test_rows_of_schema_1_that_stand_for_nothing(program: Program, room: str) -> None:
     """They are migrated as the others are, and stand for nothing still."""
     path = first_office(program, room)
     change(path, ["UPDATE quote SET value = 0 WHERE slot = 1 AND month = 202602"])
     wanted = migrated(stored(path))
-    found = read_in_part(program, path, [b"5000,public,tables\n"], [QUOTE])
-    return found or (None if stored(path) == wanted else "a price of 0 wasn't migrated")
+    assert read_in_part(program, path, [b"5000,public,tables\n"], [QUOTE]) is None
+    assert stored(path) == wanted
 
 
-@check
-def lists_of_schema_1(program: Program, room: str) -> Fault:
+@pytest.mark.parametrize("begin", [first_office, first_empty])
+def test_lists_of_schema_1(program: Program, room: str, begin: Begin) -> None:
     """All lists are told by the run that migrates a file, and by the next one, which leaves the file as it is."""
-    for begin, given in ((first_office, office_case().given), (first_empty, b"")):
-        with tempfile.TemporaryDirectory(dir=room) as inner:
-            path, office = begin(program, inner), answered(given)[0]
-            wanted = migrated(stored(path))
-            found, before = listed_otherwise(program, path, office), content(path)
-            found = found or listed_otherwise(program, path, office)
-            if found or content(path) != before or stored(path) != wanted:
-                return f"{begin.__name__}: {found or 'other rows, or another file'}"
-    return None
+    path = begin(program, room)
+    office, wanted = answered(office_case().given if begin is first_office else b"")[0], migrated(stored(path))
+    assert listed_otherwise(program, path, office) is None
+    before = content(path)
+    assert listed_otherwise(program, path, office) is None
+    assert content(path) == before
+    assert stored(path) == wanted
 
 
-@check
-def a_table_of_schema_1(program: Program, room: str) -> Fault:
+def test_a_table_of_schema_1(program: Program, room: str) -> None:
     """`cpi table` over a file of schema 1, and again over what it made of it."""
     path = first_office(program, room)
     wanted = migrated(stored(path))
     words = ["table", "--db", path, "--month", "2026-01", "--form", "text", "--at", "3000"]
     asked: list[list[str]] = [[], ["--revision", "1"], ["--revision", "2"]]
-    ran = [program.run(*words, *more) for more in asked]
-    is_right = ran[0] == ran[1] and not ran[0].status and ran[0].out.startswith(b"CPI 2026-01\n")
-    if not is_right or ran[2] != failed("no table"):
-        return f"{[str(each) for each in ran]}"
-    return None if stored(path) == wanted else "the file wasn't migrated"
+    latest, first, second = (program.run(*words, *more) for more in asked)
+    assert first.status == 0
+    assert first.out.startswith(b"CPI 2026-01\n")
+    assert latest == first
+    assert second == failed("no table")
+    assert stored(path) == wanted
 
 
 # ---- migrations that are broken off
@@ -211,7 +226,7 @@ STEP = 2060  # how far a log is cut at a time: half a frame of a page of 4,096 b
 
 
 def schema_of(rows: Rows, first: Rows) -> int:
-    """The schema of the office whose rows of schema 1 are those; 0 where they are others."""
+    """The schema of the office whose rows of schema 1 are those; 0 if they are others."""
     return 1 if rows == first else 2 if rows == migrated(first) else 0
 
 
@@ -225,33 +240,38 @@ def migrating(program: Program, path: str) -> tuple[bytes, bytes]:
     return found
 
 
-@check
-def a_log_in_part(program: Program, room: str) -> Fault:
-    """A file of schema 1, and the log that migrates it: where the log is cut the file is of schema 1, or from some
-    length on of schema 2, and where it was copied into the file in part it is of schema 2, whole. The office is the
-    same."""
-    path, office = first_office(program, room), answered(office_case().given)[0]
-    first, begun, schemas = stored(path), content(path), list[int]()
+def parts_of(program: Program, path: str) -> tuple[list[tuple[bytes, bytes]], list[tuple[bytes, bytes]]]:
+    """Files with the log that migrates them: first with the log cut, and then with a part of it copied to the file."""
+    begun = content(path)
     log, waiting = migrating(program, path)
+    assert waiting == begun
     closed = content(path)
     # (behind its frames the log has room)
     cuts = [(begun, log[:length]) for length in range(0, len(log.rstrip(b"\0")) + 2 * STEP, STEP)]
     copies = [(closed[:length] + begun[length:], log) for length in range(0, len(closed) + STEP, STEP)]
+    return cuts, copies
+
+
+def test_a_log_in_part(program: Program, room: str) -> None:
+    """A file of schema 1, and the log that migrates it: if the log is cut the file is of schema 1, or from some length
+    on of schema 2, and if it was copied into the file in part it is of schema 2, whole. The office is the same."""
+    path, office = first_office(program, room), answered(office_case().given)[0]
+    first, schemas = stored(path), list[int]()
+    cuts, copies = parts_of(program, path)
     for at, contents in enumerate(cuts + copies):
         path = f"{room}/{at}.db"
         for end, data in zip(("", "-wal"), contents):
             with open(path + end, "wb") as part:
                 part.write(data)
         schemas.append(schema_of(stored(copied(path, f"{room}/copy-{at}.db")), first))
-        found = listed_otherwise(program, path, office)
-        if found or stored(path) != migrated(first):
-            return f"part {at}, of schema {schemas[-1]}: {found}"
-    is_right = schemas[0] == 1 and schemas == sorted(schemas) and 1 not in schemas[len(cuts) :]
-    return None if is_right and waiting == begun else f"copied at once: {waiting != begun}; the schemas {schemas}"
+        assert listed_otherwise(program, path, office) is None, f"part {at}, of schema {schemas[-1]}"
+        assert stored(path) == migrated(first), f"part {at}, of schema {schemas[-1]}"
+    assert schemas[0] == 1
+    assert schemas == sorted(schemas)
+    assert {*schemas[len(cuts) :]} == {2}
 
 
-@check
-def no_room_to_migrate(program: Program, room: str) -> Fault:
+def test_no_room_to_migrate(program: Program, room: str) -> None:
     """A file that may not grow past some size is of schema 1 or of schema 2, whole, and is migrated once there is
     room."""
     begun, met = first_office(program, room), set[tuple[int, int]]()
@@ -260,13 +280,14 @@ def no_room_to_migrate(program: Program, room: str) -> Fault:
         path = shutil.copy(begun, f"{room}/{most}.db")
         ran = program.replay(b"", path, preexec_fn=with_disk(most))
         number = schema_of(stored(copied(path, f"{room}/copy-{most}.db")), first)
-        if not number or ran not in (WELL, failed("database failed")) or (number, ran.status) == (1, 0):
-            return f"a file of at most {most} bytes: {ran}, schema {number}"
+        told = f"a file of at most {most} bytes"
+        assert number in (1, 2), told
+        assert ran in (WELL, failed("database failed")), told
+        assert (number, ran.status) != (1, 0), told
         met.add((number, ran.status))
-        ran = program.replay(b"", path)
-        if ran != WELL or stored(path) != migrated(first):
-            return f"a file of at most {most} bytes, opened again: {ran}"
-    return None if {(1, 1), (2, 0)} <= met else f"only {met} were met"
+        assert program.replay(b"", path) == WELL, told
+        assert stored(path) == migrated(first), told
+    assert {(1, 1), (2, 0)} <= met
 
 
 def as_nobody() -> None:
@@ -277,36 +298,12 @@ def as_nobody() -> None:
         os.setuid(65534)
 
 
-@check
-def no_right_to_migrate(program: Program, room: str) -> Fault:
+def test_no_right_to_migrate(program: Program) -> None:
     """A file that may only be read is left as it was."""
-    path, copy = first_office(program, room), shutil.copy(program.path, f"{room}/cpi")
-    for name, mode in ((room, 0o755), (copy, 0o755), (path, 0o444)):
-        os.chmod(name, mode)
-    before = content(path)
-    ran = Program(copy).replay(QUOTE, path, preexec_fn=as_nobody)
-    return None if ran == failed("database failed") and content(path) == before else f"{ran}"
-
-
-def checks_of(program: Program) -> Iterator[Check]:
-    """All of them."""
-    yield from check.of(program)
-    for name in names():
-        case = Case(name)
-        places = first_places(case)[::-1]
-        for at in spread(len(places), PLACES):
-            place = places[at - 1]
-            yield Check(f"{name} from byte {place}", partial(rest_replayed, program, case, place))
-
-
-def main() -> int:
-    chosen = program_of(words_of(__doc__))
-    for name in WRITTEN:
-        check.put(f"written: {name}", partial(written, name))
-    with Checks() as checks:
-        checks.run(checks_of(chosen.program))
-    return checks.status
-
-
-if __name__ == "__main__":
-    sys.exit(main())
+    with tempfile.TemporaryDirectory() as room:
+        path, copy = first_office(program, room), shutil.copy(program.path, f"{room}/cpi")
+        for name, mode in ((room, 0o755), (copy, 0o755), (path, 0o444)):
+            os.chmod(name, mode)
+        before = content(path)
+        assert Program(copy).replay(QUOTE, path, preexec_fn=as_nobody) == failed("database failed")
+        assert content(path) == before

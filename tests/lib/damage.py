@@ -3,14 +3,13 @@
 from __future__ import annotations
 
 import os
-import tempfile
 from collections.abc import Callable, Sequence
 
 from .cases import content
 from .filed import QUOTE
 from .harness import Fault
 from .program import Program, failed
-from .stored import change
+from .stored import change, copied
 
 Begin = Callable[[Program, str], str]
 """What makes a file in a folder."""
@@ -63,17 +62,15 @@ def opened(program: Program, path: str, line: str) -> Fault:
     return None if is_same else f"{os.path.basename(path)}: the file has changed"
 
 
-def opened_each(program: Program, room: str, ways: Sequence[Way], line: str, *begins: Begin) -> Fault:
-    """The same for each of some ways to change each of some files."""
-    for begin in begins:
-        for way in ways:
-            with tempfile.TemporaryDirectory(dir=room) as inner:
-                path = begin(program, inner)
-                change(path, way)
-                fault = opened(program, path, line)
-                if fault:
-                    return f"{begin.__name__}, {way}: {fault}"
-    return None
+def opened_each(program: Program, room: str, ways: Sequence[Way], line: str, begin: Begin) -> list[str]:
+    """The same for each of some ways to change a file: all that is wrong."""
+    assert ways
+    made, found = begin(program, room), list[tuple[Way, Fault]]()
+    for at, way in enumerate(ways):
+        path = copied(made, f"{room}/{at}.db")
+        change(path, way)
+        found.append((way, opened(program, path, line)))
+    return [f"{way}: {fault}" for way, fault in found if fault]
 
 
 def read_in_part(program: Program, path: str, told: Sequence[bytes], refused: Sequence[bytes]) -> Fault:
