@@ -1,30 +1,78 @@
-#!/usr/bin/env python3
 """Sends messages to `cpi serve`, and compares each whole response with a second reading's.
 
-The second reading (tests/second_office/http_messages.py) follows docs/reference/FORMATS.md over the second office, and has
-no code in common with the program. Each message has a connection of its own, whose peer ends what it sends. They are
-messages that are served, and each of them cut after each of its bytes; heads, fields, bodies and lengths at their
-limits, and bytes that no head has; N of random bytes (10,000), and N with one byte changed (10,000). A few come by
-Python's `http.client`, and by `curl`, where it is installed.
+The second reading (tests/second_office/http_messages.py) follows docs/reference/FORMATS.md over the second office, and
+has no code in common with the program. Each message has a connection of its own, whose peer ends what it sends. Each
+test begins an office, and sends it what is served, twice; then it sends messages that are cut after each of their
+bytes; heads, fields, bodies and lengths at their limits, and bytes that no head has; or 10,000 of random bytes, or
+10,000 with one byte changed. A few come by Python's `http.client`, and by `curl`, if it is installed.
 """
 
 from __future__ import annotations
 
 import http.client
-import random
 import shutil
 import subprocess
-import sys
-import tempfile
-from collections.abc import Iterator
-from functools import partial
+from collections.abc import Sequence
 from typing import Optional
 
+import pytest
+
 from lib import messages
-from lib.harness import Check, Checks, Fault, program_of, words_of
-from lib.messages import Compared
+from lib.messages import VALID, Compared
 from lib.open_office import KA
-from lib.served import message
+from lib.program import Program
+from lib.sample import Sample
+from lib.served import ENDED, message
+from lib.tried import fault_in
+
+pytestmark = pytest.mark.spread
+
+PARTS = 4
+"""Into so many tests the messages of a kind are divided if they are many."""
+
+
+def compare(program: Program, room: str, texts: Sequence[bytes]) -> None:
+    """Sends messages in their order, since each changes what the next ones are answered, to an office that was sent
+    before what is served."""
+    assert texts
+    sent = [*VALID, *VALID, *texts]
+    with Compared(program, room, len(sent)) as served:
+        fault = fault_in((f"message {at}", served.fault(text)) for at, text in enumerate(sent))
+        assert fault is None, fault
+        assert served.end() == ENDED
+
+
+def test_limits(program: Program, room: str) -> None:
+    compare(program, room, [*messages.limits()])
+
+
+def test_odd_words(program: Program, room: str) -> None:
+    compare(program, room, [*messages.odd_words()])
+
+
+@pytest.mark.parametrize("part", range(PARTS))
+def test_odd_bytes(program: Program, room: str, sample: Sample, part: int) -> None:
+    compare(program, room, sample.of([*messages.odd_bytes()], 600, "odd bytes")[part::PARTS])
+
+
+@pytest.mark.parametrize("part", range(PARTS))
+def test_cut(program: Program, room: str, sample: Sample, part: int) -> None:
+    compare(program, room, sample.of([*messages.cuts()], 600, "cuts")[part::PARTS])
+
+
+@pytest.mark.parametrize("part", range(PARTS))
+def test_random_bytes(program: Program, room: str, sample: Sample, part: int) -> None:
+    count = sample.count(600, 10_000) // PARTS
+    compare(program, room, [*messages.drawn_bytes(sample.drawn(f"random bytes {part}"), count)])
+
+
+@pytest.mark.parametrize("part", range(PARTS))
+def test_a_byte_changed(program: Program, room: str, sample: Sample, part: int) -> None:
+    count = sample.count(2_000, 10_000) // PARTS
+    compare(program, room, [*messages.changed(sample.drawn(f"a byte changed {part}"), count)])
+
+
+# ---- other clients
 
 Request = tuple[str, str, Optional[bytes]]
 """Method, path and body."""
@@ -36,61 +84,27 @@ REQUESTS: list[Request] = [
 ]
 
 
-def by_http_client(served: Compared, request: Request) -> Fault:
+def test_client_of_python(program: Program, room: str) -> None:
     """Status and body, as Python's client reads them."""
-    method, path, body = request
-    wanted = served.wanted(message(f"{method} {path}", key=KA, body=body))
-    one = http.client.HTTPConnection("127.0.0.1", served.port, timeout=20)
-    one.request(method, path, body, {"Authorization": f"CPI-Key {KA}"})
-    response = one.getresponse()
-    found = str(response.status).encode(), response.read()
-    return None if found == (wanted.split(b" ")[1], wanted.partition(b"\r\n\r\n")[2]) else f"{found}, wanted {wanted!r}"
+    with Compared(program, room, len(REQUESTS)) as served:
+        for method, path, body in REQUESTS:
+            wanted = served.wanted(message(f"{method} {path}", key=KA, body=body))
+            one = http.client.HTTPConnection("127.0.0.1", served.port, timeout=40)
+            one.request(method, path, body, {"Authorization": f"CPI-Key {KA}"})
+            response = one.getresponse()
+            found = str(response.status).encode(), response.read()
+            assert found == (wanted.split(b" ")[1], wanted.partition(b"\r\n\r\n")[2])
+        assert served.end() == ENDED
 
 
-def by_curl(served: Compared, request: Request) -> Fault:
+@pytest.mark.skipif(not shutil.which("curl"), reason="there is no curl here")
+def test_curl(program: Program, room: str) -> None:
     """The whole response, as curl prints it."""
-    method, path, body = request
-    wanted = served.wanted(message(f"{method} {path}", key=KA, body=body))
-    words = ["curl", "-s", "-i", "-X", method, "-H", f"Authorization: CPI-Key {KA}"]
-    words += [] if body is None else ["--data-binary", "@-"]
-    words += [f"http://127.0.0.1:{served.port}{path}"]
-    found = subprocess.run(words, input=body or b"", stdout=subprocess.PIPE, check=False).stdout
-    return None if found == wanted else f"{found!r}, wanted {wanted!r}"
-
-
-CLIENTS = {"http.client": by_http_client, **({"curl": by_curl} if shutil.which("curl") else {})}
-
-
-def sent(count_random: int, count_changed: int, seed: int) -> Iterator[tuple[str, list[bytes]]]:
-    """The messages by their kinds."""
-    drawn = random.Random(seed)
-    yield "valid", messages.VALID * 2
-    yield "at a limit", [*messages.limits()]
-    yield "odd", [*messages.odd()]
-    yield "cut", [*messages.cuts()]
-    yield "random", [*messages.drawn_bytes(drawn, count_random)]
-    yield "changed", [*messages.changed(drawn, count_changed)]
-
-
-def main() -> int:
-    words = words_of(__doc__)
-    words.add_argument("--random", type=int, default=10_000, metavar="N", help="how many are of random bytes (10,000)")
-    words.add_argument("--changed", type=int, default=10_000, metavar="N", help="how many have a byte changed (10,000)")
-    words.add_argument("--seed", type=int, default=20, help="what these are drawn by (20)")
-    chosen = program_of(words)
-    parts = [*sent(chosen.random, chosen.changed, chosen.seed)]
-    limit = sum(len(texts) for _, texts in parts) + len(CLIENTS) * len(REQUESTS)
-    with Checks() as checks, tempfile.TemporaryDirectory() as room, Compared(chosen.program, room, limit) as served:
-        # (in their order, since each changes what the next ones are answered)
-        checks.run((Check(name, partial(served.fault, text)) for name, texts in parts for text in texts), lanes=1)
-        asked = ((name, by, request) for name, by in CLIENTS.items() for request in REQUESTS)
-        checks.run((Check(name, partial(by, served, request)) for name, by, request in asked), lanes=1)
-        ended = served.end()
-        checks.count("the end of the program", None if ended.status == 0 else f"{ended}")
-        if "curl" not in CLIENTS:
-            checks.note("there is no curl here: it was not tried")
-    return checks.status
-
-
-if __name__ == "__main__":
-    sys.exit(main())
+    with Compared(program, room, len(REQUESTS)) as served:
+        for method, path, body in REQUESTS:
+            wanted = served.wanted(message(f"{method} {path}", key=KA, body=body))
+            words = ["curl", "-s", "-i", "-X", method, "-H", f"Authorization: CPI-Key {KA}"]
+            words += [] if body is None else ["--data-binary", "@-"]
+            words += [f"http://127.0.0.1:{served.port}{path}"]
+            assert subprocess.run(words, input=body or b"", stdout=subprocess.PIPE, check=False).stdout == wanted
+        assert served.end() == ENDED

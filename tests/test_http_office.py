@@ -1,11 +1,10 @@
-#!/usr/bin/env python3
 """Serves offices by `cpi serve`, and asks them over connections of this machine.
 
 - Messages with their whole responses, byte for byte, at the limits too; a message that is cut is answered nothing.
 - What was stored is there when the office is served again, in the database file without its log, and after the program
   was killed.
-- A database that finds no room: the response is 503, the database is opened again, and the next peer is served; where
-  it can't be opened, the program ends. So it is also where 90 was a part of a response that nobody took.
+- A database that finds no room: the response is 503, the database is opened again, and the next peer is served; if it
+  can't be opened, the program ends. So it is also if 90 was a part of a response that nobody took.
 - Zones, keys and places that are refused: their line on standard error, in the order of the faults, and status 1.
 """
 
@@ -18,18 +17,17 @@ import shutil
 import signal
 import socket
 import sqlite3
-import sys
 from collections.abc import Callable, Sequence
 
-from lib.harness import Checklist, Checks, Fault, program_of, words_of
+import pytest
+
 from lib.offices import LAST, RICE_AND_FLOUR, quoted
 from lib.open_office import ITEMS, KA, KC, LONG, OPEN, QUOTE, QUOTED, QUOTES, RECEIPT, RICE, UNQUOTED, office
 from lib.program import Program, Ran, failed, with_disk
 from lib.served import DESK, FULL, REOPENING, Served, ended_after, free_port, message, padded, refused, response
 from lib.served import words_of as serving
 
-check = Checklist()
-
+pytestmark = pytest.mark.spread
 
 # ---- offices, and what they answer
 
@@ -196,28 +194,28 @@ TALK = [
 # ---- what is answered
 
 
-def conversation(served: Served, pairs: Sequence[tuple[bytes, bytes | None]], ends: bool = False) -> Fault:
-    """What is answered otherwise, or the end of the program where that is another one; None stands for any 200."""
+def converse(served: Served, pairs: Sequence[tuple[bytes, bytes | None]], ends: bool = False) -> None:
+    """Sends messages in turn, and compares each response, of which None stands for any 200, and the program's end."""
     responses = []
     for at, (text, wanted) in enumerate(pairs):
         got = served.ask(text, ends)
         responses.append(got)
-        if got != wanted and not (wanted is None and got.startswith(b"HTTP/1.1 200 OK\r\n")):
-            return f"message {at}, {text[:80]!r}: {got[:300]!r}, wanted {wanted!r}"
-    ended = served.end()
-    return None if ended == ended_after(responses) else f"ended with {ended}"
+        if wanted is None:
+            assert got.startswith(b"HTTP/1.1 200 OK\r\n"), f"message {at}, {text[:80]!r}"
+        else:
+            assert got == wanted, f"message {at}, {text[:80]!r}"
+    assert served.end() == ended_after(responses)
 
 
-@check
-def talk(program: Program, room: str) -> Fault:
+def test_talk(program: Program, room: str) -> None:
     """Messages in turn, each of whose peers ends what it sends."""
     with Served(program, office(program, room), len(TALK)) as served:
-        return conversation(served, TALK, ends=True)
+        converse(served, TALK, ends=True)
 
 
-@check
-def tables(program: Program, room: str) -> Fault:
+def test_tables(program: Program, room: str) -> None:
     """Both forms of two tables, and the list."""
+    assert len(TEXT) == 583
     pairs = [
         (get("/table/2026-01/text"), text_of(TEXT)),
         (get("/table/2026-01/csv"), csv_of(CSV)),
@@ -229,12 +227,10 @@ def tables(program: Program, room: str) -> Fault:
         (get("/tables"), response("200 OK", TABLES)),
     ]
     with Served(program, office(program, room, FROZEN), len(pairs)) as served:
-        found = conversation(served, pairs)
-    return found or (None if len(TEXT) == 583 else "a text of another length")
+        converse(served, pairs)
 
 
-@check
-def reopened(program: Program, room: str) -> Fault:
+def test_reopened(program: Program, room: str) -> None:
     """Each revision of a month that is frozen again has its address, and the month's own is that of the latest one. A
     third revision is made over a connection, and is there when the office is served again."""
     again = message("POST /import", key=DESK, body=b"calendar,2026-01,1000,2500,5000\nfreeze,2026-01\n")
@@ -259,61 +255,54 @@ def reopened(program: Program, room: str) -> Fault:
     ]
     path = office(program, room, FROZEN + AGAIN)
     with Served(program, path, len(before + after)) as served:
-        found = conversation(served, before + after)
+        converse(served, before + after)
     with Served(program, path, len(after)) as served:
-        return found or conversation(served, after)
+        converse(served, after)
 
 
-@check
-def by_the_clock(program: Program, room: str) -> Fault:
+def test_by_the_clock(program: Program, room: str) -> None:
     """A window that was closed long ago is closed."""
     with Served(program, office(program, room, CLOSED), 1) as served:
-        return conversation(served, [(QUOTE, refused("409 Conflict", 24))])
+        converse(served, [(QUOTE, refused("409 Conflict", 24))])
 
 
-@check
-def by_its_zone(program: Program, room: str) -> Fault:
+def test_by_its_zone(program: Program, room: str) -> None:
     """Civil times of the desk are read by the clock of the zone, or of UTC."""
     path = office(program, room)
     text = message("POST /import", key=DESK, body=f"calendar,2026-02,2026-01-01T00:00,{LAST},{LAST}".encode())
     zones: list[tuple[list[str], int]] = [([], 1767225600), (["--zone", "EST5"], 1767243600)]
     for zone, opens in zones:
         with Served(program, path, 1, *zone) as served:
-            fault = conversation(served, [(text, rows({"done": True}))])
+            converse(served, [(text, rows({"done": True}))])
         with contextlib.closing(sqlite3.connect(path)) as file:
             (found,) = file.execute("SELECT opens FROM calendar WHERE month = 202602").fetchone()
-        if fault or found != opens:
-            return f"{zone}: {fault}, {found}"
-    return None
+        assert (zone, found) == (zone, opens)
 
 
 # ---- what stands
 
 
-@check
-def served_again(program: Program, room: str) -> Fault:
+def test_served_again(program: Program, room: str) -> None:
     """A quote stands when the office is served again, and in a copy of the file without its log."""
     path = office(program, room)
     with Served(program, path, 1) as served:
-        fault = conversation(served, [(QUOTE, RECEIPT)])
+        converse(served, [(QUOTE, RECEIPT)])
     with Served(program, path, 2) as served:
-        fault = fault or conversation(served, [(QUOTES, QUOTED), (QUOTE, RECEIPT)])
+        converse(served, [(QUOTES, QUOTED), (QUOTE, RECEIPT)])
     shutil.copy(path, f"{room}/copy.db")
     copied = program.replay(f"1500,{KA},quotes,2026-01,2026-01\n".encode(), f"{room}/copy.db")
-    line = QUOTED[QUOTED.index(b'{"quotes') :]
-    return fault or (None if copied == (0, line, b"") else f"{copied}")
+    assert copied == (0, QUOTED[QUOTED.index(b'{"quotes') :], b"")
 
 
-@check
-def killed(program: Program, room: str) -> Fault:
+def test_killed(program: Program, room: str) -> None:
     """A quote that was answered stands after the program was killed."""
     path = office(program, room)
     with Served(program, path, 9) as served:
-        got = served.ask(QUOTE)
+        assert served.ask(QUOTE) == RECEIPT
         served.going.process.send_signal(signal.SIGKILL)
         served.end()
     with Served(program, path, 1) as served:
-        return conversation(served, [(QUOTES, QUOTED)]) or (None if got == RECEIPT else f"{got!r}")
+        converse(served, [(QUOTES, QUOTED)])
 
 
 # A plan that takes more room than a small database has.
@@ -325,7 +314,7 @@ LARGE_PLAN = "".join(TITLES + [f"W,{code},{weight}\n" for code, weight in zip(CO
 PLANNED = message("PUT /plan/2026", key=DESK, body=LARGE_PLAN)
 
 
-# The end where a file can't be opened again.
+# The end if a file can't be opened again.
 LOST = Ran(1, b"", REOPENING + failed("database failed").err)
 
 
@@ -334,47 +323,43 @@ def may_not_grow(path: str) -> Callable[[], None]:
     return with_disk(os.path.getsize(path) + os.path.getsize(path + "-wal"))
 
 
-@check
-def no_room(program: Program, room: str) -> Fault:
-    """Where the disk is full the response is 503, and what was stored is read as before."""
+def test_no_room(program: Program, room: str) -> None:
+    """If the disk is full the response is 503, and what was stored is read as before."""
     path = office(program, room)
     with Served(program, path, 4, preexec_fn=may_not_grow(path)) as served:
-        return conversation(served, [(PLANNED, FULL), (PLANNED, FULL), (ITEMS, RICE), (QUOTES, UNQUOTED)])
+        converse(served, [(PLANNED, FULL), (PLANNED, FULL), (ITEMS, RICE), (QUOTES, UNQUOTED)])
 
 
-@check
-def lost(program: Program, room: str) -> Fault:
+def test_lost(program: Program, room: str) -> None:
     """A full database in whose place a folder stands afterwards can't be opened again."""
     path = office(program, room)
     with Served(program, path, 4, preexec_fn=may_not_grow(path)) as served:
         os.remove(path)
         os.mkdir(path)
-        got = [served.ask(PLANNED), served.end()]
-    return None if got == [FULL, LOST] else f"{got}"
+        assert served.ask(PLANNED) == FULL
+        assert served.end() == LOST
 
 
-@check
-def lost_unheard(program: Program, room: str) -> Fault:
-    """The same where the plan is a row of an import whose long response its peer doesn't take."""
+def test_lost_unheard(program: Program, room: str) -> None:
+    """The same if the plan is a row of an import whose long response its peer doesn't take."""
     path = office(program, room, LONG)
-    rows = message("POST /import", key=DESK, body=b'items\nplan,2026,"' + LARGE_PLAN + b'"')
+    asked = message("POST /import", key=DESK, body=b'items\nplan,2026,"' + LARGE_PLAN + b'"')
     room_for_half = with_disk(len(LARGE_PLAN) // 2)
     with Served(program, path, 1, preexec_fn=room_for_half) as served:
-        is_refused = served.ask(rows).endswith(b',{"refused":90}]}\n')
+        assert served.ask(asked).endswith(b',{"refused":90}]}\n')
         served.end()
     with Served(program, path, 4, preexec_fn=room_for_half) as served:
         os.remove(path)
         os.mkdir(path)
-        got = [served.ask_and_go(rows), served.end()]
-    return None if is_refused and got == [b"HTTP/1.1", LOST] else f"{is_refused}, {got}"
+        assert served.ask_and_go(asked) == b"HTTP/1.1"
+        assert served.end() == LOST
 
 
 # ---- what isn't served
 
 
-@check
-def refused_words(program: Program, room: str) -> Fault:
-    """Each fault has its line, the first of them where there are several, and nothing is written or made."""
+def test_refused_words(program: Program, room: str) -> None:
+    """Each fault has its line, the first of them if there are several, and nothing is written or made."""
     path, folder, other, new = office(program, room), f"{room}/folder", f"{room}/other.db", f"{room}/new.db"
     os.mkdir(folder)
     shutil.copy(path, other)
@@ -391,39 +376,22 @@ def refused_words(program: Program, room: str) -> Fault:
             (serving(other, port, 1), "unknown schema"),
             (serving(path, port, 1), "no port"),
         ]:
-            ran = program.run(*words)
-            if ran != failed(line) or os.path.exists(new):
-                return f"{words}: {ran}"
-    return None
+            assert program.run(*words) == failed(line), words
+            assert not os.path.exists(new), words
 
 
-@check
-def unheard(program: Program, room: str) -> Fault:
+def test_unheard(program: Program, room: str) -> None:
     """A first line that can't be written ends the program."""
     path = office(program, room)
     with open("/dev/full", "wb") as full:
-        ran = program.run(*serving(path, free_port(), 1), stdout=full, seconds=20)
-    return None if ran == failed("write failed") else f"{ran}"
+        ran = program.run(*serving(path, free_port(), 1), stdout=full)
+    assert ran == failed("write failed")
 
 
-@check
-def in_use(program: Program, room: str) -> Fault:
+def test_in_use(program: Program, room: str) -> None:
     """A file that is being served can't be served a second time, or replayed into."""
     path = office(program, room)
     with Served(program, path, 1) as served:
-        ran = [program.run(*serving(path, free_port(), 1)), program.replay(b"", path)]
-        fault = conversation(served, [(ITEMS, RICE)])
-    return fault or (None if ran == [failed("database failed")] * 2 else f"{ran}")
-
-
-def main() -> int:
-    words = words_of(__doc__)
-    words.add_argument("--only", choices=[*check.functions], help="one check alone")
-    chosen = program_of(words)
-    with Checks() as checks:
-        checks.run(check.of(chosen.program, chosen.only))
-    return checks.status
-
-
-if __name__ == "__main__":
-    sys.exit(main())
+        assert program.run(*serving(path, free_port(), 1)) == failed("database failed")
+        assert program.replay(b"", path) == failed("database failed")
+        converse(served, [(ITEMS, RICE)])

@@ -1,4 +1,3 @@
-#!/usr/bin/env python3
 """Refuses each call of the program for input, output, a connection or a disk in turn, and looks at what stands then.
 
 A small library that is preloaded counts the calls and refuses one (lib/refused.c); reads and writes are cut into pieces
@@ -11,45 +10,42 @@ of seven bytes, so that there are many.
   by the receipt that it has. (An office in memory ends as one over a file does.)
 - A read of a message is refused: nothing was done, and nothing is written. A write of its response is: the bytes before
   it are heard, the quote stands, and the same message again gives its receipt.
-- From a call on every call of the disk is refused, for up to N such calls (300), evenly spread: what was answered by
+- From a call on every call of the disk is refused, for up to 300 such calls, evenly spread: what was answered by
   anything but 90 stands when the file is opened again, and of the record at hand all or nothing.
 
-A check is a call, or that there is one at all.
+A test takes all calls of a kind, of which there is one at least; a short run draws a few of them.
 """
 
 from __future__ import annotations
 
 import functools
-import sys
 import tempfile
-from collections.abc import Callable, Iterator
+from collections.abc import Callable
 from functools import partial
-from typing import NamedTuple, Union
+from typing import Union
 
-from lib.harness import Check, Checks, Fault, program_of, words_of
+import pytest
+
+from lib.harness import Fault
 from lib.open_office import QUOTE, QUOTED, QUOTES, RECEIPT, UNQUOTED, office
 from lib.program import Program, Ran, failed
 from lib.records import records_of
-from lib.refusing import PIECE, UNAVAILABLE, Library, Stream, is_of_lines, spread
+from lib.refusing import PIECE, UNAVAILABLE, Library, Stream, is_of_lines, numbers_of
+from lib.sample import Sample
 from lib.served import Served
+from lib.tried import fault_in
+
+pytestmark = pytest.mark.spread
 
 STREAMS = ["a-replacement-needs-a-last-price", "what-stands-is-done-or-taken"]
 DISKS = ["a-replacement-needs-a-last-price", "tea-and-coffee", "a-copied-price-is-handed-on"]
 
 
-class Part(NamedTuple):
-    """Calls of a kind: how many there are, and what is wrong where the one of a number is refused."""
+MOST, SHORT = 300, 15
+"""So many calls of a kind and case are refused, and so many in a short run."""
 
-    name: str
-    calls: int
-    fault: Callable[[int], Fault]
-
-
-class Shown(NamedTuple):
-    """How a run with a call refused ended, and the views of its file."""
-
-    ran: Ran
-    views: list[bytes]
+Shown = tuple[Ran, list[bytes]]
+"""How a run with a call refused ended, and the views of its file."""
 
 
 class Records:
@@ -60,11 +56,10 @@ class Records:
         self.sent = self.stream.sent
         self.whole = self.stream.answered(self.sent)
 
-    def part(self, kind: str, fault: Callable[[int], Fault]) -> Part:
-        """All calls of a kind."""
+    def count(self, kind: str) -> int:
+        """How many calls of a kind there are."""
         with tempfile.TemporaryDirectory() as room:
-            count = self.stream.counted(self.library, kind, self.sent, f"{room}/office.db")
-        return Part(f"{self.stream.name}, {kind}", count, fault)
+            return self.stream.counted(self.library, kind, self.sent, f"{room}/office.db")
 
     @functools.lru_cache(None)
     def told(self, count: int) -> list[bytes]:
@@ -73,13 +68,13 @@ class Records:
 
     @functools.lru_cache(None)
     def resumed(self, stand: int, start: int) -> list[bytes]:
-        """In memory: the lines of the records from a place on, where so many stand before them."""
+        """In memory: the lines of the records from a place on, if so many stand before them."""
         return self.stream.answered(self.sent[:stand] + self.sent[start:])[stand:]
 
     def refused(self, kind: str, number: int, db: str) -> Shown:
         """A run over a new file."""
         ran = self.stream.run(self.sent, db, self.library.environment(kind, number))
-        return Shown(ran, self.stream.answered(self.stream.views, db))
+        return ran, self.stream.answered(self.stream.views, db)
 
     def ended_otherwise(self, kind: str, number: int, ran: Ran, line: str) -> Fault:
         """Whether the end isn't that of this line, or in memory it is another one."""
@@ -89,7 +84,7 @@ class Records:
         return None if ran == in_memory else "in memory it ends otherwise"
 
     def input_refused(self, number: int) -> Fault:
-        """What is wrong where a read of the records is refused."""
+        """What is wrong if a read of the records is refused."""
         count = len(records_of(b"".join(self.sent)[: PIECE * (number - 1)]))
         with tempfile.TemporaryDirectory() as room:
             ran, shown = self.refused("input", number, f"{room}/office.db")
@@ -101,7 +96,7 @@ class Records:
         return None if shown == self.told(count) else "the file shows something else"
 
     def output_refused(self, number: int) -> Fault:
-        """What is wrong where a write of a line is refused."""
+        """What is wrong if a write of a line is refused."""
         lines = [line + b"\n" for line in self.whole]
         pieces = [(at, place) for at, line in enumerate(lines) for place in range(0, len(line), PIECE)]
         at, place = pieces[number - 1]
@@ -118,7 +113,7 @@ class Records:
         return None if again == self.resumed(at + 1, at) else "the same records again were answered otherwise"
 
     def disk_refused(self, number: int) -> Fault:
-        """What is wrong where all calls of the disk from one on are refused."""
+        """What is wrong if all calls of the disk from one on are refused."""
         with tempfile.TemporaryDirectory() as room:
             ran, shown = self.refused("disk", number, f"{room}/office.db")
         lines = ran.lines()
@@ -145,7 +140,7 @@ def responses(program: Program, env: dict[str, str], *messages: bytes) -> Heard:
 
 
 def connection_refused(program: Program, library: Library, kind: str, number: int) -> Fault:
-    """What is wrong where a call for a connection is refused, within an entry."""
+    """What is wrong if a call for a connection is refused, within an entry."""
     found = responses(program, library.environment(kind, number), QUOTE, QUOTES, QUOTE, QUOTES)
     wanted: Heard = [RECEIPT[: PIECE * (number - 1)], QUOTED, RECEIPT, QUOTED, 0]
     if found[0] == RECEIPT:
@@ -156,36 +151,43 @@ def connection_refused(program: Program, library: Library, kind: str, number: in
     return None if found == wanted else f"{found}"
 
 
-def connection_part(program: Program, library: Library, kind: str) -> Part:
-    """All calls of a kind for the connection of an entry."""
+# ---- all
+
+
+@pytest.fixture(scope="session")
+def library(tmp_path_factory: pytest.TempPathFactory) -> Library:
+    """The library, once for each process."""
+    return Library(str(tmp_path_factory.mktemp("library")))
+
+
+def refused(sample: Sample, name: str, count: int, fault: Callable[[int], Fault]) -> Fault:
+    """What is wrong if calls are refused one by one, of so many."""
+    return fault_in((f"call {number}", fault(number)) for number in numbers_of(sample, name, count, SHORT, MOST))
+
+
+@pytest.mark.parametrize("kind", ["receive", "send"])
+def test_a_message(program: Program, library: Library, sample: Sample, kind: str) -> None:
     count = library.counted(kind, lambda env: int(responses(program, env, QUOTE)[-1]))
-    return Part(f"a message, {kind}", count, partial(connection_refused, program, library, kind))
+    fault = refused(sample, kind, count, partial(connection_refused, program, library, kind))
+    assert fault is None, fault
 
 
-def parts_of(program: Program, library: Library) -> Iterator[Part]:
-    """All kinds of calls."""
-    yield from (connection_part(program, library, kind) for kind in ("receive", "send"))
-    for name in STREAMS:
-        records = Records(program, library, name)
-        yield records.part("input", records.input_refused)
-        yield records.part("output", records.output_refused)
-    for name in DISKS:
-        records = Records(program, library, name)
-        yield records.part("disk", records.disk_refused)
+@pytest.mark.parametrize("name", STREAMS)
+def test_the_input_of_records(program: Program, library: Library, sample: Sample, name: str) -> None:
+    records = Records(program, library, name)
+    fault = refused(sample, f"{name}, input", records.count("input"), records.input_refused)
+    assert fault is None, fault
 
 
-def main() -> int:
-    words = words_of(__doc__)
-    words.add_argument("--most", type=int, default=300, metavar="N", help="calls refused of each kind and case (300)")
-    chosen = program_of(words)
-    with Checks() as checks, tempfile.TemporaryDirectory() as room:
-        for part in parts_of(chosen.program, Library(room)):
-            numbers = spread(part.calls, chosen.most)
-            checks.run(Check(f"{part.name} {number}", partial(part.fault, number)) for number in numbers)
-            checks.note(f"{part.name}: {len(numbers)} of {part.calls} calls were refused")
-            checks.count(part.name, None if part.calls else "there was no call")
-    return checks.status
+@pytest.mark.parametrize("name", STREAMS)
+def test_the_output_of_records(program: Program, library: Library, sample: Sample, name: str) -> None:
+    records = Records(program, library, name)
+    fault = refused(sample, f"{name}, output", records.count("output"), records.output_refused)
+    assert fault is None, fault
 
 
-if __name__ == "__main__":
-    sys.exit(main())
+@pytest.mark.parametrize("name", DISKS)
+def test_the_disk(program: Program, library: Library, sample: Sample, name: str) -> None:
+    records = Records(program, library, name)
+    fault = refused(sample, f"{name}, disk", records.count("disk"), records.disk_refused)
+    assert fault is None, fault

@@ -1,31 +1,36 @@
-#!/usr/bin/env python3
-"""Refuses each growth of memory of a built program in turn, and looks at what it answers then.
+"""Refuses each growth of memory of the program in turn, and looks at what it answers then.
 
 Cases of tests/cases are sent with each record twice (the rows of an import as records of their own), and at the end
 what everybody may see and what each collector may see. The program runs once for each growth of memory that the run
-meets, which alone is refused (lib/refused.c counts them). Either one request is told 90, and then nothing was done: all
-other lines are those of a run without it, and the record after it, which is the same, is answered as the first one
-would have been. Or the program ends with status 1 and `cpi: out of memory` (over a file perhaps `cpi: database
-failed`), and its lines are whole and the first of the run's.
+meets, and only that one is refused (lib/refused.c counts them). Either one request is told 90, and then nothing was
+done: all other lines are those of a run without it, and the record after it, which is the same, is answered as the
+first one would have been. Or the program ends with status 1 and `cpi: out of memory` (over a file perhaps `cpi:
+database failed`), and its lines are whole and the first of the run's.
 
-Over a file it is up to N growths a case (200), evenly spread. There what is read may be kept in memory or not, so that
-no request need be told 90; and a further run is shown by the file what the commands that were answered left, and of a
-run that ended early perhaps the command at hand.
+Over a file it is up to 200 growths a case, evenly spread. There what is read may be kept in memory or not, so that no
+request need be told 90; and a further run is shown by the file what the commands that were answered left, and of a run
+that ended early perhaps the command at hand.
 
-A check is a growth, or that some request of a case was told 90 at all.
+A test takes all growths of a case; a short run draws a few of them, and goes on until some request was told 90.
 """
 
 from __future__ import annotations
 
 import functools
-import sys
+import itertools
 import tempfile
-from collections.abc import Callable
-from functools import partial
+from collections.abc import Iterator
+from typing import Union
 
-from lib.harness import Check, Checks, Fault, program_of, words_of
+import pytest
+
+from lib.harness import Fault
 from lib.program import Program, Ran
-from lib.refusing import UNAVAILABLE, Library, Stream, is_of_lines, spread
+from lib.refusing import UNAVAILABLE, Library, Stream, is_of_lines, numbers_of
+from lib.sample import Sample
+from lib.tried import fault_in
+
+pytestmark = pytest.mark.spread
 
 NAMES = [
     "the-bounds-of-a-price",
@@ -42,6 +47,10 @@ NAMES = [
     "a-copied-price-is-handed-on",
     "two-collectors-exchange-their-series",
 ]
+IN_A_FILE = 200
+"""So many growths are refused over a file, for each case."""
+SHORT = 30
+"""So many are in a short run, at least."""
 ENDS = (b"cpi: out of memory\n", b"cpi: database failed\n")
 
 
@@ -66,7 +75,7 @@ class InMemory:
         return self.stream.answered(self.records[:at] + self.records[at + 1 :])
 
     def fault(self, number: int) -> Fault:
-        """What is wrong where the growth of that number is refused."""
+        """What is wrong if the growth of that number is refused."""
         ran = self.stream.run(self.records, env=self.library.environment("memory", number))
         lines = ran.lines()
         places = [at for at, line in enumerate(lines) if line == UNAVAILABLE]
@@ -98,7 +107,7 @@ class InAFile:
         return self.without(*range(count, len(self.stream.sent)))[1]
 
     def fault(self, number: int) -> Fault:
-        """What is wrong where the growth of that number is refused."""
+        """What is wrong if the growth of that number is refused."""
         with tempfile.TemporaryDirectory() as room:
             db = f"{room}/office.db"
             ran = self.stream.run(self.stream.sent, db, self.library.environment("memory", number))
@@ -117,31 +126,36 @@ class InAFile:
         return None
 
 
-def try_case(checks: Checks, name: str, way: InMemory | InAFile, most: int) -> None:
-    """Refuses the growths of a case, up to so many."""
-    numbers = spread(way.count, most)
-    fault: Callable[[int], Fault] = way.fault
-    checks.run(Check(f"{name}, growth {number}", partial(fault, number)) for number in numbers)
-    checks.note(f"{name}: {len(numbers)} growths refused, {len(way.told)} requests told 90")
-    # (a run in which no request is told 90 refused nothing that a request needs)
-    checks.count(name, None if way.told else "no growth was told 90")
+Way = Union[InMemory, InAFile]
+"""How a case is sent."""
 
 
-def main() -> int:
-    words = words_of(__doc__)
-    words.add_argument(
-        "--most", type=int, default=200, metavar="N", help="growths refused over a file, for each case (200)"
-    )
-    words.add_argument("--cases", nargs="*", default=NAMES, metavar="CASE", help="these cases alone")
-    chosen = program_of(words)
-    with Checks() as checks, tempfile.TemporaryDirectory() as room:
-        library = Library(room)
-        for name in chosen.cases:
-            in_memory = InMemory(chosen.program, library, name)
-            try_case(checks, f"{name} in memory", in_memory, in_memory.count)
-            try_case(checks, f"{name} over a file", InAFile(chosen.program, library, name), chosen.most)
-    return checks.status
+def tried(way: Way, sample: Sample, name: str, whole: int) -> Iterator[tuple[object, Fault]]:
+    """Refuses growths of a case, and others until some request was told 90: a run in which none is refused nothing that
+    a request needs."""
+    numbers = numbers_of(sample, name, way.count, SHORT, whole)
+    others = sample.drawn(f"{name}, others").sample(range(1, way.count + 1), way.count)
+    for number in itertools.chain(numbers, itertools.takewhile(lambda _: not way.told, others)):
+        yield f"growth {number}", way.fault(number)
 
 
-if __name__ == "__main__":
-    sys.exit(main())
+@pytest.fixture(scope="session")
+def library(tmp_path_factory: pytest.TempPathFactory) -> Library:
+    """The library, once for each process."""
+    return Library(str(tmp_path_factory.mktemp("library")))
+
+
+@pytest.mark.parametrize("name", NAMES)
+def test_growths_in_memory(program: Program, library: Library, sample: Sample, name: str) -> None:
+    way = InMemory(program, library, name)
+    fault = fault_in(tried(way, sample, f"{name} in memory", way.count))
+    assert fault is None, fault
+    assert way.told, "no request was told 90"
+
+
+@pytest.mark.parametrize("name", NAMES)
+def test_growths_over_a_file(program: Program, library: Library, sample: Sample, name: str) -> None:
+    way = InAFile(program, library, name)
+    fault = fault_in(tried(way, sample, f"{name} over a file", IN_A_FILE))
+    assert fault is None, fault
+    assert way.told, "no request was told 90"

@@ -112,6 +112,11 @@ def odd_bytes() -> Iterator[bytes]:
 def odd() -> Iterator[bytes]:
     """What messages have seldom or never."""
     yield from odd_bytes()
+    yield from odd_words()
+
+
+def odd_words() -> Iterator[bytes]:
+    """Lines, targets, versions, fields and bodies that messages have seldom or never."""
     yield from (message(line, end="\n") for line in ("GET /items", "GET /nothing"))
     for line in LINES:
         yield from (message(line), message(line, "Host: one", "Host: two"), message(line, "X: y", " folded"))

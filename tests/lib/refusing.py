@@ -14,6 +14,7 @@ from .cases import Case
 from .harness import TOP
 from .program import Program, Ran
 from .records import records_of
+from .sample import Sample
 
 PIECE = 7
 """So many bytes are read and written at a time, where calls of that kind are counted."""
@@ -102,6 +103,15 @@ class Stream:
 def is_of_lines(out: bytes) -> bool:
     """Whether it ends where a line does."""
     return out == b"" or out.endswith(b"\n")
+
+
+def numbers_of(sample: Sample, name: str, count: int, short: int, whole: int) -> Sequence[int]:
+    """Which calls of so many a run refuses: up to so many in a long run, evenly spread; in a short one fewer, drawn, with
+    the first and the last."""
+    if sample.is_long:
+        return spread(count, whole)
+    calls = range(1, count + 1)
+    return sorted({*sample.of(calls, short, name), *calls[:1], *calls[-1:]})
 
 
 def spread(count: int, most: int) -> Sequence[int]:
