@@ -1,9 +1,8 @@
-#!/usr/bin/env python3
 """Sends `cpi replay` bytes that no office sends, and compares its lines with those of the second office.
 
 Records of every kind come in a stream that ends after each of its bytes; with NUL put in at each place, and in place of
-each byte; with bytes that aren't UTF-8 in each field; in N streams (400) with some bytes changed at random; and in some
-of random bytes. The second office (tests/second_office) reads them by Python's `csv`.
+each byte; with bytes that aren't UTF-8 in each field; in 400 streams with some bytes changed at random; and in 40 of
+random bytes. The second office (tests/second_office) reads them by Python's `csv`.
 """
 
 from __future__ import annotations
@@ -11,18 +10,18 @@ from __future__ import annotations
 import csv
 import io
 import random
-import sys
 from collections.abc import Iterator
-from functools import partial
-from itertools import chain
 
-from lib.harness import Check, Checks, Fault, program_of, words_of
+import pytest
+
+from lib.harness import Fault
 from lib.offices import RICE_AND_FLOUR, quoted
 from lib.program import Program
+from lib.sample import Sample
+from lib.tried import fault_in
 from second_office.office import Office
 
-Stream = tuple[str, bytes]
-"""What is odd about it, and what it is."""
+pytestmark = pytest.mark.spread
 
 KEY = b"a" * 32
 SETUP = (
@@ -80,7 +79,27 @@ PROBES = [
 
 
 MARK = b"\xef\xbb\xbf"
-ALONE = [b"", MARK[:1], MARK[:2], MARK, MARK + b'"', b'"', b'""', b'"""', b",", b"\r", b"\n", b"\r\n", b"\0"]
+SMALL = [b"", MARK[:1], MARK[:2], MARK, MARK + b'"', b'"', b'""', b'"""', b",", b"\r", b"\n", b"\r\n", b"\0"]
+NOT_UTF_8 = [
+    b"\xff",
+    b"\xfe",
+    b"\x80",
+    b"\xc0\xaf",
+    b"\xed\xa0\x80",
+    b"\xf4\x90\x80\x80",
+    b"\xe2\x82",
+    b"\xf8\x88\x80\x80\x80",
+]
+PARTS = 4
+"""Into so many tests the streams of a kind are divided if they are many."""
+
+
+@pytest.fixture(autouse=True)
+def long_fields() -> Iterator[None]:
+    """Python's csv takes fields as long as the program does."""
+    before = csv.field_size_limit(10_000_000)
+    yield
+    csv.field_size_limit(before)
 
 
 def wanted_of(stream: bytes) -> bytes:
@@ -92,8 +111,9 @@ def wanted_of(stream: bytes) -> bytes:
 
 
 def fault_of(program: Program, stream: bytes) -> Fault:
+    """What the program writes otherwise."""
     wanted = wanted_of(stream)
-    ran = program.replay(stream, seconds=60)
+    ran = program.replay(stream)
     if ran == (0, wanted, b""):
         return None
     pairs = zip(ran.out.splitlines(), wanted.splitlines())
@@ -101,86 +121,75 @@ def fault_of(program: Program, stream: bytes) -> Fault:
     return f"status {ran.status}, {ran.err[:100]!r}, {ran.out.count(10)} lines for {wanted.count(10)}, {first}"
 
 
-def cut() -> Iterator[Stream]:
+@pytest.mark.parametrize("part", range(PARTS))
+def test_cut(program: Program, sample: Sample, part: int) -> None:
     """The stream of all kinds, ended after each of its bytes."""
     whole = b"".join(KINDS)
-    for end in range(len(whole) + 1):
-        yield f"cut after {end} bytes, {whole[max(end - 40, 0) : end]!r}", SETUP + whole[:end]
-    for text in ALONE:
-        yield f"{text!r} alone", text
+    ends = sample.of(range(len(whole) + 1), 400, "cuts")[part::PARTS]
+    fault = fault_in((f"{end} bytes, {whole[:end][-40:]!r}", fault_of(program, SETUP + whole[:end])) for end in ends)
+    assert fault is None, fault
 
 
-def with_nul() -> Iterator[Stream]:
-    """Each kind again and again, with NUL in place of each of its bytes, and before each."""
-    for at, kind in enumerate(KINDS):
-        changed = [kind[:place] + b"\0" + kind[place + more :] for place in range(len(kind) - 1) for more in (0, 1)]
-        yield f"NUL in {kind[:60]!r}", SETUP + b"".join(KINDS[:at] + changed + KINDS[at:] + PROBES)
-    yield "NUL after each byte", b"".join(bytes([byte, 0]) for byte in SETUP + b"".join(KINDS))
-    yield "NUL alone", b"\0" * 100_000 + b"\n" + b"0,desk,item,TEA,Tea,1 kg,500,2000\n0,public,items\n"
+@pytest.mark.parametrize("stream", SMALL, ids=ascii)
+def test_nothing_else(program: Program, stream: bytes) -> None:
+    assert fault_of(program, stream) is None
 
 
-NOT_UTF_8 = [
-    b"\xff",
-    b"\xfe",
-    b"\x80",
-    b"\xc0\xaf",
-    b"\xed\xa0\x80",
-    b"\xf4\x90\x80\x80",
-    b"\xe2\x82",
-    b"\xf8\x88\x80\x80\x80",
-]
+@pytest.mark.parametrize("at", range(len(KINDS)))
+def test_nul_within(program: Program, at: int) -> None:
+    """A kind again and again, with NUL in place of each of its bytes, and before each."""
+    kind = KINDS[at]
+    changed = [kind[:place] + b"\0" + kind[place + more :] for place in range(len(kind) - 1) for more in (0, 1)]
+    assert changed
+    assert fault_of(program, SETUP + b"".join(KINDS[:at] + changed + KINDS[at:] + PROBES)) is None
 
 
-def not_utf_8() -> Iterator[Stream]:
-    """Such bytes in each field of each kind: at its front, and at its end."""
-    for bad in NOT_UTF_8:
-        records = []
-        for kind in KINDS:
-            if b'"' not in kind:
-                fields = kind.rstrip(b"\r\n").split(b",")
-                for at, field in enumerate(fields):
-                    for text in (bad + field, field + bad):
-                        records.append(b",".join([*fields[:at], text, *fields[at + 1 :]]) + b"\n")
-            else:
-                records += [kind.replace(b"T,01.1,", b"T,01.1," + bad), kind.replace(b"items", b"items" + bad)]
-        yield f"{bad!r} in each field", SETUP + b"".join(records + PROBES)
+def test_nul_after_each_byte(program: Program) -> None:
+    assert fault_of(program, b"".join(bytes([byte, 0]) for byte in SETUP + b"".join(KINDS))) is None
 
 
-def changed(drawn: random.Random, count: int) -> Iterator[Stream]:
-    """Streams with some bytes changed, left out, doubled or put in."""
-    whole = b"".join(KINDS)
-    for at in range(count):
-        text = bytearray(whole)
-        for _ in range(drawn.choice([1, 2, 5, 20])):
-            place = drawn.randrange(len(text))
-            byte = drawn.choice([drawn.randrange(256), *b'",\n\r\0\xef\xbb\xbf'])
-            text[place : place + drawn.choice([0, 1, 1])] = bytes([byte] * drawn.choice([0, 1, 1, 1, 2]))
-        yield f"stream {at} of those with some bytes changed", SETUP + bytes(text) + b"\n" + b"".join(PROBES)
+def test_a_record_of_nul(program: Program) -> None:
+    stream = b"\0" * 100_000 + b"\n" + b"0,desk,item,TEA,Tea,1 kg,500,2000\n0,public,items\n"
+    assert fault_of(program, stream) is None
 
 
-def drawn_bytes(drawn: random.Random, count: int) -> Iterator[Stream]:
-    for at in range(count):
-        yield f"stream {at} of random bytes", drawn.randbytes(drawn.choice([10, 1000, 30_000]))
+def with_bytes(bad: bytes) -> Iterator[bytes]:
+    """The kinds with these bytes in each field: at its front, and at its end."""
+    for kind in KINDS:
+        if b'"' in kind:
+            yield from (kind.replace(b"T,01.1,", b"T,01.1," + bad), kind.replace(b"items", b"items" + bad))
+            continue
+        fields = kind.rstrip(b"\r\n").split(b",")
+        for at, field in enumerate(fields):
+            for text in (bad + field, field + bad):
+                yield b",".join([*fields[:at], text, *fields[at + 1 :]]) + b"\n"
 
 
-def streams(count_changed: int, seed: int) -> Iterator[Stream]:
-    drawn = random.Random(seed)
-    return chain(cut(), with_nul(), not_utf_8(), changed(drawn, count_changed), drawn_bytes(drawn, 40))
+@pytest.mark.parametrize("bad", NOT_UTF_8, ids=bytes.hex)
+def test_not_utf_8(program: Program, bad: bytes) -> None:
+    assert fault_of(program, SETUP + b"".join([*with_bytes(bad), *PROBES])) is None
 
 
-def main() -> int:
-    words = words_of(__doc__)
-    words.add_argument(
-        "--changed", type=int, default=400, metavar="N", help="how many streams have some bytes changed (400)"
-    )
-    words.add_argument("--seed", type=int, default=4, help="what these are drawn by (4)")
-    chosen = program_of(words)
-    csv.field_size_limit(10_000_000)
-    with Checks() as checks:
-        made = streams(chosen.changed, chosen.seed)
-        checks.run(Check(name, partial(fault_of, chosen.program, stream)) for name, stream in made)
-    return checks.status
+def changed(drawn: random.Random) -> bytes:
+    """The stream of all kinds with some bytes changed, left out, doubled or put in."""
+    text = bytearray(b"".join(KINDS))
+    for _ in range(drawn.choice([1, 2, 5, 20])):
+        place = drawn.randrange(len(text))
+        byte = drawn.choice([drawn.randrange(256), *b'",\n\r\0\xef\xbb\xbf'])
+        text[place : place + drawn.choice([0, 1, 1])] = bytes([byte] * drawn.choice([0, 1, 1, 1, 2]))
+    return bytes(text)
 
 
-if __name__ == "__main__":
-    sys.exit(main())
+@pytest.mark.parametrize("part", range(PARTS))
+def test_some_bytes_changed(program: Program, sample: Sample, part: int) -> None:
+    drawn, probes = sample.drawn(f"some bytes changed {part}"), b"\n" + b"".join(PROBES)
+    streams = (SETUP + changed(drawn) + probes for _ in range(sample.count(160, 400) // PARTS))
+    fault = fault_in((f"stream {at}", fault_of(program, stream)) for at, stream in enumerate(streams))
+    assert fault is None, fault
+
+
+def test_random_bytes(program: Program, sample: Sample) -> None:
+    drawn = sample.drawn("random bytes")
+    streams = (drawn.randbytes(drawn.choice([10, 1000, 30_000])) for _ in range(40))
+    fault = fault_in((f"stream {at}", fault_of(program, stream)) for at, stream in enumerate(streams))
+    assert fault is None, fault
