@@ -8,9 +8,9 @@ import threading
 from collections.abc import Iterator
 from concurrent.futures import ThreadPoolExecutor
 
-from offices import NOW
-from peers import timed
 from ways import Way
+from web.offices import NOW
+from web.peers import timed
 
 CONNECTIONS = 50
 AWAY = 1.0

@@ -7,7 +7,7 @@ import http.client
 import ssl
 from typing import NamedTuple, Optional
 
-from peers import address_of
+from web.peers import address_of
 
 PATIENCE = 120.0
 """Seconds for which a peer waits."""

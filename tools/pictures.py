@@ -20,10 +20,10 @@ from pathlib import Path
 sys.dont_write_bytecode = True
 
 HERE = Path(__file__).resolve().parent
-sys.path[:0] = [str(HERE), str(HERE.parent / "tests/web"), str(HERE.parent / "tests")]
+sys.path[:0] = [str(HERE), str(HERE.parent / "tests")]
 
-from browser import Browser  # noqa: E402
-from phone import Phone  # noqa: E402
+from web.browser import Browser  # noqa: E402
+from web.phone import Phone  # noqa: E402
 
 WIDTHS = {360: 740, 1280: 900}
 

@@ -3,6 +3,9 @@
 from __future__ import annotations
 
 import contextlib
+import itertools
+import os
+import re
 import socket
 import struct
 import subprocess
@@ -83,12 +86,29 @@ def ended_after(responses: Sequence[bytes]) -> Ran:
     return Ran(0, b"", b"".join([REOPENED] * sum(has_90[:-1]) + last + [LIMIT]))
 
 
+FIRST_PORT, EACH, PARTS = 12_000, 2_000, 10
+"""From this port on there are so many for each process of a run, in so many parts. (Linux gives out the ports from 32,768
+on to whoever connects, or asks for any.)"""
+
+
+def own_port(number: int) -> int:
+    """A port of those that only this process of the run has."""
+    worker = re.sub(r"\D", "", os.environ.get("PYTEST_XDIST_WORKER", ""))
+    part = (int(worker) + 1) % PARTS if worker else 0
+    return FIRST_PORT + EACH * part + number % EACH
+
+
+PORTS = map(own_port, itertools.count(7 * os.getpid()))
+"""One after the other. (They begin elsewhere in a process that a test has started, and in that of another run.)"""
+
+
 def free_port() -> int:
-    """A port of this machine that nobody listens at now."""
-    with socket.socket() as one:
-        one.bind(("127.0.0.1", 0))
-        port: int = one.getsockname()[1]
-        return port
+    """A port of this machine that nobody listens at now, and that no other process of the run is given."""
+    for port in itertools.islice(PORTS, EACH):
+        with contextlib.suppress(OSError), socket.socket() as one:
+            one.bind(("", port))
+            return port
+    raise OSError("no port is free")
 
 
 def words_of(path: str, port: int, limit: int, *more: str, key: str = DESK) -> list[str]:

@@ -7,13 +7,17 @@ from pathlib import Path
 
 import pytest
 
-from cpi_tools.pack.public import Published, from_file
-from cpi_tools.program import Cpi
+from lib.installing import need
 
-from . import surveys
-from .desk_apps import ADA, Application, Person, applied
-from .offices import lived
-from .published import Office, made as made_public
+need("tools/setup")
+
+from cpi_tools.pack.public import Published, from_file  # noqa: E402
+from cpi_tools.program import Cpi  # noqa: E402
+
+from . import surveys  # noqa: E402
+from .desk_apps import ADA, Application, Person, applied  # noqa: E402
+from .offices import lived  # noqa: E402
+from .published import Office, made as made_public  # noqa: E402
 
 
 @pytest.fixture(scope="session")

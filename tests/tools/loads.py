@@ -111,7 +111,7 @@ class Connections(Load):
         self.shaken = 0
 
     def work(self) -> None:
-        with served(self.cpi, self.file, self.port, self.LIMIT):
+        with served(self.cpi, self.file, self.port, self.LIMIT, has_end=True):
             for at in range(1, self.LIMIT + 1):
                 if self.is_over:
                     return
@@ -138,17 +138,20 @@ class Connections(Load):
 
 
 @contextlib.contextmanager
-def served(cpi: Cpi, file: Path, port: int, limit: int = 1000) -> Iterator[subprocess.Popen[bytes]]:
-    """An office that listens at a port; at the end it is killed, if it hasn't ended by itself."""
+def served(
+    cpi: Cpi, file: Path, port: int, limit: int = 1000, has_end: bool = False
+) -> Iterator[subprocess.Popen[bytes]]:
+    """An office that listens at a port; at the end it is killed. If it `has_end` it may end by itself until then."""
     words = words_of(str(file), port, limit, key=DESK_KEY)
     with subprocess.Popen([str(cpi.path), *words], stdout=subprocess.PIPE) as process:
         try:
             assert process.stdout
             assert process.stdout.readline() == f"cpi: listening on 127.0.0.1:{port}\n".encode()
             yield process
-            with contextlib.suppress(subprocess.TimeoutExpired):
+            if has_end:
                 # (after its last connection it ends by itself, and copies its log into the file)
-                process.wait(2)
+                with contextlib.suppress(subprocess.TimeoutExpired):
+                    process.wait(2)
         finally:
             process.kill()
 

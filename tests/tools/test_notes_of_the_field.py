@@ -32,11 +32,10 @@ from cpi_tools.program import Cpi
 from cpi_tools.terminal import Fault
 from .desk_apps import ADA, LISTEN, Application, Person, applied
 from lib.hostile import HOSTILE
+from lib.places import ROOT
 from lib.served import heard, message, peer_of
 from .loads import DESK_KEY
 from .surveys import key_of
-
-ROOT = Path(__file__).resolve().parents[2]
 
 MONTH, AGES = "2026-02", 12_000
 """A month of the office of these tests, and so many months that it is kept whatever the machine's clock says."""

@@ -26,8 +26,9 @@ from selenium.webdriver.remote.webelement import WebElement
 from selenium.webdriver.support.wait import WebDriverWait
 
 from cpi_tools.front import system_program
+from lib.served import free_port
 
-SECONDS = 30.0
+SECONDS = 60.0
 """Within which a page shows what it is waited for: so much as a busy machine may need, nothing is promised by it."""
 
 WORDS = (
@@ -66,8 +67,9 @@ class Browser:
         options.set_capability("goog:loggingPrefs", {"browser": "ALL"})
         options.add_experimental_option("prefs", {"webkit.webprefs.default_font_size": self._text})
         kept = {**os.environ, "HOME": str(self.home), "XDG_DATA_HOME": f"{self.home}/.local/share"}
-        driver = webdriver.Chrome(service=Service(system_program("chromedriver"), env=kept), options=options)
-        driver.set_script_timeout(20)
+        service = Service(system_program("chromedriver"), port=free_port(), env=kept)
+        driver = webdriver.Chrome(service=service, options=options)
+        driver.set_script_timeout(SECONDS)
         return driver
 
     def fresh(self) -> None:

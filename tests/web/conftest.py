@@ -7,16 +7,20 @@ from pathlib import Path
 
 import pytest
 
-from cpi_tools.program import Cpi
+from lib.installing import need
 
-from .browser import Browser
-from .desk_pages import DeskPages, Person, desk_pages
-from .languages import ARABIC, ENGLISH, Speech, spoken
-from .offices import lived
-from .phone import Phone
-from .pseudo import pages_with
-from .stage import Stage
-from .websites import published
+need("tests/web/setup.sh")
+
+from cpi_tools.program import Cpi  # noqa: E402
+
+from .browser import Browser  # noqa: E402
+from .desk_pages import DeskPages, Person, desk_pages  # noqa: E402
+from .languages import ARABIC, ENGLISH, Speech, spoken  # noqa: E402
+from .offices import lived  # noqa: E402
+from .phone import Phone  # noqa: E402
+from .pseudo import pages_with  # noqa: E402
+from .stage import Stage  # noqa: E402
+from .websites import published  # noqa: E402
 
 
 @pytest.fixture(scope="session")

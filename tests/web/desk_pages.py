@@ -13,9 +13,11 @@ from typing import Any, Optional
 from selenium.webdriver.common.action_chains import ActionChains
 from selenium.webdriver.common.keys import Keys
 
+from lib.places import ROOT
+
 from .browser import Browser
 from .offices import DESK
-from .stage import ROOT, Stage
+from .stage import Stage
 
 PREFIX = "/desk"
 

@@ -10,7 +10,9 @@ from typing import NamedTuple, Optional, Union
 
 from babel import Locale
 
-from .stage import ROOT, Stage
+from lib.places import ROOT
+
+from .stage import Stage
 
 CONFIG = """\
 export const office = Object.freeze({{

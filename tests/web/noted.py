@@ -11,11 +11,13 @@ from typing import Any
 
 from PIL import Image
 
+from lib.places import ROOT
+
 from .desk_pages import DeskPages
 from .languages import CONFIG, ENGLISH, Speech
 from .offices import NOW
 from .phone import Phone
-from .stage import ROOT, Stage
+from .stage import Stage
 
 AGES = "12000"
 """So many months that a note is kept whatever the clock says."""

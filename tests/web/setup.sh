@@ -7,7 +7,8 @@ there() {
   for program in chromium chromedriver nginx certutil openssl pdftotext; do
     PATH=$PATH:/usr/sbin command -v "$program" > /dev/null || return
   done
-  /usr/bin/python3 -c 'import babel, flask, jinja2, pytest, selenium, waitress' 2> /dev/null
+  /usr/bin/python3 -c 'import importlib.util as it, sys; sys.exit(not all(map(it.find_spec, sys.argv[1:])))' \
+    babel flask jinja2 PIL pytest selenium waitress
 }
 packages=(chromium chromium-driver python3-selenium python3-pytest python3-babel python3-jinja2 python3-flask)
 packages+=(python3-waitress python3-pil nginx-light libnss3-tools openssl poppler-utils)

@@ -15,13 +15,14 @@ from collections.abc import Iterator, Mapping
 from pathlib import Path
 from typing import Any, NamedTuple, Optional
 
-from cpi_tools.front import Front, Place, draw_certificate, free_port
+from cpi_tools.front import Front, Place, draw_certificate
 from cpi_tools.program import Cpi
+from lib.places import ROOT
+from lib.served import free_port
 
 from .offices import DESK, NOW
 from .relay import Relay
 
-ROOT = Path(__file__).resolve().parents[2]
 LOGS = ("access.log", "access.log-errors", "error.log")
 
 

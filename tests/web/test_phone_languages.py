@@ -7,11 +7,13 @@ import gettext
 import pytest
 from babel.messages.pofile import read_po
 
+from lib.places import ROOT
+
 from .languages import ARABIC, FRENCH, Speech, spoken
 from .offices import ANNA, NOW
 from .phone import Phone
 from .phone_walks import walk_over
-from .stage import ROOT, Stage
+from .stage import Stage
 from .walks import Walk
 
 

@@ -20,8 +20,9 @@ from pathlib import Path
 import pytest
 
 from lib.places import ROOT
-from cpi_tools.front import children_of, fingerprint, free_port
+from cpi_tools.front import children_of, fingerprint
 from cpi_tools.program import Cpi
+from lib.served import free_port
 from .offices import ANNA, NOW
 from .stage import Stage
 

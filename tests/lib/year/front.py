@@ -23,6 +23,7 @@ from pathlib import Path
 from typing import Optional
 
 from lib.harness import TOP
+from lib.served import free_port
 
 sys.path.insert(0, os.path.join(TOP, "tools"))
 
@@ -77,8 +78,8 @@ class Front:
     def __init__(self, room: str, port: int, clock: clocks.Clock, site: str) -> None:
         self.clock, self.folder = clock, Path(room) / "front"
         self.folder.mkdir(mode=0o700)
-        plain = f"127.0.0.1:{fronts.free_port()}"
-        web, own = Path(TOP) / "web", fronts.free_port()
+        plain = f"127.0.0.1:{free_port()}"
+        web, own = Path(TOP) / "web", free_port()
         self.place = fronts.Place("localhost", "127.0.0.1", own, plain, port, web, published=Path(site))
         self.process: Optional[subprocess.Popen[bytes]] = None
         self.line: Optional[http.client.HTTPSConnection] = None
