@@ -1,0 +1,113 @@
+"""Tells which lines of cpi-tools no test reaches: `tests/run tests --long --coverage`.
+
+It measures each process that reads cpi-tools: those of pytest, and those that tests start, by Debian's python3-coverage.
+A process is found by the folder of a user's packages, which the variable PYTHONUSERBASE names; a test that hands on no
+variables, or that starts Python with -I or -s, isn't measured there. What was noted lies in a folder of its own until the
+end. Without --coverage nothing is measured.
+"""
+
+from __future__ import annotations
+
+import os
+import shutil
+import site
+import sysconfig
+import tempfile
+from collections.abc import Mapping
+from pathlib import Path
+from typing import Any, NamedTuple
+
+import pytest
+
+from . import measuring
+from .places import ROOT
+
+SOURCES = ROOT / "tools" / measuring.PACKAGE
+VARIABLE = "PYTHONUSERBASE"
+
+BEGIN = """\
+import measuring
+
+measuring.wait({sources!r}, {notes!r})
+"""
+"""What each process of Python does at its start."""
+
+
+def pytest_addoption(parser: pytest.Parser) -> None:
+    """The option."""
+    told = "tell which lines of tools/cpi_tools no test reaches"
+    parser.getgroup("cpi").addoption("--coverage", action="store_true", help=told)
+
+
+def pytest_configure(config: pytest.Config) -> None:
+    """Measures from now on, with the processes that are started; these find the variable, and so need no option."""
+    if config.option.coverage and not hasattr(config, "workerinput"):
+        config.pluginmanager.register(Untested(), "untested")
+
+
+class Reached(NamedTuple):
+    """The statements of a file by their lines, those that no test reaches, and these as they are told."""
+
+    file: str
+    statements: list[int]
+    missing: list[int]
+    told: str
+
+
+def reached(lines: Mapping[str, set[int]]) -> list[Reached]:
+    """What tests reach of each file, by the lines that were run."""
+    from coverage import Coverage  # type: ignore[import]
+
+    found = Coverage(data_file=None, config_file=False)
+    found.exclude("if TYPE_CHECKING:")
+    found.get_data().add_lines({str(SOURCES / name): numbers for name, numbers in lines.items() if name})
+    files = []
+    for path in sorted(SOURCES.rglob("*.py")):
+        _, statements, _, missing, told = found.analysis2(str(path))
+        files.append(Reached(str(path.relative_to(ROOT)), statements, missing, told))
+    return files
+
+
+def told_of(files: list[Reached]) -> list[str]:
+    """The figure, and the lines that no test reaches."""
+    statements, missing = (sum(len(numbers) for numbers in found) for found in zip(*((it[1], it[2]) for it in files)))
+    percent = 100 * (statements - missing) / statements
+    head = f"coverage: tests reach {percent:.2f} percent of tools/cpi_tools: {statements} statements, {missing} missing"
+    return [head, *(f"{it.file}: {it.told}" for it in files if it.missing)]
+
+
+class Untested:
+    """Measures until it tells, which it does before the last lines."""
+
+    def __init__(self) -> None:
+        self.folder = Path(tempfile.mkdtemp(prefix="cpi-coverage-"))
+        self.before = os.environ.get(VARIABLE)
+        self.notes = self.folder / "notes"
+        self.notes.mkdir()
+        # (tests run cpi-tools as other users too)
+        self.folder.chmod(0o755)
+        self.notes.chmod(0o777)
+        packages = Path(sysconfig.get_path("purelib", "posix_user", vars={"userbase": str(self.folder)}))
+        packages.mkdir(parents=True)
+        (packages / "before.pth").write_text(f"{site.getusersitepackages()}\n", encoding="utf-8")
+        shutil.copy(measuring.__file__, packages / "measuring.py")
+        begin = BEGIN.format(sources=str(SOURCES), notes=str(self.notes))
+        (packages / "usercustomize.py").write_text(begin, encoding="utf-8")
+        os.environ[VARIABLE] = str(self.folder)
+        # (this process has read some of it already; what that runs is run by others too)
+        self.measuring = measuring.Measuring(str(SOURCES), str(self.notes))
+        self.measuring.begin()
+
+    def pytest_terminal_summary(self, terminalreporter: Any) -> None:
+        """Tells it."""
+        self.measuring.note()
+        for line in told_of(reached(measuring.lines_of(str(self.notes)))):
+            terminalreporter.write_line(line)
+
+    def pytest_unconfigure(self) -> None:
+        """Leaves nothing behind."""
+        if self.before is None:
+            del os.environ[VARIABLE]
+        else:
+            os.environ[VARIABLE] = self.before
+        shutil.rmtree(self.folder, ignore_errors=True)
