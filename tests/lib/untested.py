@@ -76,23 +76,29 @@ def told_of(files: list[Reached]) -> list[str]:
     return [head, *(f"{it.file}: {it.told}" for it in files if it.missing)]
 
 
+def prepare(folder: Path) -> Path:
+    """Has each process of Python that finds the folder in its variable note its lines; the folder of these notes."""
+    notes = folder / "notes"
+    notes.mkdir()
+    packages = Path(sysconfig.get_path("purelib", "posix_user", vars={"userbase": str(folder)}))
+    packages.mkdir(parents=True)
+    (packages / "before.pth").write_text(f"{site.getusersitepackages()}\n", encoding="utf-8")
+    shutil.copy(measuring.__file__, packages / "measuring.py")
+    begin = BEGIN.format(sources=str(SOURCES), notes=str(notes))
+    (packages / "usercustomize.py").write_text(begin, encoding="utf-8")
+    # (tests run cpi-tools as other users too)
+    folder.chmod(0o755)
+    notes.chmod(0o777)
+    return notes
+
+
 class Untested:
     """Measures until it tells, which it does before the last lines."""
 
     def __init__(self) -> None:
         self.folder = Path(tempfile.mkdtemp(prefix="cpi-coverage-"))
+        self.notes = prepare(self.folder)
         self.before = os.environ.get(VARIABLE)
-        self.notes = self.folder / "notes"
-        self.notes.mkdir()
-        # (tests run cpi-tools as other users too)
-        self.folder.chmod(0o755)
-        self.notes.chmod(0o777)
-        packages = Path(sysconfig.get_path("purelib", "posix_user", vars={"userbase": str(self.folder)}))
-        packages.mkdir(parents=True)
-        (packages / "before.pth").write_text(f"{site.getusersitepackages()}\n", encoding="utf-8")
-        shutil.copy(measuring.__file__, packages / "measuring.py")
-        begin = BEGIN.format(sources=str(SOURCES), notes=str(self.notes))
-        (packages / "usercustomize.py").write_text(begin, encoding="utf-8")
         os.environ[VARIABLE] = str(self.folder)
         # (this process has read some of it already; what that runs is run by others too)
         self.measuring = measuring.Measuring(str(SOURCES), str(self.notes))
