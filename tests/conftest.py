@@ -20,7 +20,7 @@ sys.path[:0] = [str(HERE), str(HERE.parent / "tools")]
 from lib.program import Program  # noqa: E402
 from lib.sample import Sample, sample_of  # noqa: E402
 
-pytest_plugins = ["lib.session"]
+pytest_plugins = ["lib.session", "lib.untested"]
 
 
 def pytest_addoption(parser: pytest.Parser) -> None:

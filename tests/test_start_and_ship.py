@@ -326,7 +326,7 @@ def what_is_tried(it: Repository) -> Iterator[Seen]:
     it.ship()
     it.run("test", "--long", "--processes", "3")
     calls = it.calls("tests/run")
-    yield "over dist/ if it was made of the sources at hand", calls[0] == f"tests {shipped} -n 3 --long"
+    yield "over dist/ if it was made of the sources at hand", calls[0] == f"tests {shipped} -n 3 --long --coverage"
     it.ship(sources="0")
     ran = it.run("test")
     yield "not if it was made of others", it.calls("tests/run")[0].startswith(f"tests {built} ")
