@@ -16,7 +16,7 @@ from typing import NamedTuple
 
 import pytest
 
-from conftest import ROOT
+from lib.places import ROOT
 from edits.cache import Cache, sum_crate
 from edits.edits import Edit, Pair, apply, list_edits, read_edit, read_edits
 from edits.groups import group_edits
