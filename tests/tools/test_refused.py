@@ -17,6 +17,7 @@ from typing import NamedTuple
 import pytest
 
 from lib.places import ROOT
+from edits.assumed import assume_others
 from edits.cache import Cache, sum_crate
 from edits.edits import Edit, Pair, apply, list_edits, read_edit, read_edits
 from edits.groups import group_edits
@@ -215,6 +216,33 @@ def test_all_pairs_are_applied_or_none() -> None:
     assert texts == {"a": "3", "b": ""}
 
 
+# ---- functions that are taken as proved
+
+
+def test_the_proofs_of_functions_that_no_edit_changes_become_holes(low: Crate) -> None:
+    proofs = {"proofs/rows/count/Answers.antt": "a", "proofs/rows/Rows/len/Answers.antt": "b", "proofs/Lib.antt": "c"}
+    texts = {**low.texts, **proofs}
+    holes = assume_others(low, {"rows::count"}, texts)
+    assert holes == {
+        "proofs/rows/Rows/len/Proof.antt",
+        "proofs/rows/Rows/is_full/Proof.antt",
+        "proofs/rows/Rows/forget/Proof.antt",
+        "proofs/rows/RowsClone/clone/Proof.antt",
+        "proofs/both/count_both/Proof.antt",
+    }
+    assert texts.keys() - holes == {*low.texts, *proofs} - {"proofs/rows/Rows/len/Answers.antt"}
+    hole = texts["proofs/rows/Rows/len/Proof.antt"]
+    assert hole.startswith("use Rattle.low.proofs.rows.Rows.len.Statement as stated\n")
+    assert hole.endswith("\npub len_spec : {M : Type 1} → stated.statement M\nlen_spec = ?\n")
+
+
+def test_a_function_without_a_proof_of_its_own_is_not_taken_as_proved() -> None:
+    cycle = "#[cycle(parity)]\npub fn even(n: u32) -> bool {\n    odd(n)\n}\n"
+    crate = crate_of({"src/lib.rt": f"{cycle}\npub trait Book {{\n    fn read(&self) -> u32;\n}}\n"})
+    assert [it.name for it in crate.items] == ["even", "Book::read"]
+    assert assume_others(crate, set(), dict(crate.texts)) == set()
+
+
 # ---- groups
 
 
@@ -332,7 +360,8 @@ def test_an_entry_that_is_damaged_counts_for_nothing(tmp_path: Path, low: Crate)
     whole = entry.read_bytes()
     found = json.loads(whole)
     damaged = [whole[:at] for at in range(len(whole))] + [whole + b"x", b"\xff", b"[]", b"1", b"null", b'{"key": 1}']
-    damaged += [json.dumps({**found, **it}).encode() for it in ({"text": 1}, {"end": ""}, {"key": cache.key(other)})]
+    changes: list[dict[str, object]] = [{"text": 1}, {"end": ""}, {"key": cache.key(other)}]
+    damaged += [json.dumps({**found, **change}).encode() for change in changes]
     for text in damaged:
         entry.write_bytes(text)
         assert cache.find(edit) is None, text
@@ -509,7 +538,7 @@ def test_a_crate_that_is_proved_with_an_edit_does_not_refuse_it(clone: Clone, st
     ran = clone.run(kit=stand_in.folder)
     assert verdict(ran, "low/two") == "NOT REFUSED: the crate is still proved with this edit"
     group, whole = stand_in.runs()
-    assert "--only one" in group and "--only" not in whole and "--incremental" not in whole
+    assert "--only one" in group and "--allow-holes" in group and "--only" not in whole and "--allow-holes" not in whole
 
 
 def test_a_name_that_the_prover_does_not_know_is_asked_for_by_its_module(clone: Clone, stand_in: StandIn) -> None:
@@ -519,6 +548,15 @@ def test_a_name_that_the_prover_does_not_know_is_asked_for_by_its_module(clone: 
     clone.run(kit=stand_in.folder)
     assert "--only a::two" in stand_in.runs()[0]
     assert stand_in.runs()[1].endswith("--only a")
+
+
+def test_a_function_whose_proof_can_not_be_a_hole_is_proved(clone: Clone, stand_in: StandIn) -> None:
+    for name in ("a", "b"):
+        clone.write(f"low/src/{name}.rt", f"pub fn {name}() -> u32 {{\n    2\n}}\n")
+    wrong = "./proofs/a/a/Proof.antt:3:5: error: `a_spec`: expected a type"
+    stand_in.write(f"ls -d proofs/*/* >> {stand_in.calls()}\n[ ! -e proofs/a/a ] || echo '{wrong}'\n{told(SEEN, 1)}")
+    assert clone.run(kit=stand_in.folder).status == 0
+    assert [it for it in stand_in.runs() if it.startswith("proofs")] == ["proofs/a/a", "proofs/b/b", "proofs/b/b"]
 
 
 def has_running(group: int) -> bool:

@@ -16,12 +16,10 @@ from typing import NamedTuple, Optional
 
 from crates import below
 
+from .assumed import assume_others
 from .edits import Edit, apply
 from .report import KILLED, Report
 from .sources import Crate, name_module
-
-KEPT = "incremental"
-"""The folder of a crate's room in which the prover keeps what it checked, so that the next run takes it from there."""
 
 
 class Libraries(NamedTuple):
@@ -76,26 +74,37 @@ class Prover:
         self.running: set[int] = set()
         self.starting = threading.Lock()
 
-    def check(self, crate: Crate, edits: Sequence[Edit], names: Collection[str] = (), keep: bool = True) -> Report:
-        """Checks a crate with these edits: the functions of these names and those that they call, or the whole crate.
-
-        `keep` says whether what earlier runs of the crate checked is taken from them, and kept for the next one.
-        """
-        wanted = set(names)
-        with tempfile.TemporaryDirectory(dir=self.room) as folder:
-            write_copy(crate, edits, Path(folder))
-            words = [f"{self.libraries.kit}/bin/rattle", "check", *self.libraries.words(crate)]
-            words += ["--incremental", f"{self.room}/{KEPT}/{crate.name}"] if keep else []
-            while True:
-                more = [word for name in sorted(wanted) for word in ("--only", name)]
-                run = self.run_twice_if_killed([*words, *more], folder)
-                self.note(crate, edits, run)
-                unknown = run.report.unknown_function()
-                if unknown not in wanted:
-                    return run.report
+    def check_functions(self, crate: Crate, edits: Sequence[Edit], names: Collection[str]) -> Report:
+        """Checks a crate with these edits, but only the functions of these names; all others are taken as proved."""
+        wanted, proved = set(names), set(names)
+        while True:
+            texts = apply_all(crate, edits)
+            holes = assume_others(crate, proved, texts)
+            more = [word for name in sorted(wanted) for word in ("--only", name)]
+            report = self.check(crate, edits, texts, ["--allow-holes", *more])
+            unknown, faulty = report.unknown_function(), report.files_with_errors() & holes
+            if unknown in wanted:
                 # (of a method that a macro writes the prover knows another name: the module stands for it)
                 wanted |= {name_module(it.file) for edit in edits for it in edit.functions if it.name == unknown}
                 wanted.discard(unknown)
+            elif faulty:
+                # (a function whose proof can't be a hole is proved)
+                proved |= {"::".join(path.split("/")[1:-1]) for path in faulty}
+            else:
+                return report
+
+    def check_all(self, crate: Crate, edit: Edit) -> Report:
+        """Checks a whole crate with an edit, from nothing."""
+        return self.check(crate, [edit], apply_all(crate, [edit]), [])
+
+    def check(self, crate: Crate, edits: Sequence[Edit], texts: Mapping[str, str], more: Sequence[str]) -> Report:
+        """Checks a copy of a crate with these texts, which the edits make. `more` are words for the prover."""
+        with tempfile.TemporaryDirectory(dir=self.room) as folder:
+            write_texts(texts, Path(folder))
+            words = [f"{self.libraries.kit}/bin/rattle", "check", *self.libraries.words(crate), *more]
+            run = self.run_twice_if_killed(words, folder)
+        self.note(crate, edits, run)
+        return run.report
 
     def run_twice_if_killed(self, words: Sequence[str], folder: str) -> Run:
         """A run, and another one if it was killed, since the machine had no memory left, say."""
@@ -136,10 +145,6 @@ class Prover:
         """The processor seconds of all runs of a crate."""
         return sum(run.seconds for run in self.runs.get(crate, []))
 
-    def forget(self, crate: str) -> None:
-        """Removes what the runs of a crate kept for each other."""
-        shutil.rmtree(self.room / KEPT / crate, ignore_errors=True)
-
     def stop(self) -> None:
         """Ends all runs, lets no other begin, and removes all copies. (No thread but the caller's goes on after it.)"""
         self.starting.acquire()
@@ -153,11 +158,16 @@ class Prover:
             time.sleep(0.1)
 
 
-def write_copy(crate: Crate, edits: Sequence[Edit], folder: Path) -> None:
-    """Writes a copy of a crate with these edits, which can be applied together."""
+def apply_all(crate: Crate, edits: Sequence[Edit]) -> dict[str, str]:
+    """The texts of a crate with these edits, which can be applied together."""
     texts = dict(crate.texts)
     for edit in edits:
         apply(edit.pairs, texts)
+    return texts
+
+
+def write_texts(texts: Mapping[str, str], folder: Path) -> None:
+    """Writes texts to their paths below a folder."""
     for path, text in texts.items():
         (folder / path).parent.mkdir(parents=True, exist_ok=True)
         (folder / path).write_bytes(text.encode("utf-8"))

@@ -26,6 +26,9 @@ UNREAD = re.compile(r"is not in scope|has no field|is no name|operand is missing
 """What is said of a declaration that can't be read. One that is only false reads well."""
 
 UNKNOWN = re.compile(r"has no function `([^`]*)`")
+PROVED = ("proved", "no holes", "depends on a hole in")
+"""What is said of a function that is proved, as far as those are that it calls."""
+
 PLACED = re.compile(r"(note: )?\S+:\d+:\d+:")
 LITTLE = "(little: a proof file names what the edit took away)"
 NOTHING_REFUSED, REFUSED, NOT_CALLED_WELL = 0, 1, 2
@@ -58,6 +61,10 @@ class Report(NamedTuple):
         found = UNKNOWN.search("\n".join(self.lines)) if self.status == NOT_CALLED_WELL else None
         return found[1] if found else ""
 
+    def files_with_errors(self) -> set[str]:
+        """The files, by their paths below the crate, in which something isn't taken."""
+        return {it[1] for it in map(ERROR.match, self.lines) if it}
+
     def calls(self, crate: str) -> dict[str, set[str]]:
         """By the name of each function that isn't proved, the functions of the crate that it calls and that aren't."""
         called = {name: said.partition("it calls ")[2] for name, said in self.functions().items()}
@@ -89,7 +96,7 @@ def find_refusal(edit: Edit, report: Report) -> str:
 def is_proved(edit: Edit, report: Report) -> bool:
     """Whether a run proves each function that an edit changes."""
     functions = report.functions()
-    return bool(edit.names()) and all(functions.get(it) == "proved" for it in edit.names())
+    return bool(edit.names()) and all(functions.get(it, "").startswith(PROVED) for it in edit.names())
 
 
 def find_unread(edit: Edit, report: Report) -> str:

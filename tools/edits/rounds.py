@@ -61,7 +61,7 @@ class Trial:
     def try_group(self, group: Sequence[Edit]) -> None:
         """Tries a group in one run, and each of its edits that the run proves by itself."""
         names = {name for edit in group for name in edit.names()}
-        report = self.prover.check(self.crate, group, names) if names else Report(0, [])
+        report = self.prover.check_functions(self.crate, group, names) if names else Report(0, [])
         decided = False
         for edit in group:
             if text := find_refusal(edit, report):
@@ -77,7 +77,7 @@ class Trial:
 
     def try_alone(self, edit: Edit) -> Verdict:
         """What a check of the whole crate, from nothing, says of an edit."""
-        report = self.prover.check(self.crate, [edit], keep=False)
+        report = self.prover.check_all(self.crate, edit)
         if text := find_refusal(edit, report):
             return Verdict(REFUSED, text)
         if text := find_unread(edit, report):
