@@ -22,7 +22,7 @@ from edits.cache import Cache, sum_crate
 from edits.edits import Edit, Pair, apply, list_edits, read_edit, read_edits
 from edits.groups import group_edits
 from edits.prover import Libraries
-from edits.report import Report, find_refusal, find_unread, is_proved
+from edits.report import Report, find_refusal, find_unread, find_unreadable, is_proved
 from edits.sources import Crate, list_items, name_module, read_crate
 
 ROWS = """\
@@ -336,6 +336,17 @@ def test_what_can_not_be_read_is_known_by_its_file_and_its_words(low: Crate) -> 
         assert find_unread(edit, report_of(line, last="")) == line
     for line in ("src/both.rt:3:5: error[unresolved]: no `x`", "src/rows.rt:3:5: error: `count`: the types differ"):
         assert find_unread(edit, report_of(line, last="")) == ""
+
+
+def test_of_a_group_those_are_unreadable_in_whose_functions_errors_are(low: Crate) -> None:
+    group = [
+        edit_of(low, "    rows.len()", "    0"),
+        edit_of(low, "if self.is_full()", "if self.is_none()", name="other"),
+    ]
+    for line, names in ((31, ["other"]), (41, ["one"]), (2, ["one", "other"])):
+        report = report_of(f"src/rows.rt:{line}:5: error[unknown-name]: no `x`", last="")
+        assert [it.name for it in find_unreadable(group, report)] == names
+    assert find_unreadable(group, report_of(OPEN, NOT_PROVED)) == []
 
 
 # ---- what is kept

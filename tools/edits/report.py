@@ -21,7 +21,9 @@ FOLLOWS = re.compile(r"was not admitted|was rejected|were not checked")
 GONE = re.compile(r"has no field|is not in scope|has no `")
 """What is said of a proof that names what an edit took away."""
 
-ERROR = re.compile(r"(?:\./)?(\S+?):\d+:\d+: error(\[[\w-]+\])?: (`[^`]*`: )?(.*)")
+ERROR = re.compile(
+    r"(?:\./)?(?P<file>\S+?):(?P<line>\d+):\d+: error(?P<code>\[[\w-]+\])?: (?P<name>`[^`]*`: )?(?P<what>.*)"
+)
 UNREAD = re.compile(r"is not in scope|has no field|is no name|operand is missing|expected the end|cannot continue")
 """What is said of a declaration that can't be read. One that is only false reads well."""
 
@@ -63,7 +65,7 @@ class Report(NamedTuple):
 
     def files_with_errors(self) -> set[str]:
         """The files, by their paths below the crate, in which something isn't taken."""
-        return {it[1] for it in map(ERROR.match, self.lines) if it}
+        return {it["file"] for it in map(ERROR.match, self.lines) if it}
 
     def calls(self, crate: str) -> dict[str, set[str]]:
         """By the name of each function that isn't proved, the functions of the crate that it calls and that aren't."""
@@ -101,9 +103,19 @@ def is_proved(edit: Edit, report: Report) -> bool:
 
 def find_unread(edit: Edit, report: Report) -> str:
     """The line by which the compiler or the prover says that it can't read a file of an edit, or ``."""
-    for line in report.lines:
-        error = ERROR.match(line)
-        if report.status == REFUSED and error and error[1] in edit.files():
-            if error[2] or not error[3] or UNREAD.search(re.sub(r"`[^`]*`", "", error[4])):
-                return line[:200]
-    return ""
+    return next((it.string[:200] for it in list_unread(report) if it["file"] in edit.files()), "")
+
+
+def find_unreadable(group: Sequence[Edit], report: Report) -> list[Edit]:
+    """Those of a group's edits that the compiler or the prover can't read, as far as the lines of its errors show it."""
+    errors = list_unread(report)
+    in_function = [it for it in group if any(it.function_at(at["file"], int(at["line"])) for at in errors)]
+    return in_function or [it for it in group if find_unread(it, report)]
+
+
+def list_unread(report: Report) -> list[re.Match[str]]:
+    """The errors by which the compiler or the prover says that it can't read something. (A run that only refuses what it
+    has read has errors of other words.)"""
+    errors = [it for it in map(ERROR.match, report.lines) if it] if report.status == REFUSED else []
+    plain = [re.sub(r"`[^`]*`", "", it["what"]) for it in errors]
+    return [it for it, words in zip(errors, plain) if it["code"] or not it["name"] or UNREAD.search(words)]

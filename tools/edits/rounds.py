@@ -9,10 +9,13 @@ from .cache import Cache
 from .edits import Edit
 from .groups import group_edits
 from .prover import Prover
-from .report import Report, find_refusal, find_unread, is_proved
+from .report import Report, find_refusal, find_unread, find_unreadable, is_proved
 from .sources import Crate
 
 REFUSED, NOT_REFUSED, BAD_EDIT, NOT_TRIED = "refused", "NOT REFUSED", "BAD EDIT", "NOT TRIED"
+
+
+UNREADABLE = "it can't be read, so no contract was tried"
 
 
 class Verdict(NamedTuple):
@@ -59,21 +62,25 @@ class Trial:
         return self.verdicts
 
     def try_group(self, group: Sequence[Edit]) -> None:
-        """Tries a group in one run, and each of its edits that the run proves by itself."""
+        """Tries a group in one run, and by itself each of its edits that the run proves."""
         names = {name for edit in group for name in edit.names()}
         report = self.prover.check_functions(self.crate, group, names) if names else Report(0, [])
-        decided = False
-        for edit in group:
-            if text := find_refusal(edit, report):
-                self.settle(edit, Verdict(REFUSED, text))
-            elif len(group) == 1 or is_proved(edit, report):
-                self.settle(edit, self.try_alone(edit))
-            decided = decided or edit.name in self.verdicts
+        decided = [self.decide(edit, report, len(group) == 1) for edit in group]
         for name, called in report.calls(self.crate.name).items():
             self.calls.setdefault(name, set()).update(called)
-        if not decided:
+        if not any(decided):
             # (if the compiler stops at some of them, the others are tried together once more)
-            self.single.update(it.name for it in [it for it in group if find_unread(it, report)] or group)
+            self.single.update(it.name for it in find_unreadable(group, report) or group)
+
+    def decide(self, edit: Edit, report: Report, is_single: bool) -> bool:
+        """Decides what an edit comes to, if a run over its group says enough of it; whether that is so."""
+        if text := find_refusal(edit, report):
+            self.settle(edit, Verdict(REFUSED, text))
+        elif is_single and not report.has_verdict() and (text := find_unread(edit, report)):
+            self.settle(edit, Verdict(BAD_EDIT, f"{UNREADABLE}: {text}"))
+        elif is_single or is_proved(edit, report):
+            self.settle(edit, self.try_alone(edit))
+        return edit.name in self.verdicts
 
     def try_alone(self, edit: Edit) -> Verdict:
         """What a check of the whole crate, from nothing, says of an edit."""
@@ -81,7 +88,7 @@ class Trial:
         if text := find_refusal(edit, report):
             return Verdict(REFUSED, text)
         if text := find_unread(edit, report):
-            return Verdict(BAD_EDIT, f"it can't be read, so no contract was tried: {text}")
+            return Verdict(BAD_EDIT, f"{UNREADABLE}: {text}")
         if report.status == 0:
             return Verdict(NOT_REFUSED, "the crate is still proved with this edit")
         if report.has_verdict():
