@@ -79,7 +79,7 @@ pub fn count_both(rows: &Rows<u32>, others: &Rows<u32>) -> usize {
 """
 
 
-def crate_of(texts: Mapping[str, str]) -> Crate:
+def make_crate(texts: Mapping[str, str]) -> Crate:
     """A crate `low` with these texts."""
     homes = {"Rows": "rows"}
     code = [(path, text) for path, text in texts.items() if path.endswith(".rt")]
@@ -88,12 +88,12 @@ def crate_of(texts: Mapping[str, str]) -> Crate:
 
 @pytest.fixture
 def low() -> Crate:
-    return crate_of(
+    return make_crate(
         {"src/lib.rt": "mod rows;\n", "src/rows.rt": ROWS, "src/both.rt": USER, "specs/Lib.antt": "a ≡ b\n"}
     )
 
 
-def edit_of(crate: Crate, old: str, new: str, file: str = "src/rows.rt", name: str = "one") -> Edit:
+def make_edit(crate: Crate, old: str, new: str, file: str = "src/rows.rt", name: str = "one") -> Edit:
     return read_edit(name, f"file: {file}\nold: {old}\nnew: {new}\n", crate)
 
 
@@ -176,29 +176,34 @@ def test_edits_stand_right_in_their_folder(tmp_path: Path, low: Crate) -> None:
 
 
 def test_an_edit_changes_the_function_around_it(low: Crate) -> None:
-    edit = edit_of(low, "        if self.is_full() {", "        if !self.is_full() {")
+    edit = make_edit(low, "        if self.is_full() {", "        if !self.is_full() {")
     assert (edit.names(), edit.is_alone()) == ({"rows::RowsClone::clone"}, False)
-    assert (edit.function_at("src/rows.rt", 34), edit.function_at("src/rows.rt", 35)) == ("rows::RowsClone::clone", "")
-    assert edit.function_at("src/both.rt", 34) == ""
-    assert edit.function_of("rows::fn::RowsClone::clone::map") == "rows::RowsClone::clone"
-    assert edit.function_of("rows::RowsClone::clones") == ""
+    assert (edit.find_function_at("src/rows.rt", 34), edit.find_function_at("src/rows.rt", 35)) == (
+        "rows::RowsClone::clone",
+        "",
+    )
+    assert edit.find_function_at("src/both.rt", 34) == ""
+    assert edit.find_function_named("rows::fn::RowsClone::clone::map") == "rows::RowsClone::clone"
+    assert edit.find_function_named("rows::RowsClone::clones") == ""
 
 
 def test_an_edit_of_a_constant_or_a_macro_changes_what_names_it(low: Crate) -> None:
-    assert edit_of(low, "= 2;", "= 3;").names() == {"rows::Rows::is_full", "rows::count", "both::count_both"}
-    assert edit_of(low, "$x + $x", "$x").names() == {"rows::RowsClone::clone"}
+    assert make_edit(low, "= 2;", "= 3;").names() == {"rows::Rows::is_full", "rows::count", "both::count_both"}
+    assert make_edit(low, "$x + $x", "$x").names() == {"rows::RowsClone::clone"}
 
 
 def test_an_edit_of_a_contract_changes_the_callers_too(low: Crate) -> None:
-    assert edit_of(low, "result ≤ MOST", "result ≤ 3").names() == {"rows::count", "both::count_both"}
-    assert edit_of(low, "    rows.len()", "    0").names() == {"rows::count"}
+    assert make_edit(low, "result ≤ MOST", "result ≤ 3").names() == {"rows::count", "both::count_both"}
+    assert make_edit(low, "    rows.len()", "    0").names() == {"rows::count"}
 
 
 def test_an_edit_outside_of_functions_is_tried_alone(low: Crate) -> None:
-    assert edit_of(low, "    all: Vec<T>,", "    all: Vec<T>, more: u8,").is_alone()
-    assert edit_of(low, "a ≡ b", "a ≡ a", file="specs/Lib.antt").is_alone()
-    assert edit_of(low, "use crate::rows::{Rows, count};", "use crate::rows::Rows;", file="src/both.rt").is_wide
-    more = edit_of(low, "use crate::rows::{Rows, count};", "use crate::rows::{Rows, count, other};", file="src/both.rt")
+    assert make_edit(low, "    all: Vec<T>,", "    all: Vec<T>, more: u8,").is_alone()
+    assert make_edit(low, "a ≡ b", "a ≡ a", file="specs/Lib.antt").is_alone()
+    assert make_edit(low, "use crate::rows::{Rows, count};", "use crate::rows::Rows;", file="src/both.rt").is_wide
+    more = make_edit(
+        low, "use crate::rows::{Rows, count};", "use crate::rows::{Rows, count, other};", file="src/both.rt"
+    )
     assert not more.is_wide
 
 
@@ -238,7 +243,7 @@ def test_the_proofs_of_functions_that_no_edit_changes_become_holes(low: Crate) -
 
 def test_a_function_without_a_proof_of_its_own_is_not_taken_as_proved() -> None:
     cycle = "#[cycle(parity)]\npub fn even(n: u32) -> bool {\n    odd(n)\n}\n"
-    crate = crate_of({"src/lib.rt": f"{cycle}\npub trait Book {{\n    fn read(&self) -> u32;\n}}\n"})
+    crate = make_crate({"src/lib.rt": f"{cycle}\npub trait Book {{\n    fn read(&self) -> u32;\n}}\n"})
     assert [it.name for it in crate.items] == ["even", "Book::read"]
     assert assume_others(crate, set(), dict(crate.texts)) == set()
 
@@ -247,17 +252,17 @@ def test_a_function_without_a_proof_of_its_own_is_not_taken_as_proved() -> None:
 
 
 def test_edits_of_one_function_or_one_text_share_no_run(low: Crate) -> None:
-    full = edit_of(low, "self.all.len() == MOST", "false", name="full")
-    most = edit_of(low, "= 2;", "= 3;", name="most")
-    clone = edit_of(low, "if self.is_full()", "if true", name="clone")
-    comment = edit_of(low, "//! Rows.", "//! All rows.", name="comment")
-    again = edit_of(low, "//! Rows.", "//! The rows.", name="again")
+    full = make_edit(low, "self.all.len() == MOST", "false", name="full")
+    most = make_edit(low, "= 2;", "= 3;", name="most")
+    clone = make_edit(low, "if self.is_full()", "if true", name="clone")
+    comment = make_edit(low, "//! Rows.", "//! All rows.", name="comment")
+    again = make_edit(low, "//! Rows.", "//! The rows.", name="again")
     groups = group_edits(low, [full, most, clone, comment, again], {})
     assert [[it.name for it in group] for group in groups] == [["full", "clone", "comment"], ["most", "again"]]
 
 
 def test_an_edit_of_a_caller_gets_another_run_once_the_call_is_known(low: Crate) -> None:
-    edits = [edit_of(low, "    rows.len()", "    0"), edit_of(low, "count(rows) +", "0 +", file="src/both.rt")]
+    edits = [make_edit(low, "    rows.len()", "    0"), make_edit(low, "count(rows) +", "0 +", file="src/both.rt")]
     assert len(group_edits(low, edits, {})) == 1
     calls = {"both::count_both": {"rows::other"}, "rows::other": {"rows::count"}, "rows::count": {"rows::count"}}
     assert len(group_edits(low, edits, calls)) == 2
@@ -266,7 +271,7 @@ def test_an_edit_of_a_caller_gets_another_run_once_the_call_is_known(low: Crate)
 # ---- reports
 
 
-def report_of(*lines: str, status: int = 1, last: str = "only=2 proved=0") -> Report:
+def make_report(*lines: str, status: int = 1, last: str = "only=2 proved=0") -> Report:
     return Report(status, [*lines, last])
 
 
@@ -277,94 +282,94 @@ NOT_PROVED = "fn low::rows::count: not proved"
 
 
 def test_an_edit_is_refused_at_an_open_goal_of_its_function(low: Crate) -> None:
-    edit = edit_of(low, "    rows.len()", "    0")
-    assert find_refusal(edit, report_of(OPEN, NOT_PROVED)) == "rows::count, src/rows.rt:42, returns-in-Ok"
-    assert find_refusal(edit, report_of(OPEN.replace(":42:", ":30:"), NOT_PROVED)) == ""
-    assert find_refusal(edit, report_of(OPEN.replace("rows.rt", "both.rt"), NOT_PROVED)) == ""
-    assert find_refusal(edit, report_of(OPEN, "fn low::rows::count: proved")) == ""
-    assert find_refusal(edit, report_of(NOT_PROVED)) == ""
+    edit = make_edit(low, "    rows.len()", "    0")
+    assert find_refusal(edit, make_report(OPEN, NOT_PROVED)) == "rows::count, src/rows.rt:42, returns-in-Ok"
+    assert find_refusal(edit, make_report(OPEN.replace(":42:", ":30:"), NOT_PROVED)) == ""
+    assert find_refusal(edit, make_report(OPEN.replace("rows.rt", "both.rt"), NOT_PROVED)) == ""
+    assert find_refusal(edit, make_report(OPEN, "fn low::rows::count: proved")) == ""
+    assert find_refusal(edit, make_report(NOT_PROVED)) == ""
 
 
 def test_an_edit_is_refused_at_a_line_of_the_proof_of_its_function(low: Crate) -> None:
-    edit = edit_of(low, "    rows.len()", "    0")
+    edit = make_edit(low, "    rows.len()", "    0")
     wrong = "./proofs/rows/count/Answers.antt:9:5: error: `returns`: the two types differ"
     place = "rows::count, proofs/rows/count/Answers.antt:9, returns"
-    assert find_refusal(edit, report_of(wrong, NOT_PROVED)) == place
-    assert find_refusal(edit, report_of(wrong.replace("rows/count", "rows/counts"), NOT_PROVED)) == ""
-    assert find_refusal(edit, report_of(wrong.replace("the two types differ", "was not admitted"), NOT_PROVED)) == ""
+    assert find_refusal(edit, make_report(wrong, NOT_PROVED)) == place
+    assert find_refusal(edit, make_report(wrong.replace("rows/count", "rows/counts"), NOT_PROVED)) == ""
+    assert find_refusal(edit, make_report(wrong.replace("the two types differ", "was not admitted"), NOT_PROVED)) == ""
     gone = wrong.replace("the two types differ", "`goal.returns`: module `a` has no `returns`")
-    assert find_refusal(edit, report_of(gone, NOT_PROVED)).startswith(f"{place} (little: ")
-    assert find_refusal(edit, report_of(gone, OPEN, NOT_PROVED)) == "rows::count, src/rows.rt:42, returns-in-Ok"
+    assert find_refusal(edit, make_report(gone, NOT_PROVED)).startswith(f"{place} (little: ")
+    assert find_refusal(edit, make_report(gone, OPEN, NOT_PROVED)) == "rows::count, src/rows.rt:42, returns-in-Ok"
 
 
 def test_a_function_that_only_calls_a_refused_one_is_not_refused(low: Crate) -> None:
-    edit = edit_of(low, "count(rows) +", "0 +", file="src/both.rt")
-    report = report_of(
+    edit = make_edit(low, "count(rows) +", "0 +", file="src/both.rt")
+    report = make_report(
         OPEN, NOT_PROVED, "fn low::both::count_both: no proof: it calls `low::rows::count`, which is not proved"
     )
     assert find_refusal(edit, report) == ""
     assert not is_proved(edit, report)
-    assert report.calls("low") == {"both::count_both": {"rows::count"}}
+    assert report.list_calls("low") == {"both::count_both": {"rows::count"}}
 
 
 @pytest.mark.parametrize("status", [-9, -15, 0, 2, 3, 101])
 def test_a_run_that_ends_otherwise_refuses_nothing(low: Crate, status: int) -> None:
-    edit = edit_of(low, "    rows.len()", "    0")
-    assert find_refusal(edit, report_of(OPEN, NOT_PROVED, status=status)) == ""
-    assert find_unread(edit, report_of("src/rows.rt:1:1: error[no-name]: what", status=status)) == ""
+    edit = make_edit(low, "    rows.len()", "    0")
+    assert find_refusal(edit, make_report(OPEN, NOT_PROVED, status=status)) == ""
+    assert find_unread(edit, make_report("src/rows.rt:1:1: error[no-name]: what", status=status)) == ""
 
 
 def test_a_run_that_does_not_come_to_its_end_refuses_nothing(low: Crate) -> None:
-    edit = edit_of(low, "    rows.len()", "    0")
-    assert find_refusal(edit, report_of(OPEN, NOT_PROVED, last="fn low::rows::other: proved")) == ""
+    edit = make_edit(low, "    rows.len()", "    0")
+    assert find_refusal(edit, make_report(OPEN, NOT_PROVED, last="fn low::rows::other: proved")) == ""
 
 
 def test_a_function_is_proved_if_its_line_says_so(low: Crate) -> None:
-    edit = edit_of(low, "= 2;", "= 3;")
+    edit = make_edit(low, "= 2;", "= 3;")
     proved = [f"fn low::{name}: proved" for name in edit.names()]
-    assert is_proved(edit, report_of(*proved))
-    assert not is_proved(edit, report_of(*proved[1:]))
-    assert not is_proved(edit_of(low, "//! Rows.", "//! All."), report_of(*proved))
+    assert is_proved(edit, make_report(*proved))
+    assert not is_proved(edit, make_report(*proved[1:]))
+    assert not is_proved(make_edit(low, "//! Rows.", "//! All."), make_report(*proved))
 
 
 def test_what_can_not_be_read_is_known_by_its_file_and_its_words(low: Crate) -> None:
-    edit = edit_of(low, "    rows.len()", "    0")
+    edit = make_edit(low, "    rows.len()", "    0")
     for line in (
         "src/rows.rt:42:5: error[unresolved]: no `x`",
         "./src/rows.rt:42:5: error: `count`: `x` is not in scope",
     ):
-        assert find_unread(edit, report_of(line, last="")) == line
+        assert find_unread(edit, make_report(line, last="")) == line
     for line in ("src/both.rt:3:5: error[unresolved]: no `x`", "src/rows.rt:3:5: error: `count`: the types differ"):
-        assert find_unread(edit, report_of(line, last="")) == ""
+        assert find_unread(edit, make_report(line, last="")) == ""
 
 
 def test_of_a_group_those_are_unreadable_in_whose_functions_errors_are(low: Crate) -> None:
     group = [
-        edit_of(low, "    rows.len()", "    0"),
-        edit_of(low, "if self.is_full()", "if self.is_none()", name="other"),
+        make_edit(low, "    rows.len()", "    0"),
+        make_edit(low, "if self.is_full()", "if self.is_none()", name="other"),
     ]
     for line, names in ((31, ["other"]), (41, ["one"]), (2, ["one", "other"])):
-        report = report_of(f"src/rows.rt:{line}:5: error[unknown-name]: no `x`", last="")
+        report = make_report(f"src/rows.rt:{line}:5: error[unknown-name]: no `x`", last="")
         assert [it.name for it in find_unreadable(group, report)] == names
-    assert find_unreadable(group, report_of(OPEN, NOT_PROVED)) == []
+    assert find_unreadable(group, make_report(OPEN, NOT_PROVED)) == []
 
 
 # ---- what is kept
 
 
 def test_what_was_refused_is_kept_by_the_edit_and_the_sum(tmp_path: Path, low: Crate) -> None:
-    edit = edit_of(low, "    rows.len()", "    0")
+    edit = make_edit(low, "    rows.len()", "    0")
     cache = Cache(tmp_path / "new/folder", "a")
     assert cache.find(edit) is None
     cache.keep(edit, "rows::count, ≡")
     assert cache.find(edit) == "rows::count, ≡"
     assert Cache(cache.folder, "b").find(edit) is None
-    assert cache.find(edit_of(low, "    rows.len()", "    1")) is None
+    assert cache.find(make_edit(low, "    rows.len()", "    1")) is None
     assert [it.name for it in cache.folder.iterdir()] == [cache.key(edit)]
 
 
 def test_an_entry_that_is_damaged_counts_for_nothing(tmp_path: Path, low: Crate) -> None:
-    edit, other = edit_of(low, "    rows.len()", "    0"), edit_of(low, "    rows.len()", "    1")
+    edit, other = make_edit(low, "    rows.len()", "    0"), make_edit(low, "    rows.len()", "    1")
     cache = Cache(tmp_path, "a")
     cache.keep(edit, "why")
     entry = tmp_path / cache.key(edit)
@@ -494,28 +499,28 @@ def clone(tmp_path: Path) -> Clone:
     return Clone(tmp_path / "here", LOW, "low:\nhigh: low\n")
 
 
-def told(text: str, status: int) -> str:
+def write_ending(text: str, status: int) -> str:
     """A script that prints a text and ends with a status."""
     return f"cat <<'END'\n{text}END\nexit {status}"
 
 
-def verdict(ran: Ran, name: str) -> str:
+def find_verdict(ran: Ran, name: str) -> str:
     """What is said of an edit."""
     [line] = [it for it in ran.out if it.startswith(f"{name}: ")]
     return line[len(name) + 2 :]
 
 
 def test_an_edit_is_refused_and_then_kept(clone: Clone, stand_in: StandIn) -> None:
-    stand_in.write(told(SEEN, 1))
+    stand_in.write(write_ending(SEEN, 1))
     before = clone.files()
     ran = clone.run("--logs", str(clone.top / "logs"), kit=stand_in.folder)
     assert (ran.status, ran.out[-1]) == (0, "1 passed, 0 failed")
-    assert verdict(ran, "low/two") == "refused: one, src/lib.rt:4, returns"
+    assert find_verdict(ran, "low/two") == "refused: one, src/lib.rt:4, returns"
     assert ran.out[-2].startswith("processor minutes: ")
     assert len(stand_in.runs()) == 1 and "--only one" in stand_in.runs()[0]
     assert (clone.top / "logs/low-1.txt").read_text().startswith("two: one\nnote: src/lib.rt:4:5: ")
     again = clone.run(kit=stand_in.folder)
-    assert (again.status, verdict(again, "low/two")) == (0, verdict(ran, "low/two"))
+    assert (again.status, find_verdict(again, "low/two")) == (0, find_verdict(ran, "low/two"))
     assert len(stand_in.runs()) == 1
     assert clone.run("--anew", kit=stand_in.folder).status == 0
     assert len(stand_in.runs()) == 2
@@ -526,28 +531,28 @@ def test_an_edit_is_refused_and_then_kept(clone: Clone, stand_in: StandIn) -> No
 
 
 def test_a_run_that_is_killed_is_tried_once_more(clone: Clone, stand_in: StandIn) -> None:
-    stand_in.write(f"[ $(wc -l < {stand_in.calls()}) -gt 1 ] || kill -9 $$\n{told(SEEN, 1)}")
+    stand_in.write(f"[ $(wc -l < {stand_in.calls()}) -gt 1 ] || kill -9 $$\n{write_ending(SEEN, 1)}")
     assert clone.run(kit=stand_in.folder).status == 0
     assert len(stand_in.runs()) == 2
-    stand_in.write(f"{told(SEEN, 1)[:-6]}\nkill -9 $$")
+    stand_in.write(f"{write_ending(SEEN, 1)[:-6]}\nkill -9 $$")
     ran = clone.run("--anew", kit=stand_in.folder)
     assert (ran.status, ran.out[-1]) == (1, "0 passed, 1 failed")
-    assert verdict(ran, "low/two").startswith("NOT TRIED: its check ended with status -9: ")
+    assert find_verdict(ran, "low/two").startswith("NOT TRIED: its check ended with status -9: ")
 
 
 @pytest.mark.parametrize("status", [2, 3, 101])
 def test_a_run_that_gives_no_verdict_is_no_refusal(clone: Clone, stand_in: StandIn, status: int) -> None:
-    stand_in.write(told(SEEN, status))
+    stand_in.write(write_ending(SEEN, status))
     ran = clone.run(kit=stand_in.folder)
     assert (ran.status, ran.out[-1]) == (1, "0 passed, 1 failed")
-    assert verdict(ran, "low/two") == f"NOT TRIED: its check ended with status {status}: only=1 proved=0"
+    assert find_verdict(ran, "low/two") == f"NOT TRIED: its check ended with status {status}: only=1 proved=0"
     assert not (clone.top / "kept").exists()
 
 
 def test_a_crate_that_is_proved_with_an_edit_does_not_refuse_it(clone: Clone, stand_in: StandIn) -> None:
-    stand_in.write(told("fn low::one: proved\nonly=1 proved=1\n", 0))
+    stand_in.write(write_ending("fn low::one: proved\nonly=1 proved=1\n", 0))
     ran = clone.run(kit=stand_in.folder)
-    assert verdict(ran, "low/two") == "NOT REFUSED: the crate is still proved with this edit"
+    assert find_verdict(ran, "low/two") == "NOT REFUSED: the crate is still proved with this edit"
     group, whole = stand_in.runs()
     assert "--only one" in group and "--allow-holes" in group and "--only" not in whole and "--allow-holes" not in whole
 
@@ -555,7 +560,9 @@ def test_a_crate_that_is_proved_with_an_edit_does_not_refuse_it(clone: Clone, st
 def test_a_name_that_the_prover_does_not_know_is_asked_for_by_its_module(clone: Clone, stand_in: StandIn) -> None:
     clone.write("low/src/a.rt", "pub fn two() -> u32 {\n    2\n}\n")
     clone.write_edit("low/two", "src/a.rt", "    2", "    3")
-    stand_in.write(f"case \"$*\" in *a::two*) echo 'error: has no function `a::two`'; exit 2;; esac\n{told(SEEN, 1)}")
+    stand_in.write(
+        f"case \"$*\" in *a::two*) echo 'error: has no function `a::two`'; exit 2;; esac\n{write_ending(SEEN, 1)}"
+    )
     clone.run(kit=stand_in.folder)
     assert "--only a::two" in stand_in.runs()[0]
     assert stand_in.runs()[1].endswith("--only a")
@@ -565,7 +572,9 @@ def test_a_function_whose_proof_can_not_be_a_hole_is_proved(clone: Clone, stand_
     for name in ("a", "b"):
         clone.write(f"low/src/{name}.rt", f"pub fn {name}() -> u32 {{\n    2\n}}\n")
     wrong = "./proofs/a/a/Proof.antt:3:5: error: `a_spec`: expected a type"
-    stand_in.write(f"ls -d proofs/*/* >> {stand_in.calls()}\n[ ! -e proofs/a/a ] || echo '{wrong}'\n{told(SEEN, 1)}")
+    stand_in.write(
+        f"ls -d proofs/*/* >> {stand_in.calls()}\n[ ! -e proofs/a/a ] || echo '{wrong}'\n{write_ending(SEEN, 1)}"
+    )
     assert clone.run(kit=stand_in.folder).status == 0
     assert [it for it in stand_in.runs() if it.startswith("proofs")] == ["proofs/a/a", "proofs/b/b", "proofs/b/b"]
 
@@ -594,21 +603,21 @@ def test_a_signal_ends_all_runs_and_removes_their_copies(clone: Clone, stand_in:
         (clone.top / "process").unlink()
 
 
-def fault_of(ran: Ran) -> str:
+def read_fault(ran: Ran) -> str:
     """The one line of a call that tried nothing."""
     assert (ran.status, ran.out, len(ran.err)) == (2, [], 1)
     return ran.err[0]
 
 
 def test_what_can_not_be_tried_is_refused(clone: Clone, stand_in: StandIn) -> None:
-    stand_in.write(told(SEEN, 1))
-    assert fault_of(clone.run("none", kit=stand_in.folder)) == "refused: crates.txt lists no crate none"
-    said = fault_of(clone.run("high", kit=stand_in.folder))
+    stand_in.write(write_ending(SEEN, 1))
+    assert read_fault(clone.run("none", kit=stand_in.folder)) == "refused: crates.txt lists no crate none"
+    said = read_fault(clone.run("high", kit=stand_in.folder))
     assert said.startswith(f"refused: not built in {clone.top}: low; ")
 
 
 def test_libraries_are_taken_from_the_clone_that_is_named(clone: Clone, stand_in: StandIn) -> None:
-    stand_in.write(told(SEEN.replace("low", "high"), 1))
+    stand_in.write(write_ending(SEEN.replace("low", "high"), 1))
     for name in ("src/lib.rt", "must-fail/two.edit"):
         clone.write(f"high/{name}", LOW[f"low/{name}"])
     other = clone.top / "other"
@@ -720,7 +729,7 @@ def test_the_prover_refuses_what_it_must(tmp_path: Path) -> None:
     before = clone.files()
     ran = clone.run("--jobs", "1", "--logs", str(tmp_path / "logs"))
     print("\n".join([*ran.out, *ran.err]))
-    said = {name: verdict(ran, f"small/{name}") for name in SMALL_EDITS}
+    said = {name: find_verdict(ran, f"small/{name}") for name in SMALL_EDITS}
     assert said["double-is-one-more"] == "refused: double, src/lib.rt:14, returns"
     assert said["next-is-the-one-after"] == "refused: next, src/lib.rt:53, returns"
     assert said["quadruple-is-double"] == "refused: quadruple, src/lib.rt:23, returns"

@@ -18,7 +18,7 @@ RULES = 1
 """Raise this when the rules change by which an edit counts as refused: then nothing that is kept counts."""
 
 
-def default_folder() -> Path:
+def choose_folder() -> Path:
     """The folder of the user in which results are kept."""
     return Path(os.environ.get("XDG_CACHE_HOME") or Path.home() / ".cache") / "sabrethog/refused"
 
@@ -39,7 +39,7 @@ def sum_crate(crate: Crate, libraries: Libraries, kit: str) -> str:
     """A sum of all that a check of the crate reads: its texts, its line of crates.txt, the libraries below it (the
     format of each has the sums of its other files), the toolchain (`kit` is its sum), and the rules."""
     texts = sorted(crate.texts.items())
-    below = sum_files(map(libraries.format, libraries.below(crate.name)))
+    below = sum_files(map(libraries.format, libraries.list_below(crate.name)))
     made = repr((RULES, crate.name, texts, list(libraries.uses[crate.name]), below, kit))
     return hashlib.sha256(made.encode()).hexdigest()
 

@@ -43,11 +43,11 @@ class Edit(NamedTuple):
     def files(self) -> set[str]:
         return {it.file for it in self.pairs}
 
-    def function_at(self, file: str, line: int) -> str:
+    def find_function_at(self, file: str, line: int) -> str:
         """The name of the function that it changes around this line, or ``. (An edit never moves a line.)"""
         return next((it.name for it in self.functions if it.file == file and it.first <= line <= it.last), "")
 
-    def function_of(self, name: str) -> str:
+    def find_function_named(self, name: str) -> str:
         """The function that it changes and that has this name, or in which the closure of this name stands, or ``."""
         plain = "::".join(part for part in name.split("::") if part != "fn")
         return next((it for it in sorted(self.names()) if plain == it or plain.startswith(f"{it}::")), "")
@@ -126,15 +126,15 @@ def apply(pairs: tuple[Pair, ...] | list[Pair], texts: dict[str, str]) -> str:
     return ""
 
 
-def line_of(texts: Mapping[str, str], pair: Pair) -> Optional[int]:
+def find_line(texts: Mapping[str, str], pair: Pair) -> Optional[int]:
     """The line of a pair's old text, counted from 1; None if an earlier pair makes that text."""
     before, found, _ = texts[pair.file].partition(pair.old)
     return before.count("\n") + 1 if found else None
 
 
-def items_around(crate: Crate, pair: Pair) -> list[Item]:
-    line = line_of(crate.texts, pair)
-    return [] if line is None else crate.items_at(pair.file, line)
+def find_items_around(crate: Crate, pair: Pair) -> list[Item]:
+    line = find_line(crate.texts, pair)
+    return [] if line is None else crate.find_items_at(pair.file, line)
 
 
 def is_local(crate: Crate, pair: Pair) -> bool:
@@ -142,19 +142,19 @@ def is_local(crate: Crate, pair: Pair) -> bool:
     item or a definition of specs/, may change any function."""
     names, more = (set(re.findall(r"\w+", text)) for text in (pair.old, pair.new))
     is_note = pair.old.startswith("//") or pair.old.startswith("use ") and names <= more
-    return bool(items_around(crate, pair)) or pair.file.endswith(".rt") and is_note
+    return bool(find_items_around(crate, pair)) or pair.file.endswith(".rt") and is_note
 
 
 def list_changed(crate: Crate, pair: Pair) -> list[Item]:
     """The functions that a pair changes: the one around it, and its callers too if its contract changes, since it may
     still be proved, and they aren't. For a constant or a macro: all functions that name it."""
-    found = items_around(crate, pair)
-    line = line_of(crate.texts, pair) or 0
-    found += [user for it in found if line < it.first + len(it.header()) for user in crate.users_of(it)]
+    found = find_items_around(crate, pair)
+    line = find_line(crate.texts, pair) or 0
+    found += [user for it in found if line < it.first + len(it.header()) for user in crate.find_users(it)]
     for item in found:
         if item.kind != "fn":
-            more = crate.users_of(item)
+            more = crate.find_users(item)
             in_contract = [it for it in more if item.word() in "\n".join(it.header())]
-            more += [user for it in in_contract for user in crate.users_of(it)]
+            more += [user for it in in_contract for user in crate.find_users(it)]
             found += [it for it in more if it not in found]
     return [it for it in found if it.kind == "fn"]

@@ -29,7 +29,7 @@ class Libraries(NamedTuple):
     top: Path
     uses: Mapping[str, Sequence[str]]
 
-    def below(self, crate: str) -> list[str]:
+    def list_below(self, crate: str) -> list[str]:
         return below({name: list(it) for name, it in self.uses.items()}, crate)
 
     def path(self, name: str) -> Path:
@@ -41,16 +41,16 @@ class Libraries(NamedTuple):
         """The file of a crate's library that has the sums of all others."""
         return self.path(name) / "format"
 
-    def missing(self, crate: str) -> list[str]:
+    def list_missing(self, crate: str) -> list[str]:
         """The crates below this one whose libraries aren't built."""
-        return [name for name in self.below(crate) if not self.format(name).is_file()]
+        return [name for name in self.list_below(crate) if not self.format(name).is_file()]
 
-    def words(self, crate: Crate) -> list[str]:
+    def list_words(self, crate: Crate) -> list[str]:
         """The words that say to `rattle check` what the crate is and where its libraries are, as `rt` says them."""
-        words = ["--crate-name", crate.name, crate.root()]
+        words = ["--crate-name", crate.name, crate.find_root()]
         for name in ["std", *self.uses[crate.name]]:
             words += ["--extern", f"{name}={self.path(name)}"]
-        for folder in [self.kit / "rlibs", *(self.path(name).parent for name in self.below(crate.name))]:
+        for folder in [self.kit / "rlibs", *(self.path(name).parent for name in self.list_below(crate.name))]:
             words += ["-L", f"dependency={folder}"]
         words += ["--antt-project", f"{self.kit}/rattle/logic/antt-project.json"]
         words += ["--logic-built", f"{self.kit}/logic_built"]
@@ -82,7 +82,7 @@ class Prover:
             holes = assume_others(crate, proved, texts)
             more = [word for name in sorted(wanted) for word in ("--only", name)]
             report = self.check(crate, edits, texts, ["--allow-holes", *more])
-            unknown, faulty = report.unknown_function(), report.files_with_errors() & holes
+            unknown, faulty = report.find_unknown(), report.list_files_with_errors() & holes
             if unknown in wanted:
                 # (of a method that a macro writes the prover knows another name: the module stands for it)
                 wanted |= {name_module(it.file) for edit in edits for it in edit.functions if it.name == unknown}
@@ -101,7 +101,7 @@ class Prover:
         """Checks a copy of a crate with these texts, which the edits make. `more` are words for the prover."""
         with tempfile.TemporaryDirectory(dir=self.room) as folder:
             write_texts(texts, Path(folder))
-            words = [f"{self.libraries.kit}/bin/rattle", "check", *self.libraries.words(crate), *more]
+            words = [f"{self.libraries.kit}/bin/rattle", "check", *self.libraries.list_words(crate), *more]
             run = self.run_twice_if_killed(words, folder)
         self.note(crate, edits, run)
         return run.report
@@ -141,7 +141,7 @@ class Prover:
             text = "\n".join([*names, *run.report.lines, ""])
             (self.logs / f"{crate.name}-{len(runs)}.txt").write_text(text, encoding="utf-8")
 
-    def seconds(self, crate: str) -> float:
+    def count_seconds(self, crate: str) -> float:
         """The processor seconds of all runs of a crate."""
         return sum(run.seconds for run in self.runs.get(crate, []))
 

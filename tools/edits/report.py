@@ -43,33 +43,33 @@ class Report(NamedTuple):
     status: int
     lines: Sequence[str]
 
-    def last(self) -> str:
+    def find_last(self) -> str:
         return self.lines[-1][:200] if self.lines else ""
 
-    def first_note(self) -> str:
+    def find_first_note(self) -> str:
         """The first line that says something of a place."""
-        return next((it[:200] for it in self.lines if PLACED.match(it)), self.last())
+        return next((it[:200] for it in self.lines if PLACED.match(it)), self.find_last())
 
     def has_verdict(self) -> bool:
         """Whether the prover came to its end and doesn't prove all that it was asked for."""
-        return self.status == REFUSED and self.last().startswith(("only=", "logic=not-proved"))
+        return self.status == REFUSED and self.find_last().startswith(("only=", "logic=not-proved"))
 
-    def functions(self) -> dict[str, str]:
+    def list_functions(self) -> dict[str, str]:
         """What is said of each function, by its name without the crate."""
         return {it[1]: it[2] for it in map(FUNCTION.match, self.lines) if it}
 
-    def unknown_function(self) -> str:
+    def find_unknown(self) -> str:
         """The name that the prover doesn't know, or ``."""
         found = UNKNOWN.search("\n".join(self.lines)) if self.status == NOT_CALLED_WELL else None
         return found[1] if found else ""
 
-    def files_with_errors(self) -> set[str]:
+    def list_files_with_errors(self) -> set[str]:
         """The files, by their paths below the crate, in which something isn't taken."""
         return {it["file"] for it in map(ERROR.match, self.lines) if it}
 
-    def calls(self, crate: str) -> dict[str, set[str]]:
+    def list_calls(self, crate: str) -> dict[str, set[str]]:
         """By the name of each function that isn't proved, the functions of the crate that it calls and that aren't."""
-        called = {name: said.partition("it calls ")[2] for name, said in self.functions().items()}
+        called = {name: said.partition("it calls ")[2] for name, said in self.list_functions().items()}
         return {name: set(re.findall(rf"`{crate}::([^`]*)`", text)) for name, text in called.items() if text}
 
 
@@ -78,16 +78,18 @@ def find_refusal(edit: Edit, report: Report) -> str:
     GOAL`. It is `` if no note stands at such a function."""
     if not report.has_verdict():
         return ""
-    said = report.functions().items()
-    unproved = {edit.function_of(name) for name, what in said if what.startswith(("not proved", "no proof"))} - {""}
+    said = report.list_functions().items()
+    unproved = {
+        edit.find_function_named(name) for name, what in said if what.startswith(("not proved", "no proof"))
+    } - {""}
     weak = ""
     for line in report.lines:
         if goal := GOAL.match(line):
-            name = edit.function_at(goal[1], int(goal[2]))
+            name = edit.find_function_at(goal[1], int(goal[2]))
             if name in unproved:
                 return f"{name}, {goal[1]}:{goal[2]}, {goal[3]}"
         elif (proof := PROOF.match(line)) and not FOLLOWS.search(proof[4]):
-            name = edit.function_of(proof[2].replace("/", "::"))
+            name = edit.find_function_named(proof[2].replace("/", "::"))
             if name in unproved and not GONE.search(proof[4]):
                 return f"{name}, {proof[1]}, {proof[3]}"
             if name in unproved:
@@ -97,7 +99,7 @@ def find_refusal(edit: Edit, report: Report) -> str:
 
 def is_proved(edit: Edit, report: Report) -> bool:
     """Whether a run proves each function that an edit changes."""
-    functions = report.functions()
+    functions = report.list_functions()
     return bool(edit.names()) and all(functions.get(it, "").startswith(PROVED) for it in edit.names())
 
 
@@ -109,7 +111,7 @@ def find_unread(edit: Edit, report: Report) -> str:
 def find_unreadable(group: Sequence[Edit], report: Report) -> list[Edit]:
     """Those of a group's edits that the compiler or the prover can't read, as far as the lines of its errors show it."""
     errors = list_unread(report)
-    in_function = [it for it in group if any(it.function_at(at["file"], int(at["line"])) for at in errors)]
+    in_function = [it for it in group if any(it.find_function_at(at["file"], int(at["line"])) for at in errors)]
     return in_function or [it for it in group if find_unread(it, report)]
 
 

@@ -66,7 +66,7 @@ class Trial:
         names = {name for edit in group for name in edit.names()}
         report = self.prover.check_functions(self.crate, group, names) if names else Report(0, [])
         decided = [self.decide(edit, report, len(group) == 1) for edit in group]
-        for name, called in report.calls(self.crate.name).items():
+        for name, called in report.list_calls(self.crate.name).items():
             self.calls.setdefault(name, set()).update(called)
         if not any(decided):
             # (if the compiler stops at some of them, the others are tried together once more)
@@ -92,8 +92,8 @@ class Trial:
         if report.status == 0:
             return Verdict(NOT_REFUSED, "the crate is still proved with this edit")
         if report.has_verdict():
-            return Verdict(REFUSED, f"(at no function that it changes) {report.first_note()}")
-        return Verdict(NOT_TRIED, f"its check ended with status {report.status}: {report.last()}")
+            return Verdict(REFUSED, f"(at no function that it changes) {report.find_first_note()}")
+        return Verdict(NOT_TRIED, f"its check ended with status {report.status}: {report.find_last()}")
 
     def settle(self, edit: Edit, verdict: Verdict) -> None:
         self.verdicts[edit.name] = verdict

@@ -53,17 +53,17 @@ class Crate(NamedTuple):
     texts: Mapping[str, str]
     items: Sequence[Item]
 
-    def items_at(self, file: str, line: int) -> list[Item]:
+    def find_items_at(self, file: str, line: int) -> list[Item]:
         return [it for it in self.items if it.file == file and it.first <= line <= it.last]
 
-    def users_of(self, item: Item) -> list[Item]:
+    def find_users(self, item: Item) -> list[Item]:
         """The items that name this one: of a private one only those of its file, unless it is a macro."""
         word = re.compile(rf"\b{item.word()}" + ("!" if item.kind == "macro_rules!" else r"\b"))
         is_private = not item.text.lstrip().startswith(("pub", "macro_rules!"))
         others = (it for it in self.items if it != item and not (is_private and it.file != item.file))
         return [it for it in others if word.search(it.text)]
 
-    def root(self) -> str:
+    def find_root(self) -> str:
         return "src/main.rt" if "src/main.rt" in self.texts else "src/lib.rt"
 
 
