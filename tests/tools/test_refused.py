@@ -568,6 +568,19 @@ def test_a_name_that_the_prover_does_not_know_is_asked_for_by_its_module(clone: 
     assert stand_in.runs()[1].endswith("--only a")
 
 
+def test_an_edit_of_a_caller_gets_a_run_without_the_edit_of_what_it_calls(clone: Clone, stand_in: StandIn) -> None:
+    clone.write("low/src/a.rt", "pub fn two() -> u32 {\n    one() + 1\n}\n")
+    clone.write_edit("low/caller", "src/a.rt", "    one() + 1", "    one()")
+    calls = "fn low::a::two: no proof: it calls `low::one`, which is not proved\n"
+    own = SEEN.replace("lib.rt:4:", "a.rt:1:").replace("low::one", "low::a::two")
+    stand_in.write(f'case "$*" in *--only\\ one*)\n{write_ending(calls + SEEN, 1)}\nesac\n{write_ending(own, 1)}')
+    ran = clone.run(kit=stand_in.folder)
+    assert (ran.status, ran.out[-1]) == (0, "2 passed, 0 failed")
+    assert find_verdict(ran, "low/two") == "refused: one, src/lib.rt:4, returns"
+    assert find_verdict(ran, "low/caller") == "refused: a::two, src/a.rt:1, returns"
+    assert [it.count("--only") for it in stand_in.runs()] == [2, 1]
+
+
 def test_a_function_whose_proof_can_not_be_a_hole_is_proved(clone: Clone, stand_in: StandIn) -> None:
     for name in ("a", "b"):
         clone.write(f"low/src/{name}.rt", f"pub fn {name}() -> u32 {{\n    2\n}}\n")
@@ -730,9 +743,9 @@ def test_the_prover_refuses_what_it_must(tmp_path: Path) -> None:
     ran = clone.run("--jobs", "1", "--logs", str(tmp_path / "logs"))
     print("\n".join([*ran.out, *ran.err]))
     said = {name: find_verdict(ran, f"small/{name}") for name in SMALL_EDITS}
-    assert said["double-is-one-more"] == "refused: double, src/lib.rt:14, returns"
-    assert said["next-is-the-one-after"] == "refused: next, src/lib.rt:53, returns"
-    assert said["quadruple-is-double"] == "refused: quadruple, src/lib.rt:23, returns"
+    assert said["double-is-one-more"] == "refused: double, src/lib.rt:10, returns"
+    assert said["next-is-the-one-after"] == "refused: next, src/lib.rt:49, returns"
+    assert said["quadruple-is-double"] == "refused: quadruple, src/lib.rt:18, returns"
     still = "NOT REFUSED: the crate is still proved with this edit"
     assert {name for name, text in said.items() if text == still} == {it for it in SMALL_EDITS if "harmless" in it}
     assert said["bad-text"].startswith("BAD EDIT: an 'old:' text is in src/lib.rt 0 times")
