@@ -40,6 +40,7 @@ from lib.records import record_ends, records_of
 from lib.refusing import spread
 from lib.sample import Sample
 from lib.stored import change, copied, stored
+from lib.tried import fault_in
 from second_office.rows import TABLES, Rows
 
 pytestmark = pytest.mark.spread
@@ -82,10 +83,8 @@ def cut(program: Program, case: Case, place: int) -> Fault:
 @pytest.mark.parametrize("part", range(PARTS))
 def test_cases_in_two_runs(program: Program, sample: Sample, part: int) -> None:
     cases = [Case(name) for name in names()[part::PARTS]]
-    cuts = [(case, place) for case in cases for place in places_of(case, sample)]
-    assert cuts
-    found = [(case.name, place, cut(program, case, place)) for case, place in cuts]
-    assert [it for it in found if it[2]] == []
+    cuts = ((case, place) for case in cases for place in places_of(case, sample))
+    assert fault_in((f"{case.name} at byte {place}", cut(program, case, place)) for case, place in cuts) is None
 
 
 def test_an_office_that_is_opened_for_each_record(program: Program, room: str) -> None:

@@ -28,6 +28,7 @@ from lib.limits.wrong import NAMES, unfound, wrong_ends
 from lib.messages import Compared
 from lib.places import ROOT
 from lib.program import Program
+from lib.tried import fault_in
 
 pytestmark = pytest.mark.spread
 
@@ -70,16 +71,18 @@ def rows_of_limits(text: str) -> Iterator[str]:
     yield from (line for line in table.splitlines()[3:] if line.startswith("|"))
 
 
+def unknown_row(row: str) -> Fault:
+    """That a row of the documents has no limit here."""
+    known = [*(limit.said for limit in EVERY), *(other.said for other in ELSEWHERE)]
+    return None if any(said in row for said in known) else "no value is asked of it"
+
+
 def test_the_documents_say_each_limit(documents: str) -> None:
-    found = {limit.name: unsaid(limit, documents) for limit in EVERY}
-    assert {name: fault for name, fault in found.items() if fault} == {}
+    assert fault_in((limit.name, unsaid(limit, documents)) for limit in EVERY) is None
 
 
 def test_each_limit_of_the_documents_is_asked_for(documents: str) -> None:
-    known = [*(limit.said for limit in EVERY), *(other.said for other in ELSEWHERE)]
-    rows = [*rows_of_limits(documents)]
-    assert rows
-    assert [row for row in rows if not any(said in row for said in known)] == []
+    assert fault_in((row, unknown_row(row)) for row in rows_of_limits(documents)) is None
 
 
 @pytest.mark.parametrize("said, file", [other[:2] for other in ELSEWHERE])
@@ -98,17 +101,15 @@ def sides(program: Program) -> Iterator[Sides]:
         yield Sides(program, room)
 
 
-def faults_of(limits: Limits, answer: Answer) -> list[str]:
+def fault_in_values(limits: Limits, answer: Answer) -> Fault:
     """Which values of some limits a side answers otherwise than the documents do."""
-    pairs = [(limit, value) for limit in limits for value in limit.values()]
-    assert pairs
-    found = ((f"{limit.name} with {value}", fault_of(limit, value, answer)) for limit, value in pairs)
-    return [f"{name}: {fault}" for name, fault in found if fault]
+    values = ((limit, value) for limit in limits for value in limit.values())
+    return fault_in((f"{limit.name} with {value}", fault_of(limit, value, answer)) for limit, value in values)
 
 
 @pytest.mark.parametrize("name", RECORDS)
 def test_records(sides: Sides, name: str) -> None:
-    assert faults_of(RECORDS[name], sides.records) == []
+    assert fault_in_values(RECORDS[name], sides.records) is None
 
 
 def ends_of(limit: Limit[Any]) -> list[int]:
@@ -120,35 +121,32 @@ def ends_of(limit: Limit[Any]) -> list[int]:
 @pytest.mark.parametrize("name", RECORDS)
 def test_records_at_the_ends_over_a_file(sides: Sides, name: str) -> None:
     """Each is carried out over a file of its own, which is then read again."""
-    pairs = [(limit, value) for limit in RECORDS[name] for value in ends_of(limit)]
-    assert pairs
-    found: list[tuple[str, int, Fault]] = [(it.name, value, fault_of(it, value, sides.kept)) for it, value in pairs]
-    assert [it for it in found if it[2]] == []
+    values = ((limit, value) for limit in RECORDS[name] for value in ends_of(limit))
+    tried = ((f"{limit.name} with {value}", fault_of(limit, value, sides.kept)) for limit, value in values)
+    assert fault_in(tried) is None
 
 
 def test_words(sides: Sides) -> None:
-    assert faults_of(words.LIMITS, sides.words) == []
+    assert fault_in_values(words.LIMITS, sides.words) is None
 
 
 @pytest.mark.parametrize("name", FILES)
 def test_rows_of_files(sides: Sides, name: str) -> None:
-    assert faults_of(FILES[name], sides.stored) == []
+    assert fault_in_values(FILES[name], sides.stored) is None
 
 
 def test_messages(program: Program, sides: Sides) -> None:
     count = sum(len(limit.values()) for limit in messages.LIMITS)
     with Compared(program, sides.room, count) as served:
-        assert faults_of(messages.LIMITS, served.told) == []
+        assert fault_in_values(messages.LIMITS, served.told) is None
 
 
 @pytest.mark.parametrize("name", SECOND)
 def test_the_second_office(name: str) -> None:
-    assert faults_of(*SECOND[name]) == []
+    assert fault_in_values(*SECOND[name]) is None
 
 
 @pytest.mark.parametrize("name", NAMES)
 def test_a_wrong_limit_of_the_second_office_is_found(name: str) -> None:
     every = [(limit, answer) for limits, answer in SECOND.values() for limit in limits]
-    tried = [*wrong_ends(name)]
-    assert tried
-    assert [wrong for wrong in tried if unfound(wrong, every)] == []
+    assert fault_in((wrong, unfound(wrong, every)) for wrong in wrong_ends(name)) is None

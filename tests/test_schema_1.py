@@ -32,6 +32,7 @@ from lib.records import record_ends
 from lib.refusing import spread
 from lib.sample import Sample
 from lib.stored import change, copied, stored
+from lib.tried import fault_in
 from second_office.office import month_text
 from second_office.requests import Record
 from second_office.rows import FIRST_TABLES, Kept, Rows, first_of, make_first, migrated, rows_of
@@ -85,9 +86,8 @@ def places_of(name: str) -> list[int]:
 def test_cases_whose_first_records_are_of_schema_1(program: Program, sample: Sample, part: int) -> None:
     some = sample.of(names()[part::PARTS], 6, f"cases {part}")
     cuts = sample.of([(name, place) for name in some for place in places_of(name)], 8, f"places {part}")
-    assert cuts
-    found = [(name, place, rest_replayed(program, Case(name), place)) for name, place in cuts]
-    assert [it for it in found if it[2]] == []
+    tried = ((f"{name} from byte {place}", rest_replayed(program, Case(name), place)) for name, place in cuts)
+    assert fault_in(tried) is None
 
 
 # ---- written files
@@ -162,7 +162,7 @@ def first_empty(_: Program, room: str) -> str:
 
 @pytest.mark.parametrize("begin", [first_office, first_empty])
 def test_versions_of_schema_1(program: Program, room: str, begin: Begin) -> None:
-    assert opened_each(program, room, OTHER_VERSIONS, "unknown schema", begin) == []
+    assert opened_each(program, room, OTHER_VERSIONS, "unknown schema", begin) is None
 
 
 @pytest.mark.parametrize("begin", [first_office, first_empty])
@@ -177,12 +177,12 @@ def test_tables_other_than_of_schema_1(program: Program, room: str, begin: Begin
         ["CREATE VIEW prices AS SELECT value FROM quote"],
         ["UPDATE version SET number = 2"],
     ]
-    assert opened_each(program, room, ways, "database failed", begin) == []
+    assert opened_each(program, room, ways, "database failed", begin) is None
 
 
 def test_rows_of_schema_1_that_cannot_be(program: Program, room: str) -> None:
     ways = [*NO_ROWS, ["DELETE FROM assignment WHERE slot = 2"], ["DELETE FROM release WHERE month = 202601"]]
-    assert opened_each(program, room, ways, "database failed", first_office) == []
+    assert opened_each(program, room, ways, "database failed", first_office) is None
 
 
 def test_rows_of_schema_1_that_stand_for_nothing(program: Program, room: str) -> None:

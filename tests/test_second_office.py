@@ -55,6 +55,7 @@ class Runs:
 
 @pytest.fixture(scope="module")
 def runs(program: Program) -> Runs:
+    """The runs over the program."""
     return Runs(program)
 
 

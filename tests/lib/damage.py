@@ -10,6 +10,7 @@ from .filed import QUOTE
 from .harness import Fault
 from .program import Program, failed
 from .stored import change, copied
+from .tried import fault_in
 
 Begin = Callable[[Program, str], str]
 """What makes a file in a folder."""
@@ -62,15 +63,16 @@ def opened(program: Program, path: str, line: str) -> Fault:
     return None if is_same else f"{os.path.basename(path)}: the file has changed"
 
 
-def opened_each(program: Program, room: str, ways: Sequence[Way], line: str, begin: Begin) -> list[str]:
-    """The same for each of some ways to change a file: all that is wrong."""
-    assert ways
-    made, found = begin(program, room), list[tuple[Way, Fault]]()
-    for at, way in enumerate(ways):
-        path = copied(made, f"{room}/{at}.db")
-        change(path, way)
-        found.append((way, opened(program, path, line)))
-    return [f"{way}: {fault}" for way, fault in found if fault]
+def opened_each(program: Program, room: str, ways: Sequence[Way], line: str, begin: Begin) -> Fault:
+    """The same for each of some ways to change a file."""
+    made = begin(program, room)
+    return fault_in((way, opened(program, changed(made, f"{room}/{at}.db", way), line)) for at, way in enumerate(ways))
+
+
+def changed(path: str, copy: str, way: Way) -> str:
+    """A copy of a file that is changed so."""
+    change(copied(path, copy), way)
+    return copy
 
 
 def read_in_part(program: Program, path: str, told: Sequence[bytes], refused: Sequence[bytes]) -> Fault:

@@ -5,7 +5,7 @@
 `name_faults`    each path, and each name of code, stands in the repository.
 `claim_faults`   where a function is named with its clauses, or a definition with its file, it has them.
 `promise_faults` each sentence of PROMISE names the heading of PROOF that carries it.
-`script_faults`  each script of a folder has its line in the folder's README.
+`script_faults`  each script and each file of tests of a folder has its line in the folder's README.
 `record_faults`  each record of DECISIONS has a number of its own, a date, and what it replaced.
 `running_faults` RUNNING tells what the shipped program needs, and what to do at each line of a fault.
 `example_faults` the example of FORMATS is the case of tests/cases that it names.
@@ -296,8 +296,10 @@ def promise_faults(text: str) -> Iterator[str]:
 
 
 def script_faults(folder: Path, text: str) -> Iterator[str]:
-    scripts = [it.name for it in sorted(folder.iterdir()) if it.is_file() and it.stat().st_mode & 0o111]
-    yield from (f"no word of the script {it}" for it in scripts if not re.search(rf"[`/\[]{re.escape(it)}\b", text))
+    """Scripts, and files of tests, that the README of their folder doesn't name."""
+    files = [it for it in sorted(folder.iterdir()) if it.is_file()]
+    named = [it.name for it in files if it.stat().st_mode & 0o111 or it.match("test_*.py")]
+    yield from (f"no word of {it}" for it in named if not re.search(rf"[`/\[]{re.escape(it)}\b", text))
 
 
 def example_faults(text: str) -> Iterator[str]:

@@ -30,9 +30,6 @@ UNTYPED = ("bench/", "examples/", "tests/outside/")
 TYPED = ("examples/gaps", "examples/national/report", "examples/recompute")
 """The examples that it reads all the same."""
 
-WEB = ("tests/web/", "tools/pictures.py")
-"""What imports modules of tests/web."""
-
 AT = re.compile(r"(?P<file>[^ :(][^:(]*)(:\d|\(\d+,\d+\): )")
 """The place of a finding, at the beginning of its line."""
 
@@ -75,16 +72,11 @@ def ran(files: Sequence[str], *words: str, **environment: str) -> Found:
 
 
 def by_mypy(files: Sequence[str]) -> Found:
-    """Three runs, as tests/tools and tests/web have modules of one name; they have one cache."""
+    """One run, with the folders that tests and tools import from; it leaves no cache."""
     typed = [it for it in files if it in TYPED or not it.startswith(UNTYPED)]
-    web = [it for it in typed if it.startswith(WEB)]
-    tools = [it for it in typed if it.startswith("tests/tools/")]
-    rest = [it for it in typed if it not in web and it not in tools]
-    found: Found = {}
+    words = ["mypy", "--strict", "--scripts-are-modules", "--no-error-summary", "--hide-error-context"]
     with tempfile.TemporaryDirectory() as cache:
-        words = ["mypy", "--strict", "--scripts-are-modules", "--no-error-summary", "--hide-error-context"]
-        for part, path in [(rest, ""), (tools, ":tests/tools"), (web, ":tests/web")]:
-            found |= ran(part, *words, f"--cache-dir={cache}", MYPYPATH=f"tests:tools{path}")
+        found = ran(typed, *words, f"--cache-dir={cache}", MYPYPATH="tests:tools")
     return {name: [it for it in lines if ": note: " not in it] for name, lines in found.items()}
 
 
