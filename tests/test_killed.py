@@ -1,7 +1,7 @@
-#!/usr/bin/env python3
 """Kills `cpi replay --db` at random moments, and looks at what its file holds.
 
-N runs (200) get the signal that no program can hold up, each at a drawn moment of one of these streams of records:
+Two hundred runs get the signal that no program can hold up, twenty in a short run, each at a drawn moment of one of
+these streams of records:
 
 - quotes: 2,000 of three collectors, a part of them in imports, some sent before and some in another's place,
 - plans: one of three plans of a year in turn, so that one is in work at nearly every moment; two of them have a
@@ -18,36 +18,37 @@ After each kill:
 - Python's sqlite3 reads a copy of the file and of the log beside it. Both are sound, and each of the twenty tables has
   just the rows of the second office after the records that have lines, or after one record more (of an import after
   some first rows): so a plan, a freeze and both rows of a hand-over are there as a whole or not at all. A file of
-  schema 1 has all of its rows and none of the new tables where no record has a line, or it has the tables and the rows
+  schema 1 has all of its rows and none of the new tables if no record has a line, or it has the tables and the rows
   of schema 2.
 - A further `cpi replay --db` gives a quote that was answered the receipt that it had, and lists the same quotes, items
   and tables. The records that had no line are then sent again, and have their lines.
 
-A check is a run; each stream is run once without a kill.
+Each stream is run once without a kill. Its tests go to one process, since it is dear to make.
 """
 
 from __future__ import annotations
 
-import collections
-import contextlib
+import functools
 import json
 import os
 import random
 import shutil
 import signal
-import sys
 import tempfile
 import time
-from collections.abc import Iterator, Sequence
-from functools import partial
+from collections.abc import Callable, Iterator, Sequence
 from typing import cast
 
-from lib.harness import Check, Checks, Fault, program_of, words_of
+import pytest
+
+from lib.harness import Fault
 from lib.offices import LAST
 from lib.program import PATIENCE, Going, Program
 from lib.records import first_difference
+from lib.sample import Sample
 from lib.stored import stored_in_copy
 from lib.streams import STREAMS, Stream, line_of
+from lib.tried import fault_in
 from second_office import tables
 from second_office.index import Row
 from second_office.office import Reply, month_text
@@ -55,6 +56,8 @@ from second_office.records import text_of
 from second_office.requests import Record
 from second_office.rows import FIRST_TABLES, TABLES, Rows
 
+TIMES = 10
+"""How many runs a test kills; one in a short run."""
 RESENT = 200  # how many records are sent again at most
 Pairs = list[tuple[Record, bytes]]
 """Records with their lines."""
@@ -71,7 +74,7 @@ def found_in(path: str) -> tuple[list[object], Rows]:
 
 
 def difference(rows: Rows, wanted: Rows) -> str:
-    """What is in one of two offices alone."""
+    """What is in only one of two offices."""
     for name in wanted:
         more = [row for row in rows.get(name, []) if row not in wanted[name]]
         less = [row for row in wanted[name] if row not in rows.get(name, [])]
@@ -132,14 +135,15 @@ def sent_again(stream: Stream, answered: int, is_more: bool) -> Pairs:
 
 
 class Scene:
-    """A stream, the file that it begins with, and how long its parts take."""
+    """A stream, the file that it begins with, how long its parts take, and what is wrong without a kill."""
 
-    def __init__(self, program: Program, room: str, name: str, stream: Stream) -> None:
-        self.program, self.name, self.stream = program, name, stream
-        self.start, self.input, self.more = f"{room}/start.db", f"{room}/input.csv", list[str]()
+    def __init__(self, program: Program, room: str, stream: Stream) -> None:
+        self.program, self.stream = program, stream
+        self.start, self.input = f"{room}/start.db", f"{room}/input.csv"
         with open(self.input, "w", encoding="utf-8") as file:
             file.write(text_of(stream.records))
         self.begins_with = stream.begin(program, self.start)
+        self.fault = self.ready(room)
 
     def ready(self, room: str) -> Fault:
         """What is wrong with the file before the stream, or with a run that nobody kills; that one is timed."""
@@ -179,7 +183,7 @@ class Scene:
         return lines, drawn.uniform(0, 1.2 * part)
 
     def killed(self, path: str, lines: int, pause: float) -> list[bytes] | None:
-        """The whole lines of a run that was killed, or None where it had ended before."""
+        """The whole lines of a run that was killed, or None if it had ended before."""
         with self.begun(path) as going:
             written = [going.line() for _ in range(lines)]
             time.sleep(pause)
@@ -190,9 +194,9 @@ class Scene:
             raise ChildProcessError(f"the program ended by itself with status {status}")
         return [line + b"\n" for line in rest.split(b"\n")[:-1]] if status else None
 
-    def tried(self, seed: str) -> Fault:
+    def fault_after_kill(self, drawn: random.Random) -> Fault:
         """What is wrong after one kill."""
-        lines, pause = self.moment(random.Random(seed))
+        lines, pause = self.moment(drawn)
         written = None
         while written is None:
             with tempfile.TemporaryDirectory() as room:
@@ -205,7 +209,7 @@ class Scene:
         return None
 
     def is_begun(self, path: str, answered: int) -> bool:
-        """Whether a new file is there but for its first byte, which is written last: until then `cpi` alone takes it,
+        """Whether a new file is there but for its first byte, which is written last: until then only `cpi` takes it,
         as one in which no table was made."""
         if answered or self.begins_with or not os.path.exists(path):
             return False
@@ -226,9 +230,7 @@ class Scene:
         held = [count for count in range(least, end + 1) if rows == stream.states[count]]
         if not held:
             return f"{answered} lines were written, and {difference(rows, stream.states[least])}"
-        is_more = held[0] > least
-        self.more += ["more"] * is_more
-        return self.further(path, answered, rows, is_more)
+        return self.further(path, answered, rows, held[0] > least)
 
     def further(self, path: str, answered: int, rows: Rows, is_more: bool) -> Fault:
         """What is wrong with a further run over the file."""
@@ -245,35 +247,43 @@ class Scene:
         return None if (faults, found) == ([], wanted) else f"after a further run {faults}, {difference(found, wanted)}"
 
 
-def kill(checks: Checks, scenes: list[Scene], times: int, seed: int, drawn: random.Random) -> None:
-    """Kills so many runs of the scenes, and tells of which."""
-    shares = [share for _, share in STREAMS.values()]
-    chosen = drawn.choices(scenes, shares, k=times)
-    names = [f"{scene.name}, seed '{seed} {at}'" for at, scene in enumerate(chosen)]
-    runs = enumerate(zip(names, chosen))
-    checks.run(Check(name, partial(scene.tried, f"{seed} {at}")) for at, (name, scene) in runs)
-    counts = collections.Counter(scene.name for scene in chosen)
-    told = ", ".join(f"{name} {counts[name]}" for name in STREAMS)
-    more = sum(len(scene.more) for scene in scenes)
-    checks.note(f"{times} runs were killed (seed {seed}): {told}; in {more} a record stood that had no line yet")
+# ---- all
 
 
-def main() -> int:
-    words = words_of(__doc__)
-    words.add_argument("--times", type=int, default=200, metavar="N", help="how many runs are killed (200)")
-    words.add_argument("--seed", type=int, default=9, help="what the moments are drawn by (9)")
-    chosen = program_of(words)
-    drawn = random.Random(chosen.seed)
-    with Checks() as checks, contextlib.ExitStack() as rooms:
-        scenes = []
-        for name, (stream, _) in STREAMS.items():
-            room = rooms.enter_context(tempfile.TemporaryDirectory())
-            scenes.append(Scene(chosen.program, room, name, stream(drawn)))
-            checks.run([Check(f"{name}, whole", partial(scenes[-1].ready, room))], lanes=1)
-        if not checks.failed:
-            kill(checks, scenes, chosen.times, chosen.seed, drawn)
-    return checks.status
+@pytest.fixture(scope="module")
+def scene_of(program: Program, sample: Sample, tmp_path_factory: pytest.TempPathFactory) -> Callable[[str], Scene]:
+    """What gives the scene of a stream, which is made once, and run whole."""
+
+    @functools.lru_cache(None)
+    def made(name: str) -> Scene:
+        stream, _ = STREAMS[name]
+        return Scene(program, str(tmp_path_factory.mktemp("scene")), stream(sample.drawn(name)))
+
+    return made
 
 
-if __name__ == "__main__":
-    sys.exit(main())
+def in_one_process(name: str) -> pytest.MarkDecorator:
+    """The mark of a stream's tests."""
+    return pytest.mark.xdist_group(f"killed, {name}")
+
+
+WHOLE = [pytest.param(name, marks=in_one_process(name)) for name in STREAMS]
+KILLED = [
+    pytest.param(name, part, marks=in_one_process(name))
+    for name, (_, parts) in STREAMS.items()
+    for part in range(parts)
+]
+
+
+@pytest.mark.parametrize("name", WHOLE)
+def test_whole(scene_of: Callable[[str], Scene], name: str) -> None:
+    assert scene_of(name).fault is None
+
+
+@pytest.mark.parametrize("name, part", KILLED)
+def test_killed(scene_of: Callable[[str], Scene], sample: Sample, name: str, part: int) -> None:
+    scene = scene_of(name)
+    assert scene.fault is None
+    kills = [sample.drawn(f"{name}, {part}, {at}") for at in range(sample.count(1, TIMES))]
+    fault = fault_in((f"kill {at}", scene.fault_after_kill(drawn)) for at, drawn in enumerate(kills))
+    assert fault is None, fault

@@ -1,12 +1,11 @@
-#!/usr/bin/env python3
-"""Runs `cpi` where the system gives it too little memory.
+"""Runs `cpi` if the system gives it too little memory.
 
-A replay in memory, one over a file, a table and HTTP for a client are each run at N sizes (20) of the memory that the
+A replay in memory, one over a file, a table and HTTP for a client are each run at twenty sizes of the memory that the
 program may ask for, evenly spread from the least at which `cpi --help` works to the least at which the job is done
-well. (Below the first the loader of the system ends with a status of its own.) Each run ends by itself: with status 0
-and no line on standard error, or with status 1 and one line, which is that of its fault. Then each job is run at as
-many sizes of address space. That counts the stack, and the system ends a program whose stack can't grow, by SIGSEGV; so
-such a run may end in this way too. Of the replies of each run:
+well, of which a short run takes a few. (Below the first the loader of the system ends with a status of its own.) Each
+run ends by itself: with status 0 and no line on standard error, or with status 1 and one line, which is that of its
+fault. And each job is run at as many sizes of address space. That counts the stack, and the system ends a program whose
+stack can't grow, by SIGSEGV; so such a run may end in this way too. Of the replies of each run:
 
 - What a replay wrote is whole lines. A record may be refused by 90; but for those the lines are the first lines of a
   run of the other records with ample memory. The file then holds what these records make of it, or one of the records
@@ -17,35 +16,42 @@ such a run may end in this way too. Of the replies of each run:
 
 from __future__ import annotations
 
-import collections
-import contextlib
 import json
 import resource
 import shutil
 import signal
 import subprocess
-import sys
 import tempfile
 from collections.abc import Callable, Iterator, Sequence
 from functools import partial
 from typing import NamedTuple
 
-from lib.harness import Check, Checks, Fault, program_of, words_of
+import pytest
+
+from lib.harness import Fault
 from lib.long_life import ITEMS, SLOTS, TITLE, entries, office_of, years
 from lib.offices import aggregates, key_of, plan_of
 from lib.program import Program, Ran, failed, with_data, with_memory
 from lib.records import first_difference, rows_of
 from lib.refusing import is_of_lines
+from lib.sample import Sample
 from lib.served import DESK, ENDED, FULL, Served, message, without_reports
 from lib.stored import stored_in_copy
+from lib.tried import fault_in
 from second_office.records import text_of
 from second_office.requests import Record
 from second_office.rows import Rows
 
+pytestmark = pytest.mark.spread
+
 STEP = 16 * resource.getpagesize()
-AMPLE, ENOUGH = 4_000_000_000, 256_000_000
+AMPLE, ENOUGH = 4_000_000_000, 512_000_000
 NO_MEMORY, NO_DATABASE = failed("out of memory").err, failed("database failed").err
-SECONDS = 120
+SECONDS = 300
+SIZES, SHORT = 20, 5
+"""At so many sizes each job is run, and in a short run."""
+PARTS = 8
+"""A short run looks less closely for the least size that is enough."""
 
 
 class Limit(NamedTuple):
@@ -70,12 +76,15 @@ def replayed(program: Program, records: Sequence[Record], db: str | None = None)
     return program.replay(text_of(records).encode(), db, seconds=SECONDS)
 
 
-def least(is_enough: Callable[[int], bool], low: int) -> int:
-    """The least size, to a step, that is enough, above one that isn't."""
-    high = low + ENOUGH // STEP * STEP
-    if not is_enough(high):
-        raise ChildProcessError(f"{high} bytes aren't enough")
-    while high - low > STEP:
+def least(is_enough: Callable[[int], bool], low: int, parts: int) -> int:
+    """The least size that is enough, above one that isn't: to a step, or to one of so many parts of what there is more."""
+    size = STEP
+    while not is_enough(low + size):
+        size *= 2
+        if size > ENOUGH:
+            raise ChildProcessError(f"{low + size // 2} bytes aren't enough")
+    low, high, gap = low + (size // 2 if size > STEP else 0), low + size, max(STEP, size // parts)
+    while high - low > gap:
         middle = low + (high - low) // 2 // STEP * STEP
         low, high = (low, middle) if is_enough(middle) else (middle, high)
     return high
@@ -97,25 +106,17 @@ def helps(program: Program, limit: Limit, size: int) -> bool:
 # ---- what is to be found
 
 
-class Found(NamedTuple):
-    """What is wrong with a run, and what is told of it."""
-
-    fault: Fault
-    kind: str
-
-
 class Job:
     """What the program is run for."""
 
-    name = ""
     limit = ASKED_FOR
 
     def is_enough(self, size: int) -> bool:
         """Whether the job is done well with so many bytes."""
         raise NotImplementedError
 
-    def found(self, size: int) -> Found:
-        """What comes of a run with so many bytes."""
+    def fault(self, size: int) -> Fault:
+        """What is wrong with a run with so many bytes."""
         raise NotImplementedError
 
 
@@ -124,10 +125,6 @@ def ended_ill(ran: Ran, limit: Limit, *lines: bytes) -> Fault:
     is_well = (ran.status, ran.err) == (0, b"") or (ran.status == 1 and ran.err in lines)
     is_ended = ran.status in limit.ends and ran.err == b""
     return None if is_well or is_ended else f"{ran}"
-
-
-def kind_of(ran: Ran) -> str:
-    return ran.err.decode().strip() or ("ended by the system" if ran.status < 0 else "ended well")
 
 
 def without_refused(records: Sequence[Record], lines: Sequence[bytes]) -> tuple[list[Record], list[bytes]]:
@@ -158,7 +155,6 @@ class Replay(Job):
     """A replay, in memory or over a new file."""
 
     def __init__(self, program: Program, is_in_a_file: bool) -> None:
-        self.name = "a replay over a file" if is_in_a_file else "a replay"
         self.program, self.is_in_a_file = program, is_in_a_file
         self.faults = [NO_MEMORY, NO_DATABASE] if is_in_a_file else [NO_MEMORY]
         self.records = [*years()]
@@ -174,21 +170,21 @@ class Replay(Job):
             ran = self.replayed(room, size)
             return ran.status == 0 and ran.lines() == self.wanted
 
-    def found(self, size: int) -> Found:
+    def fault(self, size: int) -> Fault:
         with tempfile.TemporaryDirectory() as room:
             ran = self.replayed(room, size)
             lines = ran.lines()
             fault = ended_ill(ran, self.limit, *self.faults)
             if fault or not is_of_lines(ran.out):
-                return Found(fault or f"a line that isn't whole, {ran.out[-100:]!r}", "")
+                return fault or f"a line that isn't whole, {ran.out[-100:]!r}"
             if ran.status == 0 and len(lines) != len(self.records):
-                return Found(f"{len(lines)} lines for {len(self.records)} records, and status 0", "")
+                return f"{len(lines)} lines for {len(self.records)} records, and status 0"
             records, told = without_refused(self.records, lines)
             wanted = self.wanted[: len(lines)] if told == lines else replayed(self.program, records).lines()
             fault = first_difference(range(len(told)), told, wanted)
             if self.is_in_a_file and not fault:
                 fault = self.stood(f"{room}/office.db", records, self.next_of(lines))
-            return Found(fault, f"{kind_of(ran)}{', records refused by 90' if told != lines else ''}")
+            return fault
 
     def next_of(self, lines: Sequence[bytes]) -> Record | None:
         """The record that may have been begun without its line: the first that was refused by 90, or has no line."""
@@ -221,8 +217,6 @@ class Replay(Job):
 class Table(Job):
     """The table of a month, from a file."""
 
-    name = "a table"
-
     def __init__(self, program: Program, room: str) -> None:
         self.program, self.start = program, f"{room}/table.db"
         lines = replayed(program, [*years()], self.start).lines()
@@ -237,11 +231,11 @@ class Table(Job):
     def is_enough(self, size: int) -> bool:
         return self.printed(size) == (0, self.wanted, b"")
 
-    def found(self, size: int) -> Found:
+    def fault(self, size: int) -> Fault:
         ran = self.printed(size)
         if ran.out != (self.wanted if ran.status == 0 else b""):
-            return Found(f"status {ran.status}, and {len(ran.out)} bytes of {len(self.wanted)}", "")
-        return Found(ended_ill(ran, self.limit, NO_MEMORY, NO_DATABASE), kind_of(ran))
+            return f"status {ran.status}, and {len(ran.out)} bytes of {len(self.wanted)}"
+        return ended_ill(ran, self.limit, NO_MEMORY, NO_DATABASE)
 
 
 # ---- HTTP
@@ -260,7 +254,7 @@ class Asked(NamedTuple):
 
 
 def asked() -> Iterator[Asked]:
-    """Messages of six collectors: each response goes by those of the same collector alone."""
+    """Messages of six collectors: each response goes only by those of the same collector."""
     for number in COLLECTORS:
         key, body = key_of(number), text_of(entries("2026-01", 1000)).encode()
         yield Asked(number, "import", message("POST /import", key=key, body=body))
@@ -279,8 +273,6 @@ def is_whole(text: bytes) -> bool:
 
 class Messages(Job):
     """HTTP for a client that sends each message over a connection of its own."""
-
-    name = "http"
 
     def __init__(self, program: Program, room: str) -> None:
         self.program, self.start = program, f"{room}/http.db"
@@ -304,18 +296,16 @@ class Messages(Job):
             ran, heard = self.served(room, size)
             return (ran, heard) == (ENDED, self.wanted)
 
-    def found(self, size: int) -> Found:
+    def fault(self, size: int) -> Fault:
         with tempfile.TemporaryDirectory() as room:
             all_of_it, heard = self.served(room, size)
             ran = without_reports(all_of_it)
             fault = ended_ill(ran, self.limit, NO_MEMORY, NO_DATABASE)
             fault = fault or (f"{ran}" if ran.out else self.answered_ill(heard))
-            kind = f"{kind_of(ran)}{' while it served' if heard and ran.status else ''}"
-            kind += ", peers without a response" * (b"" in heard) + ", peers refused by 90" * (FULL in heard)
-            return Found(fault or self.stood(f"{room}/office.db", heard), kind)
+            return fault or self.stood(f"{room}/office.db", heard)
 
     def answered_ill(self, heard: Sequence[bytes]) -> Fault:
-        """Which response is neither whole nor that of 90; where an import has none, its collector's lists aren't
+        """Which response is neither whole nor that of 90; if an import has none, its collector's lists aren't
         known."""
         unknown = set()
         for (number, word, _), text, wanted in zip(self.messages, heard, self.wanted):
@@ -353,46 +343,22 @@ class Messages(Job):
 # ---- all
 
 
-def looked_at(job: Job, size: int, kinds: list[str]) -> Fault:
-    """What is wrong with a run; what is told of one that is as it should be goes to the kinds."""
-    found = job.found(size)
-    if not found.fault:
-        kinds.append(found.kind)
-    return found.fault
+JOBS: dict[str, Callable[[Program, str], Job]] = {
+    "a replay": lambda program, _: Replay(program, False),
+    "a replay over a file": lambda program, _: Replay(program, True),
+    "a table": Table,
+    "http": Messages,
+}
 
 
-def try_job(checks: Checks, job: Job, low: int, count: int) -> None:
-    """Runs a job at so many sizes."""
-    high = least(job.is_enough, low - STEP)
-    sizes, kinds = spread(low, high, count), list[str]()
-    names = [f"{job.name}, {size} bytes of {job.limit.name}" for size in sizes]
-    checks.run(Check(name, partial(looked_at, job, size, kinds)) for name, size in zip(names, sizes))
-    told = ", ".join(f"{kind} {times}" for kind, times in sorted(collections.Counter(kinds).items()))
-    checks.note(f"{job.name}: ends well with {high} bytes of {job.limit.name}; at {len(sizes)} sizes: {told}")
-
-
-def main() -> int:
-    words = words_of(__doc__)
-    words.add_argument("--sizes", type=int, default=20, metavar="N", help="at how many sizes each job is run (20)")
-    chosen = program_of(words)
-    program: Program = chosen.program
-    with Checks() as checks, contextlib.ExitStack() as rooms:
-        room = rooms.enter_context(tempfile.TemporaryDirectory())
-        jobs: list[Callable[[], Job]] = [
-            partial(Replay, program, False),
-            partial(Replay, program, True),
-            partial(Table, program, room),
-            partial(Messages, program, room),
-        ]
-        for limit in (ASKED_FOR, ADDRESSES):
-            low = least(partial(helps, program, limit), STEP)
-            checks.note(f"cpi --help works with {low} bytes of {limit.name}")
-            for begun in jobs:
-                job = begun()
-                job.limit = limit
-                try_job(checks, job, low, chosen.sizes)
-    return checks.status
-
-
-if __name__ == "__main__":
-    sys.exit(main())
+@pytest.mark.parametrize("limit", [ASKED_FOR, ADDRESSES], ids=[ASKED_FOR.name, ADDRESSES.name])
+@pytest.mark.parametrize("name", JOBS)
+def test_each_size(program: Program, room: str, sample: Sample, name: str, limit: Limit) -> None:
+    low = least(partial(helps, program, limit), 0, ENOUGH)
+    job = JOBS[name](program, room)
+    job.limit = limit
+    assert not job.is_enough(low), "it needs no more than `cpi --help`"
+    high = least(job.is_enough, low, sample.count(PARTS, ENOUGH))
+    sizes = sample.of(spread(low, high, SIZES), SHORT, f"{name}, {limit.name}")
+    fault = fault_in((f"{size} bytes", job.fault(size)) for size in sizes)
+    assert fault is None, f"{name} needs {high} bytes, and `cpi --help` {low}: {fault}"

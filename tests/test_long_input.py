@@ -1,4 +1,3 @@
-#!/usr/bin/env python3
 """Sends `cpi replay` more than any office sends, and looks at its lines and at its memory.
 
 - A replay takes 1,000,000 records: of one record more, 1,000,000 lines are written, and it ends with status 1 and the
@@ -8,10 +7,14 @@
   records of a megabyte take the memory of one; nothing is kept of 100 MB of empty lines. Each of these is one reply 10,
   and the next record is answered.
 - Anyone may send an import of 20,000 rows, each of which lists 300 items. Its one line is 200 MB: at its peak the
-  program takes at most 1.5 bytes of memory for each byte of it. Where it may have 100 MB alone, memory is refused in
-  the middle of the import: it ends with status 1 and `cpi: out of memory`, the lines of the records before the import
-  stand whole, and of the import's none.
+  program takes at most 1.5 bytes of memory for each byte of it. If it may have only 100 MB, memory is refused in the
+  middle of the import: it ends with status 1 and `cpi: out of memory`, the lines of the records before the import stand
+  whole, and of the import's none.
 - A message without a key may send 10,000 such rows: its response is 110 MB, and stands in memory once too.
+
+A short run sends a fifth of the fields.
+
+The tests of this file go to one process: each takes hundreds of megabytes.
 """
 
 from __future__ import annotations
@@ -20,19 +23,20 @@ import contextlib
 import hashlib
 import os
 import subprocess
-import sys
-import tempfile
 import threading
 from collections.abc import Callable, Iterable, Iterator
 from functools import partial
 from typing import NamedTuple
 
-from lib.harness import Check, Checks, Fault, program_of, words_of
+import pytest
+
 from lib.program import Going, Program, Ran, with_memory
+from lib.sample import Sample
 from lib.served import Served, message, response
 
 MB = 1_000_000
-SECONDS = 120  # that a run goes on at most
+SHORT, WHOLE = 1, 5
+"""How many parts of five are sent in a run."""
 REFUSED = b'{"refused":10}\n'
 AFTER = b"0,desk,item,TEA,Tea,1 kg,500,2000\n0,public,items\n"
 LISTED = b'{"done":true}\n{"items":[["TEA","Tea","1 kg",500,2000]]}\n'
@@ -45,7 +49,7 @@ Pieces = Callable[[], Iterable[bytes]]
 
 
 def begun(program: Program) -> Going:
-    return program.begin("replay", patience=SECONDS, stderr=subprocess.PIPE, bufsize=0)
+    return program.begin("replay", stderr=subprocess.PIPE, bufsize=0)
 
 
 def peak(going: Going) -> int:
@@ -87,61 +91,26 @@ def length_and_sum(pieces: Iterable[bytes]) -> tuple[int, str]:
 RECORD, LINE, MOST = b"0,public,items\n", b'{"items":[]}\n', 1_000_000
 
 
-def counted(program: Program, records: int, status: int, told: bytes) -> Fault:
-    """What is wrong with a replay of so many records."""
-    ran = program.replay(RECORD * records)
-    if ran == (status, LINE * MOST, told):
-        return None
-    return f"{ran.out.count(LINE)} lines of {len(ran.out)} bytes, status {ran.status}, {ran.err!r}"
+@pytest.mark.parametrize("more, status, told", [(0, 0, b""), (1, 1, b"cpi: read failed\n")], ids=["most", "one more"])
+def test_a_million_records(program: Program, more: int, status: int, told: bytes) -> None:
+    ran = program.replay(RECORD * (MOST + more))
+    assert (ran.status, len(ran.out), ran.err) == (status, len(LINE) * MOST, told)
+    assert ran.out.count(LINE) == MOST
 
 
 # ---- how much memory
-
-
-class Held(NamedTuple):
-    """An input, its lines, and the most memory that it may take."""
-
-    name: str
-    pieces: Pieces
-    wanted: bytes
-    most: float
-
 
 # The memory of a program that does nothing, and how many bytes it may take for each byte of a field, of a body that is
 # read once more row by row, and of a row of empty fields.
 BASE, FIELD, BODY, COMMA = 8 * MB, 3.5, 6.5, 64
 
 
-def held(checks: Checks, program: Program, it: Held) -> Fault:
-    """What is wrong with the lines of an input, or with the memory that it takes."""
-    with begun(program) as going:
-        sender = threading.Thread(target=send, args=(going, it.pieces()))
-        sender.start()
-        lines = b"".join(read(going, it.wanted.count(b"\n")))
-        sender.join()
-        took = peak(going)
-        ran = going.end()
-    size = sum(map(len, it.pieces()))
-    checks.note(f"{it.name}: {size / MB:.0f} MB sent, {took / MB:.0f} MB of memory, of at most {it.most / MB:.0f}")
-    if (ran.status, lines + ran.out, ran.err) != (0, it.wanted, b""):
-        return f"{Ran(ran.status, lines + ran.out, ran.err)}"
-    return None if took <= it.most else f"{took} bytes of memory"
+class Held(NamedTuple):
+    """An input, its lines, and the most memory that it may take."""
 
-
-def without_end(checks: Checks, program: Program) -> Fault:
-    """A quotation mark, and then one letter for ever: the memory by and by, and the line when the stream ends."""
-    size, sent, took = 4 * MB, 0, 0
-    with begun(program) as going:
-        send(going, [b'0,public,"'])
-        for _ in range(40):
-            send(going, [b"a" * size])
-            sent += size
-            took = peak(going)
-            if took > BASE + FIELD * sent:
-                return f"{took} bytes of memory for {sent}"
-        ran = going.end()
-    checks.note(f"a field without an end: {sent / MB:.0f} MB sent, {took / MB:.0f} MB of memory")
-    return None if ran == (0, REFUSED, b"") else f"{ran}"
+    pieces: Pieces
+    wanted: bytes
+    most: float
 
 
 def many(piece: bytes, count: int) -> Iterator[bytes]:
@@ -170,34 +139,86 @@ BODIES = {
 }
 
 
-def inputs() -> Iterator[Held]:
-    """All inputs whose memory is looked at."""
-    hundred = 100 * MB
-    one, marks = partial(many, b"x", hundred), partial(many, b'""', hundred)
-    most = BASE + FIELD * hundred
-    for name, (before, after) in PLACES.items():
-        yield Held(f"100 MB as {name}", around(before, one, after), REFUSED + LISTED, most)
-    quoted = around(b'0,desk,outlet,1,"', marks, b'"\n')
-    yield Held("100 MB of quotation marks", quoted, REFUSED + LISTED, most)
-    for name, (before, line) in BODIES.items():
-        yield Held(f"100 MB as {name}", around(before, one, b'"\n'), line + LISTED, BASE + BODY * hundred)
-    rows = around(b'0,public,import,"', partial(many, b"items\n", 20 * MB), b'"\n')
-    yield Held("a body of 3 million rows", rows, REFUSED + LISTED, BASE + BODY * 20 * MB)
-    fields = around(b"", lambda: [b"," * 65_535], b"\n")
-    yield Held("a row of 65,536 fields", fields, REFUSED + LISTED, BASE + COMMA * 65_535)
-    fields = around(b"", partial(many, b",", 5 * MB), b"\n")
-    yield Held("a row of 5 million fields", fields, REFUSED + LISTED, BASE + COMMA * 5 * MB)
-    record = b"0,desk,outlet,1," + b"x" * (MB - 17) + b"\n"
-    records = around(b"", lambda: (record for _ in range(200)), b"")
-    yield Held("200 records of a megabyte", records, REFUSED * 200 + LISTED, BASE + FIELD * MB)
-    empty = around(b"", partial(many, b"\n\r\n\r", hundred), b"")
-    yield Held("100 MB of empty lines", empty, LISTED, BASE)
+def of_a_field(before: bytes, after: bytes, hundred: int) -> Held:
+    """A record of one field of so many bytes."""
+    return Held(around(before, partial(many, b"x", hundred), after), REFUSED + LISTED, BASE + FIELD * hundred)
+
+
+def of_marks(hundred: int) -> Held:
+    quoted = around(b'0,desk,outlet,1,"', partial(many, b'""', hundred), b'"\n')
+    return Held(quoted, REFUSED + LISTED, BASE + FIELD * hundred)
+
+
+def of_a_body(before: bytes, line: bytes, hundred: int) -> Held:
+    """A record with a body of one field of so many bytes."""
+    return Held(around(before, partial(many, b"x", hundred), b'"\n'), line + LISTED, BASE + BODY * hundred)
+
+
+def of_rows(hundred: int) -> Held:
+    rows = around(b'0,public,import,"', partial(many, b"items\n", hundred // 5), b'"\n')
+    return Held(rows, REFUSED + LISTED, BASE + BODY * hundred // 5)
+
+
+def of_fields(count: int) -> Held:
+    """A row of so many empty fields, and one."""
+    fields = [b"," * MB] * (count // MB) + [b"," * (count % MB)]
+    return Held(around(b"", lambda: fields, b"\n"), REFUSED + LISTED, BASE + COMMA * count)
+
+
+def of_records(hundred: int) -> Held:
+    """Records of a megabyte."""
+    count, record = 2 * hundred // MB, b"0,desk,outlet,1," + b"x" * (MB - 17) + b"\n"
+    return Held(around(b"", lambda: (record for _ in range(count)), b""), REFUSED * count + LISTED, BASE + FIELD * MB)
+
+
+def of_empty_lines(hundred: int) -> Held:
+    return Held(around(b"", partial(many, b"\n\r\n\r", hundred), b""), LISTED, BASE)
+
+
+INPUTS: dict[str, Callable[[int], Held]] = {
+    **{name: partial(of_a_field, *it) for name, it in PLACES.items()},
+    "quotation marks": of_marks,
+    **{name: partial(of_a_body, *it) for name, it in BODIES.items()},
+    "a body of millions of rows": of_rows,
+    "a row of 65,536 fields": lambda _: of_fields(65_535),
+    "a row of millions of fields": lambda hundred: of_fields(hundred // 20),
+    "records of a megabyte": of_records,
+    "empty lines": of_empty_lines,
+}
+"""What is sent, by how many bytes a hundred megabytes are."""
+
+
+@pytest.mark.parametrize("name", INPUTS)
+def test_memory(program: Program, sample: Sample, name: str) -> None:
+    """The lines of an input, and the memory that it takes."""
+    it = INPUTS[name](20 * MB * sample.count(SHORT, WHOLE))
+    with begun(program) as going:
+        sender = threading.Thread(target=send, args=(going, it.pieces()))
+        sender.start()
+        lines = b"".join(read(going, it.wanted.count(b"\n")))
+        sender.join()
+        took = peak(going)
+        ran = going.end()
+    assert Ran(ran.status, lines + ran.out, ran.err) == (0, it.wanted, b"")
+    assert took <= it.most
+
+
+def test_a_field_without_an_end(program: Program, sample: Sample) -> None:
+    """A quotation mark, and then one letter for ever: the memory by and by, and the line when the stream ends."""
+    size, sent = 4 * MB, 0
+    with begun(program) as going:
+        send(going, [b'0,public,"'])
+        for _ in range(8 * sample.count(SHORT, WHOLE)):
+            send(going, [b"a" * size])
+            sent += size
+            assert peak(going) <= BASE + FIELD * sent
+        assert going.end() == (0, REFUSED, b"")
 
 
 # ---- a long line
 
 
-ITEMS, ROWS, ROWS_SENT = 300, 20_000, 10_000
+ITEMS, ROWS, ROWS_OF_MESSAGE = 300, 20_000, 10_000
 BOUND, NARROW = 1.5, 100 * MB
 CODES = sorted(f"I{item}" for item in range(ITEMS))
 SETUP = "".join(f"0,desk,item,{code},Item {code},1 kg,500,2000\n" for code in CODES).encode()
@@ -215,7 +236,7 @@ def line_of_import(rows: int) -> Iterator[bytes]:
     yield b"]}\n"
 
 
-def within_bound(checks: Checks, program: Program) -> Fault:
+def test_a_line_of_200_mb(program: Program) -> None:
     """The memory that the import takes, beside its line."""
     with begun(program) as going:
         sender = threading.Thread(target=send, args=(going, [SETUP + IMPORT]))
@@ -224,50 +245,23 @@ def within_bound(checks: Checks, program: Program) -> Fault:
         sender.join()
         most = peak(going)
         ran = going.end()
-    length, _ = wanted = length_and_sum([DONE, *line_of_import(ROWS)])
-    checks.note(f"a line of {length} bytes: {most / length:.3f} bytes of memory a byte")
-    if told != wanted or ran != (0, b"", b""):
-        return f"{told[0]} bytes, and another line; then {ran}"
-    return None if most <= BOUND * length else f"{most} bytes of memory"
+    assert told == length_and_sum([DONE, *line_of_import(ROWS)])
+    assert ran == (0, b"", b"")
+    assert most <= BOUND * told[0]
 
 
-def given_up(checks: Checks, program: Program) -> Fault:
-    """The import where memory is refused in its middle."""
+def test_a_line_of_200_mb_without_memory(program: Program) -> None:
+    """The import if memory is refused in its middle."""
     ran = program.replay(SETUP + IMPORT, preexec_fn=with_memory(NARROW))
-    checks.note(f"with {NARROW} bytes alone: status {ran.status}, {ran.err!r}, {ran.out.count(b'done')} lines")
-    return None if ran == (1, DONE, b"cpi: out of memory\n") else f"status {ran.status}, {ran.err!r}"
+    assert ran == (1, DONE, b"cpi: out of memory\n")
 
 
-def response_within_bound(checks: Checks, program: Program) -> Fault:
+def test_a_response_of_110_mb(program: Program, room: str) -> None:
     """The memory that an import over HTTP takes, beside its response."""
-    with tempfile.TemporaryDirectory() as room:
-        program.replay(SETUP, f"{room}/office.db")
-        with Served(program, f"{room}/office.db", 2) as served:
-            told = served.ask(message("POST /import", body=b"items\n" * ROWS_SENT))
-            most = peak(served.going)
-    checks.note(f"a response of {len(told)} bytes: {most / len(told):.3f} bytes of memory a byte")
-    if told != response("200 OK", b"".join(line_of_import(ROWS_SENT)).decode()):
-        return f"{len(told)} bytes, and another response: {told[:200]!r}"
-    return None if most <= BOUND * len(told) else f"{most} bytes of memory"
-
-
-def checks_of(checks: Checks, program: Program) -> Iterator[Check]:
-    yield Check("1,000,000 records", partial(counted, program, MOST, 0, b""))
-    yield Check("a record more", partial(counted, program, MOST + 1, 1, b"cpi: read failed\n"))
-    yield Check("a field without an end", partial(without_end, checks, program))
-    yield from (Check(it.name, partial(held, checks, program, it)) for it in inputs())
-    yield Check("a line of 200 MB", partial(within_bound, checks, program))
-    yield Check("a line of 200 MB without memory", partial(given_up, checks, program))
-    yield Check("a response of 110 MB", partial(response_within_bound, checks, program))
-
-
-def main() -> int:
-    chosen = program_of(words_of(__doc__))
-    with Checks() as checks:
-        # (one after the other: each takes hundreds of megabytes)
-        checks.run(checks_of(checks, chosen.program), lanes=1)
-    return checks.status
-
-
-if __name__ == "__main__":
-    sys.exit(main())
+    program.replay(SETUP, f"{room}/office.db")
+    with Served(program, f"{room}/office.db", 2) as served:
+        told = served.ask(message("POST /import", body=b"items\n" * ROWS_OF_MESSAGE))
+        most = peak(served.going)
+    wanted = response("200 OK", b"".join(line_of_import(ROWS_OF_MESSAGE)).decode())
+    assert length_and_sum([told]) == length_and_sum([wanted]), told[:200]
+    assert most <= BOUND * len(told)

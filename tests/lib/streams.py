@@ -238,12 +238,12 @@ def of_schema_1(drawn: random.Random) -> Stream:
     return Stream([], office, [*frozen_again(drawn, months[-1], slots, 3000, 3920)], is_of_schema_1=True)
 
 
-STREAMS: dict[str, tuple[Callable[[random.Random], Stream], float]] = {
-    "quotes": (quotes, 0.4),
-    "plans": (plans, 0.15),
-    "freezes": (freezes, 0.15),
-    "hand-overs": (hand_overs, 0.1),
-    "a new file": (new_file, 0.1),
-    "a file of schema 1": (of_schema_1, 0.1),
+STREAMS: dict[str, tuple[Callable[[random.Random], Stream], int]] = {
+    "quotes": (quotes, 8),
+    "plans": (plans, 3),
+    "freezes": (freezes, 3),
+    "hand-overs": (hand_overs, 2),
+    "a new file": (new_file, 2),
+    "a file of schema 1": (of_schema_1, 2),
 }
-"""By name, with how many of a hundred kills it gets."""
+"""By name, with how many of twenty kills it gets."""
