@@ -1,4 +1,3 @@
-#!/usr/bin/env python3
 """Compares the tables of a year with a second computation, in three sizes up to that of a nation.
 
 Plans and quotes are made by a rule (lib/by_rule.py). `cpi replay` is given the records of a desk and of collectors who
@@ -8,32 +7,34 @@ Here the same tables are computed from the same plans and quotes by the method a
 whole numbers, and each row is compared. That the computation has nothing in common with the one of the second office,
 not even its rounding, is what the comparison is worth.
 
-A check is a size that is answered without a refusal, or a month's table.
+The tests of a size go to one process, which sends its records once. A short run leaves out the second size.
 """
 
 from __future__ import annotations
 
+import functools
 import json
 import re
-import sys
 from collections import defaultdict
-from collections.abc import Iterator
-from functools import partial
+from collections.abc import Callable, Iterator
 from typing import Optional
+
+import pytest
 
 from lib.by_rule import (
     NATIONAL, Mark, Plan, Size, codes_above, is_in_year, mark_of, month_of, records_of, table_record, title_of,
 )  # fmt: skip
-from lib.harness import Checks, Fault, Job, program_of, words_of
-from lib.program import Program
+from lib.harness import Fault
+from lib.program import PATIENCE, Program
 
 HUNDRED = 100_000_000
 REFUSED = re.compile(r'\{[^{}]*"refused"[^{}]*\}')
-SIZES = (
-    Size(aggregates=40, subclasses=13_000, series=400, months=14),
-    Size(aggregates=2_000, subclasses=13_000, series=20_000, months=14),
-    NATIONAL,
-)
+SIZES: dict[Size, list[pytest.MarkDecorator]] = {
+    Size(aggregates=40, subclasses=13_000, series=400, months=14): [],
+    Size(aggregates=2_000, subclasses=13_000, series=20_000, months=14): [pytest.mark.long],
+    NATIONAL: [],
+}
+"""Each with what marks it: a short run leaves out the second."""
 
 
 Carried = dict[int, tuple[int, int, int, bool]]
@@ -161,16 +162,12 @@ def printed(row: Row) -> str:
     return f"{code},{weight},{millionths(within)},{millionths(level)},{changes},{int(is_imputed)},{title_of(code)}"
 
 
-def replies_of(program: Program, records: list[str]) -> dict[str, str]:
-    """The line of each record; none is refused."""
-    ran = program.replay("".join(f"{record}\n" for record in records).encode())
+def lines_of(program: Program, size: Size) -> dict[str, str]:
+    """The line of each record."""
+    records = [*records_of(size)]
+    ran = program.replay("".join(f"{record}\n" for record in records).encode(), seconds=PATIENCE)
     lines = ran.out.decode().splitlines()
-    if ran.status or len(lines) != len(records):
-        raise ChildProcessError(f"status {ran.status}, and {len(lines)} lines for {len(records)} records")
-    for record, line in zip(records, lines):
-        refused = REFUSED.search(line)
-        if refused:
-            raise ChildProcessError(f"{record[:60]!r} was answered {refused[0]}")
+    assert (ran.status, ran.err, len(lines)) == (0, b"", len(records))
     return dict(zip(records, lines))
 
 
@@ -181,26 +178,48 @@ def difference(rows: list[str], wanted: list[str]) -> Fault:
     return next((f"wrote {row}, wanted {want}" for row, want in zip(rows, wanted) if row != want), None)
 
 
-def compare(checks: Checks, program: Program, size: Size) -> None:
-    """Compares each table of a size."""
-    name = f"{size.aggregates} aggregates"
-    replies = replies_of(program, [*records_of(size)])
-    checks.count(f"{name}, answered", None)
-    for turn, wanted in enumerate(tables(size)):
-        rows = json.loads(replies[table_record(turn)])["table"].splitlines()
-        checks.count(f"{name}, {month_of(turn)}", difference(rows, [printed(row) for row in wanted]))
+# ---- all
 
 
-def main() -> int:
-    words = words_of(__doc__)
-    words.add_argument("--sizes", type=int, default=len(SIZES), metavar="N", help="the first sizes alone, of three")
-    chosen = program_of(words)
-    with Checks() as checks:
-        # (one after the other: most of the time goes by in this process)
-        sizes = SIZES[: chosen.sizes]
-        checks.do((Job(f"{size}", partial(compare, checks, chosen.program, size)) for size in sizes), lanes=1)
-    return checks.status
+class Compared:
+    """A size: the line of each record, and the rows of each month by the second computation."""
+
+    def __init__(self, program: Program, size: Size) -> None:
+        self.lines = lines_of(program, size)
+        self.wanted = [[printed(row) for row in rows] for rows in tables(size)]
 
 
-if __name__ == "__main__":
-    sys.exit(main())
+@pytest.fixture(scope="module")
+def compared(program: Program) -> Callable[[Size], Compared]:
+    """What gives a size, which is sent and computed once."""
+    return functools.lru_cache(None)(lambda size: Compared(program, size))
+
+
+def marks_of(size: Size) -> list[pytest.MarkDecorator]:
+    """The marks of a size's tests, which go to one process."""
+    return [pytest.mark.xdist_group(f"{size.aggregates} aggregates"), *SIZES[size]]
+
+
+ANSWERED = [pytest.param(it, id=f"{it.aggregates} aggregates", marks=marks_of(it)) for it in SIZES]
+MONTHS = [
+    pytest.param(it, turn, id=f"{it.aggregates} aggregates, {month_of(turn)}", marks=marks_of(it))
+    for it in SIZES
+    for turn in range(it.months)
+]
+
+
+@pytest.mark.parametrize("size", ANSWERED)
+def test_nothing_is_refused(compared: Callable[[Size], Compared], size: Size) -> None:
+    refused = {
+        record[:60]: found[0] for record, line in compared(size).lines.items() if (found := REFUSED.search(line))
+    }
+    assert refused == {}
+
+
+@pytest.mark.parametrize("size, turn", MONTHS)
+def test_a_table(compared: Callable[[Size], Compared], size: Size, turn: int) -> None:
+    found = compared(size)
+    rows = json.loads(found.lines[table_record(turn)])["table"].splitlines()
+    assert len(found.wanted) == size.months
+    assert bool(rows) == (turn > 0)
+    assert difference(rows, found.wanted[turn]) is None

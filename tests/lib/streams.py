@@ -125,7 +125,8 @@ def caller_and_month(record: Record) -> tuple[str, str]:
 
 
 def partly_imported(drawn: random.Random, sent: list[Record]) -> Iterator[Record]:
-    """The same records; some that follow each other come by imports, one for each collector and month."""
+    """The same records; some that follow each other come by imports, one for each collector and month, in which a slot
+    comes once: so what is sent again after a kill is answered as before."""
     at = 0
     while at < len(sent):
         here = sent[at : at + (30 if drawn.random() < 0.01 else 1)]
@@ -134,7 +135,7 @@ def partly_imported(drawn: random.Random, sent: list[Record]) -> Iterator[Record
             yield here[0]
             continue
         for (caller, _), group in itertools.groupby(sorted(here, key=caller_and_month), caller_and_month):
-            rows = [*group]
+            rows = [*{row[3]: row for row in group}.values()]
             yield [rows[0][0], caller, "import", text_of([row[2:] for row in rows])]
 
 
