@@ -1,11 +1,8 @@
-#!/usr/bin/python3
 """Runs every bench in its small size, and compares the form of its output: rows, columns and figures, not times.
 
-    tests/test_benches.py [--program FILE] [--only http]
-
 A bench that ends in a traceback, that a rule of the office refuses, or whose programs write different bytes, says so on
-standard error or by its status. The scripts are run as bench/README.md shows them. It needs `cc`, `g++` or `clang++`,
-jinja2, and nginx with Chromium's packages (tests/web/setup.sh, which this script calls first).
+standard error or by its status. The scripts are run as bench/README.md shows them; a short run takes two of them. It
+needs `cc`, `g++` or `clang++`, jinja2, and nginx with Chromium's packages (tests/web/setup.sh, which is called first).
 """
 
 from __future__ import annotations
@@ -13,18 +10,17 @@ from __future__ import annotations
 import os
 import re
 import subprocess
-import sys
-from functools import partial
 
-from lib.harness import TOP, Check, Checks, Fault, program_of, words_of
+import pytest
+
+from lib.installing import need
+from lib.places import ROOT
 from lib.program import Program
-from lib.with_pytest import none_passed
 
-SECONDS = 300
+pytestmark = pytest.mark.spread
+
+SECONDS = 600
 """A bench that takes longer hangs: the slowest takes some ten on a quiet machine."""
-
-LANES = 2
-"""So few at once, since each bench has a program and a yardstick or a client."""
 
 N = r"-?[\d,]+(\.\d+)?"
 """A figure."""
@@ -132,38 +128,30 @@ FORMS: dict[str, list[str]] = {
 """By bench, the forms of its lines."""
 
 
-def fault_of(program: Program, name: str) -> Fault:
-    """What is wrong with the small run of a bench."""
+def benches() -> set[str]:
+    """The scripts of bench/ that can be run."""
+    return {
+        it.name for it in (ROOT / "bench").iterdir() if it.is_file() and "." not in it.name and os.access(it, os.X_OK)
+    }
+
+
+def test_each_bench_is_known() -> None:
+    assert benches() == FORMS.keys()
+
+
+@pytest.fixture(scope="module")
+def packages() -> None:
+    """What benches need is there."""
+    need("tests/web/setup.sh")
+
+
+@pytest.mark.sampled(2)
+@pytest.mark.parametrize("name", FORMS)
+@pytest.mark.usefixtures("packages")
+def test_the_lines_of_a_small_run_have_their_form(program: Program, name: str) -> None:
     words = ["/usr/bin/python3", f"bench/{name}", "--small", "--program", program.path]
-    ran = subprocess.run(words, cwd=TOP, capture_output=True, text=True, timeout=SECONDS, check=False)
-    if ran.returncode or ran.stderr:
-        return f"status {ran.returncode}: {ran.stderr[-500:]}{ran.stdout[-200:]}"
+    ran = subprocess.run(words, cwd=ROOT, capture_output=True, text=True, timeout=SECONDS, check=False)
+    assert (ran.returncode, ran.stderr) == (0, ""), ran.stdout
     lines, forms = ran.stdout.splitlines(), FORMS[name]
     odd = [line for line, form in zip(lines, forms) if not re.fullmatch(form, line)]
-    if odd or len(lines) != len(forms):
-        return f"{len(lines)} lines, {len(forms)} are wanted; of another form: {odd}"
-    return None
-
-
-def all_are_known() -> Fault:
-    """Whether each bench is run here."""
-    there = {it for it in os.listdir(f"{TOP}/bench") if os.access(f"{TOP}/bench/{it}", os.X_OK) and "." not in it}
-    found = there - {"out"} ^ FORMS.keys()
-    return f"benches that aren't known, or aren't there: {sorted(found)}" if found else None
-
-
-def main() -> int:
-    words = words_of(__doc__)
-    words.add_argument("--only", choices=FORMS, help="one of the benches")
-    chosen = program_of(words)
-    if subprocess.run([f"{TOP}/tests/web/setup.sh"], check=False).returncode:
-        return none_passed("tests/web/setup.sh failed")
-    with Checks() as checks:
-        checks.run([Check("all are known", all_are_known)])
-        chosen_names = [it for it in FORMS if chosen.only in (None, it)]
-        checks.run((Check(it, partial(fault_of, chosen.program, it)) for it in chosen_names), LANES)
-    return checks.status
-
-
-if __name__ == "__main__":
-    sys.exit(main())
+    assert odd == [] and len(lines) == len(forms), f"{len(lines)} lines, {len(forms)} are wanted"

@@ -1,11 +1,10 @@
-#!/usr/bin/env python3
 """Computes the tables of the example examples/national once more, from the quotes that its collectors sent.
 
 The example is run with the built program. From the data files and the quotes as `examples/national/prices` writes them,
 and from nothing that the program answered, this finds which quotes stand (lib/nation.py), which aggregates had nothing
 to compare, and all tables (lib/by_the_manual.py), by the formulas of the Consumer Price Index Manual (2020) with the
-rounding of docs/reference/OFFICE.md, in fractions. A check is the table of a month's revision with every figure, its carry
-list, or one of these:
+rounding of docs/reference/OFFICE.md, in fractions. It looks at the table of each month's revision with every figure, at
+its carry list, and at these:
 
 - one seed gives the same quotes twice, and another seed gives others;
 - prices move the weights of the last year from its reference month to its link month; those of the second and of the
@@ -14,7 +13,7 @@ list, or one of these:
 - an aggregate comes in the second year; one isn't in it, and is back in the third;
 - as many entries were refused, by 23, 24 and 26, and as many quotes stand, as were counted here;
 - the records that were sent give the same lines when they are replayed at once;
-- each collector was shown the own slots alone, and from a hand-over on those that were handed over, with their last
+- each collector was shown the own slots only, and from a hand-over on those that were handed over, with their last
   prices;
 - the pack of the tables has each figure, in each of its forms (lib/pack_figures.py, lib/pack_faults.py): items and special
   aggregates, contributions, annual averages, rates over twelve months, levels with 2025 = 100, breaks; and once more
@@ -34,36 +33,39 @@ import json
 import os
 import shutil
 import subprocess
-import sys
-import tempfile
 from collections.abc import Iterable, Iterator
-from functools import partial
 from pathlib import Path
-from typing import Any
+from typing import Any, NamedTuple, Optional
 
-from lib.by_the_manual import Month, coming_and_going, latest, moving, printed, tables
+import pytest
+
+from lib.by_the_manual import coming_and_going, latest, moving, printed, tables
 from lib.cases import content
-from lib.harness import Check, Checks, Fault, program_of, words_of
-from lib.nation import EXAMPLE, ZONE, Survey, revisions
+from lib.nation import CALENDAR, EXAMPLE, ZONE, Survey, revisions
 from lib.pack_drawn import drawn_faults, keeping
 from lib.pack_faults import CHANGES, csv_faults, cube_faults, differing, printed_rows, sdmx_faults, table_name
 from lib.pack_faults import workbook_faults
 from lib.pack_figures import ALL, Figures, sets_of_the_nation
 from lib.pack_forms import rows_of_csv
 from lib.pack_releases import first_page_faults, release_faults
-from lib.pack_then import releases
+from lib.pack_then import Then, releases
 from lib.pack_vintages import changed, reasons, revised
 from lib.program import Program
 from lib.records import rows_of
 from lib.site import site_faults
 from second_office.requests import Record
 
+SEED = "1"
+"""What the country's prices are drawn by."""
 
 YEAR = "2025"
 """In which the index of the example's pack is 100."""
 
+TABLES = [(month, revision) for month in sorted(CALENDAR)[1:] for revision in revisions(month)]
+"""The months and revisions that have a table with rows."""
 
-def first_of(faults: Iterable[str]) -> Fault:
+
+def first_of(faults: Iterable[str]) -> Optional[str]:
     """The first faults of a check, in one line."""
     return " | ".join(fault[:400] for fault, _ in zip(faults, range(3))) or None
 
@@ -87,7 +89,7 @@ class Ran:
     """A run of the example: what was sent, what was answered, and what is computed here."""
 
     def __init__(self, program: Program, seed: str, folder: str) -> None:
-        self.program, self.seed, self.folder = program, seed, folder
+        self.program, self.folder = program, folder
         words = ["--seed", seed, "--program", program.path, "--out", folder]
         ran = subprocess.run([os.path.join(EXAMPLE, "run"), *words], capture_output=True, text=True, check=False)
         if ran.returncode:
@@ -99,172 +101,215 @@ class Ran:
         self.tables = tables(self.survey)
         self.found = latest(self.tables)
 
-    def same_seed(self) -> Fault:
-        """One seed gives the same quotes twice."""
-        sent = [record for record in self.sent if record[2] == "import" and record[1] != "desk"]
-        return None if self.quotes == sent else "it gives other quotes than the run sent"
 
-    def other_seed(self) -> Fault:
-        """Another one gives others."""
-        return None if first_quotes("1" + self.seed) != self.quotes[:9] else "two seeds give the same"
-
-    def refusals(self) -> Fault:
-        """As many as were counted here, of each kind some."""
-        told = collections.Counter(row.get("refused") for reply in self.told for row in reply.get("rows", []))
-        wanted = {number: self.survey.refused[number] for number in (23, 24, 26)}
-        if {number: told[number] for number in wanted} != wanted or set(told) - {None, *wanted}:
-            return f"refused {dict(told)}, wanted {wanted}"
-        frozen = sum("freeze" in record[2] for record in self.sent)
-        is_enough = frozen >= len(self.survey.months) and all(wanted.values())
-        return None if is_enough else f"{frozen} freezes; {wanted}"
-
-    def at_once(self) -> Fault:
-        """The records give the same lines when they are replayed at once."""
-        ran = self.program.replay(content(self.folder, "records.csv"), None, "--zone", ZONE, seconds=600)
-        return None if ran == (0, content(self.folder, "lines"), b"") else "they give other lines"
-
-    def own_slots(self) -> Iterator[str]:
-        """Each collector was shown the own slots alone."""
-        slots = collections.defaultdict(list)
-        for (number, slot), (_, first, last) in self.survey.slots.items():
-            slots[number].append((slot, first, last))
-        for record, reply in zip(self.sent, self.told):
-            if record[2] == "work":
-                number, month = self.survey.collector_of[record[1]], record[3]
-                own = [slot for slot, first, last in slots[number] if first <= month <= last]
-                if [row[0] for row in reply["work"]] != own:
-                    yield f"the work list of collector {number} in {month}"
-
-    def handed_over(self) -> Iterator[str]:
-        """The hand-overs that the desk sent, and the last prices that the new collectors were shown with them."""
-        imports = [record for record in self.sent if record[1:3] == ["desk", "import"]]
-        sent = [row[1:] for record in imports for row in rows_of(record[3]) if row[0] == "handover"]
-        handed = self.survey.handed
-        wanted = [[*map(str, (*former, *new)), month] for _, former, new, month in handed]
-        if sent != wanted or len({series for series, *_ in handed}) == len(handed):
-            yield f"{len(sent)} hand-overs were sent, wanted {len(wanted)}, some of them of one series"
-        shown = {}
-        for record, reply in zip(self.sent, self.told):
-            if record[2] == "work":
-                number = self.survey.collector_of[record[1]]
-                shown.update({(number, row[0], record[3]): row[6] for row in reply["work"]})
-        for series, _, new, month in handed:
-            earlier = {at: price for at, price in self.survey.last.get(series, {}).items() if at < month}
-            last = earlier[max(earlier)] if earlier else None
-            if shown[(*new, month)] != last:
-                yield f"slot {new} was shown the last price {shown[(*new, month)]} in {month}, wanted {last}"
-
-    def first_table(self) -> Fault:
-        """The table of the first month has no rows."""
-        first = content(self.folder, "tables", f"{self.survey.months[0]}.csv")
-        return "it has rows" if first else None
-
-    def table(self, month: str, revision: int, wanted: Month) -> Fault:
-        """Every figure of a month's revision."""
-        wrote = rows_of(content(self.folder, "tables", table_name(month, revision)).decode())
-        rows = [printed(row) for row in wanted.rows]
-        if len(wrote) != len(rows):
-            return f"{len(wrote)} rows, wanted {len(rows)}"
-        return first_of(f"wrote {own}, wanted {row}" for own, row in zip(wrote, rows) if own != row)
-
-    def carried(self, month: str, revision: int, wanted: Month) -> Fault:
-        """The carry list of a month's revision, as the desk froze it at last."""
-        done = (record for record, reply in zip(self.sent, self.told) if reply == {"done": True})
-        frozen = [record[4:] for record in done if record[2:4] == ["freeze", month]]
-        is_right = len(frozen) == len(revisions(month)) and frozen[revision - 1] == wanted.carry
-        return None if is_right else f"the desk carried {frozen}, wanted {wanted.carry} in revision {revision}"
-
-    def revised(self) -> Iterator[str]:
-        """The months that the desk reopened: each got another table, and what came too late counts in it."""
-        found = revised(self.tables)
-        if [(it.month, it.revision) for it in found] != [*reasons()] or len(found) != 2:
-            yield f"revised were {[it.month for it in found]}, and the office says why of {[*reasons()]}"
-        for it in found:
-            came = self.survey.quotes[it.month].items() - self.survey.at_first[it.month].items()
-            if not (came and it.differing and it.old[ALL].level != it.new[ALL].level):
-                yield f"{it.month} was revised: {len(came)} prices came, {len(it.differing)} levels differ"
-
-    def reported(self, out: str, *words: str) -> Fault:
-        """The pack of the tables, made by the example's report, with its cards kept as they are handed to be drawn."""
-        command, kept = [os.path.join(EXAMPLE, "report"), "--out", out, *words], Path(out, "kept")
-        kept.mkdir()
-        made = subprocess.run(
-            command, stdout=subprocess.PIPE, stderr=subprocess.PIPE, text=True, check=False, env=keeping(kept)
-        )
-        wanted = 0, f"{os.path.join(out, 'site')}/index.html\n"
-        return None if (made.returncode, made.stdout) == wanted else f"report: {made.returncode}, {made.stderr[-300:]}"
-
-    def as_printed(self) -> Iterator[str]:
-        """The changes of a pack whose office has `rates = published`; without the forms that are compared already."""
-        out = Path(self.folder, "as-printed")
-        out.mkdir()
-        for name in ("tables", "published.csv"):
-            (out / name).symlink_to(Path(self.folder, name))
-        config = Path(EXAMPLE, "office.ini").read_text(encoding="utf-8")
-        own = "rates = published\nwithout = sdmx-csv sdmx-ml json-stat px\n"
-        (out / "office.ini").write_text(config + own, encoding="utf-8")
-        for name in ("aggregates.csv", "announced.csv", "revisions.csv"):
-            shutil.copy(os.path.join(EXAMPLE, name), out)
-        fault = self.reported(str(out), "--config", str(out / "office.ini"))
-        if fault:
-            yield fault
-            return
-        known = Figures(self.found, sets_of_the_nation(), YEAR, True, changed(self.tables))
-        yield from differing("printed.csv", rows_of_csv(out / "site/data/printed.csv"), printed_rows(known))
-        yield from workbook_faults(out / "site", known, CHANGES)
-        then = releases(self.tables, YEAR, is_from_printed=True)
-        yield from release_faults(out / "site", out / "tables", then)
-        yield from first_page_faults(out / "site", known)
-        yield from drawn_faults(out / "site", known, then, out / "kept")
-        if not any(known.changes("00", month)[0] != known.lines["00"][month].monthly for month in known.months):
-            yield "no change is another one by the printed index"
-
-    def pack_checks(self) -> Iterator[Check]:
-        """The pack, form by form."""
-        site = Path(self.folder, "site")
-        known = Figures(self.found, sets_of_the_nation(), YEAR, first=changed(self.tables))
-        tables, first = Path(self.folder, "tables"), self.survey.months[0]
-        yield Check("the pack", lambda: self.reported(self.folder))
-        yield Check("its CSV files", lambda: first_of(csv_faults(site, known, self.tables, tables)))
-        yield Check("its SDMX", lambda: first_of(sdmx_faults(site, known)))
-        yield Check("its JSON-stat and PX", lambda: first_of(cube_faults(site, known)))
-        yield Check("its workbook", lambda: first_of(workbook_faults(site, known)))
-        yield Check("its pages", lambda: first_of(site_faults(self.folder, known, self.found, first)))
-        then = releases(self.tables, YEAR)
-        yield Check("its first page", lambda: first_of(first_page_faults(site, known)))
-        yield Check("its releases", lambda: first_of(release_faults(site, tables, then)))
-        yield Check("its pictures and cards", lambda: first_of(drawn_faults(site, known, then, site.parent / "kept")))
-        yield Check("changes between printed indices", lambda: first_of(self.as_printed()))
-
-    def checks(self) -> Iterator[Check]:
-        """All of them."""
-        yield Check("one seed", self.same_seed)
-        yield Check("two seeds", self.other_seed)
-        yield Check("refusals", self.refusals)
-        yield Check("all records at once", self.at_once)
-        yield Check("own slots", lambda: first_of(self.own_slots()))
-        yield Check("hand-overs", lambda: first_of(self.handed_over()))
-        yield Check("moved weights", lambda: first_of(moving(self.found)))
-        yield Check("an aggregate that comes, and one that is back", lambda: first_of(coming_and_going(self.found)))
-        yield Check("the first table", self.first_table)
-        yield Check("two months that were revised", lambda: first_of(self.revised()))
-        for (month, revision), wanted in self.tables.items():
-            of = f"{month}, revision {revision}" if revision > 1 else month
-            yield Check(f"the table of {of}", partial(self.table, month, revision, wanted))
-            yield Check(f"the carry list of {of}", partial(self.carried, month, revision, wanted))
-        yield from self.pack_checks()
+@pytest.fixture(scope="module")
+def ran(program: Program, tmp_path_factory: pytest.TempPathFactory) -> Iterator[Ran]:
+    """The run that all tests look at."""
+    most = csv.field_size_limit(10**8)
+    yield Ran(program, SEED, str(tmp_path_factory.mktemp("nation")))
+    csv.field_size_limit(most)
 
 
-def main() -> int:
-    words = words_of(__doc__)
-    words.add_argument("--seed", default="1", help="what the country's prices are drawn by (1)")
-    chosen = program_of(words)
-    csv.field_size_limit(10**8)
-    with Checks() as checks, tempfile.TemporaryDirectory() as folder:
-        checks.note("examples/national/run, and the tables once more: some two minutes")
-        checks.run(Ran(chosen.program, chosen.seed, folder).checks(), lanes=1)
-    return checks.status
+# ---- what was sent, and what was answered
 
 
-if __name__ == "__main__":
-    sys.exit(main())
+def test_one_seed_gives_the_same_quotes_twice(ran: Ran) -> None:
+    sent = [record for record in ran.sent if record[2] == "import" and record[1] != "desk"]
+    assert sent and ran.quotes == sent, "it gives other quotes than the run sent"
+
+
+def test_another_seed_gives_other_quotes(ran: Ran) -> None:
+    others = first_quotes("1" + SEED)
+    assert len(others) == 9 and others != ran.quotes[:9]
+
+
+def test_as_many_are_refused_as_were_counted(ran: Ran) -> None:
+    """Of each kind some."""
+    told = collections.Counter(row.get("refused") for reply in ran.told for row in reply.get("rows", []))
+    wanted = {number: ran.survey.refused[number] for number in (23, 24, 26)}
+    assert {number: told[number] for number in wanted} == wanted and all(wanted.values())
+    assert set(told) - {None, *wanted} == set()
+
+
+def test_each_month_is_frozen(ran: Ran) -> None:
+    assert sum("freeze" in record[2] for record in ran.sent) >= len(ran.survey.months)
+
+
+def test_all_records_at_once_give_the_same_lines(ran: Ran) -> None:
+    status, out, err = ran.program.replay(content(ran.folder, "records.csv"), None, "--zone", ZONE, seconds=600)
+    assert (status, err) == (0, b"") and out == content(ran.folder, "lines"), "they give other lines"
+
+
+def work_lists(ran: Ran) -> Iterator[tuple[int, str, list[list[Any]]]]:
+    """A collector, a month and the work list that the collector was shown."""
+    for record, reply in zip(ran.sent, ran.told):
+        if record[2] == "work":
+            yield ran.survey.collector_of[record[1]], record[3], reply["work"]
+
+
+def test_each_collector_is_shown_the_own_slots_only(ran: Ran) -> None:
+    slots = collections.defaultdict(list)
+    for (number, slot), (_, first, last) in ran.survey.slots.items():
+        slots[number].append((slot, first, last))
+    lists = [*work_lists(ran)]
+    assert len(lists) > len(ran.survey.months)
+    for number, month, rows in lists:
+        own = [slot for slot, first, last in slots[number] if first <= month <= last]
+        assert [row[0] for row in rows] == own, f"the work list of collector {number} in {month}"
+
+
+def test_the_desk_sends_the_hand_overs_of_the_data(ran: Ran) -> None:
+    imports = [record for record in ran.sent if record[1:3] == ["desk", "import"]]
+    sent = [row[1:] for record in imports for row in rows_of(record[3]) if row[0] == "handover"]
+    handed = ran.survey.handed
+    assert sent == [[*map(str, (*former, *new)), month] for _, former, new, month in handed]
+    assert 0 < len({series for series, *_ in handed}) < len(handed), "some of them are of one series"
+
+
+def test_new_collectors_are_shown_the_last_prices_of_what_is_handed_over(ran: Ran) -> None:
+    shown = {(number, row[0], month): row[6] for number, month, rows in work_lists(ran) for row in rows}
+    assert ran.survey.handed
+    for series, _, new, month in ran.survey.handed:
+        earlier = {at: price for at, price in ran.survey.last.get(series, {}).items() if at < month}
+        last = earlier[max(earlier)] if earlier else None
+        assert shown[(*new, month)] == last, f"slot {new} in {month}"
+
+
+# ---- tables
+
+
+def test_the_tables_are_those_of_all_months_and_their_revisions(ran: Ran) -> None:
+    assert [*ran.tables] == TABLES and len(TABLES) > 40
+    assert content(ran.folder, "tables", f"{ran.survey.months[0]}.csv") == b""  # (a first month has no rows)
+
+
+@pytest.mark.parametrize(("month", "revision"), TABLES)
+def test_each_figure_of_a_table(ran: Ran, month: str, revision: int) -> None:
+    wrote = rows_of(content(ran.folder, "tables", table_name(month, revision)).decode())
+    rows = [printed(row) for row in ran.tables[month, revision].rows]
+    assert len(wrote) == len(rows) > 0
+    assert first_of(f"wrote {own}, wanted {row}" for own, row in zip(wrote, rows) if own != row) is None
+
+
+@pytest.mark.parametrize(("month", "revision"), TABLES)
+def test_the_carry_list_of_a_table(ran: Ran, month: str, revision: int) -> None:
+    """As the desk froze it at last."""
+    done = (record for record, reply in zip(ran.sent, ran.told) if reply == {"done": True})
+    frozen = [record[4:] for record in done if record[2:4] == ["freeze", month]]
+    assert len(frozen) == len(revisions(month))
+    assert frozen[revision - 1] == ran.tables[month, revision].carry
+
+
+def test_weights_are_moved_by_prices(ran: Ran) -> None:
+    assert first_of(moving(ran.found)) is None
+
+
+def test_an_aggregate_comes_and_another_one_is_back(ran: Ran) -> None:
+    assert first_of(coming_and_going(ran.found)) is None
+
+
+def test_two_months_are_revised_after_prices_that_came_late(ran: Ran) -> None:
+    """The months that the desk reopened: each got another table, and what came too late counts in it."""
+    found = revised(ran.tables)
+    assert [(it.month, it.revision) for it in found] == [*reasons()] and len(found) == 2
+    for it in found:
+        came = ran.survey.quotes[it.month].items() - ran.survey.at_first[it.month].items()
+        assert came and it.differing and it.old[ALL].level != it.new[ALL].level, it.month
+
+
+# ---- the pack
+
+
+def report(out: str, *words: str) -> None:
+    """Makes the pack of the tables by the example's report, with its cards kept as they are handed to be drawn."""
+    command, kept = [os.path.join(EXAMPLE, "report"), "--out", out, *words], Path(out, "kept")
+    kept.mkdir()
+    made = subprocess.run(command, capture_output=True, text=True, check=False, env=keeping(kept))
+    assert (made.returncode, made.stdout) == (0, f"{os.path.join(out, 'site')}/index.html\n"), made.stderr[-300:]
+
+
+class Pack(NamedTuple):
+    """A pack, and the figures that it has to have."""
+
+    out: Path
+    known: Figures
+    then: list[Then]
+
+    @property
+    def site(self) -> Path:
+        return self.out / "site"
+
+
+@pytest.fixture(scope="module")
+def pack(ran: Ran) -> Pack:
+    """The pack of all tables."""
+    report(ran.folder)
+    known = Figures(ran.found, sets_of_the_nation(), YEAR, first=changed(ran.tables))
+    return Pack(Path(ran.folder), known, releases(ran.tables, YEAR))
+
+
+def test_the_csv_files_of_the_pack(ran: Ran, pack: Pack) -> None:
+    assert first_of(csv_faults(pack.site, pack.known, ran.tables, pack.out / "tables")) is None
+
+
+def test_the_sdmx_of_the_pack(pack: Pack) -> None:
+    assert first_of(sdmx_faults(pack.site, pack.known)) is None
+
+
+def test_the_json_stat_and_px_of_the_pack(pack: Pack) -> None:
+    assert first_of(cube_faults(pack.site, pack.known)) is None
+
+
+def test_the_workbook_of_the_pack(pack: Pack) -> None:
+    assert first_of(workbook_faults(pack.site, pack.known)) is None
+
+
+def test_the_pages_of_the_pack(ran: Ran, pack: Pack) -> None:
+    assert first_of(site_faults(ran.folder, pack.known, ran.found, ran.survey.months[0])) is None
+
+
+def test_the_first_page_of_the_pack(pack: Pack) -> None:
+    assert first_of(first_page_faults(pack.site, pack.known)) is None
+
+
+def test_the_releases_of_the_pack(pack: Pack) -> None:
+    assert first_of(release_faults(pack.site, pack.out / "tables", pack.then)) is None
+
+
+def test_the_pictures_and_cards_of_the_pack(pack: Pack) -> None:
+    assert first_of(drawn_faults(pack.site, pack.known, pack.then, pack.out / "kept")) is None
+
+
+# ---- changes between printed indices
+
+
+@pytest.fixture(scope="module")
+def as_printed(ran: Ran) -> Pack:
+    """A pack whose office has `rates = published`; without the forms that are compared already."""
+    out = Path(ran.folder, "as-printed")
+    out.mkdir()
+    for name in ("tables", "published.csv"):
+        (out / name).symlink_to(Path(ran.folder, name))
+    config = Path(EXAMPLE, "office.ini").read_text(encoding="utf-8")
+    own = "rates = published\nwithout = sdmx-csv sdmx-ml json-stat px\n"
+    (out / "office.ini").write_text(config + own, encoding="utf-8")
+    for name in ("aggregates.csv", "announced.csv", "revisions.csv"):
+        shutil.copy(os.path.join(EXAMPLE, name), out)
+    report(str(out), "--config", str(out / "office.ini"))
+    known = Figures(ran.found, sets_of_the_nation(), YEAR, True, changed(ran.tables))
+    return Pack(out, known, releases(ran.tables, YEAR, is_from_printed=True))
+
+
+def test_changes_between_printed_indices_are_in_files(as_printed: Pack) -> None:
+    site, known = as_printed.site, as_printed.known
+    written = rows_of_csv(site / "data/printed.csv")
+    assert first_of(differing("printed.csv", written, printed_rows(known))) is None
+    assert first_of(workbook_faults(site, known, CHANGES)) is None
+    assert any(known.changes("00", month)[0] != known.lines["00"][month].monthly for month in known.months)
+
+
+def test_changes_between_printed_indices_are_on_pages_and_pictures(as_printed: Pack) -> None:
+    out, site, known, then = as_printed.out, as_printed.site, as_printed.known, as_printed.then
+    assert first_of(release_faults(site, out / "tables", then)) is None
+    assert first_of(first_page_faults(site, known)) is None
+    assert first_of(drawn_faults(site, known, then, out / "kept")) is None
