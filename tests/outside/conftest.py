@@ -1,4 +1,12 @@
-"""What the tests with programs of others share."""
+"""What the tests with programs of others share: they try what these make of what is made here.
+
+The whole test leaves them out, as they need more than tools/setup installs, some 600 MB of Debian's packages: caddy,
+chromium, iproute2, libreoffice-calc-nogui, libxml2-utils, lintian, openssh-server, poppler-utils, python3-pandas,
+python3-zbar, r-base-core, r-cran-rsdmx, rclone, rsync, systemd-container. A test fails if one that it needs is missing,
+unless NAME, such as Rscript or pandas, leaves it out; a line then says what was left out.
+
+    tests/run tests/outside --program FILE [--leave-out NAME]
+"""
 
 from __future__ import annotations
 

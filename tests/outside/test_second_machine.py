@@ -84,6 +84,7 @@ def told_of(kills: list[Kill]) -> str:
     return "\n".join(lines)
 
 
+@pytest.mark.timeout(12 * 3600)
 def test_kills(cpi: Cpi, networks: Networks, kills: int, tmp_path: Path, capsys: pytest.CaptureFixture[str]) -> None:
     """Of all that was answered before a kill, nothing is missing once it was sent again."""
     drawn, found = random.Random(67), list[Kill]()

@@ -13,6 +13,7 @@ need("tools/setup")
 
 from cpi_tools.pack.public import Published, from_file  # noqa: E402
 from cpi_tools.program import Cpi  # noqa: E402
+from lib.sample import Sample  # noqa: E402
 
 from . import surveys  # noqa: E402
 from .desk_apps import ADA, Application, Person, applied  # noqa: E402
@@ -21,10 +22,10 @@ from .published import Office, made as made_public  # noqa: E402
 
 
 @pytest.fixture(scope="session")
-def times(request: pytest.FixtureRequest) -> int:
+def times(request: pytest.FixtureRequest, sample: Sample) -> int:
     """How many backups each test under load makes."""
-    found: int = request.config.getoption("--times")
-    return found
+    most: int = request.config.getoption("--times")
+    return sample.count(min(5, most), most)
 
 
 @pytest.fixture(scope="session")

@@ -338,6 +338,7 @@ def content(root: Path) -> dict[str, bytes]:
     return {str(path.relative_to(root)): path.read_bytes() for path in paths}
 
 
+@pytest.mark.long
 def test_a_new_language_is_one_file_that_somebody_translates(copied: Path) -> None:
     before = content(copied)
     made = pages(copied, "--new", "pt")

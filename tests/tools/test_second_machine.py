@@ -22,6 +22,7 @@ def survey(cpi: Cpi, tmp_path_factory: pytest.TempPathFactory) -> Path:
     return surveyed(cpi, tmp_path_factory.mktemp("survey") / "office.db")
 
 
+@pytest.mark.sampled(1)
 @pytest.mark.parametrize("way, seed", [("folder", 1), ("rsync", 2), ("receiver", 3)])
 def test_a_killed_machine_is_followed_by_a_second_one(
     way: str, seed: int, cpi: Cpi, survey: Path, tmp_path: Path

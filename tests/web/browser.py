@@ -57,6 +57,8 @@ class Browser:
 
     def __init__(self, url: str, authority: Path, home: Path, text: int = 16):
         self.url, self.home, self._text = url, home, text
+        self.is_fresh = False
+        """Whether nobody has used it since it was emptied; who uses it says so."""
         trust(authority, home)
         self.driver: Any = self._started("profile")
 
@@ -81,6 +83,7 @@ class Browser:
             self.close()
             self.driver = self._started(f"profile-{time.monotonic_ns()}")
             self._empty()
+        self.is_fresh = True
 
     def _empty(self) -> None:
         first, *others = self.driver.window_handles

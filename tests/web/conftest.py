@@ -64,7 +64,9 @@ def running(standing: Stage, tmp_path_factory: pytest.TempPathFactory) -> Iterat
 def browser(stage: Stage, running: Browser) -> Iterator[Browser]:
     """A Chromium that has kept nothing, before a fresh office. Its pages are closed before the next test's office is there,
     so that test counts no message of theirs."""
-    running.fresh()
+    if not running.is_fresh:
+        running.fresh()
+    running.is_fresh = False
     yield running
     running.fresh()
 
@@ -98,6 +100,17 @@ def ada(browser: Browser, pages: DeskPages) -> Person:
 def phone(browser: Browser) -> Phone:
     """The page of a collector, at 360 pixels."""
     return Phone(browser)
+
+
+@pytest.fixture(params=["ar", "el", "he"], ids=["arabic", "longer", "longer-from-the-right"])
+def language(request: pytest.FixtureRequest, stage: Stage, tmp_path: Path) -> Iterator[str]:
+    """Arabic, or a language that nobody speaks, which the office's pages speak meanwhile."""
+    if request.param == "ar":
+        with spoken(stage, ARABIC):
+            yield "ar"
+    else:
+        with spoken(stage, Speech(request.param), pages_with(request.param, tmp_path)):
+            yield str(request.param)
 
 
 @pytest.fixture(params=["el", "he"], ids=["longer", "longer-from-the-right"])

@@ -153,6 +153,7 @@ def test_a_revision_and_its_marks(shown: Browser, website: Path) -> None:
 # ---- 100
 
 
+@pytest.mark.sampled(3)
 @pytest.mark.parametrize(
     ("search", "unit", "heads", "rows", "marks"),
     [
@@ -350,6 +351,7 @@ def test_from_a_disk_it_leads_to_the_files(shown: Browser, website: Path) -> Non
 # ---- how it looks
 
 
+@pytest.mark.sampled(1)
 @pytest.mark.parametrize("scheme", ["light", "dark"])
 @pytest.mark.parametrize("width", [360, 1280])
 def test_it_can_be_read_touched_and_enlarged(years: Browser, width: int, scheme: str) -> None:

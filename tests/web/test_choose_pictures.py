@@ -156,6 +156,7 @@ def test_an_embedded_picture_follows_the_newest_month(
     assert told["fixed"][0] == told["fixed"][1] and "in January 2012" in told["fixed"][0]
 
 
+@pytest.mark.sampled(1)
 @pytest.mark.parametrize("width", [320, 700])
 def test_a_choice_is_framed_by_another_site(
     browser: Browser, stage: Stage, later: Path, tmp_path: Path, width: int
@@ -186,6 +187,7 @@ def test_a_choice_is_framed_by_another_site(
             browser.driver.switch_to.default_content()
 
 
+@pytest.mark.sampled(1)
 @pytest.mark.parametrize("scheme", ["light", "dark"])
 def test_the_small_page_can_be_read_and_enlarged(browser: Browser, stage: Stage, later: Path, scheme: str) -> None:
     stage.published.symlink_to(later)

@@ -59,6 +59,7 @@ def faults(browser: Browser) -> list[str]:
     return [*left, *wide]
 
 
+@pytest.mark.sampled(1)
 def test_nothing_is_cut_covered_or_left_in_english(
     stage: Stage, browser: Browser, pages: DeskPages, pseudo: str
 ) -> None:

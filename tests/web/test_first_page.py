@@ -13,6 +13,7 @@ from .readable import faults_enlarged, faults_for_keys, faults_of_page
 from .stage import Stage
 
 
+@pytest.mark.sampled(2)
 @pytest.mark.parametrize("scheme", ["light", "dark"])
 @pytest.mark.parametrize("width", [360, 1280])
 def test_before_a_website_is_published_the_first_page_says_so(browser: Browser, width: int, scheme: str) -> None:

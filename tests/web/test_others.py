@@ -64,6 +64,7 @@ def opened(browser: Browser, page: Path, width: int) -> None:
     browser.run("for (const it of document.querySelectorAll('details')) it.open = true")
 
 
+@pytest.mark.sampled(6)
 @pytest.mark.parametrize("width", [360, 1280])
 @pytest.mark.parametrize("name", PAGES)
 def test_no_text_of_others_turns_the_words_next_to_it(browser: Browser, folder: Path, name: str, width: int) -> None:
@@ -88,6 +89,7 @@ def test_what_the_calculator_says_isnt_turned(browser: Browser, folder: Path) ->
         assert digits == sorted(digits) and len(digits) > 5
 
 
+@pytest.mark.sampled(6)
 @pytest.mark.parametrize("scheme", ["light", "dark"])
 @pytest.mark.parametrize("name", PAGES)
 def test_the_focus_ring_is_seen(browser: Browser, folder: Path, name: str, scheme: str) -> None:

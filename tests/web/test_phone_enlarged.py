@@ -14,11 +14,10 @@ import pytest
 
 from .browser import Browser
 from .desk_pages import desk_pages
-from .languages import ARABIC, Speech, spoken
+from .languages import ARABIC
 from .noted import AGES, camera_file, takes_notes
 from .phone import Phone
 from .phone_walks import walk_over, walk_over_notes
-from .pseudo import pages_with
 from .stage import Stage
 from .walks import Enlarged
 
@@ -49,26 +48,17 @@ def shown(request: pytest.FixtureRequest, stage: Stage) -> Iterator[Phone]:
     browser.fresh()
 
 
-@pytest.fixture(params=["ar", "el", "he"], ids=["arabic", "longer", "longer-from-the-right"])
-def language(request: pytest.FixtureRequest, stage: Stage, tmp_path: Path) -> Iterator[str]:
-    """The office's pages speak it meanwhile."""
-    if request.param == "ar":
-        with spoken(stage, ARABIC):
-            yield "ar"
-    else:
-        with spoken(stage, Speech(request.param), pages_with(request.param, tmp_path)):
-            yield request.param
-
-
+@pytest.mark.sampled(1)
 def test_nothing_is_cut_covered_or_hidden(shown: Phone, stage: Stage, language: str) -> None:
     walk = Enlarged(shown.browser, language)
     walk_over(shown, stage, walk)
-    assert walk.faults == []
+    assert walk.faults == [] and walk.count > 10
 
 
+@pytest.mark.sampled(1)
 def test_nothing_of_a_note_is_cut_covered_or_hidden(shown: Phone, stage: Stage, tmp_path: Path) -> None:
     """In Arabic."""
     with desk_pages(stage, tmp_path, "", "--field-notes", AGES) as pages, takes_notes(stage, pages, ARABIC):
         walk = Enlarged(shown.browser, "ar")
         walk_over_notes(shown, walk, camera_file(tmp_path))
-    assert walk.faults == []
+    assert walk.faults == [] and walk.count > 3

@@ -17,17 +17,11 @@ from .stage import Stage
 from .walks import Walk
 
 
-def test_nothing_is_cut_covered_or_left_in_english(phone: Phone, stage: Stage, pseudo: str) -> None:
-    walk = Walk(phone.browser, pseudo)
+@pytest.mark.sampled(1)
+def test_nothing_is_cut_covered_or_left_in_english(phone: Phone, stage: Stage, language: str) -> None:
+    walk = Walk(phone.browser, language)
     walk_over(phone, stage, walk)
-    assert walk.faults == []
-
-
-def test_nothing_of_arabic_is_cut_covered_or_left_in_english(phone: Phone, stage: Stage) -> None:
-    walk = Walk(phone.browser, "ar")
-    with spoken(stage, ARABIC):
-        walk_over(phone, stage, walk)
-    assert walk.faults == []
+    assert walk.faults == [] and walk.count > 10
 
 
 # ---- the choice
@@ -122,6 +116,7 @@ def test_signing_out_leaves_the_language(phone: Phone) -> None:
     phone.browser.wait_text("#sign-in h2", "Iniciar sesión")
 
 
+@pytest.mark.sampled(2)
 @pytest.mark.parametrize(
     ("setting", "spoken_code", "direction"),
     [("fr-CA", "fr", "ltr"), ("ar-EG", "ar", "rtl"), ("en-US", "en", "ltr"), ("tlh", "en", "ltr"), ("es", "es", "ltr")],
@@ -139,15 +134,16 @@ def test_the_office_sets_the_language(
         assert names == ([] if spoken_code == "en" else [f"{spoken_code}.json"])
 
 
-@pytest.mark.parametrize("language", ["ar", "fr", "es"])
-def test_a_browser_takes_the_plural_form_that_gettext_takes(phone: Phone, stage: Stage, language: str) -> None:
+@pytest.mark.sampled(1)
+@pytest.mark.parametrize("code", ["ar", "fr", "es"])
+def test_a_browser_takes_the_plural_form_that_gettext_takes(phone: Phone, stage: Stage, code: str) -> None:
     counts = [0, 1, 2, 3, 10, 11, 99, 100, 101, 102, 103, 111, 1000, 1_000_000]
-    with (ROOT / f"po/{language}.po").open("rb") as file:
-        catalog = read_po(file, locale=language)
+    with (ROOT / f"po/{code}.po").open("rb") as file:
+        catalog = read_po(file, locale=code)
     message = catalog.get("{count} to do")
     form = gettext.c2py(catalog.plural_expr)  # type: ignore[attr-defined]
     wanted = [message.string[form(count)].replace("{count}", str(count)) for count in counts]
-    with spoken(stage, Speech(language)):
+    with spoken(stage, Speech(code)):
         phone.open()
         phone.browser.wait_shown("#sign-in")
         told = phone.browser.run_until(
@@ -158,6 +154,7 @@ def test_a_browser_takes_the_plural_form_that_gettext_takes(phone: Phone, stage:
     assert told == wanted
 
 
+@pytest.mark.sampled(1)
 @pytest.mark.parametrize("digits", ["arab", "deva", "latn"])
 def test_a_price_that_is_shown_is_read_as_the_same(phone: Phone, stage: Stage, digits: str) -> None:
     """In the office's digits and with its decimal mark."""

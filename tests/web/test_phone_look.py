@@ -117,6 +117,7 @@ return [...second, document.getElementById("price-fault").textContent, document.
 stopped, the fault that the form shows then, the element that has the focus, and the mark."""
 
 
+@pytest.mark.sampled(1)
 @pytest.mark.parametrize("x", [60, 270])
 def test_a_second_tap_on_confirm_is_not_the_next_rows(phone: Phone, x: int) -> None:
     """Where Confirm was the next form has the kinds of mark."""

@@ -191,6 +191,7 @@ def looked_at(browser: Browser) -> list[str]:
     )
 
 
+@pytest.mark.sampled(1)
 @pytest.mark.parametrize("width, scheme", [(360, "dark"), (1280, "light")])
 def test_the_list_can_be_read_touched_and_enlarged(phone: Phone, stage: Stage, width: int, scheme: str) -> None:
     browser = phone.browser

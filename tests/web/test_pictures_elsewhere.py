@@ -114,6 +114,7 @@ def framed(browser: Browser, address: str, within: Path, width: int) -> str:
             browser.driver.switch_to.default_content()
 
 
+@pytest.mark.sampled(1)
 @pytest.mark.parametrize("width", [320, 700])
 def test_a_picture_is_framed_by_another_site(front: Stage, browser: Browser, tmp_path: Path, width: int) -> None:
     """The one that the address names, else the level: its title, its unit, its source."""

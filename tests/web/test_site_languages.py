@@ -19,9 +19,10 @@ from cpi_tools import languages
 from cpi_tools.pack.office_languages import OfficeLanguages
 from cpi_tools.publish import publish
 from lib.pseudo import write_catalogue
+from lib.sample import Sample
 from .readable import CUT, NAMELESS, SEEN, WIDE
 from .stage import Stage
-from .test_site_look import CONFIG, PAGES, made_up
+from .test_site_look import CONFIG, PAGES, SOME, made_up
 
 PICTURES = os.environ.get("CPI_PICTURES")
 """A folder for pictures of each page, if somebody wants to look."""
@@ -121,11 +122,12 @@ def look(browser: Browser, tag: str, name: str) -> None:
     assert not found, "\n".join(found)
 
 
+@pytest.mark.sampled(1)
 @pytest.mark.parametrize("tag", TONGUES)
-def test_nothing_of_the_site_is_cut_covered_or_left_in_english(shown: Browser, tag: str) -> None:
+def test_nothing_of_the_site_is_cut_covered_or_left_in_english(shown: Browser, tag: str, sample: Sample) -> None:
     folder = "" if tag == TONGUES[0] else f"{tag}/"
     found = []
-    for name in (*PAGES, "calendar.html"):
+    for name in sample.of([*PAGES, "calendar.html"], SOME, f"pages in {tag}"):
         shown.open(f"/published/{folder}{name}")
         found += faults_of(shown, tag, name)
     assert not found, "\n".join(found)
@@ -174,6 +176,7 @@ def test_a_picture_has_the_months_of_its_language(arabic: Browser) -> None:
     assert arabic.faults() == []
 
 
+@pytest.mark.sampled(1)
 @pytest.mark.parametrize("tag", TONGUES)
 def test_the_scripts_of_the_site_speak_its_language(shown: Browser, tag: str) -> None:
     folder = "" if tag == TONGUES[0] else f"{tag}/"

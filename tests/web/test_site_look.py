@@ -21,6 +21,7 @@ from cpi_tools.pack.public import Listed, Published
 from cpi_tools.pack.reasons import Reason
 from cpi_tools.pack.specials import Special
 from cpi_tools.publish import publish
+from lib.sample import Sample
 from .other_site import other_site
 
 MONTHS = 61
@@ -39,6 +40,9 @@ CONFIG = Config(
 PAGES = ("index.html", "nodes.html", "node/00.html", "node/01.1.1.1-01.html", "node/CORE.html", "contract.html",
          "data.html", "revisions.html", "method.html", "how-to-read.html", "releases.html", "release/2021-01-r1.html",
          "release/2025-06-r2.html", "release/2026-01-r1.html", "embed/2026-01-r1.html", "embed/00.html")  # fmt: skip
+
+SOME = 6
+"""A short run looks at so many of them in each way."""
 
 
 def codes_of(division: str) -> list[str]:
@@ -109,16 +113,16 @@ def plain(text: str) -> str:
     return "".join(text.translate({ord(it): None for it in "\u2068\u2069\u00ad\u200b\x0c"}).split())
 
 
+@pytest.mark.sampled(1)
 @pytest.mark.parametrize("paper", PAPERS)
-def test_printing_cuts_nothing(browser: Browser, site: Path, tmp_path: Path, paper: str) -> None:
+def test_printing_cuts_nothing(browser: Browser, site: Path, tmp_path: Path, paper: str, sample: Sample) -> None:
     """Each heading, paragraph and cell is on the paper, in a small format too; only ways to elsewhere are left out, and of
     a page to embed the pictures that it doesn't show."""
-    for name in PAGES:
-        if not name.startswith("embed"):
-            open_page(browser, site, name, 1280)
-            texts = browser.run(TEXTS)
-            paged = printed(browser, tmp_path / "page.pdf", paper)
-            assert len(texts) > 3 and [text for text in texts if plain(text) not in paged] == [], name
+    for name in sample.of([name for name in PAGES if not name.startswith("embed")], SOME, f"pages on {paper}"):
+        open_page(browser, site, name, 1280)
+        texts = browser.run(TEXTS)
+        paged = printed(browser, tmp_path / "page.pdf", paper)
+        assert len(texts) > 3 and [text for text in texts if plain(text) not in paged] == [], name
 
 
 def test_a_figure_that_is_folded_on_the_screen_is_printed(browser: Browser, site: Path, tmp_path: Path) -> None:
@@ -133,12 +137,15 @@ def test_a_figure_that_is_folded_on_the_screen_is_printed(browser: Browser, site
 # ---- on the screen
 
 
+@pytest.mark.sampled(2)
 @pytest.mark.parametrize("scheme", ["light", "dark"])
 @pytest.mark.parametrize("width", [360, 1280])
-def test_pages_are_readable_in_both_schemes(browser: Browser, site: Path, width: int, scheme: str) -> None:
+def test_pages_are_readable_in_both_schemes(
+    browser: Browser, site: Path, width: int, scheme: str, sample: Sample
+) -> None:
     """Contrast of texts, edges, lines and the rings of the keyboard; names; nothing wider than the screen."""
     browser.shown_as(scheme)
-    for name in PAGES:
+    for name in sample.of(PAGES, SOME, f"pages of {width} pixels, {scheme}"):
         open_page(browser, site, name, width)
         ground = browser.run("return getComputedStyle(document.body).backgroundColor")
         assert ground == {"light": "rgb(255, 255, 255)", "dark": "rgb(18, 25, 31)"}[scheme]
@@ -187,12 +194,12 @@ def test_the_first_page_is_light(browser: Browser, site: Path) -> None:
     assert sum(len(gzip.compress((site / name).read_bytes(), 1)) for name in names) < BOUND
 
 
-def test_pages_say_the_same_without_a_script(browser: Browser, site: Path) -> None:
+def test_pages_say_the_same_without_a_script(browser: Browser, site: Path, sample: Sample) -> None:
     """But for the form of the index clause, the search and the buttons of PNGs, which need one and aren't shown."""
     read = "return [...document.querySelectorAll('main *')].filter((it) => !it.closest(arguments[0]) && it.checkVisibility())"
     read += ".flatMap((it) => [...it.childNodes].filter((node) => node.nodeType === 3).map((node) => node.data.trim()).filter(Boolean))"
     needing = ".take button, .take [role=status], .field:has(#seek), .clause, #texts, noscript"
-    for name in PAGES:
+    for name in sample.of(PAGES, SOME, "pages without a script"):
         open_page(browser, site, name, 1280)
         whole = browser.run(read, needing)
         browser.cdp("Emulation.setScriptExecutionDisabled", value=True)
