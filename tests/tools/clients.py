@@ -43,7 +43,7 @@ def survey() -> Iterator[str]:
 
 def asked(port: int, collector: int, method: str, path: str, body: str = "") -> Any:
     """The answer of the office. Raises OSError, http.client.HTTPException or ValueError if there is none."""
-    line = http.client.HTTPConnection("127.0.0.1", port, timeout=10)
+    line = http.client.HTTPConnection("127.0.0.1", port, timeout=60)
     try:
         line.request(method, path, body.encode(), {"Authorization": f"CPI-Key {key_of(collector)}"})
         return json.loads(line.getresponse().read())

@@ -333,16 +333,16 @@ def heed_signals() -> None:
 def test_a_signal_leaves_nothing(number: signal.Signals, office: Path, tmp_path: Path) -> None:
     """It comes while a program that never answers has the copy open."""
     slow, to = tmp_path / "slow", tmp_path / "backup/office-1.db"
-    slow.write_text('#!/bin/sh\ntouch "$0.begun"\nexec sleep 60\n')
+    slow.write_text('#!/bin/sh\ntouch "$0.begun"\nexec sleep 300\n')
     slow.chmod(0o755)
     command = [str(TOOL), "backup", str(office), str(to), "--program", str(slow)]
     with subprocess.Popen(command, stderr=subprocess.PIPE, preexec_fn=heed_signals) as process:
-        deadline = time.monotonic() + 20
+        deadline = time.monotonic() + 120
         while not (tmp_path / "slow.begun").exists() and time.monotonic() < deadline:
             time.sleep(0.01)
         assert [name[:12] for name in names(to.parent)] == [".cpi-backup-"]
         process.send_signal(number)
-        process.communicate(timeout=20)
+        process.communicate(timeout=120)
     assert process.returncode == 128 + number
     assert names(to.parent) == []
 

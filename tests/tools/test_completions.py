@@ -23,7 +23,7 @@ from cpi_tools.program import Cpi
 from manual import tools_of
 from .test_ops import needed, script
 
-SECONDS = 20
+SECONDS = 90
 """How long a shell may take to complete a word."""
 
 

@@ -241,7 +241,7 @@ def test_a_process_goes_on_after_a_fault(tmp_path: Path, monkeypatch: pytest.Mon
         (tmp_path / "copy").mkdir()
         with pytest.raises(CopyFailed, match="copy: No space left on device"):
             right_copy(office, tmp_path / "copy", pause=process.pid)
-        deadline = time.monotonic() + 10
+        deadline = time.monotonic() + 60
         while copying._state_of(process.pid) == "T" and time.monotonic() < deadline:
             time.sleep(0.001)
         assert copying._state_of(process.pid) != "T"

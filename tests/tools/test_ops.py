@@ -144,7 +144,7 @@ def test_systemd_is_told_once_it_listens(cpi: Cpi, tmp_path: Path) -> None:
 
 
 def wait_for(is_there: Callable[[], bool]) -> None:
-    until = time.monotonic() + 10
+    until = time.monotonic() + 60
     while not is_there() and time.monotonic() < until:
         time.sleep(0.01)
 

@@ -64,7 +64,7 @@ def test_the_next_backup_removes_what_a_killed_one_left(cpi: Cpi, office: Path, 
     slow.chmod(0o755)
     command = [str(ROOT / "cpi-tools"), "backup", str(office), str(to), "--program"]
     with subprocess.Popen([*command, str(slow)], stderr=subprocess.PIPE, start_new_session=True) as process:
-        deadline = time.monotonic() + 20
+        deadline = time.monotonic() + 120
         while not (tmp_path / "slow.begun").exists() and time.monotonic() < deadline:
             time.sleep(0.01)
         os.killpg(process.pid, signal.SIGKILL)

@@ -36,7 +36,7 @@ def test_progress_is_told_at_a_terminal_and_gone_at_the_end(monkeypatch: pytest.
     written = Terminal()
     with Progress("cpi-tools drill", written) as progress:
         progress.now("cpi opens a copy")
-        deadline = time.monotonic() + 10
+        deadline = time.monotonic() + 60
         while "opens" not in written.getvalue() and time.monotonic() < deadline:
             time.sleep(0.01)
     assert written.getvalue().startswith("\r\x1b[Kcpi-tools drill: cpi opens a copy, 0 s")

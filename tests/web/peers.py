@@ -89,21 +89,31 @@ def timed(work: Callable[[], T]) -> tuple[float, T]:
     return time.monotonic() - begun, found
 
 
-def answered_within(seconds: float, work: Callable[[], list[tuple[float, T]]]) -> list[T]:
-    """What some peers are answered, each within so many seconds.
+def busy(processor_seconds: float = 0.03) -> float:
+    """How many times as long as on a machine without other work something takes now that the processor does."""
+    begun, used = time.monotonic(), time.thread_time()
+    while time.thread_time() - used < processor_seconds:
+        pass
+    return max(1.0, (time.monotonic() - begun) / processor_seconds)
 
-    Where one of them waited longer the machine may have been at other work, so it is tried once more, and said so: what
-    is promised holds in that trial.
+
+def answered_within(seconds: float, work: Callable[[], list[tuple[float, T]]]) -> list[T]:
+    """What some peers are answered, each within so many seconds of a machine without other work.
+
+    If one of them waited longer the machine may have been at other work just then, so it is tried once more, and said so:
+    what is promised holds in that trial.
     """
-    found = work()
-    if max(waited for waited, _ in found) >= seconds:
-        warnings.warn(f"waited {max(waited for waited, _ in found):.1f} s for {seconds}: tried again", stacklevel=2)
-        found = work()
-    assert max(waited for waited, _ in found) < seconds
+    for is_last in (False, True):
+        before, found = busy(), work()
+        longest, most = max(waited for waited, _ in found), seconds * max(before, busy())
+        if longest < most or is_last:
+            break
+        warnings.warn(f"waited {longest:.1f} s for {most:.1f}: tried again", stacklevel=2)
+    assert longest < most
     return [answer for _, answer in found]
 
 
-def once(condition: Callable[[], bool], seconds: float = 10) -> bool:
+def once(condition: Callable[[], bool], seconds: float = 60) -> bool:
     """Whether a condition holds within some seconds, looked at again and again."""
     begun = time.monotonic()
     while not condition():

@@ -159,7 +159,7 @@ class Stage:
         found: list[list[Any]] = self.ask("GET", f"/api/quotes/{month}/{month}", key).reply["quotes"]
         return found
 
-    def wait_for_quotes(self, key: str, seconds: float = 10) -> list[list[Any]]:
+    def wait_for_quotes(self, key: str, seconds: float = 60) -> list[list[Any]]:
         """The same, once there are any."""
         begun = time.monotonic()
         while not (found := self.quotes(key)) and time.monotonic() - begun < seconds:
@@ -169,7 +169,7 @@ class Stage:
     def logs(self, requests: int = 1) -> str:
         """What the front has written down, once so many requests stand there: it writes behind its replies."""
         begun, log = time.monotonic(), self.folder / "access.log"
-        while log.read_text(encoding="utf-8").count("\n") < requests and time.monotonic() - begun < 10:
+        while log.read_text(encoding="utf-8").count("\n") < requests and time.monotonic() - begun < 60:
             time.sleep(0.02)
         texts = [(self.folder / name).read_text(encoding="utf-8") for name in LOGS]
         assert texts[0].count("\n") >= requests, texts

@@ -126,7 +126,7 @@ def test_what_certbot_leaves_is_served_without_tls(stage: Stage) -> None:
     stage.front.stop()
     with standing(stage.front, lambda text: text.replace("root /var/www/html;", f"root {stage.folder};")):
         for path, status in (("/.well-known/acme-challenge/a1", 200), ("/.well-known/x", 301), ("/site.key", 301)):
-            line = http.client.HTTPConnection("127.0.0.1", stage.plain_port, timeout=20)
+            line = http.client.HTTPConnection("127.0.0.1", stage.plain_port, timeout=60)
             with contextlib.closing(line):
                 line.request("GET", path)
                 answer = line.getresponse()
@@ -481,7 +481,7 @@ def test_more_than_a_hundred_that_wait_are_told_to_come_again(stage: Stage) -> N
     def go_on() -> None:
         """Lets the office go on once twenty were refused."""
         for _ in range(20):
-            refused.acquire(timeout=20)
+            refused.acquire(timeout=60)
         stage.go_on()
 
     with stage.standing_still(), ThreadPoolExecutor(1) as beside:

@@ -90,7 +90,7 @@ def test_an_office_that_ends_in_a_crowd_answers_all_who_read(stage: Stage) -> No
 
     def comes_back() -> None:
         assert stage.office
-        stage.office.wait(timeout=20)
+        stage.office.wait(timeout=60)
         stage.stop_office()
         time.sleep(0.3)
         stage.start_office()

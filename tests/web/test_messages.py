@@ -1,4 +1,5 @@
-"""The messages of tests/test_http_messages.py through the front: odd, cut, random, with a byte changed.
+"""The messages of tests/test_http_messages.py through the front: odd, cut, random, with a byte changed; a short run draws
+a fifth of those that are drawn.
 
 None reaches the office under a key that it did not come with, and each is answered, or closed.
 """
@@ -15,21 +16,21 @@ from collections.abc import Iterator
 import pytest
 
 from lib import messages, served
+from lib.sample import Sample
+
 from .offices import DESK, NOW
 from .stage import Stage
 
-COUNT = 10_000
-SECONDS = 20.0
+SECONDS = 60.0
 
 
-def drawn() -> Iterator[bytes]:
-    """So many of them, with the paths of the front, the key of the desk, and a month whose window is open."""
-    chance = random.Random(43)
-    given = [*messages.VALID, *messages.limits(), *messages.odd()]
-    given += chance.sample(list(messages.cuts()), 1500)
-    given += messages.drawn_bytes(chance, 1000)
-    given += messages.changed(chance, COUNT - len(given))
-    assert len(given) == COUNT
+def drawn(sample: Sample) -> Iterator[bytes]:
+    """All of them, with the paths of the front, the key of the desk, and a month whose window is open."""
+    chance = random.Random(43) if sample.is_long else sample.drawn("messages through the front")
+    given = [*messages.VALID, *messages.limits(), *sample.of([*messages.odd()], 400, "odd messages")]
+    given += chance.sample(list(messages.cuts()), sample.count(300, 1500))
+    given += messages.drawn_bytes(chance, sample.count(200, 1000))
+    given += messages.changed(chance, sample.count(2_000, 10_000) - len(given))
     chance.shuffle(given)
     for at, text in enumerate(given):
         moved = re.sub(rb"(?<=^GET |^PUT )/(?!/)|(?<=^POST )/(?!/)", b"/api/", text, count=1)
@@ -69,10 +70,12 @@ def keys_of(head: bytes) -> list[bytes]:
     return [key for field in fields for key in re.findall(rb"[0-9a-fA-F]{32}", field)]
 
 
-def test_no_message_reaches_the_office_under_a_key_that_it_did_not_come_with(plain_stage: Stage) -> None:
+def test_no_message_reaches_the_office_under_a_key_that_it_did_not_come_with(
+    plain_stage: Stage, sample: Sample
+) -> None:
     told: Counter[str] = Counter()
     reached, borne = 0, 0
-    for text in drawn():
+    for text in drawn(sample):
         before = len(plain_stage.relay.seen)
         answer = answered(plain_stage, text)
         told[answer[9:12].decode(errors="replace") if answer.startswith(b"HTTP/1.1 ") else "closed"] += 1
@@ -84,9 +87,10 @@ def test_no_message_reaches_the_office_under_a_key_that_it_did_not_come_with(pla
             assert [key for key in keys_of(head) if key not in came_with] == [], (text, head)
             assert re.match(rb"(GET|PUT|POST) /[a-z]+[^ ]* HTTP/1\.1\r\n", head), head
             assert keys_of(head) or re.match(rb"GET /(items|tables|table/[^ ]*) ", head), head
-    assert sum(told.values()) == COUNT
+    count = sum(told.values())
+    assert count == sample.count(2_000, 10_000)
     assert {"200", "400", "401", "404"} <= set(told) and told["500"] == told["504"] == 0, told
-    assert reached > borne > 1000, (reached, borne, told)
+    assert reached > borne > count / 10, (reached, borne, told)
     # (after all of them the office answers as before)
     assert plain_stage.office and plain_stage.office.poll() is None
-    print(f"{COUNT} messages: {reached} reached the office, {borne} of them with a key; {dict(told)}")
+    print(f"{count} messages: {reached} reached the office, {borne} of them with a key; {dict(told)}")

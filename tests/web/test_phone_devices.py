@@ -156,7 +156,7 @@ def reply_is_lost(phone: Phone, stage: Stage) -> None:
     stage.relay.lose = 1
     stage.relay.paused.set()
     phone.enter(1, "3.10")
-    assert stage.relay.lost.wait(10)
+    assert stage.relay.lost.wait(60)
     without_line(phone)
     stage.relay.paused.clear()
     phone.browser.wait_text("#line", "No line: 1 entry kept on this phone")

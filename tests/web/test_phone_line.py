@@ -62,7 +62,7 @@ def test_a_reply_that_is_lost_is_asked_again_and_has_its_receipt(phone: Phone, s
     phone.sign_in()
     stage.relay.lose = 1
     phone.enter(1, "3.21")
-    assert stage.relay.lost.wait(10)
+    assert stage.relay.lost.wait(60)
     assert stored(stage, 1) == [("price", 321, NEXT)]  # (stored, and the page doesn't know)
     phone.show("all")
     phone.wait_told(1, f"Receipt {NEXT}")  # (sent again by itself)
@@ -101,7 +101,7 @@ def test_a_day_whose_line_breaks_within_an_import(phone: Phone, stage: Stage) ->
     stage.relay.lose = 1
     stage.relay.paused.set()
     phone.enter(1, "3.21")
-    assert stage.relay.lost.wait(10)
+    assert stage.relay.lost.wait(60)
     stage.front.stop(signal.SIGKILL)
     stage.relay.paused.clear()
     phone.browser.wait_text("#line", "No line: 1 entry")

@@ -114,7 +114,7 @@ def test_a_batch_that_was_under_way_is_sent_too(phone: Phone, stage: Stage) -> N
     stage.relay.paused.set()
     phone.enter(3, "0.77")
     phone.enter(4, "1.10")
-    assert stage.relay.lost.wait(10)
+    assert stage.relay.lost.wait(60)
     stage.restore(copy)
     stage.relay.paused.clear()
     wait_told(phone, 1, "11")

@@ -27,7 +27,7 @@ from .offices import ANNA, NOW
 from .stage import Stage
 
 TRY = ROOT / "ops/try"
-SECONDS = 30.0
+SECONDS = 120.0
 
 
 class Trial:
@@ -85,7 +85,7 @@ class Trial:
     def left(self) -> list[int]:
         """Which of its children still run, after a moment at most."""
         begun = time.monotonic()
-        while (found := [it for it in self.children if is_running(it)]) and time.monotonic() - begun < 2:
+        while (found := [it for it in self.children if is_running(it)]) and time.monotonic() - begun < 20:
             time.sleep(0.05)
         return found
 
