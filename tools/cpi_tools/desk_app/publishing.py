@@ -7,6 +7,7 @@ publishes as soon as it is.
 
 from __future__ import annotations
 
+import contextlib
 import json
 import os
 import subprocess
@@ -28,7 +29,7 @@ from ..told import Told
 from ..told import told as _
 from ..whole_files import write_whole
 from .desk_log import SAID, DeskLog
-from .faults import met, not_as_written, says
+from .faults import met, not_as_written, of_system, says
 
 LOOKS_EVERY = 20.0
 """Seconds from one look at what is planned to the next, at most."""
@@ -98,7 +99,8 @@ class Publisher:
         self._process: Optional[subprocess.Popen[str]] = None
         self._thread = threading.Thread(target=self._follow, daemon=True, name="publisher")
         self.running: Optional[Running] = None
-        self.fault, self.told, self._failed_at = Worded(""), Worded(""), 0.0
+        self.fault, self.told, self.left = Worded(""), Worded(""), Worded("")
+        self._failed_at, self._logged = 0.0, Worded("")
 
     # ---- what there is
 
@@ -180,8 +182,11 @@ class Publisher:
 
     def _run(self, by: str) -> None:
         try:
-            self.told, self.fault = self._written(by), Worded("")
-            self._done()
+            at = int(time.time())
+            told, errors = self._written(at)
+            self.told = own_line(" ".join([told, *errors.splitlines()]))
+            self.fault = self.left = self._logged = Worded("")
+            self._keep_written(by, f"the website was written, with what is out at {time_text(at)}: {told}")
         except Fault as fault:
             self._failed(by, says(fault), fault.line if isinstance(fault, NotWritten) else str(fault))
         except Exception as fault:
@@ -193,14 +198,30 @@ class Publisher:
 
     def _failed(self, by: str, why: Worded, line: str) -> None:
         """Keeps why the website wasn't written; the log has its line once, however often it is tried again."""
-        self._failed_at = time.monotonic()
-        if why != self.fault:
-            self._log.append(by, SAID, text=f"the website couldn't be written: {line}")
-        self.fault = why
+        self.fault, self._failed_at = why, time.monotonic()
+        if why != self._logged:
+            # (a full disk has no room for the log either: the page tells it, and the log once there is room)
+            with contextlib.suppress(Fault):
+                self._log.append(by, SAID, text=f"the website couldn't be written: {line}")
+                self._logged = why
 
-    def _written(self, by: str) -> Worded:
-        """Writes the website; what `publish` says. Raises Fault."""
-        at = int(time.time())
+    def _keep_written(self, by: str, line: str) -> None:
+        """Keeps that the website was written; if that fails it was written all the same, and the page tells both."""
+        for step in (lambda: self._log.append(by, SAID, text=line), self._done):
+            try:
+                step()
+            except Fault as fault:
+                self.left, self._failed_at = self._says_kept(fault), time.monotonic()
+
+    def _says_kept(self, fault: Fault) -> Worded:
+        """Why it isn't kept that the website was written. (The log says of itself that nothing was done.)"""
+        cause = fault.__cause__
+        if not isinstance(cause, OSError):
+            return says(fault)
+        return of_system(cause, "" if cause.filename else f"{self._log.path}: {cause.strerror}")
+
+    def _written(self, at: int) -> tuple[str, str]:
+        """Writes the website as it is at a moment; what `publish` prints, and what it warns of. Raises Fault."""
         words = [sys.executable, "-m", "cpi_tools", "publish", "--db", self._file, "--at", at]
         words += ["--program", self._program, "--config", self.site.config, "--out", self.site.folder]
         words += ["--sign", self.site.key] if self.site.key else []
@@ -213,8 +234,7 @@ class Publisher:
             told, errors = self._process.communicate()
         if self._process.returncode:
             raise _ended(self._process.returncode, errors)
-        self._log.append(by, SAID, text=f"the website was written, with what is out at {time_text(at)}: {told.strip()}")
-        return own_line(" ".join([told.strip(), *errors.strip().splitlines()]))
+        return told.strip(), errors.strip()
 
     def _done(self) -> None:
         """Forgets what was planned and is in the website now."""
@@ -253,7 +273,7 @@ class Publisher:
             self.fault = says(fault)
             return LOOKS_EVERY
         wait = planned[0].at - time.time() if planned else LOOKS_EVERY
-        is_waiting = bool(self.fault) and time.monotonic() - self._failed_at < AGAIN_AFTER
+        is_waiting = bool(self.fault or self.left) and time.monotonic() - self._failed_at < AGAIN_AFTER
         if planned and wait <= 0 and not is_waiting:
             self.begin(planned[0].by)
         return min(LOOKS_EVERY, wait) if wait > 0 else 1.0
