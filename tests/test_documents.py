@@ -30,7 +30,7 @@ from typing import NamedTuple
 import pytest
 
 from lib.documents import all_words, document_faults
-from lib.harness import Fault
+from lib.fault import Fault
 from lib.places import ROOT
 from lib.program import Going, Program
 from lib.served import free_port

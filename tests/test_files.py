@@ -34,7 +34,7 @@ from lib.filed import (
     COLLECTOR, HAND_OVER, KEY, OTHER_KEY, QUOTE, answered, kept_otherwise, listed_otherwise, office, office_case,
     replayed, stored_otherwise,
 )  # fmt: skip
-from lib.harness import Fault
+from lib.fault import Fault
 from lib.program import Going, Program, Ran, failed, with_disk
 from lib.records import record_ends, records_of
 from lib.refusing import spread

@@ -41,7 +41,7 @@ from typing import cast
 
 import pytest
 
-from lib.harness import Fault
+from lib.fault import Fault
 from lib.offices import LAST
 from lib.program import PATIENCE, Going, Program
 from lib.records import first_difference

@@ -24,7 +24,7 @@ import pytest
 from lib.by_rule import (
     NATIONAL, Mark, Plan, Size, codes_above, is_in_year, mark_of, month_of, records_of, table_record, title_of,
 )  # fmt: skip
-from lib.harness import Fault
+from lib.fault import Fault
 from lib.program import PATIENCE, Program
 
 HUNDRED = 100_000_000

@@ -19,7 +19,7 @@ from typing import Any
 
 import pytest
 
-from lib.harness import Fault
+from lib.fault import Fault
 from lib.limits import bodies, messages, months, numbers, released, standing, stored, texts, words
 from lib.limits.elsewhere import ELSEWHERE
 from lib.limits.limit import Limit, unsaid

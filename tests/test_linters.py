@@ -20,7 +20,7 @@ import subprocess
 import pytest
 from tree import written_in
 
-from lib.harness import Fault
+from lib.fault import Fault
 from lib.linting import LINTERS, Linter
 from lib.places import ROOT
 from lib.tried import fault_in

@@ -28,7 +28,7 @@ from typing import NamedTuple
 
 import pytest
 
-from lib.harness import Fault
+from lib.fault import Fault
 from lib.long_life import ITEMS, SLOTS, TITLE, entries, office_of, years
 from lib.offices import aggregates, key_of, plan_of
 from lib.program import Program, Ran, failed, with_data, with_memory

@@ -14,7 +14,7 @@ from collections.abc import Iterator
 
 import pytest
 
-from lib.harness import Fault
+from lib.fault import Fault
 from lib.offices import RICE_AND_FLOUR, quoted
 from lib.program import Program
 from lib.sample import Sample

@@ -26,7 +26,7 @@ from typing import Union
 
 import pytest
 
-from lib.harness import Fault
+from lib.fault import Fault
 from lib.open_office import QUOTE, QUOTED, QUOTES, RECEIPT, UNQUOTED, office
 from lib.program import Program, Ran, failed
 from lib.records import records_of

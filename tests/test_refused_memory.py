@@ -24,7 +24,7 @@ from typing import Union
 
 import pytest
 
-from lib.harness import Fault
+from lib.fault import Fault
 from lib.program import Program, Ran
 from lib.refusing import UNAVAILABLE, Library, Stream, is_of_lines, numbers_of
 from lib.sample import Sample

@@ -25,7 +25,7 @@ from lib.damage import NO_ROWS, OTHER_LEVEL, OTHER_VERSIONS, Begin, Way, opened_
 from lib.filed import (
     QUOTE, answered, kept_otherwise, listed_otherwise, listing, office_case, rows_in, told_otherwise, unsound,
 )  # fmt: skip
-from lib.harness import Fault
+from lib.fault import Fault
 from lib.places import ROOT
 from lib.program import WELL, Program, failed, with_disk
 from lib.records import record_ends

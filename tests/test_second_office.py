@@ -29,7 +29,7 @@ from __future__ import annotations
 
 import pytest
 
-from lib.harness import Fault
+from lib.fault import Fault
 from lib.kinds import KINDS
 from lib.program import Program
 from lib.runs import fault_of

@@ -390,22 +390,28 @@ def green_tests_and_shipping(it: Repository) -> Iterator[Seen]:
     yield "./cpi runs it where it lies", it.run("cpi", "echo", "a b") == Ran(0, "a b\n", "") and it.told() == []
 
 
-def comparing(it: Repository, text: bytes) -> Iterator[Seen]:
-    def shipped() -> Ran:
-        return it.run("tests/test_shipped_program.py", "--program", f"{it.room}/built")
+def comparing(it: Repository) -> Iterator[Seen]:
+    """The program of dist/ is compared with what was built, by the tests as they are."""
+    begin_test(it)
+    it.run("test")
+    built = (it.crates / "cpi/out/cpi").read_bytes()
+    it.take_tests()
 
-    put(it.room / "built", "", 0o755)
-    (it.room / "built").write_bytes(text)
-    yield "the same program: its cases run too", shipped() == Ran(0, "4 passed, 0 failed\n", "")
-    it.ship(text + b"more")
-    yield "another program fails", shipped().status == 1 and it.last.out.endswith("3 passed, 1 failed\n")
-    yield "and fails ./test", it.run("test").status == 1 and "wasn't green" in it.run("tools/dist").err
-    it.ship(text + b"more", kit="rattle-kit-1")
+    def shipped() -> Ran:
+        return it.run("tests/run", "tests/test_shipped_program.py", f"--program={it.crates}/cpi/out/cpi", cwd=it.top)
+
+    it.ship(built)
+    yield "the same program", shipped().status == 0 and it.last.out.endswith("2 passed, 0 failed\n")
+    it.ship(built + b"more")
+    yield "another program fails", shipped().status == 1 and it.last.out.endswith("1 passed, 1 failed\n")
+    it.ship(built + b"more", kit="rattle-kit-1")
     yield "of another kit it isn't compared", shipped().status == 0 and "rattle-kit-1" in it.last.out
-    it.ship(text + b"more", sources="0")
+    it.ship(built + b"more", sources="0")
     yield "of other sources it isn't compared", shipped().status == 0 and "other sources" in it.last.out
-    it.ship(text, program="0", sources="0")
+    it.ship(built, program="0", sources="0")
     yield "one that MADE doesn't name fails", shipped().status == 1
+    shutil.rmtree(it.top / "dist")
+    yield "there may be none", shipped().status == 0 and "no program to compare" in it.last.out
 
 
 def notices_of_libraries(it: Repository) -> Iterator[Seen]:

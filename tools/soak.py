@@ -18,6 +18,7 @@ a run of records, a message, a peer, a file, or a life.
 
 from __future__ import annotations
 
+import argparse
 import collections
 import os
 import random
@@ -25,12 +26,12 @@ import socket
 import sys
 import tempfile
 import time
-from collections.abc import Iterator
+from collections.abc import Callable, Iterator
 from functools import partial
 
 sys.path.insert(0, os.path.join(os.path.dirname(os.path.abspath(__file__)), "../tests"))
 
-from lib.harness import Check, Checks, Fault, program_of, words_of  # noqa: E402
+from lib.fault import Fault  # noqa: E402
 from lib.kinds import KINDS  # noqa: E402
 from lib.messages import Compared  # noqa: E402
 from lib.open_office import ITEMS, KA, KC, QUOTES  # noqa: E402
@@ -51,6 +52,25 @@ RECORDS = [
     ["1500", "public", "tables"],
     ["1500", "public", "table", "2025-12", "text"],
 ]
+
+
+class Checks:
+    """Counts what is right, and prints each fault."""
+
+    def __init__(self) -> None:
+        self.passed = self.failed = 0
+
+    def check(self, name: str, find: Callable[[], Fault]) -> None:
+        """Counts what this finds: a fault, or what it raises, or nothing wrong."""
+        try:
+            fault = find()
+        except Exception as raised:
+            fault = f"it ended early: {raised!r}"
+        if fault is None:
+            self.passed += 1
+        else:
+            self.failed += 1
+            print(f"FAILED {name}: {fault}"[:1000], flush=True)
 
 
 def drawn_entry(drawn: random.Random) -> str:
@@ -143,10 +163,10 @@ def serve(checks: Checks, program: Program, seed: int, counts: collections.Count
         for at, (kind, text) in enumerate(texts):
             if at in peers:
                 counts["peers of another kind"] += 1
-                checks.run([Check(f"{name}, a peer", partial(peer, drawn, served))], lanes=1)
+                checks.check(f"{name}, a peer", partial(peer, drawn, served))
             counts[f"messages {kind}"] += 1
-            checks.run([Check(f"{name}, message {at}", partial(served.fault, text))], lanes=1)
-        checks.run([Check(f"{name}, its file", partial(in_the_file, program, served))], lanes=1)
+            checks.check(f"{name}, message {at}", partial(served.fault, text))
+        checks.check(f"{name}, its file", partial(in_the_file, program, served))
     counts["offices served"] += 1
 
 
@@ -160,44 +180,59 @@ def lived(program: Program, seed: int, size: Size, counts: collections.Counter[s
 
 def compare(checks: Checks, program: Program, seed: int, met: set[str], counts: collections.Counter[str]) -> None:
     """Runs of records, and an office that is served."""
-    runs = range(seed, seed + RUNS)
-    checks.run((Check(f"run {at}", partial(fault_of, program, at, met)) for at in runs), lanes=1)
+    for at in range(seed, seed + RUNS):
+        checks.check(f"run {at}", partial(fault_of, program, at, met))
     counts["runs of records"] += RUNS
     serve(checks, program, seed, counts)
 
 
-def main() -> int:
-    words = words_of(__doc__)
+def read_words() -> argparse.Namespace:
+    """The words of this script."""
+    words = argparse.ArgumentParser(description=__doc__, formatter_class=argparse.RawDescriptionHelpFormatter)
     words.add_argument("seconds", type=int, help="how long")
     words.add_argument("--first", type=int, default=int(time.time()), metavar="SEED", help="the first seed")
     words.add_argument(
         "--year", nargs=2, type=int, metavar=("MONTHS", "COLLECTORS"), help="live years of countries of this size"
     )
-    chosen, met, counts = program_of(words), set[str](), collections.Counter[str]()
+    words.add_argument(
+        "--program", default="crates/cpi/out/cpi", metavar="FILE", help="the program cpi (else %(default)s)"
+    )
+    chosen = words.parse_args()
     if chosen.year and (chosen.year[0] < 1 or chosen.year[1] < LEAST):
         words.error(f"--year {chosen.year[0]} {chosen.year[1]}: a month at least, and {LEAST} collectors")
+    if not os.access(chosen.program, os.X_OK):
+        words.exit(1, f"{words.prog}: there is no program {chosen.program}\n")
+    return chosen
+
+
+def main() -> int:
+    """The exit status: 0 if nothing differed."""
+    chosen = read_words()
+    program = Program(os.path.abspath(chosen.program))
+    checks, met, counts = Checks(), set[str](), collections.Counter[str]()
+    print(f"from seed {chosen.first}", flush=True)
     began = minute = time.monotonic()
-    with Checks() as checks:
-        checks.note(f"from seed {chosen.first}")
-        seed = chosen.first
-        while time.monotonic() - began < chosen.seconds:
-            if chosen.year:
-                size = Size(chosen.year[0], chosen.year[1], SLOTS)
-                checks.run([Check(f"life {seed}", partial(lived, chosen.program, seed, size, counts))], lanes=1)
-                seed += 1
-            else:
-                compare(checks, chosen.program, seed, met, counts)
-                seed += RUNS
-            if time.monotonic() - minute > MINUTE:
-                minute = time.monotonic()
-                checks.note(f"{minute - began:.0f} s: {told(counts)}")
-        checks.note(f"{time.monotonic() - began:.0f} s: {told(counts)}")
-        if not chosen.year:
-            checks.note(f"{len(met & KINDS)} of {len(KINDS)} kinds of replies were met")
-    return checks.status
+    seed = chosen.first
+    while time.monotonic() - began < chosen.seconds:
+        if chosen.year:
+            size = Size(chosen.year[0], chosen.year[1], SLOTS)
+            checks.check(f"life {seed}", partial(lived, program, seed, size, counts))
+            seed += 1
+        else:
+            compare(checks, program, seed, met, counts)
+            seed += RUNS
+        if time.monotonic() - minute > MINUTE:
+            minute = time.monotonic()
+            print(f"{minute - began:.0f} s: {listed(counts)}", flush=True)
+    print(f"{time.monotonic() - began:.0f} s: {listed(counts)}")
+    if not chosen.year:
+        print(f"{len(met & KINDS)} of {len(KINDS)} kinds of replies were met")
+    print(f"{checks.passed} passed, {checks.failed} failed", flush=True)
+    return 1 if checks.failed else 0
 
 
-def told(counts: collections.Counter[str]) -> str:
+def listed(counts: collections.Counter[str]) -> str:
+    """The counts, by their names."""
     return ", ".join(f"{count} {name}" for name, count in counts.items())
 
 

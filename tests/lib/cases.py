@@ -5,7 +5,8 @@ from __future__ import annotations
 import os
 import tempfile
 
-from .harness import TOP, Fault
+from .fault import Fault
+from .places import TOP
 from .program import Program
 
 FOLDER = os.path.join(TOP, "tests/cases")

@@ -7,7 +7,7 @@ from collections.abc import Callable, Sequence
 
 from .cases import content
 from .filed import QUOTE
-from .harness import Fault
+from .fault import Fault
 from .program import Program, failed
 from .stored import change, copied
 from .tried import fault_in

@@ -17,7 +17,7 @@ from second_office.rows import TABLES, Kept, rows_of
 
 from . import records
 from .cases import Case
-from .harness import Fault
+from .fault import Fault
 from .offices import LAST
 from .program import Program, Ran, failed
 from .stored import faults_of, stored, tables_of

@@ -12,7 +12,7 @@ from second_office.records import KEYS
 from second_office.requests import Record
 from second_office.values import Month
 
-from .harness import Fault
+from .fault import Fault
 from .records import first_difference
 
 

@@ -13,7 +13,7 @@ import tempfile
 from collections.abc import Iterable, Sequence
 from typing import Callable, NamedTuple
 
-from .harness import TOP
+from .places import TOP
 
 WORDS = "tests/linters/words.txt"
 """Words that codespell would change, and that are right."""

@@ -14,7 +14,7 @@ from collections.abc import Iterator
 from second_office import http_messages
 from second_office.office import Office
 
-from .harness import Fault
+from .fault import Fault
 from .offices import LAST
 from .open_office import KA, KC, OPEN, QUOTE, office
 from .program import Program

@@ -11,7 +11,7 @@ from typing import NamedTuple, Optional
 
 from second_office.requests import Record
 
-from .harness import TOP
+from .places import TOP
 from .records import rows_of
 
 EXAMPLE = os.path.join(TOP, "examples/national")

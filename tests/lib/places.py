@@ -4,3 +4,6 @@ from pathlib import Path
 
 ROOT = Path(__file__).resolve().parents[2]
 """The folder of the repository."""
+
+TOP = str(ROOT)
+"""The same, as a text."""

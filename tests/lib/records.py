@@ -6,7 +6,7 @@ import csv
 import io
 from collections.abc import Iterable, Sequence
 
-from .harness import Fault
+from .fault import Fault
 
 
 def record_ends(text: bytes) -> list[int]:

@@ -11,7 +11,7 @@ import subprocess
 from collections.abc import Callable, Iterator, Sequence
 
 from .cases import Case
-from .harness import TOP
+from .places import TOP
 from .program import Program, Ran
 from .records import records_of
 from .sample import Sample

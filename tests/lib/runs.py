@@ -14,7 +14,7 @@ from second_office.requests import Record
 from second_office.values import Month
 from second_office.years import Years
 
-from .harness import Fault
+from .fault import Fault
 from .isolation import (
     Again,
     Run,

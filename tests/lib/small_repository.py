@@ -169,6 +169,15 @@ class Repository:
         text += f"sleep {sleeps}.{os.getpid()}\n" if sleeps else ""
         put(self.top / name, f"{text}exit {status}\n", 0o755)
 
+    def take_tests(self) -> None:
+        """Takes what test_shipped_program.py needs as it is, in place of the stand-in, with one case."""
+        names = ["tests/run", "tests/pytest.ini", "tests/conftest.py", "tests/second_tries.txt"]
+        names += ["tests/test_shipped_program.py", *(f"tests/lib/{it.name}" for it in (TOP / "tests/lib").glob("*.py"))]
+        for name in names:
+            put(self.top / name, (TOP / name).read_text(encoding="utf-8"), 0o755)
+        for name, text in {"args": "echo\nhi\n", "stdin": "", "stdout": "hi\n", "status": "0\n"}.items():
+            put(self.top / "tests/cases/one" / name, text)
+
     def calls(self, name: str, keep: bool = False) -> list[str]:
         """The words of each call of a stand-in since this was asked last."""
         file = self.room / "calls" / name

@@ -4,7 +4,7 @@ from __future__ import annotations
 
 from collections.abc import Iterable
 
-from .harness import Fault
+from .fault import Fault
 
 SHOWN, LONGEST = 3, 1000
 """So many faults are told, and of each so many characters."""

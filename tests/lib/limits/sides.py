@@ -13,7 +13,7 @@ from second_office import http_messages
 from second_office.office import Office
 from second_office.records import text_of
 
-from ..harness import Fault
+from ..fault import Fault
 from ..offices import LAST
 from ..open_office import OPEN
 from ..program import Program, Ran

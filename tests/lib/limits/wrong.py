@@ -7,7 +7,7 @@ from collections.abc import Callable, Iterable, Iterator
 
 from second_office import limits as ranges
 
-from ..harness import Fault
+from ..fault import Fault
 from .limit import Asked, Limit
 from .sides import fault_of
 

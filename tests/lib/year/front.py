@@ -22,7 +22,7 @@ from collections.abc import Callable, Mapping
 from pathlib import Path
 from typing import Optional
 
-from lib.harness import TOP
+from lib.places import TOP
 from lib.served import free_port
 
 sys.path.insert(0, os.path.join(TOP, "tools"))

@@ -11,7 +11,7 @@ import subprocess
 import time
 from typing import NamedTuple, Optional
 
-from lib.harness import TOP
+from lib.places import TOP
 
 from . import clock as clocks
 
