@@ -581,10 +581,16 @@ def test_an_edit_of_a_caller_gets_a_run_without_the_edit_of_what_it_calls(clone:
     assert [it.count("--only") for it in stand_in.runs()] == [2, 1]
 
 
-def test_a_function_whose_proof_can_not_be_a_hole_is_proved(clone: Clone, stand_in: StandIn) -> None:
+@pytest.mark.parametrize(
+    "wrong",
+    [
+        "./proofs/a/a/Proof.antt:3:5: error: `a_spec`: expected a type",
+        "error: `proofs/a/a/Proof.antt` is the proof of no function",
+    ],
+)
+def test_a_function_whose_proof_can_not_be_a_hole_is_proved(clone: Clone, stand_in: StandIn, wrong: str) -> None:
     for name in ("a", "b"):
         clone.write(f"low/src/{name}.rt", f"pub fn {name}() -> u32 {{\n    2\n}}\n")
-    wrong = "./proofs/a/a/Proof.antt:3:5: error: `a_spec`: expected a type"
     stand_in.write(
         f"ls -d proofs/*/* >> {stand_in.calls()}\n[ ! -e proofs/a/a ] || echo '{wrong}'\n{write_ending(SEEN, 1)}"
     )

@@ -82,7 +82,7 @@ class Prover:
             holes = assume_others(crate, proved, texts)
             more = [word for name in sorted(wanted) for word in ("--only", name)]
             report = self.check(crate, edits, texts, ["--allow-holes", *more])
-            unknown, faulty = report.find_unknown(), report.list_files_with_errors() & holes
+            unknown, faulty = report.find_unknown(), report.list_faulty_proofs() & holes
             if unknown in wanted:
                 # (of a method that a macro writes the prover knows another name: the module stands for it)
                 wanted |= {name_module(it.file) for edit in edits for it in edit.functions if it.name == unknown}

@@ -14,6 +14,7 @@ from .edits import Edit
 
 GOAL = re.compile(r"note: (src/\S+?):(\d+):\d+: it is not proved that .*?\(`([^`]*)`\)")
 PROOF = re.compile(r"(?:\./)?(proofs/(\S+)/[^/]+\.antt:\d+):\d+: error: `([^`]*)`: (.*)")
+PROOF_FILE = re.compile(r"proofs/[^\s:`]+\.antt")
 FUNCTION = re.compile(r"fn \w+::(\S+): (.*)")
 FOLLOWS = re.compile(r"was not admitted|was rejected|were not checked")
 """What is said of a proof that only cites another one which isn't taken."""
@@ -63,9 +64,9 @@ class Report(NamedTuple):
         found = UNKNOWN.search("\n".join(self.lines)) if self.status == NOT_CALLED_WELL else None
         return found[1] if found else ""
 
-    def list_files_with_errors(self) -> set[str]:
-        """The files, by their paths below the crate, in which something isn't taken."""
-        return {it["file"] for it in map(ERROR.match, self.lines) if it}
+    def list_faulty_proofs(self) -> set[str]:
+        """The files of proofs, by their paths below the crate, that an error names."""
+        return {path for line in self.lines if "error" in line for path in PROOF_FILE.findall(line)}
 
     def list_calls(self, crate: str) -> dict[str, set[str]]:
         """By the name of each function that isn't proved, the functions of the crate that it calls and that aren't."""
