@@ -61,6 +61,7 @@ def fault_of(found: list[str], known: int) -> Fault:
     return None
 
 
+@pytest.mark.timeout(3600)
 @pytest.mark.usefixtures("installed")
 @pytest.mark.parametrize("name", BY_NAME)
 def test_a_linter_finds_what_is_known(name: str) -> None:
