@@ -22,13 +22,14 @@ from lib.messages import VALID, Compared
 from lib.open_office import KA
 from lib.program import Program
 from lib.sample import Sample
-from lib.served import ENDED, message
+from lib.served import ENDED, LIMIT, message
 from lib.tried import fault_in
 
 pytestmark = pytest.mark.spread
 
 PARTS = 4
 """Into so many tests the messages of a kind are divided if they are many."""
+LEFT = b"cpi: 1000 connections of --limit are left\n"
 
 
 def compare(program: Program, room: str, texts: Sequence[bytes]) -> None:
@@ -39,7 +40,7 @@ def compare(program: Program, room: str, texts: Sequence[bytes]) -> None:
     with Compared(program, room, len(sent)) as served:
         fault = fault_in((f"message {at}", served.fault(text)) for at, text in enumerate(sent))
         assert fault is None, fault
-        assert served.end() == ENDED
+        assert served.end() == (0, b"", LEFT * (len(sent) > 1000) + LIMIT)
 
 
 def test_limits(program: Program, room: str) -> None:
