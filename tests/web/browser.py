@@ -231,7 +231,7 @@ class Browser:
     # ---- waiting
 
     def wait(self, condition: Callable[[], Any], told: str = "") -> Any:
-        return WebDriverWait(self.driver, SECONDS, 0.03).until(lambda _: condition(), told)
+        return WebDriverWait(self.driver, SECONDS, 0.05).until(lambda _: condition(), told)
 
     def wait_text(self, selector: str, text: str) -> None:
         self.wait(lambda: text in self.text(selector), f"{text!r} in {selector}")

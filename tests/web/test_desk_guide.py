@@ -120,6 +120,7 @@ class Follower:
         assert faults_for_keys(self.browser) == [], name
 
 
+@pytest.mark.long
 def test_a_december_is_closed_by_the_steps_of_the_guide(
     stage: Stage, browser: Browser, lived: tuple[Path, Path], tmp_path: Path
 ) -> None:

@@ -1,4 +1,4 @@
-"""The collectors' page on a slow phone: 400 rows.
+"""The collectors' page on a slow phone: 400 rows. Only a long run takes the time.
 
 The machine may be at other work, so of each step the best of some series counts.
 """
@@ -16,6 +16,8 @@ from .offices import NOBODY, NOW
 from .phone import Phone
 from .slowness import as_a_phone
 from .stage import Stage
+
+pytestmark = pytest.mark.long
 
 ROWS, SERIES, SAVES = 400, 6, 20
 

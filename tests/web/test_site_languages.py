@@ -163,6 +163,7 @@ def arabic(browser: Browser, stage: Stage, tmp_path: Path) -> Browser:
     return browser
 
 
+@pytest.mark.long
 def test_a_picture_has_the_months_of_its_language(arabic: Browser) -> None:
     """There is room for four names: each sixth of 13 months has one, and each second January of five years."""
     halves = ["يناير", "٢٠٢٥", "يوليو", "يناير", "٢٠٢٦"]

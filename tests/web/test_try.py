@@ -210,6 +210,7 @@ def test_a_port_that_is_taken_is_told(stage: Stage, tmp_path: Path) -> None:
     assert (ran.returncode, ran.stderr) == (1, told)
 
 
+@pytest.mark.long
 def test_the_made_up_country_may_be_moved_to_another_year(cpi: Cpi, tmp_path: Path) -> None:
     """Its tables are the same, a few years later, and the month that is asked for is open."""
     run = [str(ROOT / "examples/national/run"), "--program", str(cpi.path), "--out"]
