@@ -22,7 +22,8 @@ its carry list, and at these:
 - the first page, the page of each release by the tables of its day, the list of releases, the feed and the calendar
   have the right headlines and figures (lib/pack_releases.py), and pictures and cards show them (lib/pack_drawn.py).
 
-The pack is made by `examples/national/report`; what reads and computes here shares no code with it.
+The pack is made by `examples/national/report`; what reads and computes here shares no code with it. A short run makes one
+pack, and only a long one that with the changes between printed indices.
 """
 
 from __future__ import annotations
@@ -300,6 +301,7 @@ def as_printed(ran: Ran) -> Pack:
     return Pack(out, known, releases(ran.tables, YEAR, is_from_printed=True))
 
 
+@pytest.mark.long
 def test_changes_between_printed_indices_are_in_files(as_printed: Pack) -> None:
     site, known = as_printed.site, as_printed.known
     written = rows_of_csv(site / "data/printed.csv")
@@ -308,6 +310,7 @@ def test_changes_between_printed_indices_are_in_files(as_printed: Pack) -> None:
     assert any(known.changes("00", month)[0] != known.lines["00"][month].monthly for month in known.months)
 
 
+@pytest.mark.long
 def test_changes_between_printed_indices_are_on_pages_and_pictures(as_printed: Pack) -> None:
     out, site, known, then = as_printed.out, as_printed.site, as_printed.known, as_printed.then
     assert first_of(release_faults(site, out / "tables", then)) is None
