@@ -3,6 +3,7 @@
 from __future__ import annotations
 
 import ast
+import functools
 import re
 import shutil
 import subprocess
@@ -24,7 +25,14 @@ import catalogues  # noqa: E402
 from cpi_tools.months_of_texts import NAMES as NAMES_OF_MONTHS  # noqa: E402
 
 LANGUAGES = catalogues.codes(ROOT / "po")
-SOURCE = catalogues.template(ROOT)
+
+
+@functools.cache
+def source() -> Catalog:
+    """The texts of all sources."""
+    found: Catalog = catalogues.template(ROOT)
+    return found
+
 
 # ---- no text is outside
 
@@ -251,7 +259,7 @@ def test_a_text_of_python_outside_of_the_catalogues_is_found() -> None:
 @pytest.mark.parametrize("language", LANGUAGES)
 def test_a_catalogue_is_whole(language: str) -> None:
     catalog = catalogues.read(ROOT / "po", language)
-    assert [*catalogues.faults(catalog, SOURCE)] == []
+    assert [*catalogues.faults(catalog, source())] == []
     assert "No national office has reviewed this catalogue yet. Send a correction" in catalog.header_comment
     assert len({str(message.id) for message in catalog if message.id}) > 150
 
@@ -271,7 +279,7 @@ def spoiled(text: str, string: Any, flags: Iterable[str] = ()) -> list[str]:
     assert message
     message.string = string
     message.flags |= {*flags}
-    return [*catalogues.faults(catalog, SOURCE)]
+    return [*catalogues.faults(catalog, source())]
 
 
 def test_what_is_wrong_with_a_catalogue_is_said() -> None:
@@ -296,13 +304,13 @@ def test_what_is_wrong_with_a_catalogue_is_said() -> None:
     ]
     catalog = catalogues.read(ROOT / "po", "fr")
     catalog.add("No page says so", "Rien")
-    assert [*catalogues.faults(catalog, SOURCE)] == ["'No page says so': no page has it any more"]
+    assert [*catalogues.faults(catalog, source())] == ["'No page says so': no page has it any more"]
 
 
 def test_plural_forms_that_a_browser_could_not_choose_are_refused() -> None:
     catalog = catalogues.read(ROOT / "po", "fr")
     vars(catalog)["_plural_expr"] = "(n != 1)"  # (French counts 0 with 1, by CLDR)
-    assert [*catalogues.faults(catalog, SOURCE)] == [
+    assert [*catalogues.faults(catalog, source())] == [
         "Plural-Forms: 1 has another form than others of CLDR's category one"
     ]
 
