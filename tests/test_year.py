@@ -90,7 +90,7 @@ def test_one_collector_and_the_public_learn_nothing_of_others_prices(program: Pr
         assert here.heard[who] and apart(here, there, who) is None
 
 
-@pytest.mark.sampled(4)
+@pytest.mark.sampled(6)
 @pytest.mark.parametrize("name", SLIPS)
 def test_a_wrong_system_is_found_and_only_with_its_slip(program: Program, name: str) -> None:
     slip = SLIPS[name]

@@ -4,7 +4,6 @@ from __future__ import annotations
 
 import json
 import os
-import random
 import resource
 import shutil
 import signal
@@ -37,6 +36,7 @@ from cpi_tools.second_copies import (
 from cpi_tools.stored import stored_office
 from cpi_tools.terminal import Fault
 from lib.places import ROOT
+from lib.sample import Sample
 from .loads import Quotes, faults_of
 from .offices import TABLES
 from .ran import run
@@ -139,16 +139,17 @@ Follower(Path(sys.argv[2]), place_of(sys.argv[3], Path(sys.argv[4]), sys.argv[5]
 
 @pytest.mark.parametrize("way", ["folder", "rsync", "receiver"])
 def test_whatever_stops_a_follower_a_whole_copy_is_there(
-    way: str, cpi: Cpi, office: Path, dest: Path, tmp_path: Path, ssh: Path
+    way: str, cpi: Cpi, office: Path, dest: Path, tmp_path: Path, ssh: Path, sample: Sample
 ) -> None:
     """Killed at random moments of its rounds, with all that it started, while quotes are answered."""
-    drawn, place = random.Random(11), {"folder": str(dest), "rsync": f"second:{dest}", "receiver": "second:."}[way]
+    drawn = sample.drawn(f"when a follower is killed, {way}")
+    place = {"folder": str(dest), "rsync": f"second:{dest}", "receiver": "second:."}[way]
     if way == "receiver":
         receiver(ssh, dest)
     words = [str(ROOT / "tools"), str(office), place, str(tmp_path / "room"), str(ssh)]
     rounds = []
     with Quotes(cpi, office):
-        for _ in range(8):
+        for _ in range(sample.count(3, 8)):
             command = [sys.executable, "-c", ENDLESS, *words]
             with subprocess.Popen(command, stdout=subprocess.PIPE, text=True, start_new_session=True) as running:
                 assert running.stdout and running.stdout.readline()

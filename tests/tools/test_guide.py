@@ -9,6 +9,7 @@ from pathlib import Path
 
 from cpi_tools.program import Cpi
 from lib.places import ROOT
+from lib.sample import Sample
 from lib.served import free_port
 from .loads import served
 
@@ -71,10 +72,10 @@ def test_a_backup_is_restored(cpi: Cpi, office: Path, tmp_path: Path) -> None:
     assert sorted(os.listdir(tmp_path / "before")) == ["office.db", "office.db-wal"]
 
 
-def test_each_help_has_an_example_and_narrow_lines() -> None:
+def test_each_help_has_an_example_and_narrow_lines(sample: Sample) -> None:
     tools = ("backup", "drill", "probe", "doctor", "keys", "calendar", "desk", "explain", "publish", "take-in", "take-out",
              "next-year", "follow", "promote", "gaps")  # fmt: skip
-    for words in ([], *([tool] for tool in tools)):
+    for words in sample.of([[], *([tool] for tool in tools)], 5, "tools"):
         told = subprocess.run([ROOT / "cpi-tools", *words, "--help"], capture_output=True, text=True, check=True).stdout
         assert re.search(r"^example: cpi-tools [\w-]+ .*\boffice\.db\b", told, re.M), told
         assert [line for line in told.splitlines() if len(line) > 100] == []
