@@ -4,16 +4,24 @@ from __future__ import annotations
 
 import fcntl
 import subprocess
+from typing import Optional
 
 import pytest
 
 from .places import ROOT
 
 
-def need(script: str) -> None:
-    """Runs a script that installs packages unless they are there, in one process at a time; a fault of it is one line."""
+def fault_of(script: str) -> Optional[str]:
+    """Runs a script that installs packages unless they are there, in one process at a time; its fault, in one line."""
     with (ROOT / script).open("rb") as file:
         fcntl.flock(file, fcntl.LOCK_EX)
         ran = subprocess.run([ROOT / script], stdin=subprocess.DEVNULL, capture_output=True, text=True, check=False)
-    if ran.returncode:
-        pytest.fail((ran.stderr.strip() or f"{script}: status {ran.returncode}").splitlines()[-1], pytrace=False)
+    told = ran.stderr.strip() or f"{script}: status {ran.returncode}"
+    return told.splitlines()[-1] if ran.returncode else None
+
+
+def need(script: str) -> None:
+    """Fails if the packages that a script installs can't be had."""
+    fault = fault_of(script)
+    if fault:
+        pytest.fail(fault, pytrace=False)

@@ -7,18 +7,26 @@ from pathlib import Path
 
 import pytest
 
-from lib.installing import need
+from lib.installing import fault_of
 
-need("tools/setup")
+FAULT = fault_of("tools/setup")
+"""Why there are no tests here: what they need can't be installed."""
 
-from cpi_tools.pack.public import Published, from_file  # noqa: E402
-from cpi_tools.program import Cpi  # noqa: E402
-from lib.sample import Sample  # noqa: E402
+if not FAULT:
+    from cpi_tools.pack.public import Published, from_file
+    from cpi_tools.program import Cpi
+    from lib.sample import Sample
 
-from . import surveys  # noqa: E402
-from .desk_apps import ADA, Application, Person, applied  # noqa: E402
-from .offices import lived  # noqa: E402
-from .published import Office, made as made_public  # noqa: E402
+    from . import surveys
+    from .desk_apps import ADA, Application, Person, applied
+    from .offices import lived
+    from .published import Office, made as made_public
+
+
+def pytest_ignore_collect() -> None:
+    """One line says that no test can be read."""
+    if FAULT:
+        pytest.fail(FAULT, pytrace=False)
 
 
 @pytest.fixture(scope="session")
