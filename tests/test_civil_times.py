@@ -1,8 +1,8 @@
 """Compares the civil times that `cpi replay --zone` reads with the clocks of the C library.
 
-For each zone below it takes 200 civil times from 2000 to 2199, most of them within three hours of a change of the clock.
-The program is sent each one as the opening of a window, then a quote one second before the moment at which the C
-library's clock shows it, which has to be refused by 23, and the quote at that moment, which has to get its receipt. A
+For each zone below it takes 200 civil times from 2000 to 2199, most within three hours of a change of the clock. The
+program is sent each one as the opening of a window, then a quote one second before the moment at which the C library's
+clock shows it, which has to be refused by 23, and the quote at that moment, which has to get its receipt. A
 time that the clock shows twice is the earlier moment; one that it leaves out is as much later as the clock is moved.
 The first time is the beginning of 2026, whose moment is given below for some of the zones. Among the times there are
 some that the clock shows twice, some that it shows once, and some that it doesn't show.

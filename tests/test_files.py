@@ -6,8 +6,8 @@
 - Each table that a case asks for is printed by `cpi table` from the file as it is at the end, if no later freeze and
   no later moment can change it: the same bytes, or `cpi: no table`.
 - The file is read by the C library of SQLite: its integrity and its foreign keys are sound, and it has the twenty
-  tables that docs/reference/FORMATS.md names, with the rows of the second office (tests/second_office) if that gives the
-  case's lines. A file that the C library made is an office.
+  tables that docs/reference/FORMATS.md names, with the rows of the second office (tests/second_office) if that gives
+  the case's lines. A file that the C library made is an office.
 - A hand-over changes the two assignments of the file and nothing else; a file in which another program wrote the same
   rows is the same office. What is frozen again stands beside what was.
 - A file that another program has open is refused, and one after a killed program, one that finds no room on the disk,

@@ -3,8 +3,8 @@
 Each limit is asked with values one below, at and one above its ends, and everything else in order: in a record, in a
 message to `cpi serve`, in words of the command line, and in a row of a file. Records with a value at an end are also
 carried out over a file, which is then read again. A table (tests/lib/limits) has the answers that the documents give,
-and cites the documents for each limit. Every row of the limits of docs/reference/OFFICE.md has its values there, or names
-the file that tests it, or says why nothing can reach it.
+and cites the documents for each limit. Every row of the limits of docs/reference/OFFICE.md has its values there, or
+names the file that tests it, or says why nothing can reach it.
 
 Then each limit of the second office (tests/second_office/limits.py) is changed by one, and doubled. Some value of the
 table has to find each of these wrong limits.

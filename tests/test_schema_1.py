@@ -48,7 +48,7 @@ PARTS = 8  # so many tests share the cases
 
 def first_places(case: Case) -> list[int]:
     """The ends of the records of a case up to the one that freezes a month again, puts a plan with a reference month or
-    hands a series over, where the second office gives its lines."""
+    hands a series over; none if the second office gives other lines."""
     if case.status or "--zone" in case.words or answered(case.given)[1] != case.lines:
         return []
     office, places, begin = Kept(), list[int](), 0

@@ -76,7 +76,7 @@ def changed(path: str, copy: str, way: Way) -> str:
 
 
 def read_in_part(program: Program, path: str, told: Sequence[bytes], refused: Sequence[bytes]) -> Fault:
-    """What is wrong, if not the latter records alone are refused by 90, between the former and these once more."""
+    """What is wrong, if not only the latter records are refused by 90, between the former and these once more."""
     ran = program.replay(b"".join([*told, *refused, *told]), path)
     found = [line == b'{"refused":90}' for line in ran.out.splitlines()]
     wanted = [False] * len(told) + [True] * len(refused) + [False] * len(told)
