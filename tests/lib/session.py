@@ -30,7 +30,14 @@ PROCESSOR = "processor seconds"
 SECONDS = pytest.StashKey[float]()
 """What this process and those that it waited for had used when the last test ended."""
 
-FIRST = ("test_national_example.py", "web/test_phone.py", "test_year.py", "test_killed.py", "test_little_memory.py")
+FIRST = (
+    "test_linters.py",
+    "test_national_example.py",
+    "web/test_phone.py",
+    "test_year.py",
+    "test_killed.py",
+    "test_little_memory.py",
+)
 """The files that take longest, so they begin first."""
 
 
@@ -103,6 +110,11 @@ def pytest_collection_modifyitems(config: pytest.Config, items: list[pytest.Item
     items[:] = kept
     if left:
         config.hook.pytest_deselected(items=left)
+
+
+def pytest_assertrepr_compare(op: str, left: object, right: object) -> list[str] | None:
+    """Prints a fault as it is, if `assert fault is None` fails."""
+    return left.splitlines() if op == "is" and right is None and isinstance(left, str) else None
 
 
 # ---- minutes
