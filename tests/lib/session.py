@@ -33,10 +33,13 @@ SECONDS = pytest.StashKey[float]()
 FIRST = (
     "test_linters.py",
     "test_national_example.py",
+    "test_http_peers.py",
     "web/test_phone.py",
     "test_year.py",
+    "test_refused_memory.py",
     "test_killed.py",
     "test_little_memory.py",
+    "test_documents.py",
 )
 """The files that take longest, so they begin first."""
 
