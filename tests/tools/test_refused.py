@@ -248,6 +248,13 @@ def test_a_function_without_a_proof_of_its_own_is_not_taken_as_proved() -> None:
     assert assume_others(crate, set(), dict(crate.texts)) == set()
 
 
+def test_a_method_of_a_trait_with_arguments_is_not_taken_as_proved() -> None:
+    block = "impl {} {{\n    fn from(fault: Fault) -> Unread {{\n        Unread\n    }}\n}}\n"
+    for trait, holes in [("From<Fault> for Unread", set()), ("Make for Unread", {"proofs/UnreadMake/from/Proof.antt"})]:
+        crate = make_crate({"src/lib.rt": block.format(trait)})
+        assert assume_others(crate, set(), dict(crate.texts)) == holes
+
+
 # ---- groups
 
 

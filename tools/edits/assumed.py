@@ -8,9 +8,10 @@ of the functions that it calls.
 
 from __future__ import annotations
 
-from collections.abc import Collection
+import re
+from collections.abc import Collection, Sequence
 
-from .sources import Crate, Item
+from .sources import BLOCK, Crate, Item
 
 OF_A_FUNCTION = ("Answers.antt", "Invariants.antt", "Proof.antt")
 """The files of a function's proof."""
@@ -37,9 +38,22 @@ def assume_others(crate: Crate, changed: Collection[str], texts: dict[str, str])
     return holes
 
 
+OF_A_KIND = re.compile(r"\w<.*> for ")
+"""What the first line of a block has for a trait with arguments, as `From<Fault>`: the prover has names for these that
+sources don't show."""
+
+
+def is_of_a_kind_of_trait(item: Item, above: Sequence[str]) -> bool:
+    """Whether an item is a method of a trait with arguments. `above` are the lines of its file before it."""
+    block = next((line for line in reversed(above) if BLOCK.match(line)), "")
+    return item.text.startswith(" ") and bool(OF_A_KIND.search(block))
+
+
 def can_be_assumed(crate: Crate, item: Item) -> bool:
     """Whether an item is a function with a body and a proof of its own. (Those of a cycle of calls have one together.)"""
     above = crate.texts[item.file].split("\n")[: item.first - 1]
+    if is_of_a_kind_of_trait(item, above):
+        return False
     while above and above[-1].lstrip().startswith("#["):
         if above.pop().lstrip().startswith(("#[cycle", "#[test", "#[cfg")):
             return False
