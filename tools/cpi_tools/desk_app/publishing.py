@@ -186,7 +186,7 @@ class Publisher:
             told, errors = self._written(at)
             self.told = own_line(" ".join([told, *errors.splitlines()]))
             self.fault = self.left = self._logged = Worded("")
-            self._keep_written(by, f"the website was written, with what is out at {time_text(at)}: {told}")
+            self._keep_written(by, at, told)
         except Fault as fault:
             self._failed(by, says(fault), fault.line if isinstance(fault, NotWritten) else str(fault))
         except Exception as fault:
@@ -205,13 +205,16 @@ class Publisher:
                 self._log.append(by, SAID, text=f"the website couldn't be written: {line}")
                 self._logged = why
 
-    def _keep_written(self, by: str, line: str) -> None:
+    def _keep_written(self, by: str, at: int, told: str) -> None:
         """Keeps that the website was written; if that fails it was written all the same, and the page tells both."""
-        for step in (lambda: self._log.append(by, SAID, text=line), self._done):
+        for step in (lambda: self._log_written(by, at, told), self._done):
             try:
                 step()
             except Fault as fault:
                 self.left, self._failed_at = self._says_kept(fault), time.monotonic()
+
+    def _log_written(self, by: str, at: int, told: str) -> None:
+        self._log.append(by, SAID, text=f"the website was written, with what is out at {time_text(at)}: {told}")
 
     def _says_kept(self, fault: Fault) -> Worded:
         """Why it isn't kept that the website was written. (The log says of itself that nothing was done.)"""
