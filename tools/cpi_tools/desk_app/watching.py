@@ -57,7 +57,7 @@ class Watch:
         self._asked_at = time.monotonic()
         if self._is_stale:
             self._is_stale = False
-            self.renew()
+            self._renew_for_page()
         elif self._asked_at - self._renewed_at > self._every:
             self._wake.set()
         with self._looking, self._copies.latest() as copy, read_copy(copy.path) as office:
@@ -86,6 +86,14 @@ class Watch:
                     self._glances[month] = found = glance_at(office, month, copy.at, self._observed.heard)
                     self._note(found)
             self.seconds = time.monotonic() - begun
+
+    def _renew_for_page(self) -> None:
+        """Renews; if that fails, the pages after this one say that they may be old. Raises Fault."""
+        try:
+            self.renew()
+        except Fault as fault:
+            self.fault = says(fault)
+            raise
 
     def _note(self, found: Glance) -> None:
         """Notes how far a month is whose window is open for the first time."""
