@@ -4,6 +4,7 @@ from __future__ import annotations
 
 import contextlib
 import os
+import time
 from collections.abc import Iterator
 from pathlib import Path
 
@@ -68,14 +69,19 @@ def written_folder(out: Path, known_by: str, is_private: bool = True) -> Iterato
 
 
 def _put(new: Path, out: Path, old: Path) -> None:
-    """Puts a folder in its place; what stood there is put aside first, and comes back where that fails."""
+    """Puts a folder in its place; what stood there is put aside first, and comes back where that fails. If something else
+    is there by then, it stays next to it, under a name that the fault tells."""
     if not out.exists():
         new.rename(out)
         return
     out.rename(old)
     try:
         new.rename(out)
-    except BaseException:
-        with contextlib.suppress(OSError):
+    except BaseException as fault:
+        try:
             old.rename(out)
+        except OSError:
+            kept = out.with_name(f"{out.name}.before-{int(time.time())}")
+            old.rename(kept)
+            raise NotPlaced(f"{out} couldn't be replaced, and what stood there is {kept} now") from fault
         raise
