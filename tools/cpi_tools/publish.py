@@ -41,7 +41,7 @@ from .pack.public import Published
 from .pack.reason_files import added_reasons, write_reasons
 from .pack.reasons import given_reasons
 from .pack.sdmx import KNOWN_IDS
-from .pack.signature import Sign, Signature, signature_in, unsigned
+from .pack.signature import Sign, Signature, is_signed, unsigned
 from .pack.specials import Membership
 from .pack.shown import Shown
 from .pack.stays import Earlier, changed_pages
@@ -156,7 +156,7 @@ def publish(
         reasons, earlier = given_reasons(config.reasons, series, config.planned), None
         if standing is not None:
             earlier = Earlier(out, standing.tables, added_reasons(out, standing.tables, reasons))
-        if key is None and signature_in(out):
+        if key is None and is_signed(out):
             raise CannotPublish(f"{out} is signed, and the new pack wouldn't be: --sign names the key")
         cards = cards_after(out) if config.address else NO_CARDS
         pack = Pack(series, config, previous_of(last, series), signed_by(key, config.agency), cards)

@@ -62,6 +62,11 @@ def unsigned(_: bytes) -> Optional[Signature]:
     return None
 
 
+def is_signed(folder: Path) -> bool:
+    """Whether a pack has a signature, or a part of one: the other part may be lost, or not readable."""
+    return any((folder / name).exists() for name in (SIGNATURE, SIGNERS))
+
+
 def signature_in(folder: Path) -> Optional[Signature]:
     """The signature that a pack has, if it is signed. Raises CannotSign if its files aren't those of this tool."""
     try:
