@@ -36,9 +36,12 @@ class Measuring:
         self.writing = _thread.allocate_lock()
 
     def begin(self) -> None:
-        """Begins to measure, in each thread from now on."""
-        from coverage import Coverage  # type: ignore[import]
-
+        """Begins to measure, in each thread from now on. Another Python than Debian's may have no coverage.py, and its
+        program goes on all the same."""
+        try:
+            from coverage import Coverage  # type: ignore[import]
+        except ImportError:
+            return
         measured = Coverage(data_file=None, config_file=False, include=[f"*/{PACKAGE}/*"], check_preimported=False)
         measured.start()
         # (its own ways to save empty what it has, and may lose a line that is run meanwhile)

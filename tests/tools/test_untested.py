@@ -79,6 +79,11 @@ def test_a_process_that_reads_no_tools_notes_nothing(notes: Path) -> None:
     assert not [*notes.iterdir()]
 
 
+def test_a_python_without_coverage_runs_its_program_all_the_same(notes: Path) -> None:
+    code = "import sys; sys.modules['coverage'] = None; import cpi_tools.rooms"
+    assert run(notes, ROOT / "tools", code) == 0 and not [*notes.iterdir()]
+
+
 def test_what_is_told() -> None:
     files = [Reached("a.py", [1, 2, 3, 4, 5, 6], [3, 4, 6], "3-4, 6"), Reached("b.py", [1, 2], [], "")]
     assert told_of(files) == [
