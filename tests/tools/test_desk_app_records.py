@@ -10,7 +10,7 @@ from typing import Any
 import pytest
 
 from cpi_tools.desk_app import records_views
-from cpi_tools.desk_app.app import MOST_BYTES
+from cpi_tools.desk_app.form_bounds import MOST_BYTES
 from cpi_tools.desk_app.judging import lines_of
 from .desk_apps import LISTEN, Application, Person, words_of
 

@@ -15,7 +15,7 @@ from werkzeug.wrappers import Response
 from .. import pages, section_pages
 from ..others import of_others, own_line
 from ..terminal import Fault
-from ..told import Told, sentences, told as _, whole
+from ..told import Told, sentences, told as _
 from . import (
     calendar_views,
     freeze_views,
@@ -33,6 +33,7 @@ from . import (
 from .asked import file_name
 from .desk import Desk
 from .faults import says
+from .form_bounds import MOST_BYTES, fault_of_form, told_of_too_large
 from .reached import Reached
 from .sessions import Session
 from .sign_in_views import COOKIE
@@ -65,14 +66,7 @@ FIELD, FIELD_PATHS = "field", "/notes/"
 """The views that collectors' phones ask, each time with a key of their own, and where they are."""
 ENDED = _("Your session has ended, so nothing was done. Sign in in another tab, go back here, and send it again.")
 NO_PAGE = _("There is no such page.")
-MOST_BYTES = 16_000_000
-"""Bytes of a form at most; the front takes as many."""
-
-TOO_LONG = _(
-    "A form has {most} bytes at most: send a longer file in parts, or with cpi replay. Nothing was sent.",
-    most=whole(MOST_BYTES),
-)
-BY_STATUS = {404: NO_PAGE, 405: NO_PAGE, 413: TOO_LONG}
+BY_STATUS = {404: NO_PAGE, 405: NO_PAGE}
 """What is said to a request that isn't carried out."""
 
 POLICY = (
@@ -138,14 +132,18 @@ def _let_in() -> Optional[Response]:
     origin = request.headers.get("Origin")
     if request.method == "POST" and origin and origin not in reached.origins:
         return _refused(403, _("The form came from another site, so nothing was done."))
-    flask.g.session = desk.sessions.of(request.cookies.get(COOKIE))
-    if request.endpoint in FREE:
-        return None
-    if flask.g.session is None:
+    session = flask.g.session = desk.sessions.of(request.cookies.get(COOKIE))
+    # (without a session nothing is read but the form to sign in)
+    is_free = request.endpoint in FREE
+    if session is None and not is_free:
         if request.method == "POST":
             return _refused(403, ENDED)
         return flask.redirect(flask.url_for("sign_in.show", to=request.full_path.rstrip("?")))
-    if request.method == "POST" and not flask.g.session.has_token(request.form.get("token", "")):
+    if fault := fault_of_form(session is not None):
+        return _refused(413, fault)
+    if is_free or session is None:
+        return None
+    if request.method == "POST" and not session.has_token(request.form.get("token", "")):
         return _refused(403, _("The form is of another session, so nothing was done. Load the page anew."))
     return None
 
@@ -171,6 +169,8 @@ def _fault(fault: Fault) -> Response:
 def _http_fault(fault: HTTPException) -> Response:
     if fault.code is None or fault.code < 400:
         return fault.get_response()  # type: ignore[return-value]
+    if fault.code == 413:
+        return _refused(fault.code, told_of_too_large())
     return _refused(fault.code, BY_STATUS.get(fault.code) or _not_so(fault))
 
 

@@ -19,6 +19,7 @@ from .asked import desk, month_of
 from .field_forms import Refused, sent_of
 from .field_limits import MOST_MESSAGE_BYTES, MOST_NOTES
 from .field_notes import FieldNotes, Of, TooMany
+from .form_bounds import has_too_many
 from .known_collectors import KnownCollector, NoCollector, collector_of_field
 from .photographs import NotAPicture, without_traces
 
@@ -50,6 +51,8 @@ def send(month: str, slot: int) -> Response:
         raise Refused(
             413, fault="long", field="photo", wanted=_("At most {most} bytes.", most=whole(MOST_MESSAGE_BYTES))
         )
+    if has_too_many():
+        flask.abort(413)
     who = caller(number)
     photo = flask.request.files.get("photo")
     sent = sent_of(flask.request.form, photo.read() if photo else b"")

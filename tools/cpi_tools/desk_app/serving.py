@@ -13,8 +13,9 @@ import waitress
 
 from ..rooms import new_room
 from ..terminal import Fault, because_of
-from .app import MOST_BYTES, make_app
+from .app import make_app
 from .desk import Desk, Given
+from .form_bounds import MOST_BYTES
 from .reached import Reached
 
 THREADS = 8

@@ -2,6 +2,8 @@
 
 from __future__ import annotations
 
+import urllib.parse
+
 import flask
 from werkzeug.wrappers import Response
 
@@ -14,6 +16,10 @@ from .sessions import NotSignedIn
 views = flask.Blueprint("sign_in", __name__)
 
 COOKIE = "cpi_desk"
+
+MOST_OF_PLACE = 2_000
+"""Letters, as an address has them, of the page to which a person goes on: the form is sent without a session, so it is
+short."""
 
 
 def place_after(to: str) -> str:
@@ -29,8 +35,10 @@ def key_of(typed: str) -> str:
 
 @views.get("/sign-in")
 def show() -> Response:
-    """The form."""
-    return page("sign-in.html", to=flask.request.args.get("to", "/"), name="", told="")
+    """The form. After it a person goes on to the page that was asked, unless its address is too long for the form."""
+    to = flask.request.args.get("to", "/")
+    is_short = len(urllib.parse.quote(to, safe="")) <= MOST_OF_PLACE
+    return page("sign-in.html", to=to if is_short else "/", name="", told="")
 
 
 @views.post("/sign-in")
