@@ -197,7 +197,7 @@ def test_systemd_is_asked_to_start_it(
         "the copy is in its place, but systemctl enable --now cpi.service cpi-backup.timer failed: no such" in ran.err
     )
     monkeypatch.setenv("STATUS", "0")
-    ran = promoted(cpi, dest, place, "--start", "--replace")
+    ran = promoted(cpi, dest, place, "--start", "--replace", "--again")
     assert (ran.status, ran.err) == (0, "") and "start it:" not in ran.out
     assert (tmp_path / "asked").read_text() == "enable --now cpi.service cpi-backup.timer\n" * 2
 

@@ -33,7 +33,7 @@ class Holder(NamedTuple):
 def is_held(path: Path) -> bool:
     """Whether another process has the lock on a file, which has to be readable. Raises OSError."""
     asked = struct.pack(FLOCK, fcntl.F_WRLCK, os.SEEK_SET, LOCK_BEGIN, LOCK_BYTES, 0)
-    opened = os.open(path, os.O_RDONLY)
+    opened = os.open(path, os.O_RDONLY | os.O_NONBLOCK | os.O_CLOEXEC)
     try:
         found = struct.unpack(FLOCK, fcntl.fcntl(opened, fcntl.F_GETLK, asked))
     finally:

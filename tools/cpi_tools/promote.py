@@ -1,31 +1,52 @@
 """`cpi-tools promote DEST`: the copy that `cpi-tools follow` kept at DEST becomes the office of this machine.
 
-The copy is taken to the folder of the office first, so that nothing changes it meanwhile, and compared with its note
-there. Then it is drilled. Only then DEST gets the mark by which the follower of the first machine stops that office, and
-last the copy gets its name.
+The copy is taken to a folder that only this user can change, and compared with its note there. Then it is drilled. Only
+then DEST gets the mark by which the follower of the first machine stops that office, and last the copy gets its name.
+
+Root runs it, but both folders belong to others: DEST to the user who carries, and the office's to the one who serves. So
+below them each file is opened by its plain name from the folder's descriptor (`held_folders`), and what is given to the
+office's user is the file that was drilled, whatever has its name by then.
 """
 
 from __future__ import annotations
 
 import argparse
 import contextlib
+import errno
 import os
+import secrets
 import shutil
+import sqlite3
+import stat
 import subprocess
 import sys
-import tempfile
 import time
+from collections.abc import Mapping
 from pathlib import Path
-from typing import NamedTuple, Optional
+from typing import IO, NamedTuple, Optional
 
+from .access import acting_as, this_user, user_of
 from .backup import log_of
 from .copying import log_beside
 from .drill import MOST_TOLD, Drilled, drill
 from .follow import mark_beside
+from .held_folders import HeldFolder, NotPlain, held
 from .holders import is_held
 from .mirrors import sync
 from .program import Cpi, add_program
-from .second_copies import NAMES, OFFICE, CopyNote, fault_of, second_text, state_of, write_promotion
+from .rooms import new_room
+from .second_copies import (
+    NAMES,
+    OFFICE,
+    CopyNote,
+    Promotion,
+    fault_of,
+    promotion_of,
+    second_text,
+    state_of,
+    write_promotion,
+)
+from .stored import unchanged_office
 from .terminal import Fault, Progress, ToolWords, a_file, because_of, counted
 
 HERE = Path("/var/lib/cpi/office.db")
@@ -56,23 +77,29 @@ def promote(
     office: Path,
     name: Optional[str] = None,
     is_replacing: bool = False,
+    is_again: bool = False,
     progress: Optional[Progress] = None,
 ) -> Promoted:
     """Makes the newest copy at `dest`, or the one in its folder `name`, the file `office` of this machine.
 
-    `is_replacing` puts aside what is there. Raises Fault, and changes nothing, if the copy isn't whole.
+    `is_replacing` puts aside what is there, and `is_again` says that a copy of `dest` may have been promoted before, or
+    that what is there may have prices that the copy hasn't. Raises Fault, and changes nothing, if the copy isn't whole.
     """
     now = progress.now if progress else lambda _: None
     try:
         _look_at(office, is_replacing)
-        with tempfile.TemporaryDirectory(prefix=".cpi-promote-", dir=office.parent) as room:
+        if not is_again and (promotion := promotion_of(dest)):
+            raise Fault(f"{dest}: {_told_before(promotion)} (--again promotes a copy once more)")
+        with new_room(".cpi-promote-", _place_of_room(office)) as room, held(office.parent) as home:
             now(f"copying {dest}")
-            name, note = _copied(dest, name, Path(room) / OFFICE)
+            name, note = _copied(dest, name, room / OFFICE)
+            if is_replacing and not is_again:
+                _compare(room / OFFICE, office, note)
             now("drilling it")
-            drilled = _drilled(cpi, Path(room) / OFFICE, dest / name)
+            drilled = _drilled(cpi, room / OFFICE, dest / name)
             write_promotion(dest, note.copied)
-            aside = _put_aside(office) if is_replacing else None
-            _place(Path(room) / OFFICE, office)
+            aside = _put_aside(office, home) if is_replacing else None
+            _place(room / OFFICE, office, home)
     except OSError as fault:
         raise Fault(because_of(fault)) from fault
     return Promoted(name, note, drilled, aside)
@@ -87,6 +114,51 @@ def _look_at(office: Path, is_replacing: bool) -> None:
     for each in () if is_replacing else (office, log_of(office)):
         if os.path.lexists(each):
             raise Fault(f"{each} is there already (--replace puts it aside, with its log)")
+
+
+def _place_of_room(office: Path) -> Optional[Path]:
+    """The nearest folder that only this user can change, for the copy until it has its place: that of the office, or
+    the one above it, so that it needn't be copied once more; else None, for the folder of temporary files."""
+    for folder in (office.parent, office.absolute().parent.parent):
+        known = folder.stat()
+        if known.st_uid == os.geteuid() and not known.st_mode & (stat.S_IWGRP | stat.S_IWOTH):
+            return folder
+    return None
+
+
+# ---- what was promoted before
+
+
+def _told_before(promotion: Promotion) -> str:
+    """Where a copy was promoted before, and when."""
+    return (
+        f"{promotion.machine} was promoted {second_text(promotion.promoted)} with the copy of"
+        f" {second_text(promotion.copied)}"
+    )
+
+
+def _compare(copy: Path, office: Path, note: CopyNote) -> None:
+    """Raises Fault if the file that is to be put aside has prices that the copy hasn't, so it took them since. One with
+    a mark beside it is a former office, whose prices were sent again elsewhere."""
+    if os.path.lexists(mark_beside(office)):
+        return
+    there = _last_receipts(copy)
+    owner = user_of(office.parent.stat().st_uid) if os.geteuid() == 0 else this_user()
+    with acting_as(owner):
+        here = _last_receipts(office)
+    for collector, receipt in sorted(here.items()):
+        if receipt > there.get(collector, 0):
+            raise Fault(
+                f"{office} took prices since the copy of {second_text(note.copied)}: receipt {receipt} of collector"
+                f" {collector} isn't in that copy (--again puts it aside nevertheless)"
+            )
+
+
+def _last_receipts(office: Path) -> Mapping[int, int]:
+    """The last receipt of each collector. What is no office has none."""
+    with contextlib.suppress(sqlite3.Error, OSError), unchanged_office(office) as opened:
+        return opened.last_receipts()
+    return {}
 
 
 # ---- the copy
@@ -106,25 +178,36 @@ def _copied(dest: Path, wanted: Optional[str], to: Path) -> tuple[str, CopyNote]
         if not (fault := fault_of(to, note)):
             return name, note
         if state_of(dest).notes == state.notes:
-            raise Fault(f"{dest / name} isn't whole, and nothing was promoted: {fault}{_other(dest, name)}")
+            raise Fault(f"{dest / name} isn't whole, and nothing was promoted: {fault}{_other(dest, name, to)}")
 
 
 def _copy(path: Path, to: Path) -> None:
-    """Copies a file and its log, with mode 0600 and onto the disk. A log without a byte is none."""
-    for source, target in ((path, to), (log_beside(path), log_beside(to))):
+    """Copies a file of a copy and its log, with mode 0600 and onto the disk. A log without a byte is none."""
+    for target in (to, log_beside(to)):
         target.unlink(missing_ok=True)
-        if source.exists() and (source == path or source.stat().st_size):
-            os.close(os.open(target, os.O_WRONLY | os.O_CREAT | os.O_EXCL, 0o600))
-            shutil.copyfile(source, target)
+    with held(path.parent.parent) as place, place.folder(path.parent.name) as copy:
+        for name, target in ((path.name, to), (f"{path.name}-wal", log_beside(to))):
+            with contextlib.suppress(FileNotFoundError):
+                _copy_file(copy.opened(name), target, name == path.name)
+
+
+def _copy_file(number: int, target: Path, is_needed: bool) -> None:
+    """Copies an open file to a new one; without a byte only if it is needed."""
+    with os.fdopen(number, "rb") as source:
+        if is_needed or os.fstat(number).st_size:
+            opened = os.open(target, os.O_WRONLY | os.O_CREAT | os.O_EXCL | os.O_CLOEXEC, 0o600)
+            with os.fdopen(opened, "wb") as to:
+                shutil.copyfileobj(source, to, 1 << 20)
             sync(target)
 
 
-def _other(dest: Path, name: str) -> str:
-    """What is to be said of the other copy, if that is whole."""
+def _other(dest: Path, name: str, to: Path) -> str:
+    """What is to be said of the other copy, which is copied too, if that is whole."""
     (other,) = [each for each in NAMES if each != name]
     note = state_of(dest).notes.get(other)
     with contextlib.suppress(OSError):
-        if note and not fault_of(dest / other / OFFICE, note):
+        _copy(dest / other / OFFICE, to)
+        if note and not fault_of(to, note):
             return f" (--copy {other} takes the one of {second_text(note.copied)}, which is whole)"
     return ""
 
@@ -142,29 +225,66 @@ def _drilled(cpi: Cpi, copy: Path, of: Path) -> Drilled:
 # ---- its place
 
 
-def _put_aside(office: Path) -> Optional[Path]:
+def _put_aside(office: Path, home: HeldFolder) -> Optional[Path]:
     """Moves a file that is there, its log and its mark to a folder next to it; which one, or None."""
-    there = [path for path in (office, log_of(office), mark_beside(office)) if os.path.lexists(path)]
+    there = [path.name for path in (office, log_of(office), mark_beside(office)) if home.has(path.name)]
     if not there:
         return None
-    aside = office.with_name(f"{office.name}.before-{int(time.time())}")
-    aside.mkdir(mode=0o700)
-    for path in there:
-        path.rename(aside / path.name)
-    return aside
+    name = f"{office.name}.before-{int(time.time())}"
+    with home.new_folder(name) as aside:
+        for each in there:
+            home.move(each, aside, each)
+        return office.with_name(name)
 
 
-def _place(copy: Path, office: Path) -> None:
+def _place(copy: Path, office: Path, home: HeldFolder) -> None:
     """Gives a copy its name, its log first, and the owner of the folder. A mark that another machine was promoted goes:
     now it is this one."""
-    owner = office.parent.stat()
-    for path, to in ((log_beside(copy), log_of(office)), (copy, office)):
-        if path.exists():
-            if os.geteuid() == 0:
-                os.chown(path, owner.st_uid, owner.st_gid)
-            path.rename(to)
-    mark_beside(office).unlink(missing_ok=True)
-    sync(office.parent)
+    owner = os.fstat(home.number)
+    with held(copy.parent) as room:
+        for name, to in ((log_beside(copy).name, log_of(office).name), (copy.name, office.name)):
+            if room.has(name):
+                _hand_over(room, name, home, to, owner)
+    home.remove(mark_beside(office).name)
+    home.sync()
+
+
+def _hand_over(room: HeldFolder, name: str, home: HeldFolder, to: str, owner: os.stat_result) -> None:
+    """Moves a file out of the room, where nobody else can change it, and gives it to an owner: the open file itself, so
+    nothing else can be given away in its place."""
+    opened = room.opened(name, os.O_RDWR, links=1)
+    with os.fdopen(opened, "r+b") as file:
+        _give(opened, owner)
+        try:
+            room.move(name, home, to)
+        except OSError as fault:
+            if fault.errno != errno.EXDEV:
+                raise
+            _write_over(file, home, to, owner)
+
+
+def _write_over(file: IO[bytes], home: HeldFolder, to: str, owner: os.stat_result) -> None:
+    """Copies an open file from another disk, and gives the new one to an owner before it has its name."""
+    beside = f".{to}-{secrets.token_hex(8)}"
+    try:
+        with os.fdopen(home.opened(beside, os.O_WRONLY | os.O_CREAT | os.O_EXCL), "wb") as written:
+            shutil.copyfileobj(file, written, 1 << 20)
+            written.flush()
+            _give(written.fileno(), owner)
+            os.fsync(written.fileno())
+            home.move(beside, home, to)
+            if not home.has(to, os.fstat(written.fileno())):
+                raise NotPlain(home.path / to, "the file that was promoted")
+    except OSError:
+        with contextlib.suppress(OSError):
+            home.remove(beside)
+        raise
+
+
+def _give(opened: int, owner: os.stat_result) -> None:
+    """Gives an open file to the owner and the group of a folder, which only root can."""
+    if os.geteuid() == 0:
+        os.fchown(opened, owner.st_uid, owner.st_gid)
 
 
 # ---- words
@@ -178,6 +298,9 @@ refused, and nothing is changed.
 First make sure that the first machine can't answer any more: turn it off, or take its address
 away. What it answered after the moment of the copy isn't in the copy: the last lines say what has
 to be sent again, and since when.
+
+A copy of DEST is promoted once, and --replace puts no office aside that took prices since the copy:
+both are refused with the moment and the machine, unless --again is given.
 
 With --start it starts the office, else it prints the command for that:
 {' '.join(START)}
@@ -200,6 +323,7 @@ def add_words(tools: argparse._SubParsersAction[ToolWords]) -> None:
     add("--office", type=a_file, default=HERE, metavar="FILE", help="the office's file on this machine (%(default)s)")
     add("--copy", choices=NAMES, help="this one of the two copies, if the newest isn't whole")
     add("--replace", action="store_true", help="put a FILE that is there aside, with its log")
+    add("--again", action="store_true", help="promote once more, or put aside what took prices since")
     add("--start", action="store_true", help="start the units of the office")
     add_program(words)
     words.set_defaults(run=run, tool="promote", words=words)
@@ -210,7 +334,8 @@ def run(chosen: argparse.Namespace) -> int:
     if chosen.start and not SYSTEMD.is_dir():
         raise Fault("systemd doesn't run this machine, so --start can't start the office: start it by hand")
     with Progress("cpi-tools promote") as progress:
-        found = promote(Cpi(chosen.program), chosen.dest, chosen.office, chosen.copy, chosen.replace, progress)
+        how = (chosen.copy, chosen.replace, chosen.again)
+        found = promote(Cpi(chosen.program), chosen.dest, chosen.office, *how, progress)
         print(f"{chosen.office}: {_told(found)}")
         if found.aside:
             print(f"{found.aside}: what was at that place before")

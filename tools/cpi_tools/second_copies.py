@@ -9,6 +9,9 @@ copy is whole. A note has the sums of its file and log, so a copy that was cut o
 to it. The copy that counts is the one whose note has the greatest number of a round.
 
 The two files of a copy are what a crash could leave at its moment, so `cpi` opens them as they are.
+
+The machine that carries to a place may have been taken by somebody else. So what lies there is read by its plain names
+only, never through a link; and the mark lies where the key of that machine can't write (`cpi-receive`).
 """
 
 from __future__ import annotations
@@ -21,6 +24,7 @@ from pathlib import Path
 from typing import Any, NamedTuple, Optional
 
 from .copying import log_beside
+from .held_folders import HeldFolder, NotPlain, held
 from .mirrors import MirroredOffice, Taken, sum_of
 from .terminal import Fault, because_of, is_line
 from .whole_files import write_whole
@@ -31,11 +35,15 @@ NAMES = ("copy-1", "copy-2")
 OFFICE = "office.db"
 """What the office's file is called in a copy."""
 
+LOG = f"{OFFICE}-wal"
+"""What its log is called there."""
+
 NOTE = "office.db.json"
 """The note on a copy. By its name it comes after file and log, since rsync carries files in the order of their names."""
 
 MARK = "promoted.json"
-"""The mark of a place whose copy was promoted: nothing is carried there any more."""
+"""The mark of a place whose copy was promoted: nothing is carried there any more. `promote` writes it, and the key by
+which a follower carries only reads it."""
 
 RECEIVED = "received.lock"
 """Is at a place on another machine where a program puts changed pages into a copy: one carrying at a time has it."""
@@ -127,7 +135,9 @@ def write_note(folder: Path, note: CopyNote) -> None:
 def write_promotion(folder: Path, copied: int) -> Promotion:
     """Writes that the copy of a place, of the moment `copied`, was promoted on this machine now. Raises OSError."""
     promotion = Promotion(socket.gethostname(), int(time.time()), copied)
-    write_whole(folder / MARK, (json.dumps(promotion._asdict()) + "\n").encode(), 0o644)
+    with held(folder) as place:
+        place.write_whole(MARK, (json.dumps(promotion._asdict()) + "\n").encode(), 0o644)
+        place.sync()
     return promotion
 
 
@@ -139,36 +149,47 @@ def state_of(folder: Path) -> State:
     stopped while it was written. Raises Fault if the folder, or the mark of a promotion, can't be read."""
     if not folder.is_dir():
         raise Fault(f"{folder} is no folder: make it first, so that nothing is copied to a disk that isn't mounted")
-    notes = {name: note for name in NAMES if (note := _note_at(folder / name / NOTE))}
-    return State(notes, promotion_of(folder))
+    try:
+        with held(folder) as place:
+            return state_in(place)
+    except OSError as fault:
+        raise Fault(because_of(fault)) from fault
+
+
+def state_in(place: HeldFolder) -> State:
+    """The same of a place that is open. Raises Fault and OSError."""
+    notes = {name: note for name in NAMES if (note := _note_in(place, name))}
+    return State(notes, _promotion_in(place))
 
 
 def promotion_of(folder: Path) -> Optional[Promotion]:
     """The promotion of a place. Raises Fault if its mark can't be read, since nobody knows then what it says."""
     try:
-        told = json.loads(_text_at(folder / MARK))
+        with held(folder) as place:
+            return _promotion_in(place)
+    except OSError as fault:
+        raise Fault(because_of(fault)) from fault
+
+
+def _promotion_in(place: HeldFolder) -> Optional[Promotion]:
+    """The same of a place that is open. Raises Fault and OSError."""
+    try:
+        told = json.loads(place.text(MARK, MOST_BYTES))
         return Promotion(str(told["machine"]), int(told["promoted"]), int(told["copied"]))
     except FileNotFoundError:
         return None
-    except OSError as fault:
-        raise Fault(because_of(fault)) from fault
     except (ValueError, LookupError, TypeError) as fault:
-        raise Fault(f"{folder / MARK} isn't a mark that cpi-tools wrote") from fault
+        raise Fault(f"{place.path / MARK} isn't a mark that cpi-tools wrote") from fault
 
 
-def _text_at(path: Path) -> str:
-    with path.open("rb") as file:
-        return file.read(MOST_BYTES).decode(errors="replace")
-
-
-def _note_at(path: Path) -> Optional[CopyNote]:
-    """A note; None where there is none that is whole. Raises Fault where it can't be read."""
+def _note_in(place: HeldFolder, name: str) -> Optional[CopyNote]:
+    """The note of a copy; None where there is none that is whole, or something else stands in its place. Raises OSError
+    where it can't be read."""
     try:
-        return note_in(_text_at(path))
-    except FileNotFoundError:
+        with place.folder(name) as copy:
+            return note_in(copy.text(NOTE, MOST_BYTES))
+    except (FileNotFoundError, NotPlain):
         return None
-    except OSError as fault:
-        raise Fault(because_of(fault)) from fault
 
 
 def note_in(text: str) -> Optional[CopyNote]:

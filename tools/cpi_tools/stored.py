@@ -384,6 +384,11 @@ class StoredOffice:
         text = "SELECT collector, slot, month, receipt FROM quote_2 ORDER BY rowid DESC LIMIT ?"
         return [(collector, slot, month, receipt) for collector, slot, month, receipt in self.ask(text, most)]
 
+    def last_receipts(self) -> dict[int, int]:
+        """The last receipt of each collector."""
+        rows = self.ask("SELECT collector, max(receipt) FROM quote_2 GROUP BY collector")
+        return {collector: receipt for collector, receipt in rows}
+
     def all_quotes(self) -> Iterator[tuple[int, int, int, str, int, int]]:
         """Collector, slot, month, mark, value and receipt of each stored quote."""
         yield from self._link.execute("SELECT collector, slot, month, mark, value, receipt FROM quote_2")
