@@ -18,8 +18,10 @@ import pytest
 from cpi_tools.program import Cpi
 from cpi_tools.second_copies import NAMES, OFFICE, state_of
 from lib.places import ROOT
+from tools.accidents import ACCIDENTS, ANSWERED, SAID, WANTED, priced, prices_in
+from tools.offices import lived
 from tools.ran import run
-from tools.second_machines import Kill, Machine, kill_and_promote, machine, surveyed
+from tools.second_machines import TOOL, Kill, Machine, kill_and_promote, machine, surveyed, wait_for
 from .systems import LINKS, NETWORK_NAMES, SECOND, two_networks
 
 PORT = 2222
@@ -101,6 +103,33 @@ def test_kills(cpi: Cpi, networks: Networks, kills: int, tmp_path: Path, capsys:
         with capsys.disabled():
             print(f"\n{told_of(found)}", flush=True)
         assert found[-1].missing_after == 0
+
+
+@pytest.mark.parametrize("accident", ACCIDENTS)
+def test_an_accident_of_the_first_machine_stays_there(
+    accident: str, cpi: Cpi, networks: Networks, tmp_path: Path
+) -> None:
+    """While its follower runs. What was answered before is on the second machine, and a promotion has it."""
+    first, second = (machine(tmp_path / name, enter) for name, enter in zip(("first", "second"), networks[:2]))
+    assert not [reply for reply in cpi.replay(lived(), db=first.office) if "refused" in reply]
+    backup = first.folder / "backup.db"
+    first.ran(TOOL, "backup", str(first.office), str(backup), "--program", str(cpi.path))
+    priced(cpi, first.office, 1, ANSWERED)
+    words = [*first.enter, TOOL, "follow", str(first.office), *networks.follow, "--every", "1"]
+    with subprocess.Popen(words, stdout=subprocess.PIPE, stderr=subprocess.PIPE, text=True) as running:
+        assert running.stdout and running.stderr
+        wait_for(lambda: len(state_of(networks.dest).notes) == 2, "no copy came")
+        ACCIDENTS[accident](cpi, first.office, backup)
+        # (a round within the accident has another line)
+        told = next(line for line in running.stderr if SAID[accident] in line)
+        assert told.endswith("; it goes on to try\n")
+        before = max(note.round for note in state_of(networks.dest).notes.values())
+        time.sleep(6)
+        assert max(note.round for note in state_of(networks.dest).notes.values()) == before
+        running.terminate()
+        assert running.stderr.read() == ""
+    second.ran(TOOL, "promote", str(networks.dest), "--office", str(second.office), "--program", str(cpi.path))
+    assert prices_in(cpi, second.office) == WANTED
 
 
 def test_a_line_that_is_down_is_one_line_and_it_goes_on_by_itself(cpi: Cpi, networks: Networks, tmp_path: Path) -> None:

@@ -2,11 +2,13 @@
 
 from __future__ import annotations
 
+import contextlib
 import json
 import os
 import resource
 import shutil
 import signal
+import sqlite3
 import stat
 import subprocess
 import sys
@@ -15,11 +17,11 @@ from pathlib import Path
 
 import pytest
 
-from cpi_tools import places
+from cpi_tools import marks, places
 from cpi_tools.carriers import Rclone, Rsync, carrier_of
 from cpi_tools.copying import log_beside
 from cpi_tools.drill import drill
-from cpi_tools.follow import PROMOTED, Follower, mark_beside
+from cpi_tools.follow import NOT_CARRIED, PROMOTED, Follower, mark_beside
 from cpi_tools.places import Folder
 from cpi_tools.program import Cpi
 from cpi_tools.second_copies import (
@@ -80,6 +82,16 @@ def taken_to(folder: Path, copy: Path) -> Path:
     return folder / copy.name
 
 
+def filled(office: Path, to: Path, size: int) -> Path:
+    """An office's file with so many bytes of no meaning at its end, whatever stands there."""
+    shutil.copy(office, to)
+    with contextlib.closing(sqlite3.connect(to)) as link:
+        link.execute("CREATE TABLE filler (bytes BLOB)")
+        link.execute("INSERT INTO filler VALUES (randomblob(?))", (size,))
+        link.commit()
+    return to
+
+
 # ---- a round
 
 
@@ -108,7 +120,7 @@ def test_the_note_has_the_last_quotes(cpi: Cpi, office: Path, dest: Path) -> Non
     wanted = [
         [collector, slot, f"{month // 100}-{month % 100:02}", receipt] for collector, slot, month, receipt in rows
     ]
-    assert told == wanted[: -places.LAST_QUOTES - 1 : -1]
+    assert told == wanted[: -marks.LAST_QUOTES - 1 : -1]
 
 
 def test_a_copy_under_load_is_a_whole_office_with_all_that_was_answered(cpi: Cpi, office: Path, dest: Path) -> None:
@@ -256,7 +268,7 @@ def test_the_copy_of_another_office_is_not_written_over(office: Path, dest: Path
     run(None, "follow", office, dest, "--once")
     shutil.copy(office, tmp_path / "other.db")
     ran = run(None, "follow", tmp_path / "other.db", dest, "--once")
-    assert (ran.status, ran.out, ran.err.count("\n")) == (1, "", 1)
+    assert (ran.status, ran.out, ran.err.count("\n")) == (NOT_CARRIED, "", 1)
     assert f"{dest} has a copy of {office} of " in ran.err and "empty it first" in ran.err
 
 
@@ -327,7 +339,7 @@ def test_by_rsync_only_what_changed_is_carried(office: Path, dest: Path, ssh: Pa
     counting = tmp_path / "counting"
     counting.write_text(COUNTING.format(python=sys.executable, sent=tmp_path / "sent"))
     counting.chmod(0o755)
-    (tmp_path / "big.db").write_bytes(os.urandom(2_000_000))
+    filled(office, tmp_path / "big.db", 2_000_000)
     words = ["follow", tmp_path / "big.db", f"second:{dest}", "--once", "--ssh", counting]
     assert run(None, *words).status == 0
     assert int((tmp_path / "sent").read_text()) > 2_000_000
@@ -341,12 +353,15 @@ def test_by_rsync_only_what_changed_is_carried(office: Path, dest: Path, ssh: Pa
     assert int((tmp_path / "sent").read_text()) < 20_000
 
 
-def test_a_file_that_changed_within_a_second_is_carried(dest: Path, ssh: Path, tmp_path: Path) -> None:
+def test_a_file_that_changed_within_a_second_is_carried(office: Path, dest: Path, ssh: Path, tmp_path: Path) -> None:
     """Of the same size; what is compared is not the time in seconds."""
+    file = filled(office, tmp_path / "filled.db", 40_000)
     for number in range(5):
-        (tmp_path / "office.db").write_bytes(bytes([number]) * 8192)
-        assert run(None, "follow", tmp_path / "office.db", f"x:{dest}", "--once", "--ssh", ssh).status == 0
-        assert newest(dest).read_bytes() == bytes([number]) * 8192
+        with file.open("r+b") as changed:
+            changed.seek(file.stat().st_size - 2 * 4096 + 96)
+            changed.write(bytes([number]) * 4000)
+        assert run(None, "follow", file, f"x:{dest}", "--once", "--ssh", ssh).status == 0
+        assert newest(dest).read_bytes() == file.read_bytes() and bytes([number]) * 4000 in file.read_bytes()
 
 
 STAND_IN = """\

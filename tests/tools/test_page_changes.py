@@ -16,6 +16,7 @@ from cpi_tools.carriers import Rsync
 from cpi_tools.copying import log_beside
 from cpi_tools.drill import drill
 from cpi_tools.follow import Follower
+from cpi_tools.marks import Known
 from cpi_tools.mirrors import PAGE
 from cpi_tools.page_changes import CHANGES, NotFitting, put_in
 from cpi_tools.places import Elsewhere
@@ -49,8 +50,9 @@ def shell(dest: Path, tmp_path: Path) -> Callable[..., str]:
 
 
 @pytest.fixture
-def source(tmp_path: Path) -> Path:
-    """A file and a log, which needn't be an office's."""
+def source(tmp_path: Path, monkeypatch: pytest.MonkeyPatch) -> Path:
+    """A file and a log, which needn't be an office's: nobody looks at what they hold."""
+    monkeypatch.setattr(places, "known_of", lambda *_: Known(None, None, ()))
     (tmp_path / "office.db").write_bytes(random.Random(3).randbytes(100 * PAGE))
     (tmp_path / "office.db-wal").write_bytes(random.Random(4).randbytes(2 * PAGE + 700))
     return tmp_path / "office.db"

@@ -27,7 +27,8 @@ from cpi_tools.probe_told import Seen
 from cpi_tools.program import Cpi
 from cpi_tools.said import Line
 from cpi_tools.writes import Writes
-from cpi_tools.second_copies import CopyNote, Sum, write_note, write_promotion
+from cpi_tools.second_copies import REFUSED as REFUSAL
+from cpi_tools.second_copies import CopyNote, Sum, write_note, write_promotion, write_refusal
 from cpi_tools.stored import Window
 from cpi_tools.terminal import Fault
 from lib.places import ROOT
@@ -479,3 +480,16 @@ def test_no_second_copy_and_one_that_was_promoted_are_critical(
         assert status == 2 and f"the second copy was promoted on {machine}, so there is none any more" in out
         status, out = ran(capsys, "--url", url, "--copy", tmp_path / "nowhere")
         assert status == 3 and f"CPI UNKNOWN: {tmp_path / 'nowhere'} is no folder" in out
+
+
+def test_an_office_that_is_not_carried_any_more_is_critical(tmp_path: Path, capsys: pytest.CaptureFixture[str]) -> None:
+    """Though the copy is young: the follower's last line is told."""
+    note_at(tmp_path / "copy", "copy-1", 1, NOW)
+    with answering(LIST) as url:
+        assert "second_refused=0" in ran(capsys, "--url", url, "--copy", tmp_path / "copy")[1]
+        write_refusal(tmp_path / "copy", "office.db isn't carried")
+        status, out = ran(capsys, "--url", url, "--copy", tmp_path / "copy")
+        assert status == 2 and out.startswith("CPI CRITICAL: office.db isn't carried | ") and "second_refused=1" in out
+        (tmp_path / "copy" / REFUSAL).write_text("{")
+        status, out = ran(capsys, "--url", url, "--copy", tmp_path / "copy")
+        assert status == 3 and "isn't a refusal that cpi-tools follow wrote" in out

@@ -1,7 +1,8 @@
 """`cpi-tools follow FILE DEST`: keeps a second copy of an office up to date while `cpi` serves.
 
 Each round looks first whether the place was promoted. If it was, the file of this machine gets a mark next to it, by
-which `cpi-serve` doesn't start, and the follower ends.
+which `cpi-serve` doesn't start, and the follower ends. A round isn't carried if the office is damaged, or doesn't go on
+from the newest copy: then that copy has what the office lost.
 """
 
 from __future__ import annotations
@@ -13,8 +14,10 @@ import time
 from pathlib import Path
 
 from .copying import PATIENCE
+from .marks import NotCarried
+from .mirrors import Taken
 from .places import Place, kept_for_one, place_of
-from .second_copies import Promotion, second_text
+from .second_copies import REFUSED, CopyNote, Promotion, State, second_text, write_refusal
 from .terminal import Fault, Progress, ToolWords, at_least, because_of, counted
 from .whole_files import write_whole
 
@@ -27,10 +30,19 @@ TOLD_AGAIN = 3600
 PROMOTED = 4
 """The exit status if the place was promoted."""
 
+NOT_CARRIED = 5
+"""The exit status if the office is damaged, or doesn't go on from its copy."""
+
 
 def mark_beside(office: Path) -> Path:
     """The file that says of an office's file that the copy of another machine was promoted: `office.db.promoted`."""
     return office.with_name(f"{office.name}.promoted")
+
+
+def restoring_beside(office: Path) -> Path:
+    """The file that says of an office's file that a restore isn't done: `office.db.restoring`. `cpi-serve` starts no
+    office meanwhile."""
+    return office.with_name(f"{office.name}.restoring")
 
 
 def mark_as_former(office: Path, promotion: Promotion) -> str:
@@ -46,8 +58,9 @@ def mark_as_former(office: Path, promotion: Promotion) -> str:
 class Follower:
     """A follower of an office's file, and what it has told."""
 
-    def __init__(self, office: Path, place: Place, patience: float = PATIENCE):
-        self._office, self._place, self._patience = office, place, patience
+    def __init__(self, office: Path, place: Place, patience: float = PATIENCE, is_anew: bool = False):
+        """`is_anew` lets the first round carry an office that doesn't go on from the copy."""
+        self._office, self._place, self._patience, self._is_anew = office, place, patience, is_anew
         self._fault, self._told_at, self._has_told = "", 0.0, False
 
     def promotion(self) -> str:
@@ -57,16 +70,23 @@ class Follower:
         return mark_as_former(self._office, promotion) if promotion else ""
 
     def round(self) -> str:
-        """Carries one copy; what is to be said if the place was promoted. Raises Fault."""
+        """Carries one copy; what is to be said if the place was promoted. Raises Fault: NotCarried if the office is
+        damaged or doesn't go on from its copy, which a probe sees too."""
         try:
             state = self._place.state()
             if state.promotion:
                 return mark_as_former(self._office, state.promotion)
-            if whose := state.of_another(self._office):
-                raise Fault(f"{self._place.name} has a copy of {whose}: empty it first, or name another folder")
-            note, taken = self._place.round(self._office, state, self._patience)
+            try:
+                note, taken = self._carried(state)
+            except NotCarried as fault:
+                # (if its disk is full, a probe sees the age of the copy)
+                with contextlib.suppress(OSError):
+                    write_refusal(self._place.seen, str(fault))
+                raise
+            (self._place.seen / REFUSED).unlink(missing_ok=True)
         except OSError as fault:
             raise Fault(because_of(fault)) from fault
+        self._is_anew = False
         if self._fault or not self._has_told:
             size = counted(note.file.size + note.log.size, "byte")
             print(
@@ -76,11 +96,28 @@ class Follower:
             self._fault, self._has_told = "", True
         return ""
 
+    def _carried(self, state: State) -> tuple[CopyNote, Taken]:
+        """The note of a round. Raises NotCarried with a line that names the office and the place, other Faults, and
+        OSError."""
+        if (whose := state.of_another(self._office)) and not self._is_anew:
+            told = "empty it first, name another folder, or say --anew if this office goes on from that one"
+            raise NotCarried("place", f"{self._place.name} has a copy of {whose}: {told}")
+        try:
+            return self._place.round(self._office, state, self._patience, self._is_anew)
+        except NotCarried as fault:
+            last = state.last()
+            kept = f", which keeps its copy of {second_text(last.copied)}" if last else ""
+            anew = "" if fault.kind == "damage" else " (--anew carries it all the same)"
+            told = f"{self._office} isn't carried to {self._place.name}{kept}: {fault}{anew}"
+            raise NotCarried(fault.kind, told) from fault
+
     def tell(self, fault: Fault) -> None:
-        """Tells why a round wasn't carried: once, and again each hour while it stays so."""
-        if str(fault) != self._fault or time.monotonic() - self._told_at > TOLD_AGAIN:
+        """Tells why a round wasn't carried: once, and again each hour while it stays so. (The marks of an office that
+        isn't carried change as it goes on.)"""
+        cause = fault.kind if isinstance(fault, NotCarried) else str(fault)
+        if cause != self._fault or time.monotonic() - self._told_at > TOLD_AGAIN:
             print(f"cpi-tools follow: {fault}; it goes on to try", file=sys.stderr, flush=True)
-            self._fault, self._told_at = str(fault), time.monotonic()
+            self._fault, self._told_at = cause, time.monotonic()
 
     def keep(self, every: float) -> str:
         """Carries copy after copy until the place is promoted; what is to be said then."""
@@ -110,6 +147,12 @@ DEST is one of these:
                              command of its key there, a round carries the changed pages as one file
     rclone:REMOTE:FOLDER     a folder of a store that rclone knows; it carries whole files
 
+Each copy says which office it is of, how many rows that has, and the sum of its receipts: these
+only grow. Before a round counts, SQLite looks at each page (quick_check). A round isn't carried,
+and cpi-tools probe --copy is critical, if a page is damaged, if it is another office, or if it
+would take back what the copy has, as after a backup was restored or a lost file was made anew.
+Then the copy may be what you want: promote it. Or carry the office of now once, by --anew.
+
 A round that fails is one line, and the next round tries again. If the copy at DEST was promoted
 (cpi-tools promote), the follower puts FILE.promoted next to FILE, so that cpi-serve doesn't start
 any more, and ends. Keys and prices are in the copies: let nobody else read them.
@@ -119,7 +162,8 @@ EPILOG = """\
 example: cpi-tools follow office.db backup-machine:/var/lib/cpi-copy
 
 exit status: 0 after --once or --ask; 1 if that failed, or another follower keeps DEST; 2 if the
-words are refused; 4 if the copy at DEST was promoted
+words are refused; 4 if the copy at DEST was promoted; 5 if FILE isn't carried, since it is damaged
+or would take back what the copy has
 """
 
 
@@ -135,6 +179,7 @@ def add_words(tools: argparse._SubParsersAction[ToolWords]) -> None:
     how = words.add_mutually_exclusive_group()
     how.add_argument("--once", action="store_true", help="carry one copy, and end")
     how.add_argument("--ask", action="store_true", help="only ask whether the copy was promoted, and end")
+    add("--anew", action="store_true", help="let the first round take back what the copy has, or be another office")
     add("--room", type=Path, metavar="FOLDER", help="for a DEST elsewhere: what is carried lies here (FILE.follow)")
     add("--ssh", metavar="COMMAND", help="the program by which rsync reaches the other machine, with its words")
     add(
@@ -161,8 +206,11 @@ def run(chosen: argparse.Namespace) -> int:
     room = chosen.room or chosen.file.with_name(f"{chosen.file.name}.follow")
     try:
         with kept_for_one(chosen.dest, room) if not chosen.ask else contextlib.nullcontext():
-            follower = Follower(chosen.file, place_of(chosen.dest, room, chosen.ssh), chosen.patience)
+            follower = Follower(chosen.file, place_of(chosen.dest, room, chosen.ssh), chosen.patience, chosen.anew)
             told = _told(follower, chosen)
+    except NotCarried as fault:
+        print(f"cpi-tools follow: {fault}", file=sys.stderr)
+        return NOT_CARRIED
     except OSError as fault:
         raise Fault(because_of(fault)) from fault
     if told:

@@ -1,24 +1,24 @@
 """The places where a second copy is kept: a folder of this machine, or one that a carrier reaches.
 
 A round at a folder writes there itself, and each file is on the disk before its note is. A round elsewhere keeps a
-mirror in a room on this machine, and a carrier takes it over.
+mirror in a room on this machine, and a carrier takes it over. Either looks at what it copied before its note says that
+it is whole: it isn't damaged, and the office goes on from the newest copy (`marks`).
 """
 
 from __future__ import annotations
 
 import contextlib
 import fcntl
-import sqlite3
 import time
 from collections.abc import Iterator
 from pathlib import Path
-from typing import Any, NamedTuple, Optional, Protocol
+from typing import NamedTuple, Optional, Protocol
 
 from .carriers import Carrier, carrier_of
+from .marks import Known, known_of
 from .mirrors import MirroredOffice, Taken, second_of, stamp, sync
 from .page_changes import CHANGES, Changes, of_mirror, received_text, write_changes
-from .second_copies import NAMES, NOTE, OFFICE, RECEIVED, CopyNote, State, note_of, state_of, write_note
-from .stored import unchanged_office
+from .second_copies import NAMES, NOTE, OFFICE, RECEIVED, CopyNote, State, note_of, state_of, sums_of, write_note
 from .terminal import Fault
 
 LOCK = "follow.lock"
@@ -27,41 +27,40 @@ LOCK = "follow.lock"
 COMPARED_EACH = 3600.0
 """Seconds after which a copy elsewhere is compared as a whole, so that a page that its disk lost is carried again."""
 
-LAST_QUOTES = 20
-"""So many of the last quotes are in a note."""
-
 
 class Place(Protocol):
-    """A place where a second copy is kept."""
+    """A place where a second copy is kept, and the folder of this machine by which a probe sees it."""
 
     name: str
+    seen: Path
 
     def state(self) -> State:
         """What is there. Raises Fault if it can't be known."""
 
-    def round(self, office: Path, state: State, patience: float) -> tuple[CopyNote, Taken]:
-        """Brings the older copy up to date; its note. Raises Fault and OSError, and the newer copy is whole then."""
+    def round(self, office: Path, state: State, patience: float, is_anew: bool) -> tuple[CopyNote, Taken]:
+        """Brings the older copy up to date; its note. `is_anew` lets it be an office that doesn't go on from the newer
+        copy. Raises Fault and OSError, and the newer copy is whole then."""
 
 
 class Folder:
     """A folder of this machine, such as one on another disk."""
 
     def __init__(self, folder: Path):
-        self.name, self._folder = str(folder), folder
+        self.name, self.seen, self._folder = str(folder), folder, folder
         self._mirrors = Mirrors()
 
     def state(self) -> State:
         """What is there."""
         return state_of(self._folder)
 
-    def round(self, office: Path, state: State, patience: float) -> tuple[CopyNote, Taken]:
+    def round(self, office: Path, state: State, patience: float, is_anew: bool) -> tuple[CopyNote, Taken]:
         """The note of the older copy goes first, and the new one comes last."""
         name, number = state.next()
         folder = self._folder / name
         folder.mkdir(mode=0o700, exist_ok=True)
         (folder / NOTE).unlink(missing_ok=True)
         mirror, taken = self._mirrors.taken(folder, office, patience)
-        note = note_of(office, number, taken, mirror, _last_quotes(folder / OFFICE))
+        note = note_of(office, number, taken, mirror, _known(mirror, state, is_anew))
         for each in (mirror.file, mirror.log):
             each.sync()
         write_note(folder, note)
@@ -78,7 +77,7 @@ class Elsewhere:
     """
 
     def __init__(self, carrier: Carrier, room: Path):
-        self.name, self._carrier, self._room = carrier.name, carrier, room
+        self.name, self.seen, self._carrier, self._room = carrier.name, room, carrier, room
         self._mirrors, self._lags = Mirrors(), dict[str, Lag]()
         self._mirror: Optional[MirroredOffice] = None
         self._is_unheard = False
@@ -90,14 +89,14 @@ class Elsewhere:
         self._carrier.fetch(there)
         return state_of(there)
 
-    def round(self, office: Path, state: State, patience: float) -> tuple[CopyNote, Taken]:
+    def round(self, office: Path, state: State, patience: float, is_anew: bool) -> tuple[CopyNote, Taken]:
         """The mirror needn't be on the disk: what it lacks after a crash is seen in the next round."""
         name, number = state.next()
         folder = self._room / "mirror"
         folder.mkdir(mode=0o700, exist_ok=True)
         mirror, taken = self._mirrors.taken(folder, office, patience)
         self._note_pages(mirror)
-        note = note_of(office, number, taken, mirror, _last_quotes(folder / OFFICE))
+        note = note_of(office, number, taken, mirror, _known(mirror, state, is_anew))
         # (after a fault the copy isn't known any more)
         lag = self._lags.pop(name, None)
         if lag and lag.note != state.notes.get(name):
@@ -175,13 +174,13 @@ class Mirrors:
         return mirror, taken
 
 
-def _last_quotes(mirrored: Path) -> list[list[Any]]:
-    """Collector, slot, month and receipt of the last quotes. A file that the C library can't read has none here: whether
-    it is an office is judged by a drill."""
-    with contextlib.suppress(sqlite3.Error), unchanged_office(mirrored) as office:
-        rows = office.last_quotes(LAST_QUOTES)
-        return [[collector, slot, f"{month // 100:04}-{month % 100:02}", at] for collector, slot, month, at in rows]
-    return []
+def _known(mirror: MirroredOffice, state: State, is_anew: bool) -> Known:
+    """What is known of a mirrored office, which has to go on from the newest copy. If that copy has the same bytes, they
+    were looked at before. Raises NotCarried."""
+    last = state.last()
+    if last and last.marks and (last.file, last.log) == sums_of(mirror):
+        return last.known
+    return known_of(mirror.file.path, last.known if last else None, is_anew)
 
 
 def place_of(dest: str, room: Path, ssh: Optional[str]) -> Place:

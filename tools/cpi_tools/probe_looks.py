@@ -17,7 +17,7 @@ from typing import NamedTuple, Optional
 
 from .backup import read_note
 from .copying import log_beside, private_copy
-from .second_copies import state_of
+from .second_copies import refusal_of, state_of
 from .stored import Window, stored_office
 from .terminal import Fault, because_of
 
@@ -161,10 +161,12 @@ def backups_of(folder: Path) -> Backups:
 
 class SecondCopy(NamedTuple):
     """The newest second copy, by its note: when copying it began, in seconds since 1970 UTC, None if there is no copy;
-    and the machine on which it was promoted, empty if it wasn't."""
+    the machine on which it was promoted, empty if it wasn't; and why the office isn't carried to it any more, empty if it
+    is."""
 
     copied: Optional[int]
     promoted_on: str
+    refused: str = ""
 
 
 def second_copy_of(folder: Path) -> SecondCopy:
@@ -172,9 +174,8 @@ def second_copy_of(folder: Path) -> SecondCopy:
     where the folder can't be looked at."""
     state = state_of(folder)
     newest = state.newest()
-    return SecondCopy(
-        state.notes[newest].copied if newest else None, state.promotion.machine if state.promotion else ""
-    )
+    promoted_on = state.promotion.machine if state.promotion else ""
+    return SecondCopy(state.notes[newest].copied if newest else None, promoted_on, refusal_of(folder))
 
 
 def calendar_of(backup: Optional[Backup], file: Optional[Path]) -> Optional[list[Window]]:

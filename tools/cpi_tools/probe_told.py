@@ -98,7 +98,9 @@ def _of_backups(seen: Seen, chosen: argparse.Namespace) -> Iterator[Judgement]:
 def _of_second(seen: Seen, chosen: argparse.Namespace) -> Iterator[Judgement]:
     if not seen.second:
         return
-    copied, promoted_on = seen.second
+    copied, promoted_on, refused = seen.second
+    if refused and not promoted_on:
+        yield CRITICAL, refused
     if promoted_on:
         yield CRITICAL, f"the second copy was promoted on {promoted_on}, so there is none any more"
     elif copied is None:
@@ -190,6 +192,7 @@ def _figures_of_files(seen: Seen) -> Iterator[Figure]:
     if seen.second and seen.second.copied is not None:
         yield "second_copied_seconds", str(seen.second.copied), "When the second copy was made, seconds since 1970."
         yield "second_age_seconds", str(max(0, seen.now - seen.second.copied)), "Age of the second copy."
+        yield "second_refused", str(int(bool(seen.second.refused))), "Whether the office isn't carried to it any more."
     if seen.backups:
         yield "failed_drills", str(seen.backups.failed_drills), "Drills that failed after the last backup."
 

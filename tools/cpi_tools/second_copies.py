@@ -21,10 +21,11 @@ import socket
 import time
 from datetime import datetime, timezone
 from pathlib import Path
-from typing import Any, NamedTuple, Optional
+from typing import NamedTuple, Optional
 
 from .copying import log_beside
 from .held_folders import HeldFolder, NotPlain, held
+from .marks import Identity, Known, Marks, identity_in, marks_in
 from .mirrors import MirroredOffice, Taken, sum_of
 from .terminal import Fault, because_of, is_line
 from .whole_files import write_whole
@@ -48,6 +49,9 @@ which a follower carries only reads it."""
 RECEIVED = "received.lock"
 """Is at a place on another machine where a program puts changed pages into a copy: one carrying at a time has it."""
 
+REFUSED = "refused.json"
+"""Is there as long as rounds are refused, since the office doesn't go on from its copy."""
+
 MOST_BYTES = 1 << 16
 """Bytes of a note that are read."""
 
@@ -62,7 +66,7 @@ class Sum(NamedTuple):
 class CopyNote(NamedTuple):
     """What is written next to a copy: the office's file and its machine; the number of the round; the moment at which
     copying began, in seconds since 1970 UTC; size and sum of file and log; the last quotes that came new, each with
-    collector, slot, month and receipt."""
+    collector, slot, month and receipt; which office it is, and its marks, which earlier versions didn't write."""
 
     office: str
     machine: str
@@ -71,6 +75,13 @@ class CopyNote(NamedTuple):
     file: Sum
     log: Sum
     receipts: tuple[tuple[int, int, str, int], ...]
+    identity: Optional[Identity] = None
+    marks: Optional[Marks] = None
+
+    @property
+    def known(self) -> Known:
+        """What it knows of the office."""
+        return Known(self.identity, self.marks, self.receipts)
 
 
 class Promotion(NamedTuple):
@@ -89,16 +100,21 @@ class State(NamedTuple):
     promotion: Optional[Promotion]
 
     def of_another(self, office: Path) -> str:
-        """Whose copy is there, if it isn't that of an office's file on this machine; else nothing."""
-        for note in self.notes.values():
-            if (note.machine, note.office) != (socket.gethostname(), str(office.absolute())):
-                return f"{note.office} of {note.machine}"
+        """Whose copy is the newest one, if it isn't that of an office's file on this machine; else nothing."""
+        note = self.last()
+        if note and (note.machine, note.office) != (socket.gethostname(), str(office.absolute())):
+            return f"{note.office} of {note.machine}"
         return ""
 
     def newest(self) -> Optional[str]:
         """The folder of the newest copy; None if there is none."""
         by_round = {note.round: name for name, note in self.notes.items()}
         return by_round[max(by_round)] if by_round else None
+
+    def last(self) -> Optional[CopyNote]:
+        """The note of the newest copy; None if there is none."""
+        newest = self.newest()
+        return self.notes[newest] if newest else None
 
     def next(self) -> tuple[str, int]:
         """The folder of the next round, and its number."""
@@ -115,16 +131,21 @@ def second_text(moment: int) -> str:
 # ---- what is written at a place
 
 
-def note_of(office: Path, number: int, taken: Taken, mirrored: MirroredOffice, receipts: list[list[Any]]) -> CopyNote:
+def sums_of(mirrored: MirroredOffice) -> tuple[Sum, Sum]:
+    """The sums of a mirror: of its file, and of its log."""
+    return Sum(mirrored.file.size, mirrored.file.sum()), Sum(mirrored.log.size, mirrored.log.sum())
+
+
+def note_of(office: Path, number: int, taken: Taken, mirrored: MirroredOffice, known: Known) -> CopyNote:
     """The note on a round."""
-    file, log = (Sum(each.size, each.sum()) for each in (mirrored.file, mirrored.log))
-    told = tuple((collector, slot, str(month), receipt) for collector, slot, month, receipt in receipts)
-    return CopyNote(str(office.absolute()), socket.gethostname(), number, taken.moment, file, log, told)
+    whose = str(office.absolute()), socket.gethostname(), number, taken.moment
+    return CopyNote(*whose, *sums_of(mirrored), known.receipts, known.identity, known.marks)
 
 
 def note_text(note: CopyNote) -> str:
     """A note as it is written, which `note_in` reads."""
-    return json.dumps({**note._asdict(), "file": note.file._asdict(), "log": note.log._asdict()})
+    parts = {"file": note.file, "log": note.log, "identity": note.identity, "marks": note.marks}
+    return json.dumps({**note._asdict(), **{name: part and part._asdict() for name, part in parts.items()}})
 
 
 def write_note(folder: Path, note: CopyNote) -> None:
@@ -139,6 +160,12 @@ def write_promotion(folder: Path, copied: int) -> Promotion:
         place.write_whole(MARK, (json.dumps(promotion._asdict()) + "\n").encode(), 0o644)
         place.sync()
     return promotion
+
+
+def write_refusal(folder: Path, because: str) -> None:
+    """Writes that a round was refused now, and why. Raises OSError."""
+    told = {"refused": int(time.time()), "because": because}
+    write_whole(folder / REFUSED, (json.dumps(told) + "\n").encode(), 0o600)
 
 
 # ---- what is read there
@@ -182,6 +209,19 @@ def _promotion_in(place: HeldFolder) -> Optional[Promotion]:
         raise Fault(f"{place.path / MARK} isn't a mark that cpi-tools wrote") from fault
 
 
+def refusal_of(folder: Path) -> str:
+    """Why the last round was refused; empty if it wasn't. Raises Fault if that can't be read."""
+    try:
+        with held(folder) as place:
+            return str(json.loads(place.text(REFUSED, MOST_BYTES))["because"])
+    except FileNotFoundError:
+        return ""
+    except OSError as fault:
+        raise Fault(because_of(fault)) from fault
+    except (ValueError, LookupError, TypeError) as fault:
+        raise Fault(f"{folder / REFUSED} isn't a refusal that cpi-tools follow wrote") from fault
+
+
 def _note_in(place: HeldFolder, name: str) -> Optional[CopyNote]:
     """The note of a copy; None where there is none that is whole, or something else stands in its place. Raises OSError
     where it can't be read."""
@@ -201,8 +241,9 @@ def note_in(text: str) -> Optional[CopyNote]:
         office, machine = str(told["office"]), str(told["machine"])
         if not is_line(office + machine):
             return None
-        return CopyNote(office, machine, int(told["round"]), int(told["copied"]), file, log, receipts)
-    except (ValueError, LookupError, TypeError):
+        known = identity_in(told.get("identity")), marks_in(told.get("marks"))
+        return CopyNote(office, machine, int(told["round"]), int(told["copied"]), file, log, receipts, *known)
+    except (ValueError, LookupError, TypeError, AttributeError):
         return None
 
 

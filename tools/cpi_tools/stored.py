@@ -157,6 +157,11 @@ class StoredOffice:
         for table, row, parent, _ in self.ask("PRAGMA foreign_key_check"):
             yield f"foreign_key_check: row {row} of {table} names no row of {parent}"
 
+    def quick_fault(self) -> str:
+        """What the C library finds wrong first as it looks at each page and row, but not at the keys; else nothing."""
+        ((text,),) = self.ask("PRAGMA quick_check(1)")
+        return next((line for line in text.splitlines() if line != "ok" and not line.startswith("*** ")), "")
+
     # ---- months
 
     def releases(self) -> list[Release]:
@@ -378,11 +383,19 @@ class StoredOffice:
         )
         return {month: (mark, value) for month, mark, value in self.ask(text, *series)}
 
-    def last_quotes(self, most: int) -> list[tuple[int, int, int, int]]:
-        """Collector, slot, month and receipt of the quotes that came new last, the latest first. (A quote that was put
-        right stays in its row.)"""
-        text = "SELECT collector, slot, month, receipt FROM quote_2 ORDER BY rowid DESC LIMIT ?"
-        return [(collector, slot, month, receipt) for collector, slot, month, receipt in self.ask(text, most)]
+    def last_quotes(self, most: int, newer: int = 0) -> list[tuple[int, int, int, int]]:
+        """Collector, slot, month and receipt of the quotes that came new last, the latest first, without a number of newer
+        ones. (A quote that was put right stays in its row.)"""
+        text = "SELECT collector, slot, month, receipt FROM quote_2 ORDER BY rowid DESC LIMIT ? OFFSET ?"
+        return [(collector, slot, month, receipt) for collector, slot, month, receipt in self.ask(text, most, newer)]
+
+    def grown(self) -> tuple[int, ...]:
+        """What only grows: how many collectors, outlets, items, slots, months of the calendar, releases and quotes there
+        are, and the sum of the receipts."""
+        tables = ("collector", "outlet", "item", "assignment_2", "calendar", "release_2", "quote_2")
+        counts = ", ".join(f"(SELECT count(*) FROM {table})" for table in tables)
+        ((*found,),) = self.ask(f"SELECT {counts}, (SELECT coalesce(sum(receipt), 0) FROM quote_2)")
+        return tuple(found)
 
     def last_receipts(self) -> dict[int, int]:
         """The last receipt of each collector."""
