@@ -17,7 +17,10 @@ from lib.places import ROOT
 from .systems import FIRST, SECOND, System, indented, section, two_systems
 
 GUIDE = (ROOT / "docs/run/SECOND-MACHINE.md").read_text()
+RUNNING = (ROOT / "docs/run/RUNNING.md").read_text()
+(RESTORE,) = indented(section(RUNNING, "## To restore"))
 USER, KEY, ALLOWED, FOLLOW, PROBE = indented(section(GUIDE, "## To set it up"))
+(ANEW,) = indented(section(GUIDE, "## When the office isn't carried any more"))
 (PROMOTE,) = indented(section(GUIDE, "## When the first machine is lost"))
 STOP, REPLACE, ASIDE, AGAIN = indented(section(GUIDE, "## Back again"))
 
@@ -82,10 +85,26 @@ def test_the_guide_is_followed_word_for_word(systems: tuple[System, System]) -> 
     first.wait_for(PROBE)
     lost_and_promoted(first, second, before)
     back_again(first, second)
+    carried_anew(first, before)
     # the same once more: nothing of the way back is in the way of a promotion
     first.kill()
     second.run(PROMOTE)
     assert missing(second, before, 0) == 0
+
+
+def carried_anew(first: System, before: str) -> None:
+    """A backup of before the last prices is restored on the first machine, and is carried once that is said."""
+    first.run("systemctl start cpi-backup.service")
+    last = sent(first, 555)
+    first.wait_for(PROBE)
+    command = RESTORE.replace("office-2026-01-31.db", "office-$(date -u +%F).db --yes")
+    assert command != RESTORE
+    first.run(command)
+    assert missing(first, last, MISSING) == PRICES and missing(first, before, 0) == 0
+    first.run("systemctl start cpi-follow.service")
+    first.wait_for("cpi-tools probe --copy /var/lib/cpi-follow | grep -q 'would take back what the copy has'")
+    first.run(ANEW)
+    first.wait_for(PROBE)
 
 
 def lost_and_promoted(first: System, second: System, before: str) -> None:

@@ -430,7 +430,7 @@ def test_a_damaged_file_is_named_by_what_sqlite_finds(cpi: Cpi, office: Path) ->
     office.write_bytes(data)
     said = told(cpi, office)
     assert said.startswith("it is damaged: ") and said.endswith(
-        ". Put it aside with its log, and restore the last good" " backup (docs/run/RUNNING.md, To restore)."
+        ". Restore the last good backup: `cpi-tools restore` puts the file and its log aside."
     ), said
     assert not opens(cpi, office)
 

@@ -7,10 +7,12 @@ import re
 import subprocess
 from pathlib import Path
 
+from cpi_tools.copying import log_beside
 from cpi_tools.program import Cpi
 from lib.places import ROOT
 from lib.sample import Sample
 from lib.served import free_port
+from .accidents import killed_after
 from .loads import served
 
 
@@ -54,27 +56,31 @@ def test_an_office_is_backed_up_and_drilled_while_it_is_served(cpi: Cpi, tmp_pat
     assert "backup/office.db: nothing is wrong; 3 tables with 16 rows and 6 carried prices computed" in told.stdout
 
 
-def test_a_backup_is_restored(cpi: Cpi, office: Path, tmp_path: Path) -> None:
-    """By the commands of RUNNING, but for those of systemd."""
+def test_a_backup_is_restored_twice(cpi: Cpi, office: Path, tmp_path: Path) -> None:
+    """By the commands of RUNNING, but for those of systemd, each time with another log beside the file."""
     made = ran("./cpi-tools backup office.db backup/office.db", tmp_path, cpi)
     assert (made.returncode, made.stderr) == (0, "")
     restore = block_behind("docs/run/RUNNING.md", "## To restore")
-    assert restore.count("systemctl") == 2
+    stop, command, begin = restore.splitlines()
+    assert stop == "systemctl stop cpi-follow.service cpi.service" and begin == "systemctl start cpi.service"
     backup = tmp_path / "backup/office.db"
-    restore = re.sub(r"/var/lib/cpi-backup/office-[0-9-]+\.db", str(backup), restore)
-    restore = restore.replace("/var/lib/cpi ", f"{tmp_path} ").replace("-o cpi -g cpi ", "")
-    commands = [re.sub("^cpi-tools", "./cpi-tools", line) for line in restore.splitlines() if "systemctl" not in line]
-    (tmp_path / "office.db-wal").write_text("an old log")
-    told = ran("\n".join(commands), tmp_path, cpi)
-    assert (told.returncode, told.stderr) == (0, "")
-    assert office.read_bytes() == backup.read_bytes()
-    assert not (tmp_path / "office.db-wal").exists()
-    assert sorted(os.listdir(tmp_path / "before")) == ["office.db", "office.db-wal"]
+    command = re.sub(
+        r"/var/lib/cpi-backup/office-[0-9-]+\.db", str(backup), re.sub("^cpi-tools", "./cpi-tools", command)
+    )
+    assert str(backup) in command
+    for turn in (1, 2):
+        killed_after(cpi, office, 300)
+        told = ran(f"{command} --office office.db --yes", tmp_path, cpi)
+        assert (told.returncode, told.stderr) == (0, "")
+        assert office.read_bytes() == backup.read_bytes() and not log_beside(office).exists()
+        asides = [*tmp_path.glob("office.db.before-*")]
+        assert len(asides) == turn
+        assert all(sorted(os.listdir(aside)) == ["office.db", "office.db-wal"] for aside in asides)
 
 
 def test_each_help_has_an_example_and_narrow_lines(sample: Sample) -> None:
     tools = ("backup", "drill", "probe", "doctor", "keys", "calendar", "desk", "explain", "publish", "take-in", "take-out",
-             "next-year", "follow", "promote", "gaps")  # fmt: skip
+             "next-year", "follow", "promote", "gaps", "restore")  # fmt: skip
     for words in sample.of([[], *([tool] for tool in tools)], 5, "tools"):
         told = subprocess.run([ROOT / "cpi-tools", *words, "--help"], capture_output=True, text=True, check=True).stdout
         assert re.search(r"^example: cpi-tools [\w-]+ .*\boffice\.db\b", told, re.M), told

@@ -220,10 +220,7 @@ log into it; and writes one file DEST, and beside it DEST.sha256 with its sum, w
 The office isn't locked, and nothing is written to it. Every command that was answered before the
 copy began is in it. `cpi-tools drill DEST` looks whether it is whole.
 
-To restore, stop the office, look at the backup, put the old file aside with its log (which would
-else be put into the restored file), and copy the backup back:
-
-    cpi-tools drill DEST && mkdir before && mv FILE* before/ && cp DEST FILE
+To restore, stop the office, and let `cpi-tools restore DEST` put the old file aside with its log.
 """
 
 EPILOG = """\

@@ -24,6 +24,7 @@ from . import (
     promote,
     publish,
     receive,
+    restore,
     take_in,
     take_out,
 )
@@ -33,7 +34,7 @@ from .terminal import Fault, ToolWords, ends_by_signals, is_line
 from .version import ShowVersion
 
 TOOLS = (
-    backup, drill, follow, receive, promote, gaps, probe, doctor, keys, calendar_file, desk, explain, publish, take_in, take_out, next_year,
+    backup, drill, restore, follow, receive, promote, gaps, probe, doctor, keys, calendar_file, desk, explain, publish, take_in, take_out, next_year,
     moved_weights,
 )  # fmt: skip
 

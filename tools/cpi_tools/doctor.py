@@ -14,6 +14,7 @@ import pwd
 import shutil
 import sqlite3
 import stat
+import sys
 from collections.abc import Generator, Iterator
 from pathlib import Path
 from shlex import quote
@@ -21,7 +22,9 @@ from typing import NamedTuple, Optional
 
 from .access import User, acting_as, may, owner_and_mode, this_user, user_of
 from .copying import has_frames, log_beside, private_copy
+from .follow import restoring_beside
 from .holders import holders_of, is_held
+from .other_logs import other_log_of
 from .program import LAST_MOMENT, Cpi, CpiFailed, add_program, record
 from .stored import SCHEMA, stored_office
 from .terminal import Fault, Progress, ToolWords, because_of
@@ -39,7 +42,8 @@ OTHERS = (
 )
 """What a file may be instead, by its first bytes."""
 
-RESTORE = "Put it aside with its log, and restore the last good backup (docs/run/RUNNING.md, To restore)"
+RESTORE = "Restore the last good backup: `cpi-tools restore` puts the file and its log aside"
+DOUBT = "if a backup was put there, the log is that of the file before, and what it has comes into the backup"
 OTHER_FILE = "Name the office's file, or restore it from a backup"
 
 
@@ -63,6 +67,7 @@ def cause_of(path: Path, user: User, cpi: Cpi, progress: Optional[Progress] = No
 def _causes(path: Path, user: User, cpi: Cpi, progress: Optional[Progress]) -> Generator[Cause, None, None]:
     """The causes, the cheap ones first. Each is looked for once there is none before it."""
     now = progress.now if progress else lambda _: None
+    yield from of_restore(path)
     yield from of_place(path)
     yield from of_access(path.absolute(), user)
     yield from of_holders(path)
@@ -70,6 +75,7 @@ def _causes(path: Path, user: User, cpi: Cpi, progress: Optional[Progress]) -> G
     yield from of_beginning(path)
     if path.stat().st_size or has_frames(path):
         now("copying it")
+        yield from of_log(path)
         with private_copy(path) as copy:
             now("cpi opens a copy")
             yield from of_content(path, copy, cpi)
@@ -126,6 +132,13 @@ def _missing(path: Path) -> Cause:
 
 def _first_that_is_no_folder(path: Path) -> Path:
     return next(each for each in reversed(path.absolute().parents) if each.exists() and not each.is_dir())
+
+
+def of_restore(path: Path) -> Iterator[Cause]:
+    """Whether a restore was cut off."""
+    with contextlib.suppress(OSError):
+        told = restoring_beside(path).read_text(encoding="utf-8", errors="replace").strip()
+        yield Cause(told or "a restore isn't done", "Run cpi-tools restore again")
 
 
 # ---- who may open it
@@ -243,6 +256,17 @@ def _is_text(begin: bytes) -> bool:
     return all(each.isprintable() or each in "\t\r\n" for each in text[:-1]) and text.count("\ufffd", 0, -1) == 0
 
 
+def of_log(path: Path) -> Iterator[Cause]:
+    """Whether its log is that of another file, if that is sure."""
+    if (other := other_log_of(path)) and other.is_sure:
+        log = log_beside(path)
+        yield Cause(
+            f"its log {log.name} is that of another file: {other.because}",
+            f"By itself the file is whole. Keep both: if it was put there, as from a backup, `cpi-tools restore` puts the"
+            f" log aside; by hand: `mv {quote(str(log))} {quote(str(log))}.other`",
+        )
+
+
 def of_content(path: Path, copy: Path, cpi: Cpi) -> Iterator[Cause]:
     """What cpi and SQLite say of a copy. Raises CpiFailed if it isn't the file that cpi failed at."""
     try:
@@ -263,7 +287,7 @@ def _of_refused(path: Path, copy: Path, cpi: Cpi) -> Iterator[Cause]:
     if has_frames(path) and _opens_without_log(path, cpi):
         yield Cause(
             f"its log {log_beside(path).name} is damaged, or is that of another file: without it cpi opens the file",
-            "Keep both, and restore the last good backup (docs/run/RUNNING.md, To restore)",
+            "Keep both: `cpi-tools restore` puts them aside, and restores the last good backup",
         )
     yield from _of_tables(copy)
     yield Cause("it has tables or rows that no office has: another program changed it, or a disk did", RESTORE)
@@ -319,6 +343,11 @@ names, and SQLite checks it. FILE itself is only read: it is neither written nor
 The user is the one that runs this; for root, who may open every file, it is the owner of FILE's
 folder, so a file that root made in the folder of a service is found. Without root, a process of
 another user that holds FILE isn't seen, and the line says so.
+
+A log next to FILE that is that of another file would be put into FILE as cpi opens it. It is found
+by what both hold: FILE is whole by itself, and with the log it is damaged, another office, or an
+earlier one. With --log only this is looked at, as cpi-serve does before each start with a log. If
+both fit together, but FILE came after the log, a warning says so.
 """
 
 EPILOG = """\
@@ -339,19 +368,38 @@ def add_words(tools: argparse._SubParsersAction[ToolWords]) -> None:
     )
     words.add_argument("file", type=Path, metavar="FILE", help="the office's file, which is only read")
     words.add_argument("--user", metavar="NAME", help="the user that is to open it")
+    words.add_argument("--log", action="store_true", help="only look whether the log next to it is its own")
     add_program(words)
     words.set_defaults(run=run, tool="doctor", words=words)
+
+
+def _looked_at_log(path: Path) -> int:
+    """Looks only whether the log is that of another file; the exit status."""
+    try:
+        causes = [*of_log(path)]
+        other = other_log_of(path)
+    except OSError as fault:
+        raise Fault(because_of(fault)) from fault
+    for cause in causes:
+        print(f"{path}: {cause.because}. {cause.do}.")
+    if other and not other.is_sure:
+        print(f"{path}: {other.because}: {DOUBT}")
+    return 1 if causes else 0
 
 
 def run(chosen: argparse.Namespace) -> int:
     """Runs the tool by its words; its exit status."""
     path: Path = chosen.file
+    if chosen.log:
+        return _looked_at_log(path)
     cpi = Cpi(chosen.program)
     with Progress("cpi-tools doctor") as progress:
         found = cause_of(path, opener_of(path, chosen.user), cpi, progress)
     if found:
         print(f"{path}: {found.because}. {found.do}.")
         return 1
+    if (other := other_log_of(path)) and not other.is_sure:
+        print(f"cpi-tools doctor: {path}: warning: {other.because}: {DOUBT}", file=sys.stderr)
     is_empty = not path.stat().st_size and not has_frames(path)
     print(f"{path}: nothing is wrong" + (", but it is empty: cpi makes a new office of it" if is_empty else ""))
     return 0

@@ -29,7 +29,7 @@ from .access import acting_as, this_user, user_of
 from .backup import log_of
 from .copying import log_beside
 from .drill import MOST_TOLD, Drilled, drill
-from .follow import mark_beside
+from .follow import mark_beside, restoring_beside
 from .held_folders import HeldFolder, NotPlain, held
 from .holders import is_held
 from .mirrors import sync
@@ -238,14 +238,15 @@ def _put_aside(office: Path, home: HeldFolder) -> Optional[Path]:
 
 
 def _place(copy: Path, office: Path, home: HeldFolder) -> None:
-    """Gives a copy its name, its log first, and the owner of the folder. A mark that another machine was promoted goes:
-    now it is this one."""
+    """Gives a copy its name, its log first, and the owner of the folder. A mark that another machine was promoted goes,
+    since now it is this one, and that of a restore that was cut off."""
     owner = os.fstat(home.number)
     with held(copy.parent) as room:
         for name, to in ((log_beside(copy).name, log_of(office).name), (copy.name, office.name)):
             if room.has(name):
                 _hand_over(room, name, home, to, owner)
-    home.remove(mark_beside(office).name)
+    for mark in (mark_beside(office), restoring_beside(office)):
+        home.remove(mark.name)
     home.sync()
 
 
