@@ -26,6 +26,7 @@ def test_what_couldn_t_be_sent_is_judged_and_sent_again(
     with monkeypatch.context() as patch:
         patch.setattr(application.desk.office, "carry_out", away)
         words = sent(ada)
+    assert "Nothing was sent: " in words and "The office can't be reached" in words
     assert application.desk.drafts.years() == [2027] and application.desk.log.entries[-1].what == "not sent"
     judged(application, ada)
     assert "sent, and carried out." in sent(ada)
