@@ -53,7 +53,7 @@ def followed(serves: System, takes: System, name: str) -> None:
     public = serves.run(KEY.replace("second.example", name)).splitlines()[-1]
     line = ALLOWED.replace("ssh-ed25519 AAAA..", public)
     assert line != ALLOWED
-    takes.run(f"cat > /var/lib/cpi-copy/.ssh/authorized_keys << 'END'\n{line}END")
+    takes.run(f"cat > /etc/ssh/keys/cpi-copy << 'END'\n{line}END")
     (setting,) = re.findall(r"add a line `(CPI_COPY=[^`]+)`", GUIDE)
     serves.run(f"echo '{setting.replace('second.example', name)}' >> /etc/cpi/office.conf")
     serves.run(FOLLOW)
@@ -137,3 +137,47 @@ def back_again(first: System, second: System) -> None:
     second.run(ASIDE)
     first.run(AGAIN)
     first.wait_for(PROBE)
+
+
+ATTACK = f"""
+cd /var/lib/cpi
+mkdir -p x/copy-1 y empty
+ln -s /var/lib/cpi-copy/.ssh/authorized_keys2 x/copy-1/office.db
+echo '{{"machine": "second", "promoted": 1800000000, "copied": 1800000000}}' > promoted.json
+rsync -rl x/ cpi-copy@second.example:.
+rsync -l x/copy-1/office.db cpi-copy@second.example:./copy-1/
+rsync promoted.json cpi-copy@second.example:.
+rsync -r --delete empty/ cpi-copy@second.example:. && exit 99
+rsync -r --delete empty/ cpi-copy@second.example:./copy-2/ && exit 99
+ssh -o BatchMode=yes cpi-copy@second.example id && exit 99
+scp -q {OFFICE} cpi-copy@second.example:stolen && exit 99
+exit 0
+"""
+"""What the user `cpi` of the first machine tries by the follower's key."""
+
+
+def test_the_key_carries_pages_and_nothing_else(systems: tuple[System, System]) -> None:
+    """Whoever has taken the first machine gets no shell on the second one, empties no copy and makes no mark there."""
+    first, second = systems
+    records = "\n".join(clients.survey())
+    first.run(f"runuser -u cpi -- cpi replay --db {OFFICE} > /dev/null << 'END'\n{records}\nEND")
+    first.run("systemctl enable --quiet --now cpi.service cpi-backup.timer")
+    followed(first, second, "second.example")
+    first.wait_for(PROBE)
+    first.run("systemctl stop cpi-follow")
+    first.run(f"runuser -u cpi -- bash -u << 'END'{ATTACK}END")
+    assert second.run(f"ls {COPY}").split() == ["copy-1", "copy-2", "received", "received.lock"]
+    second.run(f"test -s {COPY}/copy-2/office.db; test ! -e /var/lib/cpi-copy/.ssh; test ! -e /var/lib/cpi-copy/stolen")
+    # a key that the user of the copies could write wouldn't count either
+    first.run("runuser -u cpi -- ssh-keygen -q -t ed25519 -N '' -f /var/lib/cpi/mine")
+    mine = first.run("cat /var/lib/cpi/mine.pub")
+    for name in ("authorized_keys", "authorized_keys2"):
+        second.run(
+            f"install -d -o cpi-copy /var/lib/cpi-copy/.ssh; echo '{mine.strip()}' > /var/lib/cpi-copy/.ssh/{name}"
+        )
+    words = "-o BatchMode=yes -o IdentitiesOnly=yes -i /var/lib/cpi/mine"
+    first.run(f"runuser -u cpi -- ssh {words} cpi-copy@second.example true", 255)
+    # the follower goes on, puts the copies right, and finds no promotion
+    first.run("systemctl start cpi-follow")
+    first.wait_for(PROBE)
+    first.run(f"test ! -e {OFFICE}.promoted; systemctl is-active cpi.service")

@@ -153,7 +153,7 @@ def test_each_file_of_ops_has_its_place(members: dict[str, tarfile.TarInfo]) -> 
         "cpi-follow.service": units, "cpi-promoted.service": units, "cpi-follow": programs, "cpi-receive": programs,
         "cpi-desk.service": units, "cpi-desk": programs,
         "cpi-backup": programs, "cpi-stopped": programs, "nginx.conf": others, "Caddyfile": others, "logrotate-cpi": others,
-        "try": others, "try.py": others, "office.conf": {"etc/cpi"},
+        "try": others, "try.py": others, "sshd-cpi.conf": others, "office.conf": {"etc/cpi"},
     }  # fmt: skip
     assert {"usr/lib/sysusers.d/cpi.conf", "usr/lib/tmpfiles.d/cpi.conf"} <= set(members)
 

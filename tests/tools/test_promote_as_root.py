@@ -10,6 +10,7 @@ import re
 import socket
 import subprocess
 import sys
+import tempfile
 import time
 from collections.abc import Iterator
 from pathlib import Path
@@ -35,11 +36,13 @@ import os, sys, time
 home, victim, told = sys.argv[1:]
 os.setgroups([]); os.setgid(65534); os.setuid(65534)
 open(told, "w").close()
-taken = set()
+taken, seen, pause = set(), {}, float(os.environ["PAUSE"])
 while True:
-    # each name that root makes in this user's folder is taken away, and leads to a file of root's from then on
+    # each name that root makes in this user's folder is taken away a while later, and leads to a file of root's then
     for name in os.listdir(home):
         if name in taken or not name.startswith((".cpi-promote-", ".office.db", "office.db")):
+            continue
+        if time.monotonic() < seen.setdefault(name, time.monotonic() + pause):
             continue
         try:
             path = os.path.join(home, name)
@@ -53,7 +56,7 @@ while True:
                 os.symlink(victim, path)
         except OSError:
             pass
-    time.sleep(float(os.environ["PAUSE"]))
+    time.sleep(0.002 if pause else 0)
 """
 """A process of the office's user, as a broken application would run."""
 
@@ -69,15 +72,15 @@ def dest(cpi: Cpi, office: Path, tmp_path: Path) -> Path:
 
 
 @pytest.fixture
-def place(tmp_path: Path) -> Path:
-    """Where the office is to be, in a folder of another user whose path anybody can go."""
-    for folder in (tmp_path, tmp_path.parent, tmp_path.parent.parent):
-        folder.chmod(folder.stat().st_mode | 0o755)
-    home = tmp_path / "second"
-    home.mkdir()
-    if os.geteuid() == 0:
-        os.chown(home, OTHER, OTHER)
-    return home / OFFICE
+def place() -> Iterator[Path]:
+    """Where the office is to be, in a folder of another user whose path anybody can go: pytest closes its own."""
+    with tempfile.TemporaryDirectory(prefix="cpi-test-") as made:
+        os.chmod(made, 0o755)
+        home = Path(made) / "second"
+        home.mkdir()
+        if os.geteuid() == 0:
+            os.chown(home, OTHER, OTHER)
+        yield home / OFFICE
 
 
 def promoted(cpi: Cpi, dest: Path, place: Path, *words: object) -> Ran:
@@ -108,7 +111,7 @@ def owners(folder: Path) -> dict[str, int]:
 
 @as_root
 @pytest.mark.parametrize("where", ["beside", "another-disk"])
-@pytest.mark.parametrize("pause", [0.0, 0.05, 0.3])
+@pytest.mark.parametrize("pause", [0.0, 0.1, 0.5])
 def test_no_file_of_roots_is_given_away(
     pause: float, where: str, cpi: Cpi, dest: Path, place: Path, tmp_path: Path, monkeypatch: pytest.MonkeyPatch
 ) -> None:
@@ -128,7 +131,7 @@ def test_no_file_of_roots_is_given_away(
     assert (known.st_uid, known.st_mode & 0o777, victim.read_text()) == (0, 0o600, "root's")
     # (what is in the folder belongs to its owner, and nothing is left elsewhere)
     assert set(owners(place.parent).values()) <= {OTHER}
-    left = [path.name for folder in (tmp_path, Path("/dev/shm")) for path in folder.glob(".cpi-promote-*")]
+    left = [path.name for folder in (place.parent.parent, Path("/dev/shm")) for path in folder.glob(".cpi-promote-*")]
     assert left == []
 
 
@@ -178,7 +181,11 @@ def test_a_copy_of_other_things_than_files_is_not_read(
     else:
         name.symlink_to(secret)
     ran = promoted(cpi, dest, home / OFFICE)
-    assert (ran.status, ran.out) == (1, "") and ran.err == f"cpi-tools promote: {name}: it isn't a plain file\n"
+    assert (ran.status, ran.out, ran.err.count("\n")) == (1, "", 1)
+    fault = (
+        f"{copy} isn't whole, and nothing was promoted: {name}: it isn't a plain file (--copy copy-1 takes the one of "
+    )
+    assert ran.err.startswith(f"cpi-tools promote: {fault}")
     assert [*home.iterdir()] == [] and not (dest / MARK).exists()
     # a note like that counts as none, so the other copy is the newest
     (copy / NOTE).unlink()

@@ -6,10 +6,15 @@ into it there.
 
 The note goes before the first page is written, and the new one comes last, as in each round. So whatever stops it, the
 copy is none until a whole one is carried, and the other copy counts.
+
+What was carried comes from another machine, and only pages are taken from it: each file below the place is opened by its
+plain name from the place's descriptor (`held_folders`), and a link, a pipe or a file with a second name is refused before
+anything is written.
 """
 
 from __future__ import annotations
 
+import contextlib
 import json
 import os
 from collections.abc import Collection
@@ -17,12 +22,19 @@ from pathlib import Path
 from typing import IO, Any, NamedTuple
 
 from .copying import log_beside
-from .mirrors import PAGE, sync
-from .second_copies import NAMES, NOTE, OFFICE, CopyNote, Sum, note_in, note_text, promotion_of, state_of, write_note
+from .held_folders import HeldFolder, held
+from .mirrors import PAGE
+from .second_copies import LOG, NAMES, NOTE, OFFICE, CopyNote, Sum, note_in, note_text, state_in
 from .terminal import Fault, because_of, naming
 
-CHANGES = "changes"
-"""The file at a place."""
+CAME = "received"
+"""The folder of a place to which a file of changes is carried."""
+
+CARRIED = "changes"
+"""That file."""
+
+CHANGES = f"{CAME}/{CARRIED}"
+"""Where it is at a place."""
 
 LONGEST_LINE = 1 << 26
 """Bytes of the first line at most."""
@@ -117,48 +129,57 @@ def _of_file(told: Any) -> OfFile:
 
 def put_in(place: Path) -> Changes:
     """Puts the changes that lie at a place into the copy that they belong to, and removes them. Raises Fault: nothing
-    was written if they don't belong to that copy as its note says it, or if a copy was promoted."""
-    path = place / CHANGES
+    was written if they don't belong to that copy as its note says it, if it isn't made of plain files, or if a copy was
+    promoted."""
     try:
-        with path.open("rb") as file:
-            changes = read_head(file)
-            _refuse(place, changes, path.stat().st_size - file.tell())
-            _put(file, changes, place / changes.name)
-        path.unlink()
+        with held(place) as whole, whole.folder(CAME) as came:
+            with os.fdopen(came.opened(CARRIED, links=1), "rb") as file:
+                changes = read_head(file)
+                _refuse(whole, changes, os.fstat(file.fileno()).st_size - file.tell())
+                with whole.folder(changes.name) as copy:
+                    _put(file, changes, copy)
+            came.remove(CARRIED)
     except NotFitting as fault:
-        raise NotFitting(f"{path}: {fault}") from fault
+        raise NotFitting(f"{place / CHANGES}: {fault}") from fault
     except OSError as fault:
         raise Fault(because_of(fault)) from fault
     return changes
 
 
-def _refuse(place: Path, changes: Changes, size: int) -> None:
+def _refuse(place: HeldFolder, changes: Changes, size: int) -> None:
     """Raises NotFitting unless the changes can be put into their copy."""
-    if promotion_of(place):
+    state = state_in(place)
+    if state.promotion:
         raise NotFitting("a copy was promoted here")
-    if state_of(place).notes.get(changes.name) != changes.before:
+    if state.notes.get(changes.name) != changes.before:
         raise NotFitting(f"{changes.name} isn't the copy that it changes")
     if size != changes.size:
         raise NotFitting(f"it has {size:,} bytes of pages, and {changes.size:,} by its first line")
 
 
-def _put(file: IO[bytes], changes: Changes, copy: Path) -> None:
-    """Writes the pages, and the note last."""
-    (copy / NOTE).unlink()
-    sync(copy)
-    office = copy / OFFICE
-    for path, of, whole in (
-        (office, changes.file, changes.note.file),
-        (log_beside(office), changes.log, changes.note.log),
-    ):
-        number = os.open(path, os.O_RDWR | os.O_CREAT | os.O_CLOEXEC, 0o600)
-        with naming(path), os.fdopen(number, "r+b") as to:
-            for page, size in zip(of.pages, _sizes(of, whole)):
-                to.seek(page * PAGE)
-                to.write(file.read(size))
-            to.truncate(whole.size)
-            to.flush()
-            os.utime(number, ns=(of.time, of.time))
-            os.fsync(number)
-    write_note(copy, changes.note)
-    sync(copy)
+def _put(file: IO[bytes], changes: Changes, copy: HeldFolder) -> None:
+    """Writes the pages, and the note last. Both files are open before the first one is written."""
+    with contextlib.ExitStack() as opened:
+        files = list[IO[bytes]]()
+        for name in (OFFICE, LOG):
+            number = copy.opened(name, os.O_RDWR | os.O_CREAT, links=1)
+            files.append(opened.enter_context(os.fdopen(number, "r+b")))
+        copy.remove(NOTE, is_missing_ok=False)
+        copy.sync()
+        office, log = files
+        _write_pages(file, office, changes.file, changes.note.file, copy.path / OFFICE)
+        _write_pages(file, log, changes.log, changes.note.log, copy.path / LOG)
+    copy.write_whole(NOTE, f"{note_text(changes.note)}\n".encode(), 0o600)
+    copy.sync()
+
+
+def _write_pages(file: IO[bytes], to: IO[bytes], of: OfFile, whole: Sum, path: Path) -> None:
+    """Writes the pages of a file, onto the disk."""
+    with naming(path):
+        for page, size in zip(of.pages, _sizes(of, whole)):
+            to.seek(page * PAGE)
+            to.write(file.read(size))
+        to.truncate(whole.size)
+        to.flush()
+        os.utime(to.fileno(), ns=(of.time, of.time))
+        os.fsync(to.fileno())

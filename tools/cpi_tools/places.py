@@ -17,7 +17,7 @@ from typing import NamedTuple, Optional, Protocol
 from .carriers import Carrier, carrier_of
 from .marks import Known, known_of
 from .mirrors import MirroredOffice, Taken, second_of, stamp, sync
-from .page_changes import CHANGES, Changes, of_mirror, received_text, write_changes
+from .page_changes import CARRIED, Changes, of_mirror, received_text, write_changes
 from .second_copies import NAMES, NOTE, OFFICE, RECEIVED, CopyNote, State, note_of, state_of, sums_of, write_note
 from .terminal import Fault
 
@@ -136,7 +136,7 @@ class Elsewhere:
         """Carries the pages that changed since the last round of a copy; whether it has them now."""
         file, log = mirror.file, mirror.log
         of_file, of_log = of_mirror(file.path, lag.file, file.size), of_mirror(log.path, lag.log, log.size)
-        changes = self._room / CHANGES
+        changes = self._room / CARRIED
         write_changes(changes, Changes(name, lag.note, note, of_file, of_log), file.path)
         told = self._carrier.carry_changes(changes)
         changes.unlink()

@@ -174,8 +174,12 @@ def _copied(dest: Path, wanted: Optional[str], to: Path) -> tuple[str, CopyNote]
             raise Fault(f"{dest} has no copy with a whole note, so nothing was carried there whole")
         if not (note := state.notes.get(name)):
             raise Fault(f"{dest / name} has no note that is whole, so it isn't a whole copy")
-        _copy(dest / name / OFFICE, to)
-        if not (fault := fault_of(to, note)):
+        try:
+            _copy(dest / name / OFFICE, to)
+            fault = fault_of(to, note)
+        except NotPlain as found:
+            fault = because_of(found)
+        if not fault:
             return name, note
         if state_of(dest).notes == state.notes:
             raise Fault(f"{dest / name} isn't whole, and nothing was promoted: {fault}{_other(dest, name, to)}")
