@@ -5,12 +5,13 @@ from __future__ import annotations
 import contextlib
 import http.client
 import threading
-from collections.abc import Iterator
+from collections.abc import Iterator, Sequence
 from pathlib import Path
 
 from cpi_tools.csv_files import line_of
 from cpi_tools.desk_app.desk_log import DeskLog
 from lib import hostile
+from lib.sample import Sample
 
 from .browser import Browser
 from .desk_pages import Person
@@ -112,23 +113,32 @@ def posted(browser: Browser, port: int, selector: str) -> None:
         line.getresponse().read()
 
 
-def every_page(stage: Stage, ada: Person) -> Iterator[str]:
-    """Each kind of page, with texts of others on it."""
+PATHS = (
+    *(
+        f"/month/{MONTH}/{it}"
+        for it in ("", "table", "looks", "freeze", "what-if", "explain/01.1.1.2-01", "explain/01")
+    ),
+    *("/calendar", "/records", "/log", "/nowhere"),
+)
+"""Each kind of page."""
+
+
+def opened_pages(stage: Stage, ada: Person, paths: Sequence[str]) -> Iterator[str]:
+    """Some pages, with texts of others on them."""
     opened(ada, stage)
     ada.send(*(line_of(["outlet", number, text]) for number, text in enumerate(HOSTILE, 70)))
     ada.open(f"/month/{MONTH}/table")
     ada.tried(MONTH)
-    for path in ("", "table", "looks", "freeze", "what-if", "explain/01.1.1.2-01", "explain/01"):
-        ada.open(f"/month/{MONTH}/{path}")
-        yield path
-    for path in ("/calendar", "/records", "/log", "/nowhere"):
+    for path in paths:
         ada.open(path)
         yield path
 
 
-def test_pages_can_be_read_on_a_desk_and_on_a_phone(stage: Stage, ada: Person, browser: Browser) -> None:
+def test_pages_can_be_read_on_a_desk_and_on_a_phone(
+    stage: Stage, ada: Person, browser: Browser, sample: Sample
+) -> None:
     found, others = list[str](), (*HOSTILE, SCRIPT, IMAGE, ARABIC, OVERRIDE, LEAVING)
-    for path in every_page(stage, ada):
+    for path in opened_pages(stage, ada, sample.of(PATHS, 4, "pages of the desk")):
         found += [f"{path}: {fault}" for fault in faults_at_sizes(browser, others)]
         assert browser.driver.title != "owned"
     assert found == []

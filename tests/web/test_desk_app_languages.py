@@ -8,6 +8,8 @@ from pathlib import Path
 
 import pytest
 
+from lib.sample import Sample
+
 from .browser import Browser
 from .desk_pages import DeskPages, Person
 from .offices import ANNA, BENO, DESK
@@ -61,7 +63,7 @@ def faults(browser: Browser) -> list[str]:
 
 @pytest.mark.sampled(1)
 def test_nothing_is_cut_covered_or_left_in_english(
-    stage: Stage, browser: Browser, pages: DeskPages, pseudo: str
+    stage: Stage, browser: Browser, pages: DeskPages, pseudo: str, sample: Sample
 ) -> None:
     person, found = Person(browser, pages), dict[str, list[str]]()
     browser.size(360, 800)
@@ -71,7 +73,7 @@ def test_nothing_is_cut_covered_or_left_in_english(
     opened(stage)
     person.open(f"/month/{MONTH}/table")
     person.tried(MONTH)
-    for path in PATHS:
+    for path in sample.of(PATHS, 6, f"pages of the desk in {pseudo}"):
         person.open(path)
         if PICTURES:
             browser.picture(Path(PICTURES) / f"desk-{pseudo}-{re.sub('[^a-z0-9]+', '-', path)}.png")
