@@ -327,8 +327,8 @@ def other_log(cpi: Cpi, backup: Path, place: Path) -> Path:
 
 def test_the_doctor_finds_the_log_of_another_file(cpi: Cpi, other_log: Path, place: Path) -> None:
     before = all_in(place.parent)
-    for words in ([], ["--log"]):
-        ran = run(cpi, "doctor", place, *words)
+    for more in (0, 1):
+        ran = run(cpi, "doctor", place, *["--log"][:more])
         assert (ran.status, ran.out.count("\n"), ran.err) == (1, 1, "")
         assert f"{place}: its log office.db-wal is that of another file: " in ran.out
     assert all_in(place.parent) == before
