@@ -38,6 +38,7 @@ from lib.open_office import ITEMS, KA, KC, QUOTES  # noqa: E402
 from lib.program import Program  # noqa: E402
 from lib.records import first_difference  # noqa: E402
 from lib.runs import fault_of  # noqa: E402
+from lib.script_words import program_of, words_of  # noqa: E402
 from lib.served import DESK, heard, message, reset  # noqa: E402
 from lib.year.faults import KINDS as FAULTS  # noqa: E402
 from lib.year.lives import Size, faults_of, life  # noqa: E402
@@ -186,29 +187,23 @@ def compare(checks: Checks, program: Program, seed: int, met: set[str], counts: 
     serve(checks, program, seed, counts)
 
 
-def read_words() -> argparse.Namespace:
-    """The words of this script."""
-    words = argparse.ArgumentParser(description=__doc__, formatter_class=argparse.RawDescriptionHelpFormatter)
+def read_words() -> tuple[argparse.Namespace, Program]:
+    """What this script is asked for, and the program that it tries."""
+    words = words_of(__doc__)
     words.add_argument("seconds", type=int, help="how long")
     words.add_argument("--first", type=int, default=int(time.time()), metavar="SEED", help="the first seed")
     words.add_argument(
         "--year", nargs=2, type=int, metavar=("MONTHS", "COLLECTORS"), help="live years of countries of this size"
     )
-    words.add_argument(
-        "--program", default="crates/cpi/out/cpi", metavar="FILE", help="the program cpi (else %(default)s)"
-    )
     chosen = words.parse_args()
     if chosen.year and (chosen.year[0] < 1 or chosen.year[1] < LEAST):
         words.error(f"--year {chosen.year[0]} {chosen.year[1]}: a month at least, and {LEAST} collectors")
-    if not os.access(chosen.program, os.X_OK):
-        words.exit(1, f"{words.prog}: there is no program {chosen.program}\n")
-    return chosen
+    return chosen, program_of(words, chosen)
 
 
 def main() -> int:
     """The exit status: 0 if nothing differed."""
-    chosen = read_words()
-    program = Program(os.path.abspath(chosen.program))
+    chosen, program = read_words()
     checks, met, counts = Checks(), set[str](), collections.Counter[str]()
     print(f"from seed {chosen.first}", flush=True)
     began = minute = time.monotonic()

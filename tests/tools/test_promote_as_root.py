@@ -18,7 +18,6 @@ from pathlib import Path
 import pytest
 
 from cpi_tools import promote as promoting
-from cpi_tools.copying import log_beside
 from cpi_tools.follow import Follower, mark_beside
 from cpi_tools.places import Folder
 from cpi_tools.program import Cpi
