@@ -15,7 +15,7 @@ from cpi_tools.copying import log_beside
 from cpi_tools.program import Cpi
 from .test_doctor import INDEX, as_root, by_nobody, open_folder, opens, told
 
-RESTORE = "Put it aside with its log, and restore the last good backup (docs/run/RUNNING.md, To restore)."
+RESTORE = "Restore the last good backup: `cpi-tools restore` puts the file and its log aside."
 
 __all__ = ["open_folder"]
 

@@ -5,7 +5,6 @@ from __future__ import annotations
 
 import json
 import os
-import random
 import shutil
 import subprocess
 import tempfile
@@ -15,7 +14,6 @@ from pathlib import Path
 import pytest
 
 from cpi_tools.carriers import Rsync
-from cpi_tools.copying import log_beside
 from cpi_tools.follow import Follower
 from cpi_tools.mirrors import PAGE
 from cpi_tools.page_changes import CAME, CHANGES, put_in
@@ -32,8 +30,10 @@ from cpi_tools.second_copies import (
     state_of,
     write_promotion,
 )
+from cpi_tools.program import Cpi
 from cpi_tools.terminal import Fault
 from lib.places import ROOT
+from .offices import LOAD_KEY, LOAD_MONTH
 from .second_machines import receiver
 
 MINE = b"ssh-ed25519 AAAAC3NzaC1lZDI1NTE5AAAAIMine of an attacker\n"
@@ -49,17 +49,24 @@ class Second:
     """The second machine: the home of its user with `.ssh`, and the place of the copies in it; and what stands for ssh to
     it on the first one."""
 
-    def __init__(self, folder: Path):
+    def __init__(self, cpi: Cpi, office: Path, folder: Path):
+        self.cpi, self.price = cpi, 500
         self.home, self.first = folder / "home", folder / "first"
         self.dest = self.home / "office"
         for each in (self.home, self.first, self.dest, self.home / ".ssh"):
             each.mkdir(mode=0o700)
         (self.home / ".ssh/authorized_keys").write_text("the follower's\n")
         self.source = self.first / OFFICE
-        self.source.write_bytes(random.Random(3).randbytes(20 * PAGE))
-        log_beside(self.source).write_bytes(random.Random(4).randbytes(2 * PAGE + 700))
+        shutil.copy(office, self.source)
+        self.take_price()
         self.shell = receiver(folder / "shell", self.dest)
         self.follower = Follower(self.source, Elsewhere(Rsync("second", ".", self.shell), folder / "room"))
+
+    def take_price(self) -> None:
+        """The office takes another price."""
+        self.price += 1
+        record = f"60,{LOAD_KEY},quote,1,{LOAD_MONTH},price,{self.price}"
+        assert ["receipt" in reply for reply in self.cpi.replay([record], db=self.source)] == [True]
 
     def copied(self) -> None:
         """Two whole copies, made without rsync, which takes longer."""
@@ -69,11 +76,9 @@ class Second:
         (self.dest / CAME).mkdir(mode=0o700)
 
     def rounds(self, count: int = 3) -> None:
-        """Rounds of the follower by the key, each with another page; the third one carries that page only."""
-        for number in range(count):
-            content = bytearray(self.source.read_bytes())
-            content[number * PAGE] ^= 1
-            self.source.write_bytes(content)
+        """Rounds of the follower by the key, each with another price; the third one carries changed pages only."""
+        for _ in range(count):
+            self.take_price()
             assert self.follower.round() == ""
             self.is_whole()
 
@@ -109,9 +114,9 @@ class Second:
 
 
 @pytest.fixture
-def second(tmp_path: Path) -> Second:
+def second(cpi: Cpi, office: Path, tmp_path: Path) -> Second:
     """A second machine with two whole copies."""
-    found = Second(tmp_path)
+    found = Second(cpi, office, tmp_path)
     found.copied()
     return found
 
@@ -300,8 +305,8 @@ PATH={root}:$PATH SSH_ORIGINAL_COMMAND="$*" exec setpriv --reuid={other} --regid
 
 
 @pytest.mark.skipif(os.geteuid() != 0, reason="only root acts as another user")
-def test_the_place_is_roots_and_rounds_go_on(reachable: Path) -> None:
-    second = Second(reachable)
+def test_the_place_is_roots_and_rounds_go_on(cpi: Cpi, office: Path, reachable: Path) -> None:
+    second = Second(cpi, office, reachable)
     second.home.chmod(0o755)
     second.dest.chmod(0o755)
     for name in (*NAMES, CAME):

@@ -13,6 +13,7 @@ from __future__ import annotations
 import argparse
 import contextlib
 import errno
+import itertools
 import os
 import secrets
 import shutil
@@ -234,11 +235,17 @@ def _put_aside(office: Path, home: HeldFolder) -> Optional[Path]:
     there = [path.name for path in (office, log_of(office), mark_beside(office)) if home.has(path.name)]
     if not there:
         return None
-    name = f"{office.name}.before-{int(time.time())}"
+    name = _free_name(home, f"{office.name}.before-{int(time.time())}")
     with home.new_folder(name) as aside:
         for each in there:
             home.move(each, aside, each)
         return office.with_name(name)
+
+
+def _free_name(home: HeldFolder, name: str) -> str:
+    """The name, with a number behind it if something has it already: an office was put aside in the same second."""
+    names = (f"{name}-{number}" if number else name for number in itertools.count())
+    return next(each for each in names if not home.has(each))
 
 
 def _place(copy: Path, office: Path, home: HeldFolder) -> None:

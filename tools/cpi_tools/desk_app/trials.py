@@ -136,6 +136,9 @@ class Trials:
 
     def close(self) -> None:
         """Removes what is at hand."""
-        for each in self._found.values():
+        with self._lock:
+            # (a trial that still runs may put another one there)
+            old = [*self._found.values()]
+            self._found.clear()
+        for each in old:
             each[1].cleanup()
-        self._found.clear()
