@@ -102,11 +102,17 @@ def long_fields() -> Iterator[None]:
     csv.field_size_limit(before)
 
 
+def read_again(field: str) -> str:
+    """A field, read from its bytes."""
+    return field.encode(errors="surrogateescape").decode(errors="surrogateescape")
+
+
 def wanted_of(stream: bytes) -> bytes:
     """The lines of the second office. (Python before 3.11 reads no NUL, which counts as any other control byte.)"""
     text = stream.replace(b"\0", b"\1").decode(errors="surrogateescape").removeprefix("\ufeff")
     office = Office()
-    rows = [row for row in csv.reader(io.StringIO(text, newline="")) if row]
+    # (the bytes of a character may meet only in the field, as quotation marks between them go)
+    rows = [[*map(read_again, row)] for row in csv.reader(io.StringIO(text, newline="")) if row]
     return "".join(f"{office.line(row)}\n" for row in rows).encode()
 
 
@@ -178,6 +184,13 @@ def changed(drawn: random.Random) -> bytes:
         byte = drawn.choice([drawn.randrange(256), *b'",\n\r\0\xef\xbb\xbf'])
         text[place : place + drawn.choice([0, 1, 1])] = bytes([byte] * drawn.choice([0, 1, 1, 1, 2]))
     return bytes(text)
+
+
+def test_a_character_whose_bytes_quotation_marks_part(program: Program) -> None:
+    """It is one once the marks are gone, as the field is read."""
+    ran = program.replay(b'0,desk,item,TEA,"\xe8"\x8c\xb6,100 g,500,2000\n0,public,items\n')
+    assert ran.out.decode() == '{"done":true}\n{"items":[["TEA","\u8336","100 g",500,2000]]}\n'
+    assert fault_of(program, b'0,desk,item,TEA,"\xe8"\x8c\xb6,100 g,500,2000\n0,public,items\n') is None
 
 
 @pytest.mark.parametrize("part", range(PARTS))
