@@ -1,17 +1,15 @@
-"""Refuses each call of the program for input, output, a connection or a disk in turn, and looks at what stands then.
+"""Refuses each call of the program for input, output or a connection in turn, and checks what was done.
 
 A small library that is preloaded counts the calls and refuses one (lib/refused.c); reads and writes are cut into pieces
 of seven bytes, so that there are many.
 
 - A read of the input is refused: the program ends with `cpi: read failed`, the records that had come whole are
-  answered, and over a file they stand.
-- A write of a line is refused: it ends with `cpi: write failed`, the bytes before it stand, and over a file the record
-  whose line was cut stands too. The same record and all that follow are then answered as they would have been: a quote
+  answered, and a file has them.
+- A write of a line is refused: it ends with `cpi: write failed`, the bytes before it are there, and a file has
+  the record whose line was cut too. The same record and all that follow are then answered as they would have been: a quote
   by the receipt that it has. (An office in memory ends as one over a file does.)
 - A read of a message is refused: nothing was done, and nothing is written. A write of its response is: the bytes before
-  it are heard, the quote stands, and the same message again gives its receipt.
-- From a call on every call of the disk is refused, for up to 300 such calls, evenly spread: what was answered by
-  anything but 90 stands when the file is opened again, and of the record at hand all or nothing.
+  it are heard, the quote is stored, and the same message again gives its receipt.
 
 A test takes all calls of a kind, of which there is one at least; a short run draws a few of them.
 """
@@ -30,7 +28,7 @@ from lib.fault import Fault
 from lib.open_office import QUOTE, QUOTED, QUOTES, RECEIPT, UNQUOTED, office
 from lib.program import Program, Ran, failed
 from lib.records import records_of
-from lib.refusing import PIECE, UNAVAILABLE, Library, Stream, is_of_lines, numbers_of
+from lib.refusing import PIECE, Library, Stream, is_of_lines, numbers_of, records_of_case
 from lib.sample import Sample
 from lib.served import Served
 from lib.tried import fault_in
@@ -38,8 +36,6 @@ from lib.tried import fault_in
 pytestmark = pytest.mark.spread
 
 STREAMS = ["a-replacement-needs-a-last-price", "what-stands-is-done-or-taken"]
-DISKS = ["a-replacement-needs-a-last-price", "tea-and-coffee", "a-copied-price-is-handed-on"]
-
 
 MOST, SHORT = 300, 15
 """So many calls of a kind and case are refused, and so many in a short run."""
@@ -52,7 +48,7 @@ class Records:
     """The records of a case over a file, with a kind of call refused."""
 
     def __init__(self, program: Program, library: Library, name: str) -> None:
-        self.library, self.stream = library, Stream(program, name, times=1)
+        self.library, self.stream = library, Stream(program, name, records_of_case(name))
         self.sent = self.stream.sent
         self.whole = self.stream.answered(self.sent)
 
@@ -112,19 +108,6 @@ class Records:
             return "the file shows something else"
         return None if again == self.resumed(at + 1, at) else "the same records again were answered otherwise"
 
-    def disk_refused(self, number: int) -> Fault:
-        """What is wrong if all calls of the disk from one on are refused."""
-        with tempfile.TemporaryDirectory() as room:
-            ran, shown = self.refused("disk", number, f"{room}/office.db")
-        lines = ran.lines()
-        count = next((at for at, line in enumerate(lines) if line == UNAVAILABLE), len(lines))
-        if ran.err not in (b"", b"cpi: database failed\n") or ran.status != (1 if ran.err else 0):
-            return f"{ran}"
-        if lines[:count] != self.whole[:count]:
-            return "a record was answered otherwise"
-        ends = [self.told(count), self.told(min(count + 1, len(self.sent)))]
-        return None if shown in ends else f"{count} records were answered, and the file shows something else"
-
 
 Heard = list[Union[bytes, int]]
 """Responses, and the status that the program ends with."""
@@ -183,11 +166,4 @@ def test_the_input_of_records(program: Program, library: Library, sample: Sample
 def test_the_output_of_records(program: Program, library: Library, sample: Sample, name: str) -> None:
     records = Records(program, library, name)
     fault = refused(sample, f"{name}, output", records.count("output"), records.output_refused)
-    assert fault is None, fault
-
-
-@pytest.mark.parametrize("name", DISKS)
-def test_the_disk(program: Program, library: Library, sample: Sample, name: str) -> None:
-    records = Records(program, library, name)
-    fault = refused(sample, f"{name}, disk", records.count("disk"), records.disk_refused)
     assert fault is None, fault

@@ -26,7 +26,7 @@ import pytest
 
 from lib.fault import Fault
 from lib.program import Program, Ran
-from lib.refusing import UNAVAILABLE, Library, Stream, is_of_lines, numbers_of
+from lib.refusing import UNAVAILABLE, Library, Stream, is_of_lines, numbers_of, records_of_case
 from lib.sample import Sample
 from lib.tried import fault_in
 
@@ -64,7 +64,8 @@ class InMemory:
     """A case in memory, and how many requests were told 90."""
 
     def __init__(self, program: Program, library: Library, name: str) -> None:
-        self.library, self.stream, self.told = library, Stream(program, name, times=2), list[int]()
+        self.library, self.told = library, list[int]()
+        self.stream = Stream(program, name, records_of_case(name), times=2)
         self.records = self.stream.sent + self.stream.views
         self.whole = self.stream.answered(self.records)
         self.count = self.stream.counted(library, "memory", self.records)
@@ -93,7 +94,8 @@ class InAFile:
     """A case over a file, which is looked at afterwards in a further run."""
 
     def __init__(self, program: Program, library: Library, name: str) -> None:
-        self.library, self.stream, self.told = library, Stream(program, name, times=2), list[int]()
+        self.library, self.told = library, list[int]()
+        self.stream = Stream(program, name, records_of_case(name), times=2)
         with tempfile.TemporaryDirectory() as room:
             self.count = self.stream.counted(library, "memory", self.stream.sent, f"{room}/office.db")
 

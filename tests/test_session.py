@@ -75,6 +75,13 @@ def test_file_that_fails(tmp_path: Path, text: str, counts: str) -> None:
     assert lines[-1] == counts
 
 
+def test_file_that_one_process_can_not_read(tmp_path: Path) -> None:
+    """Without further processes pytest breaks such a run off; its last line counts the file."""
+    status, lines = ran(tmp_path, "-n", "0", a="import nothing_of_this_name\n", b=PASSES)
+    assert status != 0
+    assert lines[-1] == "0 passed, 1 failed"
+
+
 def test_second_tries(tmp_path: Path) -> None:
     """A test that passes then is counted, and printed; one that no line names is new."""
     texts = {f"_{number}": ONCE.format(number=number) for number in (0, 1)}

@@ -295,7 +295,7 @@ def a_gate_that_fails(it: Repository) -> Iterator[Seen]:
     begin_test(it)
     it.write("low", "low is stuck")
     ran = it.run("test")
-    yield "no edit is tried over its libraries", "the gate failed, so no edit was tried" in ran.out
+    yield "no edit counts as refused", "the gate failed, so no edit counts as refused" in ran.out
     yield "there is no program to try", "there is no program" in ran.out and it.calls("tests/run")[:-1] == []
     yield "each of them is a failure", ran.status == 1 and ran.out.endswith("10 passed, 3 failed\n")
 
@@ -313,6 +313,21 @@ def a_copy_for_the_gate(it: Repository) -> Iterator[Seen]:
     yield "what a check keeps stays", (it.crates / "low/out/incremental/kept").read_text() == "by a check"
     left = [each.name for each in (it.room / "temporary").iterdir()]
     yield "no copy is left", left == []
+
+
+def edits_beside_the_gate(it: Repository) -> Iterator[Seen]:
+    begin_test(it)
+    waits = it.room / "calls/waits"
+    put(waits, "")
+    library = it.crates / "low/out/rlib/low.rlib/format"
+    lines = ["until [ -e out/proved/low ]; do sleep 0.1; done", f"cat '{library}'", f"rm '{waits}'"]
+    lines += ["[ -e out/proved/.ended ] || echo the gate goes on", "echo 3 passed, 0 failed"]
+    put(it.top / "tools/refused", "\n".join(["#!/bin/sh", *lines, ""]), 0o755)
+    it.ship()
+    ran = it.run("test")
+    seen = [line[len("refused edits | ") :] for line in ran.out.splitlines() if line.startswith("refused edits | ")]
+    yield "the library of a crate is there once it is proved", seen[:2] == ["built", "the gate goes on"]
+    yield "the gate ends after that", ran.status == 0 and (it.out / "proved/.ended").exists()
 
 
 def what_is_tried(it: Repository) -> Iterator[Seen]:
@@ -439,8 +454,8 @@ def notices_of_libraries(it: Repository) -> Iterator[Seen]:
 
 CASES: dict[str, Callable[[Repository], Iterator[Seen]]] = {
     **{case.__name__: case for case in (parts_that_fail, a_gate_that_fails, a_copy_for_the_gate, what_is_tried)},
-    **{case.__name__: case for case in (second_tries, green_tests_and_shipping, comparing, a_fresh_clone)},
-    **{case.__name__: case for case in (sources_that_did_not_change, many_at_once, damage, lanes, sums)},
+    **{case.__name__: case for case in (edits_beside_the_gate, second_tries, green_tests_and_shipping, comparing)},
+    **{case.__name__: case for case in (a_fresh_clone, sources_that_did_not_change, many_at_once, damage, lanes, sums)},
     **{case.__name__: case for case in (a_checkout_that_can_not_be_written, sources_that_changed, programs_of_no_use)},
     **{case.__name__: case for case in (proofs_that_fail, notices_of_libraries)},
     **{f"broken_off_by_{it.name}": partial(broken_off, number=it) for it in signal.Signals if it in (2, 9, 15)},

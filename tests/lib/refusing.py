@@ -59,6 +59,11 @@ def without_imports(records: Sequence[bytes]) -> Iterator[bytes]:
             yield record
 
 
+def records_of_case(name: str) -> list[bytes]:
+    """The records of a case, with each row of an import as a record of its own."""
+    return [*without_imports(records_of(Case(name).given))]
+
+
 def views_of(records: Sequence[bytes]) -> list[bytes]:
     """What may be listed after these records, as further records."""
     keys = sorted({record.split(b",")[4].strip().decode() for record in records if b",desk,collector," in record})
@@ -71,11 +76,10 @@ def views_of(records: Sequence[bytes]) -> list[bytes]:
 
 
 class Stream:
-    """The records of a case, each of them so many times, and the views."""
+    """Records, each of them so many times, and the views after them."""
 
-    def __init__(self, program: Program, name: str, times: int) -> None:
+    def __init__(self, program: Program, name: str, records: Sequence[bytes], times: int = 1) -> None:
         self.program, self.name = program, name
-        records = [*without_imports(records_of(Case(name).given))]
         self.sent = [record for record in records for _ in range(times)]
         self.views = views_of(records)
 

@@ -221,7 +221,8 @@ class Counts:
         """The last lines."""
         session: Any = config.pluginmanager.get_plugin("session")
         status = int(session.exitstatus) if session else 3
-        if status == pytest.ExitCode.INTERRUPTED:
+        # (a file that can't be read ends a run of one process so too)
+        if status == pytest.ExitCode.INTERRUPTED and not self.unread:
             print("broken off", file=sys.stderr)
             return
         for line in sorted(self.left_out):

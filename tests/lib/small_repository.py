@@ -25,6 +25,7 @@ SCRIPTS = [
     "tools/minutes.py",
     "tools/notices.py",
     "tools/parts.py",
+    "tools/proved.py",
 ]
 SETUPS = ["tools/setup", "tests/linters/setup.sh", "tests/web/setup.sh"]
 """What ./test installs first; here nothing."""
@@ -50,6 +51,9 @@ version) echo "KIT" ;;
 ci)
   find . -type f | sed 's:^./::' | sort > "$GATE"
   if grep -q stuck crates/*/src/*; then echo "0 passed, 1 failed"; exit 2; fi
+  mkdir -p crates/low/out/rlib/low.rlib && echo built > crates/low/out/rlib/low.rlib/format
+  echo "rt: low proved"
+  for _ in {1..100}; do [ ! -e "$CALLS/waits" ] || sleep 0.1; done
   mkdir -p crates/cpi/out && cp /usr/bin/env crates/cpi/out/cpi
   (exec -a rattle bash -c 'sleep 0.7; true' check --crate-name low)
   echo "2 passed, 0 failed" ;;
@@ -225,7 +229,7 @@ class Repository:
 
     def kept(self) -> list[str]:
         """What stands in out/ beside the files of a build."""
-        return sorted({it.name for it in self.out.glob("*")} - {"logs", "lock"})
+        return sorted({it.name for it in self.out.glob("*")} - {"logs", "lock", "proved"})
 
     def copies(self) -> int:
         return len([*self.top.parent.iterdir()]) - 1

@@ -11,18 +11,20 @@ import subprocess
 import sys
 import time
 from collections.abc import Mapping, Sequence
+from concurrent.futures import ThreadPoolExecutor
 from pathlib import Path
 from typing import NamedTuple
 
+import proved
 import pytest
 
 from lib.places import ROOT
-from edits.assumed import assume_others
 from edits.cache import Cache, sum_crate
 from edits.edits import Edit, Pair, apply, list_edits, read_edit, read_edits
 from edits.groups import group_edits
 from edits.prover import Libraries
 from edits.report import Report, find_refusal, find_unread, find_unreadable, is_proved
+from edits.slots import Slots
 from edits.sources import Crate, list_items, name_module, read_crate
 
 ROWS = """\
@@ -221,40 +223,6 @@ def test_all_pairs_are_applied_or_none() -> None:
     assert texts == {"a": "3", "b": ""}
 
 
-# ---- functions that are taken as proved
-
-
-def test_the_proofs_of_functions_that_no_edit_changes_become_holes(low: Crate) -> None:
-    proofs = {"proofs/rows/count/Answers.antt": "a", "proofs/rows/Rows/len/Answers.antt": "b", "proofs/Lib.antt": "c"}
-    texts = {**low.texts, **proofs}
-    holes = assume_others(low, {"rows::count"}, texts)
-    assert holes == {
-        "proofs/rows/Rows/len/Proof.antt",
-        "proofs/rows/Rows/is_full/Proof.antt",
-        "proofs/rows/Rows/forget/Proof.antt",
-        "proofs/rows/RowsClone/clone/Proof.antt",
-        "proofs/both/count_both/Proof.antt",
-    }
-    assert texts.keys() - holes == {*low.texts, *proofs} - {"proofs/rows/Rows/len/Answers.antt"}
-    hole = texts["proofs/rows/Rows/len/Proof.antt"]
-    assert hole.startswith("use Rattle.low.proofs.rows.Rows.len.Statement as stated\n")
-    assert hole.endswith("\npub len_spec : {M : Type 1} → stated.statement M\nlen_spec = ?\n")
-
-
-def test_a_function_without_a_proof_of_its_own_is_not_taken_as_proved() -> None:
-    cycle = "#[cycle(parity)]\npub fn even(n: u32) -> bool {\n    odd(n)\n}\n"
-    crate = make_crate({"src/lib.rt": f"{cycle}\npub trait Book {{\n    fn read(&self) -> u32;\n}}\n"})
-    assert [it.name for it in crate.items] == ["even", "Book::read"]
-    assert assume_others(crate, set(), dict(crate.texts)) == set()
-
-
-def test_a_method_of_a_trait_with_arguments_is_not_taken_as_proved() -> None:
-    block = "impl {} {{\n    fn from(fault: Fault) -> Unread {{\n        Unread\n    }}\n}}\n"
-    for trait, holes in [("From<Fault> for Unread", set()), ("Make for Unread", {"proofs/UnreadMake/from/Proof.antt"})]:
-        crate = make_crate({"src/lib.rt": block.format(trait)})
-        assert assume_others(crate, set(), dict(crate.texts)) == holes
-
-
 # ---- groups
 
 
@@ -429,7 +397,7 @@ class Clone:
     def __init__(self, top: Path, texts: Mapping[str, str], crates: str) -> None:
         self.top = top
         shutil.copytree(ROOT / "tools/edits", top / "tools/edits", ignore=shutil.ignore_patterns("__pycache__"))
-        for name in ("refused", "crates.py"):
+        for name in ("refused", "crates.py", "proved.py"):
             shutil.copy(ROOT / "tools" / name, top / "tools" / name)
         (top / "crates.txt").write_text(crates)
         for path, text in texts.items():
@@ -561,7 +529,8 @@ def test_a_crate_that_is_proved_with_an_edit_does_not_refuse_it(clone: Clone, st
     ran = clone.run(kit=stand_in.folder)
     assert find_verdict(ran, "low/two") == "NOT REFUSED: the crate is still proved with this edit"
     group, whole = stand_in.runs()
-    assert "--only one" in group and "--allow-holes" in group and "--only" not in whole and "--allow-holes" not in whole
+    assert "--only one" in group and "--incremental" in group
+    assert "--only" not in whole and "--incremental" not in whole
 
 
 def test_a_name_that_the_prover_does_not_know_is_asked_for_by_its_module(clone: Clone, stand_in: StandIn) -> None:
@@ -586,23 +555,60 @@ def test_an_edit_of_a_caller_gets_a_run_without_the_edit_of_what_it_calls(clone:
     assert find_verdict(ran, "low/two") == "refused: one, src/lib.rt:4, returns"
     assert find_verdict(ran, "low/caller") == "refused: a::two, src/a.rt:1, returns"
     assert [it.count("--only") for it in stand_in.runs()] == [2, 1]
+    kept = [re.findall(r"--incremental (\S+)", it) for it in stand_in.runs()]
+    assert kept[0] == kept[1] and len(kept[0]) == 1
 
 
-@pytest.mark.parametrize(
-    "wrong",
-    [
-        "./proofs/a/a/Proof.antt:3:5: error: `a_spec`: expected a type",
-        "error: `proofs/a/a/Proof.antt` is the proof of no function",
-    ],
-)
-def test_a_function_whose_proof_can_not_be_a_hole_is_proved(clone: Clone, stand_in: StandIn, wrong: str) -> None:
-    for name in ("a", "b"):
-        clone.write(f"low/src/{name}.rt", f"pub fn {name}() -> u32 {{\n    2\n}}\n")
-    stand_in.write(
-        f"ls -d proofs/*/* >> {stand_in.calls()}\n[ ! -e proofs/a/a ] || echo '{wrong}'\n{write_ending(SEEN, 1)}"
-    )
-    assert clone.run(kit=stand_in.folder).status == 0
-    assert [it for it in stand_in.runs() if it.startswith("proofs")] == ["proofs/a/a", "proofs/b/b", "proofs/b/b"]
+def test_a_crate_that_is_refused_elsewhere_only_does_not_refuse_an_edit(clone: Clone, stand_in: StandIn) -> None:
+    stand_in.write(write_ending(SEEN.replace("low::one", "low::other").replace("only=1", "logic=not-proved"), 1))
+    ran = clone.run(kit=stand_in.folder)
+    assert find_verdict(ran, "low/two").startswith("NOT REFUSED: no function that it changes is refused: note: ")
+
+
+# ---- beside a gate
+
+
+def test_edits_are_tried_once_the_gate_has_proved_what_is_below(clone: Clone, stand_in: StandIn) -> None:
+    stand_in.write(write_ending(SEEN.replace("low", "high"), 1))
+    for name in ("src/lib.rt", "must-fail/two.edit"):
+        clone.write(f"high/{name}", LOW[f"low/{name}"])
+    proved.begin(clone.top)
+    running = clone.start("high", "--beside-gate", kit=stand_in.folder)
+    time.sleep(2)
+    assert stand_in.runs() == []
+    clone.write("low/out/rlib/low.rlib/format", "sum 1")
+    proved.note(clone.top, "low")
+    out, _ = running.communicate(timeout=60)
+    assert (running.returncode, out.splitlines()[-1]) == (0, "1 passed, 0 failed")
+
+
+def test_edits_over_what_the_gate_did_not_prove_are_not_tried(clone: Clone, stand_in: StandIn) -> None:
+    stand_in.write(write_ending(SEEN, 1))
+    clone.write("high/src/lib.rt", LOW["low/src/lib.rt"])
+    clone.write("high/must-fail/two.edit", LOW["low/must-fail/two.edit"])
+    proved.begin(clone.top)
+    proved.end(clone.top)
+    ran = clone.run("--beside-gate", kit=stand_in.folder)
+    assert (ran.status, ran.out[-1]) == (1, "1 passed, 1 failed")
+    assert find_verdict(ran, "high/two").startswith("NOT TRIED: the gate ended before ")
+
+
+def test_no_more_runs_begin_than_may() -> None:
+    most, seen = [1], list[int]()
+    slots = Slots(lambda running: running < most[0])
+
+    def take(_: int) -> None:
+        with slots.take():
+            seen.append(slots.running)
+            time.sleep(0.05)
+
+    with ThreadPoolExecutor(8) as lanes:
+        lanes.map(take, range(8))
+    assert (max(seen), slots.running) == (1, 0)
+    most[0] = 3
+    with ThreadPoolExecutor(8) as lanes:
+        lanes.map(take, range(24))
+    assert (max(seen), slots.running) == (3, 0)
 
 
 def has_running(group: int) -> bool:

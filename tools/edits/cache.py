@@ -14,7 +14,7 @@ from .edits import Edit
 from .prover import Libraries
 from .sources import Crate
 
-RULES = 1
+RULES = 2
 """Raise this when the rules change by which an edit counts as refused: then nothing that is kept counts."""
 
 

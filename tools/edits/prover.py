@@ -16,9 +16,9 @@ from typing import NamedTuple, Optional
 
 from crates import below
 
-from .assumed import assume_others
 from .edits import Edit, apply
 from .report import KILLED, Report
+from .slots import Slots
 from .sources import Crate, name_module
 
 
@@ -66,32 +66,27 @@ class Run(NamedTuple):
 
 
 class Prover:
-    """Runs the prover in a folder of its own, and ends all its runs if it is told to."""
+    """Runs the prover in a folder of its own, each run in a slot, and ends all its runs if it is told to."""
 
-    def __init__(self, libraries: Libraries, room: Path, logs: Optional[Path] = None) -> None:
-        self.libraries, self.room, self.logs = libraries, room, logs
+    def __init__(self, libraries: Libraries, room: Path, slots: Slots, logs: Optional[Path] = None) -> None:
+        self.libraries, self.room, self.slots, self.logs = libraries, room, slots, logs
         self.runs: dict[str, list[Run]] = {}
         self.running: set[int] = set()
         self.starting = threading.Lock()
 
     def check_functions(self, crate: Crate, edits: Sequence[Edit], names: Collection[str]) -> Report:
-        """Checks a crate with these edits, but only the functions of these names; all others are taken as proved."""
-        wanted, proved = set(names), set(names)
+        """Checks a crate with these edits, but only the functions of these names and what they call. What it proves is
+        kept for the next run over the crate, in a folder of the crate's own."""
+        wanted, texts = set(names), apply_all(crate, edits)
         while True:
-            texts = apply_all(crate, edits)
-            holes = assume_others(crate, proved, texts)
             more = [word for name in sorted(wanted) for word in ("--only", name)]
-            report = self.check(crate, edits, texts, ["--allow-holes", *more])
-            unknown, faulty = report.find_unknown(), report.list_faulty_proofs() & holes
-            if unknown in wanted:
-                # (of a method that a macro writes the prover knows another name: the module stands for it)
-                wanted |= {name_module(it.file) for edit in edits for it in edit.functions if it.name == unknown}
-                wanted.discard(unknown)
-            elif faulty:
-                # (a function whose proof can't be a hole is proved)
-                proved |= {"::".join(path.split("/")[1:-1]) for path in faulty}
-            else:
+            report = self.check(crate, edits, texts, ["--incremental", str(self.room / f"{crate.name}.kept"), *more])
+            unknown = report.find_unknown()
+            if unknown not in wanted:
                 return report
+            # (of a method that a macro writes the prover knows another name: the module stands for it)
+            wanted |= {name_module(it.file) for edit in edits for it in edit.functions if it.name == unknown}
+            wanted.discard(unknown)
 
     def check_all(self, crate: Crate, edit: Edit) -> Report:
         """Checks a whole crate with an edit, from nothing."""
@@ -99,7 +94,7 @@ class Prover:
 
     def check(self, crate: Crate, edits: Sequence[Edit], texts: Mapping[str, str], more: Sequence[str]) -> Report:
         """Checks a copy of a crate with these texts, which the edits make. `more` are words for the prover."""
-        with tempfile.TemporaryDirectory(dir=self.room) as folder:
+        with self.slots.take(), tempfile.TemporaryDirectory(dir=self.room) as folder:
             write_texts(texts, Path(folder))
             words = [f"{self.libraries.kit}/bin/rattle", "check", *self.libraries.list_words(crate), *more]
             run = self.run_twice_if_killed(words, folder)

@@ -14,7 +14,6 @@ from .edits import Edit
 
 GOAL = re.compile(r"note: (src/\S+?):(\d+):\d+: it is not proved that .*?\(`([^`]*)`\)")
 PROOF = re.compile(r"(?:\./)?(proofs/(\S+)/[^/]+\.antt:\d+):\d+: error: `([^`]*)`: (.*)")
-PROOF_FILE = re.compile(r"proofs/[^\s:`]+\.antt")
 FUNCTION = re.compile(r"fn \w+::(\S+): (.*)")
 FOLLOWS = re.compile(r"was not admitted|was rejected|were not checked")
 """What is said of a proof that only cites another one which isn't taken."""
@@ -29,8 +28,8 @@ UNREAD = re.compile(r"is not in scope|has no field|is no name|operand is missing
 """What is said of a declaration that can't be read. One that is only false reads well."""
 
 UNKNOWN = re.compile(r"has no function `([^`]*)`")
-PROVED = ("proved", "no holes", "depends on a hole in")
-"""What is said of a function that is proved, as far as those are that it calls."""
+PROVED = "proved"
+"""What is said of a function that is proved."""
 
 PLACED = re.compile(r"(note: )?\S+:\d+:\d+:")
 LITTLE = "(little: a proof file names what the edit took away)"
@@ -63,10 +62,6 @@ class Report(NamedTuple):
         """The name that the prover doesn't know, or ``."""
         found = UNKNOWN.search("\n".join(self.lines)) if self.status == NOT_CALLED_WELL else None
         return found[1] if found else ""
-
-    def list_faulty_proofs(self) -> set[str]:
-        """The files of proofs, by their paths below the crate, that an error names."""
-        return {path for line in self.lines if "error" in line for path in PROOF_FILE.findall(line)}
 
     def list_calls(self, crate: str) -> dict[str, set[str]]:
         """By the name of each function that isn't proved, the functions of the crate that it calls and that aren't."""

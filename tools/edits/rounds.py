@@ -91,8 +91,10 @@ class Trial:
             return Verdict(BAD_EDIT, f"{UNREADABLE}: {text}")
         if report.status == 0:
             return Verdict(NOT_REFUSED, "the crate is still proved with this edit")
-        if report.has_verdict():
+        if report.has_verdict() and edit.is_alone():
             return Verdict(REFUSED, f"(at no function that it changes) {report.find_first_note()}")
+        if report.has_verdict():
+            return Verdict(NOT_REFUSED, f"no function that it changes is refused: {report.find_first_note()}")
         return Verdict(NOT_TRIED, f"its check ended with status {report.status}: {report.find_last()}")
 
     def settle(self, edit: Edit, verdict: Verdict) -> None:
