@@ -38,11 +38,13 @@ from .pack.new_files import NewFiles
 from .pack.notes import Notes
 from .pack.part import Now, known_of, write_part
 from .pack.public import Published
+from .pack.published_sets import NO_SETS, KeptSets, changed_sets, kept_sets, refuse_changed
 from .pack.reason_files import added_reasons, write_reasons
 from .pack.reasons import given_reasons
 from .pack.sdmx import KNOWN_IDS
+from .pack.set_vintages import set_lines
 from .pack.signature import Sign, Signature, is_signed, unsigned
-from .pack.specials import Membership
+from .pack.specials import Sets
 from .pack.shown import Shown
 from .pack.stays import Earlier, changed_pages
 from .pack.tables import Series
@@ -62,14 +64,15 @@ class CannotPublish(Fault):
 
 
 class Pack(NamedTuple):
-    """What a pack is made of: its tables, who publishes, the SHA-256 of the manifest before, if there is one, and what
-    signs a manifest and what draws cards, if anything does."""
+    """What a pack is made of: its tables, who publishes, the SHA-256 of the manifest before, if there is one, what signs a
+    manifest and what draws cards, if anything does, and the special aggregates that the pack before has."""
 
     series: Series
     config: Config
     previous: Optional[str]
     sign: Sign = unsigned
     cards: Cards = NO_CARDS
+    sets: KeptSets = NO_SETS
 
 
 # ---- writing
@@ -92,8 +95,9 @@ def write_pack(pack: Pack, folder: Path, now: Now, before: Before) -> None:
     if years:
         archives.write(years, data, now)
     kept = KeptLines(before, archives.titled_to)
-    write_whole(series, shown, data, kept)
-    write_reasons(given_reasons(config.reasons, series, config.planned), data)
+    reasons = given_reasons(config.reasons, series, config.planned)
+    write_whole(series, shown, data, kept, set_lines(series, reasons, pack.sets))
+    write_reasons(reasons, data)
     recent = known_of(series.part(*span), archives.unexplained, shown)
     write_part(recent, config, data, now, kept)
     known = Known(series, contributions, shown, recent)
@@ -140,9 +144,9 @@ def publish(
 
     A draft is readable for its owner alone, and takes the place of no pack that others can read. `before` is the
     manifest before, else that of `out` where a pack stands there. `key` signs the manifest. `tell` is handed a line if
-    pages of earlier releases don't say what they said. Raises Fault, and leaves
-    `out` as it is, if a table or a reason of a revision that was published is another one now or isn't there any more,
-    or if a pack that is signed would be replaced by one that isn't.
+    pages of earlier releases don't say what they said. Raises Fault, and leaves `out` as it is, if a table, a figure of
+    a special aggregate or a reason that was published is another one now or isn't there any more, or if a pack that is
+    signed would be replaced by one that isn't.
     """
     series = series_of(published, config.specials)
     if is_draft:
@@ -150,16 +154,18 @@ def publish(
     with written_folder(out, MANIFEST, is_private=is_draft) as new:
         standing = read_manifest(out / MANIFEST) if out.exists() else None
         last = read_manifest(before) if before else standing
+        reasons, earlier = given_reasons(config.reasons, series, config.planned), None
+        sets = kept_sets(out) if standing else NO_SETS
         for manifest in (standing, last):
             if manifest is not None:
                 _refuse_changes(manifest, series)
-        reasons, earlier = given_reasons(config.reasons, series, config.planned), None
+                refuse_changed(changed_sets(manifest, series, sets if manifest is standing else NO_SETS), reasons, sets)
         if standing is not None:
             earlier = Earlier(out, standing.tables, added_reasons(out, standing.tables, reasons))
         if key is None and is_signed(out):
             raise CannotPublish(f"{out} is signed, and the new pack wouldn't be: --sign names the key")
         cards = cards_after(out) if config.address else NO_CARDS
-        pack = Pack(series, config, previous_of(last, series), signed_by(key, config.agency), cards)
+        pack = Pack(series, config, previous_of(last, series), signed_by(key, config.agency), cards, sets)
         write_pack(pack, new, now, Before(behind_link(out) if standing else None))
         if earlier:
             _tell_changes(changed_pages(earlier, new, series), tell)
@@ -193,7 +199,9 @@ def check(published: Iterable[Published], config: Config, out: Path, before: Opt
             new = room / "pack"
             new.mkdir()
             with compared_only():
-                write_pack(Pack(series, config, previous, kept(out), cards_like(out)), new, now, Before())
+                write_pack(
+                    Pack(series, config, previous, kept(out), cards_like(out), kept_sets(out)), new, now, Before()
+                )
             now(f"comparing with {out}")
             return list(differences(out, new))
     except OSError as fault:
@@ -276,7 +284,7 @@ def run(chosen: argparse.Namespace) -> int:
 
 def _tell_unknown(config: Config, series: Series) -> None:
     """A line on standard error for what special aggregates name and no table has: it may come, or be a slip."""
-    unknown = [*Membership(config.specials).unknown(series.titles)]
+    unknown = Sets(config.specials).unknown(series.titles)
     if unknown:
         print(f"cpi-tools publish: special aggregates name what no table has: {', '.join(unknown)}", file=sys.stderr)
 

@@ -1,7 +1,8 @@
-"""The manifest of a pack: each published table with its SHA-256, and the SHA-256 of the manifest before.
+"""The manifest of a pack: each published table with its SHA-256, the figures of each special aggregate with theirs, and the
+SHA-256 of the manifest before.
 
-So what was published can't change without a word: who holds one manifest holds all before it. It has nothing but the
-tables, so other texts or pages over the same tables leave it as it is. The sums of all files stand in SHA256SUMS, as
+So what was published can't change without a word: who holds one manifest holds all before it. It has nothing but these
+figures, so other texts or pages over the same ones leave it as it is. The sums of all files stand in SHA256SUMS, as
 `sha256sum --check` reads it.
 """
 
@@ -16,7 +17,7 @@ from typing import Any, NamedTuple, Optional
 
 from ..folders import files_of
 from ..terminal import Fault, because_of
-from .tables import Series, iso
+from .tables import Row, Series, Table, iso
 
 MANIFEST, SUMS = "manifest.json", "SHA256SUMS"
 
@@ -28,22 +29,50 @@ class NotAManifest(Fault):
     """A file that is no manifest; one line."""
 
 
+class SetSum(NamedTuple):
+    """The figures of a special aggregate: their first and last month, and the SHA-256 of a line for each month."""
+
+    first: str
+    last: str
+    sha256: str
+
+
 class Manifest(NamedTuple):
-    """What stands in a manifest: moment and SHA-256 of each table, the SHA-256 of the manifest before, and its own."""
+    """What stands in a manifest: moment and SHA-256 of each table, the SHA-256 of the manifest before, its own, and the
+    figures of special aggregates by their ids."""
 
     tables: dict[TableId, tuple[str, str]]
     previous: Optional[str]
     sha256: str
+    sets: Mapping[str, SetSum] = {}
 
 
 def manifest_text(series: Series, previous: Optional[str]) -> str:
-    """A manifest of all tables; `previous` is the SHA-256 of the one before."""
+    """A manifest of all tables and sets; `previous` is the SHA-256 of the one before."""
     tables = [
         {"month": it.month, "revision": it.revision, "published": iso(it.moment), "sha256": it.sha256}
         for it in series.vintages
     ]
-    rows = ",\n".join(f"  {json.dumps(each)}" for each in tables)
-    return f'{{\n "previous": {json.dumps(previous)},\n "tables": [\n{rows}\n ]\n}}\n'
+    found = {name: set_sum(it.rows, series.latest) for name, it in series.specials.items()}
+    sets = [{"id": name, **it._asdict()} for name, it in found.items() if it]
+    parts = [f' "previous": {json.dumps(previous)}', _listed("tables", tables)]
+    return "{\n" + ",\n".join([*parts, *([_listed("sets", sets)] if sets else [])]) + "\n}\n"
+
+
+def _listed(name: str, rows: list[dict[str, Any]]) -> str:
+    """A list of a manifest, a row a line."""
+    return f' "{name}": [\n' + ",\n".join(f"  {json.dumps(each)}" for each in rows) + "\n ]"
+
+
+def set_line(row: Row, table: Table) -> str:
+    """A month of a special aggregate as it is summed up: the cells of its file from `weight` to `imputed`."""
+    return f"{table.month},{table.revision},{','.join(row.texts)}\n"
+
+
+def set_sum(rows: Mapping[str, Row], tables: Mapping[str, Table]) -> Optional[SetSum]:
+    """The sum of a set's rows by month; None if there are none."""
+    text = "".join(set_line(rows[month], tables[month]) for month in sorted(rows))
+    return SetSum(min(rows), max(rows), hashlib.sha256(text.encode()).hexdigest()) if rows else None
 
 
 def read_manifest(path: Path) -> Manifest:
@@ -61,17 +90,19 @@ def manifest_of(data: bytes, name: str) -> Manifest:
         found: Any = json.loads(data)
         tables = {(row["month"], row["revision"]): (row["published"], row["sha256"]) for row in found["tables"]}
         previous = found["previous"]
-    except (KeyError, TypeError, ValueError) as fault:
+        sets = {row["id"]: SetSum(row["first"], row["last"], row["sha256"]) for row in found.get("sets", ())}
+    except (AttributeError, KeyError, TypeError, ValueError) as fault:
         raise NotAManifest(f"{name} is no manifest that cpi-tools publish wrote") from fault
-    return Manifest(tables, previous, hashlib.sha256(data).hexdigest())
+    return Manifest(tables, previous, hashlib.sha256(data).hexdigest(), sets)
 
 
 def previous_of(before: Optional[Manifest], series: Series) -> Optional[str]:
-    """What a new manifest has as the one before, where `before` is the last: over the same tables it is the same."""
+    """What a new manifest has as the one before, if `before` is the last: over the same figures it is the same."""
     if before is None:
         return None
     now = manifest_of(manifest_text(series, None).encode(), "")
-    return before.previous if before.tables == now.tables else before.sha256
+    is_same = (before.tables, before.sets) == (now.tables, now.sets)
+    return before.previous if is_same else before.sha256
 
 
 def changed_since(before: Manifest, series: Series) -> Iterator[str]:

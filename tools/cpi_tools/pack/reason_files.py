@@ -78,11 +78,11 @@ def read_told(pack: Path) -> dict[TableId, list[Told]]:
 
 
 def added_reasons(pack: Path, tables: Mapping[TableId, object], reasons: Reasons) -> set[TableId]:
-    """The releases that have a reason more than in a pack, whose tables are named, or have one in a further language.
-    Raises BadReasons if a reason that it has is another one now or isn't there, or if a further one of its tables doesn't
+    """The releases, and definitions of special aggregates, that have a reason more than in a pack, whose tables are named, or
+    have one in a further language. Raises BadReasons if a reason that it has is another one now or isn't there, or if a further one of its tables doesn't
     say when it was added."""
     told, added = read_told(pack), set[TableId]()
-    for of in tables:
+    for of in {**dict.fromkeys(tables), **dict.fromkeys(told)}:
         then, given = told.get(of, []), reasons.get(of, [])
         now = [*map(_told_of, given)]
         month, revision = of

@@ -3,6 +3,9 @@
 Its columns are `month`, `revision` and `reason`, and `added` if it likes. A reason without a time in `added` is given
 with the revision; one that is given later has its time there. What was published stays: a further row adds to it. Columns
 such as `reason-fr` have the reason in other languages of the pages, which show `reason` without them.
+
+A row that has the id of a special aggregate in place of a month says why another definition of it, such as the second one,
+holds for all months, and when that was said.
 """
 
 from __future__ import annotations
@@ -17,6 +20,8 @@ from .clocks import Clock
 from .office_rows import read_rows
 from .planned import MOST_REVISIONS, Planned, moment_of
 from .public import MONTH
+from .rows import NO_ROWS
+from .specials import ID
 from .tables import Series, Table
 
 NEEDED, ADDED = ("month", "revision", "reason"), "added"
@@ -32,8 +37,9 @@ class BadReasons(Fault):
 
 
 class Reason(NamedTuple):
-    """Why a month like `2026-01` got a further revision. `added` is when that was said, in seconds since 1970 UTC; None
-    if it was said with the revision. `texts` has the same in other languages, by their tags."""
+    """Why a month like `2026-01` got a further revision, or a special aggregate like `CORE` a further definition. `added` is
+    when that was said, in seconds since 1970 UTC; None if it was said with the revision. `texts` has the same in other
+    languages, by their tags."""
 
     month: str
     revision: int
@@ -43,7 +49,8 @@ class Reason(NamedTuple):
 
 
 class GivenReason(NamedTuple):
-    """A reason of a published revision, when it was given, in seconds since 1970 UTC, and the same in other languages."""
+    """A reason of a published revision, when it was given, in seconds since 1970 UTC, and the same in other languages. The
+    table of a special aggregate's definition has no rows, and the moment of its first reason."""
 
     table: Table
     text: str
@@ -104,8 +111,12 @@ def _test_head(head: Sequence[str]) -> None:
 def _reason(number: int, row: dict[str, str], clock: Clock) -> Reason:
     """The reason of a row, by its number in the file."""
     month, revision, text = (row[name] for name in NEEDED)
-    if not MONTH.fullmatch(month):
-        raise BadReasons(f"row {number}: {month or 'an empty text'} is no month like 2026-01")
+    if not MONTH.fullmatch(month) and not ID.fullmatch(month):
+        raise BadReasons(
+            f"row {number}: {month or 'an empty text'} is no month like 2026-01, nor the id of a special aggregate"
+        )
+    if ID.fullmatch(month) and not row.get(ADDED):
+        raise BadReasons(f"row {number}: the reason of {month} needs in the column {ADDED} when it was given")
     if revision not in map(str, range(2, MOST_REVISIONS + 1)):
         raise BadReasons(f"row {number}: revision {revision or 'without a number'} isn't 2 to {MOST_REVISIONS}")
     if not 0 < len(text) <= MOST_LETTERS:
@@ -136,7 +147,8 @@ def _test_order(number: int, found: Sequence[Reason]) -> None:
 def given_reasons(reasons: Iterable[Reason], series: Series, planned: Iterable[Planned]) -> Reasons:
     """The reasons of published revisions. One of a revision that is announced isn't told before that is out. Raises
     BadReasons if there is no such revision, or a reason was given before it."""
-    tables = {(it.month, it.revision): it for it in series.vintages}
+    reasons = [*reasons]
+    tables = {(it.month, it.revision): it for it in series.vintages} | _definitions(reasons, series)
     announced = {(it.month, it.revision) for it in planned}
     found: Reasons = {}
     for it in reasons:
@@ -151,6 +163,26 @@ def given_reasons(reasons: Iterable[Reason], series: Series, planned: Iterable[P
         elif it[:2] not in announced:
             raise BadReasons(f"a reason names {it.month}, revision {it.revision}, which is neither out nor announced")
     return found
+
+
+def _definitions(reasons: Iterable[Reason], series: Series) -> dict[tuple[str, int], Table]:
+    """What stands for a table if a reason is one of a special aggregate's definition. Raises BadReasons if there is no such
+    aggregate, or the definition before has no reason."""
+    found: dict[tuple[str, int], Table] = {}
+    for it in reasons:
+        if ID.fullmatch(it.month) and it[:2] not in found:
+            if it.month not in series.specials:
+                raise BadReasons(f"a reason names {it.month}, which is no special aggregate")
+            if it.revision > 2 and (it.month, it.revision - 1) not in found:
+                raise BadReasons(f"{it.month}, definition {it.revision}, has a reason, and the one before has none")
+            found[it.month, it.revision] = Table(it.month, it.revision, it.added or 0, "", NO_ROWS)
+    return found
+
+
+def definition_of(name: str, given: Iterable[tuple[str, int]]) -> int:
+    """Which definition of a special aggregate holds for all months, by the reasons that are given: the first one has
+    none."""
+    return max((revision for id, revision in given if id == name), default=1)
 
 
 def in_order(reasons: Reasons) -> Iterator[GivenReason]:

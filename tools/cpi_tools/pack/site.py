@@ -38,12 +38,12 @@ from .new_files import NewFiles
 from .notes import Notes, note_names, present, said
 from .pictures import Chart, base_text, of_imputed, of_node
 from .public import Source
-from .reasons import given_reasons
+from .reasons import GivenReason, Reasons, given_reasons
 from .release_site import ReleaseSite
 from .revised import all_revised
 from .shown import EXACT
 from .signature import Signature
-from .specials import Special
+from .specials import Sets, Special
 from .spoken import (
     FILES,
     RATES_TEXTS,
@@ -204,7 +204,8 @@ class Site:
             revised=all_revised(self.series.vintages),
             sources=self._sources(),
             unexplained=self._unexplained(),
-            reasons=given_reasons(self.config.reasons, self.series, self.config.planned),
+            reasons=self._reasons,
+            redefinitions=[(name, found) for name in self.series.specials if (found := self._definitions(name))],
         )
         files = self._files()
         first_year, years = self.recent.series.months[0][:4], self._years()
@@ -347,6 +348,7 @@ class Site:
             "code": code,
             "title": self.series.title(code),
             "special": self._special(code),
+            "definitions": self._definitions(code),
             "marks": marks,
             "notes": defaultdict(str, notes),
             "present": shown_notes,
@@ -390,9 +392,18 @@ class Site:
             return {}
         return hidden_bases(self.series, row, self.shown.rates == EXACT, self.speech)
 
+    @cached_property
+    def _reasons(self) -> Reasons:
+        """The office's reasons."""
+        return given_reasons(self.config.reasons, self.series, self.config.planned)
+
+    def _definitions(self, code: str) -> list[GivenReason]:
+        """Why a special aggregate has another definition, in the order in which that was said; nothing of a node."""
+        return [it for of, found in sorted(self._reasons.items()) if of[0] == code for it in found]
+
     def _special(self, code: str) -> Optional[Special]:
         """What the office says of a special aggregate; None of a node."""
-        return next((it for it in self.config.specials if it.id == code), None)
+        return Sets(self.config.specials).last(code) if code in self.series.specials else None
 
     def _marks(self, code: str) -> dict[str, str]:
         """By month with a mark, what is said of it."""

@@ -2,7 +2,7 @@
 
 from __future__ import annotations
 
-from collections.abc import Callable, Iterable, Iterator, Sequence
+from collections.abc import Callable, Iterable, Iterator, Mapping, Sequence
 from itertools import groupby, repeat
 from pathlib import Path
 from typing import Optional
@@ -21,6 +21,8 @@ HEAD = ("month", "revision", "published", "code", "depth", "title", "weight", "i
 """The columns of cpi.csv, of vintages.csv and of each node's file: `base` is the month in which the level is 100, and
 `break` is 1 if the level isn't linked to those of the months before, or if other elementary aggregates are in it."""
 
+
+NO_LINES: Mapping[str, Sequence[str]] = {}
 
 PRINTED_HEAD = ("month", "code", "title", "reference", "index", "month_change", "year_change")
 AVERAGE_HEAD = ("code", "title", "year", "average", "change", "reference", "chained_average")
@@ -137,11 +139,18 @@ def write_months(known: Known, folder: Path, kept: KeptLines = NOTHING_KEPT) -> 
         write_lines(folder / name, head, lines(known, months), found)
 
 
-def write_whole(series: Series, shown: Shown, folder: Path, kept: KeptLines = NOTHING_KEPT) -> None:
-    """The CSV files that are of all years: each publication, what revisions changed, and averages."""
+def write_whole(
+    series: Series,
+    shown: Shown,
+    folder: Path,
+    kept: KeptLines = NOTHING_KEPT,
+    sets: Mapping[str, Sequence[str]] = NO_LINES,
+) -> None:
+    """The CSV files that are of all years: each publication, what revisions changed, and averages; `sets` are by month the
+    lines of special aggregates that were changed."""
     releases = ((it.month, it.revision, iso(it.moment), len(it.rows), it.sha256) for it in series.vintages)
     write_rows(folder / "releases.csv", ("month", "revision", "published", "rows", "sha256"), releases)
-    write_lines(folder / "vintages.csv", HEAD, _vintage_lines(series))
+    write_lines(folder / "vintages.csv", HEAD, _vintage_lines(series, sets))
     write_lines(folder / "averages.csv", AVERAGE_HEAD, _average_lines(shown, kept))
 
 
@@ -153,11 +162,11 @@ def _cpi_lines(known: Known, months: Sequence[str]) -> Iterator[str]:
     yield from (lines.of_table(latest[month]) for month in months)
 
 
-def _vintage_lines(series: Series) -> Iterator[str]:
+def _vintage_lines(series: Series, sets: Mapping[str, Sequence[str]]) -> Iterator[str]:
     """The lines of the nodes that a further revision changed: as they were at first, and as each revision that changed
-    them has them. All others are in `cpi.csv`."""
+    them has them, with those of sets behind them. All others are in `cpi.csv` and `aggregates.csv`."""
     lines = Lines(series)
-    for _, found in groupby(series.vintages, key=lambda it: it.month):
+    for month, found in groupby(series.vintages, key=lambda it: it.month):
         tables = [*found]
         for code in sorted(_revised(tables)):
             earlier = ""
@@ -167,6 +176,7 @@ def _vintage_lines(series: Series) -> Iterator[str]:
                 if text != earlier:
                     yield lines.line(table, code, place) if place is not None else lines.gone(table, code)
                 earlier = text
+        yield from sets.get(month, ())
 
 
 def _revised(tables: Sequence[Table]) -> set[str]:
