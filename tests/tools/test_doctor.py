@@ -22,6 +22,7 @@ from cpi_tools.copying import log_beside
 from cpi_tools.holders import LOCK_BEGIN, Holder, holders_of, is_held, unit_in
 from cpi_tools.program import Cpi, CpiFailed
 from lib.places import ROOT
+from .disks import fill, mounted
 from .offices import LOAD_KEY, LOAD_MONTH
 from .ran import Ran, run
 from .test_ops import needed, script
@@ -330,27 +331,13 @@ def test_users_that_are_not_there(cpi: Cpi, office: Path) -> None:
 # ---- its disk
 
 
-@contextlib.contextmanager
-def mounted(folder: Path, *words: str) -> Iterator[None]:
-    """Something is mounted at a folder meanwhile; the test is left out if it can't be."""
-    ran = subprocess.run([needed("mount"), *words, str(folder)], capture_output=True, text=True, check=False)
-    if ran.returncode:
-        pytest.skip(f"nothing can be mounted: {ran.stderr.strip()}")
-    try:
-        yield
-    finally:
-        subprocess.run([needed("umount"), str(folder)], check=True)
-
-
 @as_root
 def test_a_full_disk_is_named(cpi: Cpi, made: Path, tmp_path: Path, quick: None) -> None:
     folder = tmp_path / "disk"
     folder.mkdir()
     with mounted(folder, "-t", "tmpfs", "-o", "size=512k", "none"):
         file = Path(shutil.copy(made, folder / "office.db"))
-        with contextlib.suppress(OSError), (folder / "other").open("wb", buffering=0) as other:
-            while other.write(bytes(4096)) == 4096:
-                pass
+        fill(folder)
         assert not opens(cpi, file)
         log_beside(file).unlink(missing_ok=True)
         assert (

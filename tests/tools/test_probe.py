@@ -466,6 +466,18 @@ def test_the_age_of_the_second_copy_is_judged(tmp_path: Path, capsys: pytest.Cap
         assert ran(capsys, "--url", url, "--copy", folder, "--copied", "601,700")[0] == 0
 
 
+def test_a_copy_that_is_dated_ahead_is_a_warning(tmp_path: Path, capsys: pytest.CaptureFixture[str]) -> None:
+    """Its age isn't 0: nobody would see for two hours that the follower stopped."""
+    note_at(tmp_path / "copy", "copy-1", 8, NOW + 7200)
+    backup_of(tmp_path / "backups", "office.db", NOW + 3600)
+    with answering(LIST) as url:
+        status, out = ran(capsys, "--url", url, "--copy", tmp_path / "copy", "--backups", tmp_path / "backups")
+    assert status == 1
+    for what, seconds in (("the last backup", "3,600"), ("the second copy", "7,200")):
+        assert f"{what} is dated {seconds} seconds ahead, so its age isn't known: one clock is wrong" in out
+    assert "second_age_seconds=-7200" in out and "backup_age_seconds=-3600" in out
+
+
 def test_no_second_copy_and_one_that_was_promoted_are_critical(
     tmp_path: Path, capsys: pytest.CaptureFixture[str]
 ) -> None:

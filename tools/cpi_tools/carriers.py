@@ -24,9 +24,20 @@ SILENCE = 30
 LONGEST = 3600
 """Seconds for which one carrying may last: the first one of a large file over a slow line is the longest."""
 
-SSH = "ssh -o BatchMode=yes -o ConnectTimeout=10 -o ServerAliveInterval=10 -o ServerAliveCountMax=3"
-"""The program that reaches the other machine. It asks nobody, and ends when the other side is silent."""
+SSH = (
+    "ssh -o BatchMode=yes -o UpdateHostkeys=no -o ConnectTimeout=10 -o ServerAliveInterval=10 -o ServerAliveCountMax=3"
+)
+"""The program that reaches the other machine. It asks nobody, leaves its list of machines as it is, and ends when the
+other side is silent."""
 
+OWN = re.compile(r"rsync: |\[\w+\] |cpi-receive: |cpi-tools receive: |\S*rrsync\b|\d{4}/\d\d/\d\d \S+ ERROR\b")
+"""What a line of a carrier begins with, here or on the other machine. ssh warns in lines of its own."""
+
+AFTERWARDS = re.compile(r"rsync error: |rsync: connection unexpectedly closed|rsync: \[\w+\] (read|write) error: ")
+"""What rsync says once the other side has ended, whatever the cause was."""
+
+BESIDE = re.compile(r"Warning: Permanently added|(\d{4}/\d\d/\d\d \S+ )?NOTICE\b")
+"""Lines that name no cause."""
 
 MODES = ("--perms", "--chmod=D700,F600")
 """What is carried is as secret as the office."""
@@ -117,7 +128,7 @@ def carrier_of(dest: str, ssh: Optional[str] = None) -> Optional[Carrier]:
 
 
 def _run(words: Sequence[str], name: str) -> str:
-    """Runs what carries; what was told on the way. Raises Fault with the first line of that."""
+    """Runs what carries; what was told on the way. Raises Fault with the line of that which says why."""
     if not shutil.which(words[0]):
         raise Fault(f"there is no {words[0]}, which carries to {name}: Debian's package {words[0]} has it")
     try:
@@ -139,8 +150,11 @@ def _run(words: Sequence[str], name: str) -> str:
     return ran.stderr
 
 
-def _cause(told: str) -> str:
-    """The line that tells why: rsync ends with one that tells the place in its source, and rclone begins with times."""
-    lines = [re.sub(r"^\d{4}/\d\d/\d\d \S+ (ERROR *: *)?", "", line.strip()) for line in told.splitlines()]
-    others = ("rsync error:", "Warning: Permanently added", "NOTICE:")
-    return next((line for line in lines if line and not line.startswith(others)), "")
+def _cause(output: str) -> str:
+    """The line that says why a carrying failed: the first one of the carrier, else the last one of another program, else
+    what rsync said afterwards. The times of rclone go."""
+    lines = [line for each in output.splitlines() if (line := each.strip()) and not BESIDE.match(line)]
+    causes = [line for line in lines if not AFTERWARDS.match(line)]
+    own = [line for line in causes if OWN.match(line)]
+    line = next(iter(own[:1] or causes[-1:] or lines), "")
+    return re.sub(r"^\d{4}/\d\d/\d\d \S+ (ERROR *: *)?", "", line)

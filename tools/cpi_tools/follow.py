@@ -9,6 +9,7 @@ from __future__ import annotations
 
 import argparse
 import contextlib
+import re
 import sys
 import time
 from pathlib import Path
@@ -112,9 +113,10 @@ class Follower:
             raise NotCarried(fault.kind, told) from fault
 
     def tell(self, fault: Fault) -> None:
-        """Tells why a round wasn't carried: once, and again each hour while it stays so. (The marks of an office that
-        isn't carried change as it goes on.)"""
-        cause = fault.kind if isinstance(fault, NotCarried) else str(fault)
+        """Tells why a round wasn't carried: once for each cause, and again each hour while it stays so. (The marks of an
+        office that isn't carried change as it goes on.)"""
+        # (nor is it another cause if rsync waited a second longer)
+        cause = fault.kind if isinstance(fault, NotCarried) else re.sub(r"\d+", "0", str(fault))
         if cause != self._fault or time.monotonic() - self._told_at > TOLD_AGAIN:
             print(f"cpi-tools follow: {fault}; it goes on to try", file=sys.stderr, flush=True)
             self._fault, self._told_at = cause, time.monotonic()

@@ -146,6 +146,13 @@ def put_in(place: Path) -> Changes:
     return changes
 
 
+def drop_changes(place: Path) -> None:
+    """Removes changes that lie at a place: no copy takes them once one was promoted, and they may have the last room of
+    its disk. What can't be removed stays."""
+    with contextlib.suppress(OSError), held(place) as whole, whole.folder(CAME) as came:
+        came.remove(CARRIED)
+
+
 def _refuse(place: HeldFolder, changes: Changes, size: int) -> None:
     """Raises NotFitting unless the changes can be put into their copy."""
     state = state_in(place)

@@ -60,6 +60,8 @@ class Looks:
 def look(chosen: argparse.Namespace, now: int) -> Seen:
     """Looks at everything that was named."""
     looks = Looks()
+    # (first, so that no copy is made between the moment and this look)
+    second = looks.at(second_copy_of, chosen.copy) if chosen.copy else None
     answer, fault = _answer(chosen, looks)
     backups = looks.at(backups_of, chosen.backups) if chosen.backups else None
     said = looks.at(said_by, chosen)
@@ -69,7 +71,7 @@ def look(chosen: argparse.Namespace, now: int) -> Seen:
         fault=fault,
         files=looks.at(files_of, chosen.file) if chosen.file else None,
         backups=backups,
-        second=looks.at(second_copy_of, chosen.copy) if chosen.copy else None,
+        second=second,
         late=looks.at(_late, answer, backups, chosen.file, now) if answer else None,
         writes=looks.at(writes_of, chosen.file, said) if said else None,
         left=looks.at(connections_left, said) if said else None,
@@ -150,7 +152,8 @@ is critical; if one did, it is a warning for some hours (--refused). With --file
 journal of UNIT and without --output, nobody can know whether writes succeed: status 3.
 
 Second copy: --copy names DEST of cpi-tools follow if that is a folder of this machine, or else the
-room of the follower, which has the note of the copy that was carried last.
+room of the follower, which has the note of the copy that was carried last. A copy or a backup that
+is dated ahead of this machine's clock is a warning.
 
 Connections: the same lines say when few connections are left of the limit of `cpi serve`.
 """

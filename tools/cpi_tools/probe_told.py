@@ -86,7 +86,9 @@ def _of_backups(seen: Seen, chosen: argparse.Namespace) -> Iterator[Judgement]:
     if not seen.backups:
         return
     last, failed = seen.backups
-    if last:
+    if last and last.copied > seen.now:
+        yield _ahead("the last backup", last.copied - seen.now)
+    elif last:
         hours = (seen.now - last.copied) // HOUR
         yield state_of(hours, chosen.age), f"the last backup is {counted(hours, 'hour')} old"
     else:
@@ -105,9 +107,16 @@ def _of_second(seen: Seen, chosen: argparse.Namespace) -> Iterator[Judgement]:
         yield CRITICAL, f"the second copy was promoted on {promoted_on}, so there is none any more"
     elif copied is None:
         yield CRITICAL, "there is no second copy"
+    elif copied > seen.now:
+        yield _ahead("the second copy", copied - seen.now)
     else:
-        seconds = max(0, seen.now - copied)
+        seconds = seen.now - copied
         yield state_of(seconds, chosen.copied), f"the second copy is {counted(seconds, 'second')} old"
+
+
+def _ahead(name: str, seconds: int) -> Judgement:
+    """What is to be said of a copy whose moment hasn't come yet: nobody would see that no later one is made."""
+    return WARNING, f"{name} is dated {counted(seconds, 'second')} ahead, so its age isn't known: one clock is wrong"
 
 
 def _of_writes(seen: Seen, chosen: argparse.Namespace) -> Iterator[Judgement]:
@@ -187,11 +196,13 @@ def _figures_of_files(seen: Seen) -> Iterator[Figure]:
         yield "free_bytes", str(seen.files.free), "Room that is left on its file system."
     if seen.backups and (last := seen.backups.last):
         yield "backup_copied_seconds", str(last.copied), "When the last backup was copied, seconds since 1970."
-        yield "backup_age_seconds", str(max(0, seen.now - last.copied)), "Age of the last backup."
+        yield "backup_age_seconds", str(seen.now - last.copied), "Age of the last backup, below 0 if a clock is wrong."
         yield "backup_bytes", str(last.size), "Size of the last backup."
     if seen.second and seen.second.copied is not None:
         yield "second_copied_seconds", str(seen.second.copied), "When the second copy was made, seconds since 1970."
-        yield "second_age_seconds", str(max(0, seen.now - seen.second.copied)), "Age of the second copy."
+        yield "second_age_seconds", str(
+            seen.now - seen.second.copied
+        ), "Age of the second copy, below 0 if a clock is wrong."
         yield "second_refused", str(int(bool(seen.second.refused))), "Whether the office isn't carried to it any more."
     if seen.backups:
         yield "failed_drills", str(seen.backups.failed_drills), "Drills that failed after the last backup."

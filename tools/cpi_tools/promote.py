@@ -34,6 +34,7 @@ from .follow import mark_beside, restoring_beside
 from .held_folders import HeldFolder, NotPlain, held
 from .holders import is_held
 from .mirrors import sync
+from .page_changes import drop_changes
 from .program import Cpi, add_program
 from .rooms import new_room
 from .second_copies import (
@@ -98,6 +99,7 @@ def promote(
                 _compare(room / OFFICE, office, note)
             now("drilling it")
             drilled = _drilled(cpi, room / OFFICE, dest / name)
+            drop_changes(dest)
             write_promotion(dest, note.copied)
             aside = _put_aside(office, home) if is_replacing else None
             _place(room / OFFICE, office, home)
