@@ -1,5 +1,6 @@
 """`cpi-tools gaps FILE --receipts LIST`: which prices somebody has a receipt for, and the office doesn't have. With
-`--records` it is the same of what the desk sent (`gaps_of_records`).
+`--records` it is the same of what the desk sent (`gaps_of_records`), with `--office` of all that the office's old file has
+(`gaps_of_offices`).
 
 After a copy was promoted, or a backup restored, the office knows less than those who sent to it. A receipt counts for
 each collector from 1, so the office gives the same numbers again: a receipt that is there may be of another price. So a
@@ -20,13 +21,13 @@ from typing import NamedTuple, Optional, TypeVar
 
 from .copying import private_copy
 from .csv_files import Writer, add_safe_csv
+from .gaps_of_offices import Lacking, lacking
 from .gaps_of_records import missing_records, records_in
+from .gaps_written import HEADS, lines_of, rows_by_person, write_folder, write_records
+from .other_logs import other_log_of
 from .program import Cpi, add_program
 from .stored import REASONS, read_copy
 from .terminal import Fault, Progress, ToolWords, because_of, counted, month_text
-
-HEADS = ("collector", "slot", "month", "mark", "value", "receipt")
-"""The columns of a list."""
 
 MISSING = 3
 """The exit status if something is missing. A fault has 1, and so has Python if a module isn't there."""
@@ -180,14 +181,22 @@ The same price sent again is safe: a stored one keeps its receipt.
 With --records LIST is what the desk sent: records without moment and caller, as the rows of an
 import. Those that the office doesn't have are written as they were sent, so that the desk can send
 the output. Of an item, an outlet, a key, a calendar row or a plan the last one of LIST counts.
+
+With --office OLD is a file of the same office, with its log: that of a machine that was cut off, or
+one that was put aside. Both are only read. Each row that only OLD has is written as it is to be
+sent, after the person who sends it: the desk's records, the prices by collector, and the freezes
+last. With --to FOLDER there is a file for each person. What both have and what differs is a line
+each. By its receipt a price is known to be the later one, in OLD or in FILE; if nobody knows, or
+nothing can be sent for it, a person decides, and it is in different.csv.
 """
 
 EPILOG = """\
 example: cpi-tools gaps office.db --receipts sent.csv > missing.csv
          cpi-tools gaps office.db --records calendar.csv --zone CET-1CEST,M3.5.0,M10.5.0/3
+         cpi-tools gaps office.db --office aside/office.db --to missing
 
-exit status: 0 if nothing is missing; 1 if LIST or FILE can't be read; 2 if the words are refused;
-3 if something is missing
+exit status: 0 if nothing is missing; 1 if LIST, FILE or OLD can't be read; 2 if the words are
+refused; 3 if something is missing or differs
 """
 
 
@@ -200,6 +209,8 @@ def add_words(tools: argparse._SubParsersAction[ToolWords]) -> None:
     lists = words.add_mutually_exclusive_group(required=True)
     lists.add_argument("--receipts", type=Path, metavar="LIST", help="prices with receipts; - is standard input")
     lists.add_argument("--records", type=Path, metavar="LIST", help="records of the desk; - is standard input")
+    lists.add_argument("--office", type=Path, metavar="OLD", help="the old file of the same office")
+    words.add_argument("--to", type=Path, metavar="FOLDER", help="with --office: write files into this new folder")
     words.add_argument("--zone", default="UTC0", metavar="Z", help="the clock of civil times, as cpi has it (UTC0)")
     add_program(words)
     add_safe_csv(words)
@@ -208,6 +219,10 @@ def add_words(tools: argparse._SubParsersAction[ToolWords]) -> None:
 
 def run(chosen: argparse.Namespace) -> int:
     """Runs the tool by its words; its exit status."""
+    if chosen.to and not chosen.office:
+        chosen.words.error("--to goes with --office")
+    if chosen.office:
+        return _run_of_offices(chosen)
     wanted, rows = _compared_records(chosen) if chosen.records else _compared_prices(chosen)
     out = Writer(sys.stdout)
     for row in rows:
@@ -238,3 +253,34 @@ def _compared_records(chosen: argparse.Namespace) -> tuple[int, list[tuple[objec
         with private_copy(chosen.file) as copy, read_copy(copy) as office:
             found = missing_records(Cpi(chosen.program), sent, office, chosen.zone)
     return len(sent), [record.fields for record in found]
+
+
+def _run_of_offices(chosen: argparse.Namespace) -> int:
+    """Compares an office with its old file; the exit status. Raises Fault."""
+    with Progress("cpi-tools gaps") as progress:
+        progress.now(f"reading {chosen.office}")
+        lacks = compared_offices(Cpi(chosen.program), chosen.file, chosen.office)
+    if chosen.to is None:
+        write_records(sys.stdout, rows_by_person(lacks))
+    elif lacks.to_send or lacks.different:
+        try:
+            write_folder(chosen.to, lacks)
+        except OSError as fault:
+            raise Fault(because_of(fault)) from fault
+    for line in lines_of(lacks, chosen.office, chosen.file):
+        print(f"cpi-tools gaps: {line}", file=sys.stderr)
+    return MISSING if lacks.to_send or lacks.different else 0
+
+
+def compared_offices(cpi: Cpi, file: Path, old: Path) -> Lacking:
+    """What an office lacks of its old file; both are read from private copies. Raises Fault."""
+    try:
+        if (other := other_log_of(old)) and other.is_sure:
+            raise Fault(f"the log next to {old} isn't its own: {other.because}")
+        with private_copy(old) as copy, private_copy(file) as here:
+            # (the old file may be one of an earlier program)
+            cpi.open(copy, old)
+            with read_copy(copy) as before, read_copy(here) as office:
+                return lacking(before, office)
+    except OSError as fault:
+        raise Fault(because_of(fault)) from fault

@@ -8,7 +8,7 @@ from .known import Frozen, Known, Window
 from .office_sheets import WINDOW
 from .price_cells import Place
 from .price_store import StoredPrice
-from .stored import Quote, StoredOffice
+from .stored import Plan, Quote, StoredOffice
 from .take_out import Held, held_by, rows_of_handovers, rows_of_series, slot_in, told_quote
 from .terminal import month_text
 
@@ -44,12 +44,16 @@ def window_of(*moments: int) -> Window:
 
 def plans_of(stored: StoredOffice) -> Iterator[tuple[str, frozenset[tuple[str, ...]]]]:
     """The rows of each year's plan, as they are sent."""
-    for plan in stored.plans():
-        rows = {("T", code, title) for code, title in plan.titles.items()}
-        rows |= {("W", code, str(weight)) for code, weight in plan.aggregates().items()}
-        rows |= {("I", item, code) for item, code in plan.places.items()}
-        references = {("R", month_text(plan.reference))} if plan.reference else set()
-        yield str(plan.year), frozenset(rows | references)
+    yield from ((str(plan.year), frozenset(rows_of_plan(plan))) for plan in stored.plans())
+
+
+def rows_of_plan(plan: Plan) -> Iterator[tuple[str, ...]]:
+    """The rows of a plan, as they are sent."""
+    yield from (("T", code, title) for code, title in plan.titles.items())
+    yield from (("W", code, str(weight)) for code, weight in plan.aggregates().items())
+    yield from (("I", item, code) for item, code in plan.places.items())
+    if plan.reference:
+        yield ("R", month_text(plan.reference))
 
 
 def releases_of(stored: StoredOffice) -> Iterator[tuple[tuple[str, str], Frozen]]:
