@@ -18,7 +18,13 @@ TITLE, OUTLET = "=1+1", "@SUM(A1)"
 INI = "[office]\nagency = NSO\narea = XX\noffice = Office\n"
 
 
-@pytest.mark.parametrize("text", ["=1+1", "+cmd|'/C x'!A0", "-1+1", "@SUM(A1)", "\t=1", "\r=1", "--", "+1.5.2", "-0,3"])
+FULL_WIDTH = ("\uff1d1+1", "\uff0b1+1", "\uff0d1+1", "\uff20SUM(A1)")
+"""Signs as Chinese and Japanese keyboards have them, by which some spreadsheets compute too."""
+
+
+@pytest.mark.parametrize(
+    "text", ["=1+1", "+cmd|'/C x'!A0", "-1+1", "@SUM(A1)", "\t=1", "\r=1", "--", "+1.5.2", "-0,3", *FULL_WIDTH]
+)
 def test_what_a_spreadsheet_computes(text: str) -> None:
     assert is_formula(text)
 

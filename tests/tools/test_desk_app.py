@@ -284,6 +284,7 @@ def test_a_month_at_a_glance_worked_by_hand(ada: Person) -> None:
     assert [it["last month with an entry"] for it in rows] == ["2026-02", "2026-02"]
     (row,) = csv.DictReader(io.StringIO(ada.get("/month/2026-02/glance/divisions.csv").text))
     assert (row["division"], row["slots"], row["percent by weight"]) == ("01", "3", "30.0")
+    assert ada.get("/month/2026-02/glance/divisions.csv").headers["Content-Type"] == "text/csv; charset=utf-8"
     assert ada.get("/month/2026-02/glance/nothing.csv").status_code == 404
     assert ada.get("/month/2026-13/").status_code == 404
 

@@ -126,6 +126,7 @@ def test_a_price_is_seen_by_a_person_and_noted_for_all(tried: Application, ada: 
 
 
 def test_a_list_for_a_collector_has_that_one_s_prices(tried: Application, ada: Person) -> None:
+    assert ada.get(f"/month/{MONTH}/looks/8.txt").headers["Content-Type"] == "text/plain; charset=utf-8"
     text = ada.get(f"/month/{MONTH}/looks/8.txt").text
     assert "last price 246, now 252, 2.4 percent" in text and "look at this one twice" in text
     assert ada.get(f"/month/{MONTH}/looks/7.txt").status_code == 404

@@ -1,10 +1,10 @@
 """CSV files that people open in a spreadsheet: UTF-8, RFC 4180, lines ended by LF.
 
-A spreadsheet takes a text that begins with `=`, `+`, `-`, `@`, a tab or a carriage return as a formula, and a formula can
-send elsewhere what is next to it. A program reads the same text as it is. So a text is written as it is, and a line
-tells how many begin so; by `--safe-csv` an apostrophe is written before each of them, and nothing computes it. A number
-is no formula, and neither is a sign with nothing after it, such as a dash in an empty cell. Files in the bytes of `cpi`,
-SDMX and records have none of this: programs read them.
+A spreadsheet takes a text that begins with `=`, `+`, `-`, `@` (also of full width), a tab or a carriage return as a
+formula, and a formula can send elsewhere what is next to it. A program reads the same text as it is. So a text is
+written as it is, and a line tells how many begin so; by `--safe-csv` an apostrophe is written before each of them, and
+nothing computes it. A number is no formula, and neither is a sign with nothing after it, such as a dash in an empty
+cell. Files in the bytes of `cpi`, SDMX and records have none of this: programs read them.
 """
 
 from __future__ import annotations
@@ -21,8 +21,8 @@ from typing import Optional, TextIO
 
 from .terminal import Fault, counted
 
-BEGINS = frozenset("=+-@\t\r")
-"""How a text begins that a spreadsheet takes as a formula."""
+BEGINS = frozenset("=+-@\t\r\uff1d\uff0b\uff0d\uff20")
+"""How a text begins that a spreadsheet takes as a formula; some take the signs of full width so too."""
 
 END = "\r\n"
 """Both of its characters end a line for some reader."""

@@ -60,6 +60,6 @@ def section_file(month: str, section: Section) -> Response:
 
 def csv_file(name: str, text: str) -> Response:
     """A CSV file to keep."""
-    answer = flask.Response(text, mimetype="text/csv; charset=utf-8")
+    answer = flask.Response(text, mimetype="text/csv")
     answer.headers["Content-Disposition"] = f'attachment; filename="{name}"'
     return answer

@@ -104,7 +104,7 @@ def to_send(month: str, collector: int) -> Response:
         text.append(f"  {said(prices_of(it))}\n")
         text += [f"  {said(each)}\n" for each in it.ask]
         text += [f"  {isolated(each.text)}\n" for each in notes.get(price_of(month_of(month), it), [])]
-    answer = flask.Response("".join(text), mimetype="text/plain; charset=utf-8")
+    answer = flask.Response("".join(text), mimetype="text/plain")
     answer.headers["Content-Disposition"] = f'attachment; filename="{month}-collector-{collector}.txt"'
     return answer
 

@@ -41,7 +41,7 @@ export async function itemOf(code, hasEarlier) {
 }
 
 /** A title without the apostrophe that `publish --safe-csv` writes before what a spreadsheet takes for a formula. */
-const plain = (title) => title.replace(/^'(?=[=+\-@\t\r])/, "");
+const plain = (title) => title.replace(/^'(?=[=+\-@\t\r\uff1d\uff0b\uff0d\uff20])/, "");
 
 /** (a special aggregate is computed from the latest tables, so it has no file of earlier revisions) */
 function noneOf404(fault) {
