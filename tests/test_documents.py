@@ -101,7 +101,7 @@ def outputs(blocks: Sequence[Block], program: Program, room: Path) -> Iterator[s
     parts = [f"exec > {room}/{at} 2>&1\n{commands}" for at, (commands, _) in enumerate(blocks)]
     commands = re.sub(r"(?m)(^|[ (|])\./cpi(?= )", rf"\1{program.path}", "\n".join(parts))
     commands = commands.replace('PATH="$PATH:$PWD"', f'PATH="{os.path.dirname(program.path)}:$PATH:$PWD"')
-    environment = {**os.environ, "PATH": path_without_cpi(), "CPI": program.path}
+    environment = {**os.environ, "PATH": path_without_cpi(), "CPI": program.path, "TMPDIR": str(room)}
     fault = ran(commands, repository_in(room / "repository"), environment)
     for at in range(len(blocks)):
         path, is_last = room / f"{at}", not (room / f"{at + 1}").exists()

@@ -2,6 +2,7 @@
 
 from __future__ import annotations
 
+import os
 import re
 import subprocess
 from pathlib import Path
@@ -21,13 +22,16 @@ def guide() -> str:
 
 @pytest.fixture(scope="module")
 def written(tmp_path_factory: pytest.TempPathFactory) -> str:
-    """The file that the command of FRONT writes."""
-    folder = tmp_path_factory.mktemp("filled")
+    """The file that the command of FRONT writes. It leaves nothing where it runs, such as in /usr/share/cpi."""
+    folder, filled = tmp_path_factory.mktemp("installed"), tmp_path_factory.mktemp("filled")
+    (folder / "ops").symlink_to(ROOT / "ops")
     commands = re.findall(r"^```sh\n(.*?)^```\n", guide(), re.S | re.M)
-    (command,) = [each.replace("out/cpi.conf", f"{folder}/cpi.conf") for each in commands if "ops/nginx.conf" in each]
-    ran = subprocess.run(["bash", "-c", command], cwd=ROOT, capture_output=True, text=True, check=False)
-    assert (ran.stdout, ran.stderr) == ("0\n", "")
-    return (folder / "cpi.conf").read_text(encoding="utf-8")
+    (command,) = [each for each in commands if "ops/nginx.conf" in each]
+    words, paths = ["bash", "-c", command], {**os.environ, "TMPDIR": str(filled)}
+    ran = subprocess.run(words, cwd=folder, env=paths, capture_output=True, text=True, check=False)
+    assert (ran.stdout, ran.stderr) == ("0\n", "") and [*folder.iterdir()] == [folder / "ops"]
+    (file,) = filled.iterdir()
+    return file.read_text(encoding="utf-8")
 
 
 def test_the_words_of_the_front_are_filled_in_for_a_name(written: str) -> None:
