@@ -15,7 +15,7 @@ from cpi_tools.page_changes import CAME, CHANGES
 from cpi_tools.places import Elsewhere, Folder
 from cpi_tools.program import Cpi
 from cpi_tools.promote import promote
-from cpi_tools.second_copies import MARK, NAMES, OFFICE, promotion_of, state_of
+from cpi_tools.second_copies import NAMES, promotion_of, state_of
 from cpi_tools.terminal import Fault
 from lib.places import ROOT
 from .disks import fill, mounted

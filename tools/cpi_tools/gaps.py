@@ -15,15 +15,15 @@ import csv
 import io
 import re
 import sys
-from collections.abc import Callable, Iterable, Iterator
+from collections.abc import Callable, Iterable, Iterator, Mapping
 from pathlib import Path
 from typing import NamedTuple, Optional, TypeVar
 
 from .copying import private_copy
 from .csv_files import Writer, add_safe_csv
-from .gaps_of_offices import Lacking, lacking
+from .gaps_of_offices import Entry, Lacking, entries_of, lacking
 from .gaps_of_records import missing_records, records_in
-from .gaps_written import HEADS, lines_of, rows_by_person, write_folder, write_records
+from .gaps_written import HEADS, because_of_entry, lines_of, rows_by_person, write_folder, write_records
 from .other_logs import other_log_of
 from .program import Cpi, add_program
 from .stored import REASONS, read_copy
@@ -60,7 +60,7 @@ class Gap(NamedTuple):
 Listed = TypeVar("Listed")
 """A row of a list."""
 
-Stored = dict[tuple[int, int, int], tuple[str, str, int]]
+Stored = Mapping[tuple[int, int, int], Entry]
 """Mark, value and receipt of each stored quote, by collector, slot and month."""
 
 
@@ -128,15 +128,7 @@ def read_list(path: Path, read: Callable[[str, str], list[Listed]]) -> list[List
 def stored_quotes(file: Path) -> Stored:
     """The stored quotes of an office's file, read from a private copy. Raises Fault."""
     with private_copy(file) as copy, read_copy(copy) as office:
-        return {
-            (collector, slot, month): (*_entry(mark, value), receipt)
-            for collector, slot, month, mark, value, receipt in office.all_quotes()
-        }
-
-
-def _entry(mark: str, value: int) -> tuple[str, str]:
-    """Mark and value as they are sent: a reason is stored as a mark."""
-    return ("missing", mark) if mark in REASONS else (mark, str(value))
+        return entries_of(office)
 
 
 def last_of_each(sent: Iterable[Sent]) -> Iterator[Sent]:
@@ -153,14 +145,11 @@ def gaps(sent: Iterable[Sent], stored: Stored) -> list[Gap]:
     return [Gap(row, because) for row in last_of_each(sent) if (because := _because(row, stored.get(row[:3])))]
 
 
-def _because(row: Sent, there: Optional[tuple[str, str, int]]) -> str:
+def _because(row: Sent, there: Optional[Entry]) -> str:
     """What the office has in place of a row; empty if it has the row, or a later one."""
-    if there is None:
-        return "nothing is stored for this slot and month"
-    mark, value, receipt = there
-    if (mark, value) == (row.mark, row.value) or receipt > row.receipt:
+    if there and (there[:2] == (row.mark, row.value) or there.receipt > row.receipt):
         return ""
-    return f"{mark} {value} is stored, with receipt {receipt}"
+    return because_of_entry(there)
 
 
 # ---- words

@@ -218,7 +218,7 @@ def _freezes(old: StoredOffice, new: StoredOffice, different: list[Different]) -
 # ---- prices
 
 
-def _entries(office: StoredOffice) -> dict[At, Entry]:
+def entries_of(office: StoredOffice) -> dict[At, Entry]:
     """All stored quotes."""
     return {
         (collector, slot, month): Entry("missing", mark, receipt)
@@ -258,7 +258,7 @@ def _prices(
     old: StoredOffice, new: StoredOffice, barred: Mapping[tuple[int, int], str], different: list[Different]
 ) -> tuple[list[Missing], int]:
     """The prices that NEW lacks, by collector, month and slot, and how many it put right since."""
-    has, knows = _entries(old), _entries(new)
+    has, knows = entries_of(old), entries_of(new)
     common, missing, put_right = last_common(has, knows), list[Missing](), 0
     for at, entry in sorted(has.items(), key=lambda it: (it[0][0], it[0][2], it[0][1])):
         here, last = knows.get(at), common.get(at[0], 0)

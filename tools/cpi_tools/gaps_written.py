@@ -15,9 +15,9 @@ import os
 from collections.abc import Iterable, Iterator, Sequence
 from itertools import groupby
 from pathlib import Path
-from typing import TextIO
+from typing import Optional, TextIO
 
-from .gaps_of_offices import Fields, Lacking, Missing
+from .gaps_of_offices import Entry, Fields, Lacking
 from .private_files import private_file, write_rows
 from .rooms import new_room
 from .sent import DESK
@@ -42,11 +42,11 @@ def write_records(file: TextIO, rows: Iterable[Sequence[str]]) -> None:
     csv.writer(file, lineterminator="\n").writerows(rows)
 
 
-def because_of_price(it: Missing) -> str:
-    """Why a price is missing."""
-    if it.here is None:
+def because_of_entry(here: Optional[Entry]) -> str:
+    """Why a price is missing: what the office has in its place."""
+    if here is None:
         return "nothing is stored for this slot and month"
-    return f"{it.here.mark} {it.here.value} is stored, with receipt {it.here.receipt}"
+    return f"{here.mark} {here.value} is stored, with receipt {here.receipt}"
 
 
 def write_folder(folder: Path, lacks: Lacking) -> None:
@@ -61,7 +61,7 @@ def write_folder(folder: Path, lacks: Lacking) -> None:
             with private_file(made / name) as file:
                 write_records(file, rows)
         if lacks.prices:
-            prices = ((*it.at[:2], month_text(it.at[2]), *it.entry, because_of_price(it)) for it in lacks.prices)
+            prices = ((*it.at[:2], month_text(it.at[2]), *it.entry, because_of_entry(it.here)) for it in lacks.prices)
             write_rows(made / "prices.csv", (*HEADS, "because"), prices)
         if lacks.different:
             write_rows(made / "different.csv", DIFFERENT, lacks.different)
