@@ -206,6 +206,7 @@ class Counts:
         option = self.config.option
         words = [f"--seed={option.seed}", *["--long"] * option.long]
         words += [f"--program={os.path.abspath(option.program)}"] if option.program else []
+        words += [f"--leave-out={name}" for name in getattr(option, "leave_out", ())]
         ran = subprocess.run(
             [sys.executable, "-B", "-m", "pytest", "-n", "0", "--one-try", *words, str(self.config.rootpath / name)],
             cwd=self.config.rootpath, stdout=subprocess.PIPE, stderr=subprocess.STDOUT, text=True, check=False,
