@@ -69,6 +69,14 @@ def sent(on: System, price: int) -> str:
     return f"collector,slot,month,mark,value,receipt\n{rows}"
 
 
+def wait_for_rounds(on: System, count: int) -> None:
+    """Waits until so many further copies of an office are carried, each begun after the one before it was there."""
+    for _ in range(count):
+        copied = "cpi-tools probe --copy /var/lib/cpi-follow | grep -o 'second_copied_seconds=[0-9]*' | cut -d= -f2"
+        begun = on.run("date +%s").strip()
+        on.wait_for(f"test $({copied}) -gt {begun}")
+
+
 def missing(on: System, receipts: str, status: int) -> int:
     """How many prices of a list of receipts an office doesn't have, as the guide's tool says."""
     told = on.run(f"cpi-tools gaps {OFFICE} --receipts - << 'END'\n{receipts}END", status)
@@ -96,7 +104,7 @@ def carried_anew(first: System, before: str) -> None:
     """A backup of before the last prices is restored on the first machine, and is carried once that is said."""
     first.run("systemctl start cpi-backup.service")
     last = sent(first, 555)
-    first.wait_for(PROBE)
+    wait_for_rounds(first, 1)
     command = RESTORE.replace("office-2026-01-31.db", "office-$(date -u +%F).db --yes")
     assert command != RESTORE
     first.run(command)
@@ -149,8 +157,8 @@ rsync -l x/copy-1/office.db cpi-copy@second.example:./copy-1/
 rsync promoted.json cpi-copy@second.example:.
 rsync -r --delete empty/ cpi-copy@second.example:. && exit 99
 rsync -r --delete empty/ cpi-copy@second.example:./copy-2/ && exit 99
-ssh -o BatchMode=yes cpi-copy@second.example id && exit 99
-scp -q {OFFICE} cpi-copy@second.example:stolen && exit 99
+ssh -n -o BatchMode=yes cpi-copy@second.example id && exit 99
+scp -q {OFFICE} cpi-copy@second.example:stolen < /dev/null && exit 99
 exit 0
 """
 """What the user `cpi` of the first machine tries by the follower's key."""
@@ -163,7 +171,7 @@ def test_the_key_carries_pages_and_nothing_else(systems: tuple[System, System]) 
     first.run(f"runuser -u cpi -- cpi replay --db {OFFICE} > /dev/null << 'END'\n{records}\nEND")
     first.run("systemctl enable --quiet --now cpi.service cpi-backup.timer")
     followed(first, second, "second.example")
-    first.wait_for(PROBE)
+    wait_for_rounds(first, 2)
     first.run("systemctl stop cpi-follow")
     first.run(f"runuser -u cpi -- bash -u << 'END'{ATTACK}END")
     assert second.run(f"ls {COPY}").split() == ["copy-1", "copy-2", "received", "received.lock"]
