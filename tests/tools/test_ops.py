@@ -434,12 +434,13 @@ def test_a_file_that_is_not_there_is_not_made(cpi: Cpi, tmp_path: Path) -> None:
 # ---- the night
 
 
-def night(folder: Path, drill_status: int) -> subprocess.CompletedProcess[str]:
+def night(folder: Path, drill_status: int, log: str = "nowhere") -> subprocess.CompletedProcess[str]:
     """The night's script, with tools that say what they do; backups are files with their notes."""
     backup = 'backup) mkdir -p "${3%/*}"; echo new > "$3"; echo new > "$3.sha256" ;;'
     drill = f'drill) test -e "$2.sha256" || exit 9; exit {drill_status} ;;'
     script(folder / "cpi-tools", f'echo "$@"\ncase $1 in {backup} {drill} esac\n')
     kept = {"PATH": f"{folder}:{os.environ['PATH']}", "CPI_BACKUPS": str(folder / "kept"), "CPI_OFFICE": "office.db"}
+    kept["CPI_DESK_LOG"] = log
     return subprocess.run([OPS / "cpi-backup"], env=kept, capture_output=True, text=True, check=False)
 
 
@@ -484,6 +485,15 @@ def test_a_night_makes_a_backup_drills_it_and_removes_old_ones(tmp_path: Path) -
     assert {path.name for path in (tmp_path / "kept").iterdir() if path.is_file()} == kept
     assert {(tmp_path / "kept" / name).read_text() for name in both(TODAY)} == {"new\n"}
     assert [*new.parent.iterdir()] == []
+
+
+def test_a_night_notes_the_last_line_of_the_desk_s_log_if_there_is_one(tmp_path: Path) -> None:
+    log, asked = tmp_path / "desk.log", list[str]()
+    for text in ("", "a line\n"):
+        log.write_text(text)
+        asked.append(night(tmp_path, 0, str(log)).stdout.splitlines()[0])
+    new = f"backup office.db {tmp_path / 'kept/.new' / TODAY}"
+    assert asked == [new, f"{new} --desk-log {log}"]
 
 
 def test_a_copy_that_is_not_whole_counts_for_nothing_and_nothing_is_removed(tmp_path: Path) -> None:

@@ -19,19 +19,27 @@ from .rooms import new_room
 from .terminal import Fault, Progress, ToolWords, a_file, at_least, because_of, counted, time_text
 
 
+LF = b"\n"
+
+NUMBER_OF_LINE = re.compile(rb'"number":([0-9]{1,18}),')
+"""The number that a line of the desk's log has."""
+
+
 class BackupFailed(Fault):
     """No backup was made, or a note can't be read; one line."""
 
 
 class Note(NamedTuple):
     """What is written beside a backup: the office's file, the moment at which copying began (seconds since 1970 UTC),
-    how many tables the program found, the backup's size in bytes, and its SHA-256 in hexadecimal."""
+    how many tables the program found, the backup's size in bytes, its SHA-256 in hexadecimal, and the last line of the
+    desk's log, as `last_line_of` has it, if the backup was asked to note that."""
 
     office: str
     copied: int
     tables: int
     size: int
     sha256: str
+    desk_log: str = ""
 
 
 # ---- the note
@@ -45,6 +53,7 @@ def note_beside(path: Path) -> Path:
 def note_text(note: Note, name: str) -> str:
     """A note as `sha256sum --check` reads it; what else it tells are comments there."""
     told = f"# office: {note.office}\n# copied: {note.copied}\n# tables: {note.tables}\n# bytes: {note.size}\n"
+    told += f"# desk log: {note.desk_log}\n" if note.desk_log else ""
     return f"{told}{note.sha256}  {name}\n"
 
 
@@ -57,13 +66,26 @@ def read_note(path: Path) -> Optional[Note]:
         return None
     except OSError as fault:
         raise BackupFailed(because_of(fault)) from fault
-    told = dict(re.findall(r"^# (office|copied|tables|bytes): (.*)$", text, re.M))
+    told = dict(re.findall(r"^# (office|copied|tables|bytes|desk log): (.*)$", text, re.M))
     sums = re.findall(r"^([0-9a-f]{64})  ", text, re.M)
     numbers = [told.get(name, "") for name in ("copied", "tables", "bytes")]
     if len(sums) != 1 or "office" not in told or not all(re.fullmatch("[0-9]{1,18}", each) for each in numbers):
         raise BackupFailed(f"{beside} isn't a note that cpi-tools wrote")
     copied, tables, size = map(int, numbers)
-    return Note(told["office"], copied, tables, size, sums[0])
+    return Note(told["office"], copied, tables, size, sums[0], told.get("desk log", ""))
+
+
+def last_line_of(path: Path) -> str:
+    """The number and the SHA-256 of the last line of the desk's log, `line 17, SHA-256 ..`, or `no line`: one that a crash
+    cut off has no number. Raises BackupFailed if the file can't be read."""
+    try:
+        lines = path.read_bytes().split(b"\n")[:-1]
+    except OSError as fault:
+        raise BackupFailed(because_of(fault)) from fault
+    for line in reversed(lines):
+        if numbers := NUMBER_OF_LINE.findall(line):
+            return f"line {int(numbers[0])}, SHA-256 {hashlib.sha256(line + LF).hexdigest()}"
+    return "no line"
 
 
 def hash_of(path: Path) -> str:
@@ -106,8 +128,10 @@ def back_up(
     patience: float = PATIENCE,
     pause: Optional[int] = None,
     progress: Optional[Progress] = None,
+    desk_log: Optional[Path] = None,
 ) -> Note:
-    """Makes the backup `to` of an office's file, and a note of it beside; the note.
+    """Makes the backup `to` of an office's file, and a note of it beside, with the last line of `desk_log` if there is one;
+    the note.
 
     `is_replacing` lets it take the place of what stands there. `patience` (seconds) and `pause` (a process) are those
     of `right_copy`. Raises BackupFailed, CopyFailed or CpiFailed, and leaves nothing, where it wasn't made.
@@ -123,7 +147,8 @@ def back_up(
             now("cpi opens the copy")
             tables = settle(cpi, copy, path)
             now("writing it to the disk")
-            note = Note(path.name, begun, tables, copy.stat().st_size, hash_of(copy))
+            line = last_line_of(desk_log) if desk_log else ""
+            note = Note(path.name, begun, tables, copy.stat().st_size, hash_of(copy), line)
             written = room / "note"
             written.write_text(note_text(note, to.name), encoding="utf-8")
             written.chmod(0o600)
@@ -243,6 +268,12 @@ def add_words(tools: argparse._SubParsersAction[ToolWords]) -> None:
     words.add_argument("dest", type=a_file, metavar="DEST", help="the backup: a file that isn't there yet")
     words.add_argument("--replace", action="store_true", help="DEST and its note take the place of another backup")
     words.add_argument(
+        "--desk-log",
+        type=Path,
+        metavar="LOG",
+        help="the log of the desk's pages: the note has the sum of its last line",
+    )
+    words.add_argument(
         "--patience",
         type=at_least(0),
         default=PATIENCE,
@@ -271,6 +302,7 @@ def run(chosen: argparse.Namespace) -> int:
             patience=chosen.patience,
             pause=chosen.pause,
             progress=progress,
+            desk_log=chosen.desk_log,
         )
     print(
         f"{chosen.dest}: {counted(note.size, 'byte')}, {counted(note.tables, 'table')},"
