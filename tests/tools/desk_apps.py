@@ -18,6 +18,7 @@ from cpi_tools.program import Cpi
 from cpi_tools.speech import SPEAKS_ENGLISH, Speech
 from lib.served import free_port
 from .loads import DESK_KEY, served
+from .page_forms import PageForm, forms_of
 
 LISTEN = "127.0.0.1:8090"
 CLOCK = clock_of("Europe/Prague")
@@ -46,6 +47,29 @@ class Person:
     def post(self, path: str, token: Optional[str] = None, headers: Any = None, **form: str) -> Any:
         data = {"token": self.token if token is None else token, **form}
         return self.client.post(path, data=data, base_url=f"http://{LISTEN}", headers=headers)
+
+    def sent(self, path: str, **form: str) -> Any:
+        """The page after a form: the one that answers it, or the one to which its answer leads."""
+        return self.follow(self.post(path, **form))
+
+    def follow(self, answer: Any) -> Any:
+        """The page to which the answer to a form leads, if it leads to one."""
+        return self.get(answer.headers["Location"]) if answer.status_code == 303 else answer
+
+    def form(self, page: str, ends: str, at: int = 0) -> PageForm:
+        """A form of a page, by the end of its address."""
+        return [it for it in forms_of(self.get(page).text) if it.action.endswith(ends)][at]
+
+    def fill(self, page: str, ends: str, at: int = 0, **fields: str) -> Any:
+        """Fills in a form of a page, and sends it with all that it carries; the answer."""
+        return self.give(self.form(page, ends, at), **fields)
+
+    def give(self, form: PageForm, **fields: str) -> Any:
+        """Sends a form that was shown, with some fields filled in; the answer."""
+        data: dict[str, list[str]] = {}
+        for name, text in form.carried(**fields):
+            data.setdefault(name, []).append(text)
+        return self.client.post(form.action, data=data, base_url=f"http://{LISTEN}")
 
     def words(self, path: str) -> str:
         """What a page says."""

@@ -56,9 +56,9 @@ def test_the_key_is_asked_of_the_office_and_written_nowhere(application: Applica
     cookie = stranger.signed_in(ADA).headers["Set-Cookie"]
     assert "HttpOnly" in cookie and "SameSite=Strict" in cookie and DESK_KEY not in cookie
     person = application.person(ADA)
-    offer = person.post("/records/judge", text=f"collector,9,{key_of(9)}\n").text
+    offer = person.sent("/records/judge", text=f"collector,9,{key_of(9)}\n").text
     (name,) = re.findall('name="offer" value="([^"]+)"', offer)
-    assert "1 of 1 done" in words_of(person.post("/records/send", offer=name).text)
+    assert "1 of 1 done" in words_of(person.sent("/records/send", offer=name, left="").text)
     files = [path for path in (tmp_path / "room").rglob("*") if path.is_file()]
     texts = [path.read_bytes() for path in files]
     assert len(files) >= 1 and all(path.stat().st_mode & 0o077 == 0 for path in files)
@@ -228,7 +228,7 @@ def test_a_person_gives_a_name(name: str) -> None:
 def test_a_form_needs_its_session_and_its_site(application: Application, ada: Person) -> None:
     text = "outlet,12,Harbour\n"
     assert ada.post("/records/judge", token="x", text=text).status_code == 403
-    for origin, status in (("http://evil.example", 403), ("null", 403), ("http://127.0.0.1:8090", 200)):
+    for origin, status in (("http://evil.example", 403), ("null", 403), ("http://127.0.0.1:8090", 303)):
         assert ada.post("/records/judge", headers={"Origin": origin}, text=text).status_code == status
     stranger = application.person()
     assert stranger.post("/records/judge", text=text).status_code == 403
@@ -253,8 +253,8 @@ MORE_PAGES = (
 
 def test_no_page_runs_a_script_or_is_kept(application: Application, ada: Person) -> None:
     hostile = "outlet,13,<script>document.title='owned'</script>\n"
-    offer = re.findall('name="offer" value="([^"]+)"', ada.post("/records/judge", text=hostile).text)
-    assert "1 of 1 done" in words_of(ada.post("/records/send", offer=offer[0]).text)
+    offer = re.findall('name="offer" value="([^"]+)"', ada.sent("/records/judge", text=hostile).text)
+    assert "1 of 1 done" in words_of(ada.sent("/records/send", offer=offer[0], left="").text)
     application.tried(ada, "2026-02")
     for path in (*PAGES, *MORE_PAGES, "/sign-in"):
         answer = ada.get(path)

@@ -15,6 +15,7 @@ from typing import Any, NoReturn
 import pytest
 
 from . import surveys
+from cpi_tools.desk_app.freezes import sum_of
 from cpi_tools.program import Cpi
 from cpi_tools.speech import Speech, speech_of
 from .desk_apps import ADA, BEN, Application, Person, applied
@@ -22,6 +23,7 @@ from lib.served import free_port
 from .loads import served
 from .nobodys import greek, nobodys_in, seen_of
 from .test_desk_app_languages import left_on
+from .test_desk_app_month import WHY
 from .test_desk_app_publish import frozen as published_at, waited, with_site
 
 MONTH = "2026-02"
@@ -69,11 +71,13 @@ def test_a_full_disk_is_told_wherever_it_is_met(
     application: Application, ada: Person, monkeypatch: pytest.MonkeyPatch
 ) -> None:
     """Nothing is lost: what was typed is in its field again."""
-    offered = ada.post("/records/judge", text="outlet,12,\u0393\n").text
+    offered = ada.sent("/records/judge", text="outlet,12,\u0393\n").text
     (offer,) = re.findall('name="offer" value="([^"]+)"', offered)
+    application.tried(ada, MONTH)
+    look = ada.form(f"/month/{MONTH}/looks", "/looks", 1)
     monkeypatch.setattr(os, "fsync", full)
     room = f"{application.room}/"
-    answer = ada.post("/records/send", offer=offer)
+    answer = ada.post("/records/send", offer=offer, left="")
     assert told(answer, 503, "Nothing was sent: ", "The desk's log can't be written, so nothing was done.", FULL) == [
         f"{room}desk.log: No space left on device"
     ]
@@ -81,8 +85,9 @@ def test_a_full_disk_is_told_wherever_it_is_met(
     rows = ada.post("/sample/outlets/judge", pasted="12,\u0393")
     assert told(rows, 400, FULL) == [f"{room}rows.json: No space left on device"]
     assert "12,\u0393" in rows.text.partition("<textarea")[2]
-    note = ada.post(f"/month/{MONTH}/looks", collector="8", slot="1", price="290", what="note", text="\u03b3")
+    note = ada.give(look, text="\u03b3")
     assert told(note, 503, "Nothing was noted: ", FULL) == [f"{room}looks.jsonl: No space left on device"]
+    assert 'name="text" value="\u03b3"' in note.text
 
 
 def test_an_office_that_is_away_is_told(cpi: Cpi, tmp_path: Path, speech: Speech) -> None:
@@ -90,13 +95,13 @@ def test_an_office_that_is_away_is_told(cpi: Cpi, tmp_path: Path, speech: Speech
     with served(cpi, file, port, 100_000) as office:
         application = Application(cpi, file, tmp_path / "room", port, speech=speech)
         ada = application.person(ADA)
-        offered = ada.post("/records/judge", text="outlet,12,\u0393\n").text
+        offered = ada.sent("/records/judge", text="outlet,12,\u0393\n").text
         ada.post("/sample/outlets/judge", pasted="13,\u0393")
         (seen,) = re.findall('name="seen" value="([^"]+)"', ada.get("/sample/outlets").text)
         office.kill()
     refused, away = ["Connection refused"], "can't be reached: "
     (offer,) = re.findall('name="offer" value="([^"]+)"', offered)
-    assert told(ada.post("/records/send", offer=offer), 503, "Nothing was sent: ", away) == refused
+    assert told(ada.post("/records/send", offer=offer, left=""), 503, "Nothing was sent: ", away) == refused
     assert told(ada.post("/sample/outlets/send", seen=seen), 503, "Nothing was sent: ", away)[:1] == refused
     assert told(application.person().signed_in(BEN, "e" * 32), 503, away) == refused
     assert told(ada.get("/log"), 200, "not sent")
@@ -168,7 +173,7 @@ RECORDS = {
 
 @pytest.mark.parametrize(("text", "says"), RECORDS.items(), ids=range(len(RECORDS)))
 def test_records_that_are_not_taken_are_told(ada: Person, text: str, says: str) -> None:
-    answer = ada.post("/records/judge", text=text)
+    answer = ada.sent("/records/judge", text=text)
     assert told(answer, answer.status_code, says) == [] and answer.status_code in (200, 400)
 
 
@@ -202,7 +207,7 @@ def test_rows_that_are_not_taken_are_told(ada: Person, kind: str) -> None:
         answer = ada.post(f"/sample/{kind}/judge", pasted=text)
         page = answer if answer.status_code == 400 else ada.get(f"/sample/{kind}")
         assert told(page, page.status_code) == []
-        ada.post(f"/sample/{kind}/drop", all="1")
+        assert ada.get(f"/sample/{kind}").status_code == 200
 
 
 def test_a_sheet_that_cannot_be_made_is_told(application: Application, ada: Person) -> None:
@@ -248,9 +253,11 @@ def test_a_draft_that_cannot_be_made_or_read_is_told(application: Application, a
         assert told(ada.get("/year"), 200, says) == []
     ada.post("/year/make", year="2027")
     waited(lambda: not drafts.running)
-    for form in ({"pasted": '"x'}, {"pasted": "a;b;c;d"}, {"code": "09", "weight": "1"}, {"code": "", "weight": ""}):
-        assert told(ada.post("/year/2027/put", sheet="weights", **form), 400) == []
-    ada.post("/year/2027/put", sheet="weights", code="01.1.1.1-01", weight="many")
+    for text in ('"x', "a;b;c;d"):
+        assert told(ada.fill("/year/2027/", "/put", 2, pasted=text), 400) == []
+    for form in ({"code": "09", "weight": "1"}, {"code": "", "weight": ""}):
+        assert told(ada.fill("/year/2027/", "/put", shown=sum_of(None), **form), 400) == []
+    ada.fill("/year/2027/", "/put", weight="many")
     ada.post("/year/2027/check")
     waited(lambda: not drafts.running)
     assert told(ada.get("/year/2027/"), 200, "Weights that are no numbers: ", "What is refused") == []
@@ -268,7 +275,7 @@ def test_requests_that_are_none_are_told(application: Application, ada: Person) 
     assert told(ada.get("/nowhere"), 404, "There is no such page.") == []
     assert told(ada.post("/"), 405, "There is no such page.") == []
     assert told(ada.post("/records/judge", text="x" * 17_000_000), 413, "A form has ") == []
-    assert told(ada.post("/calendar/2026", token="wrong"), 403, "The form is of another session") == []
+    assert told(ada.post("/calendar/2026", token="wrong"), 403, "You sent this form after your session had ended") == []
     assert told(ada.get("/", headers={"Host": "other.example"}), 400, "This application isn't ") == []
 
 
@@ -276,11 +283,11 @@ def test_a_window_that_is_open_or_closed_is_told(application: Application, ada: 
     far = int(time.time()) + 86_400
     for closes, says in ((far, "The window is open until "), (5000, "Nothing was tried since")):
         text = f"calendar,{MONTH},2000,{closes},{max(closes, 6000)}\n"
-        offered = ada.post("/records/judge", text=text).text
-        ada.post("/records/send", offer=re.findall('name="offer" value="([^"]+)"', offered)[0])
+        offered = ada.sent("/records/judge", text=text).text
+        ada.post("/records/send", left="", offer=re.findall('name="offer" value="([^"]+)"', offered)[0])
         if closes == far:
             application.tried(ada, MONTH)
-            assert told(ada.post(f"/month/{MONTH}/freeze/prepare"), 409, says) == []
+            assert told(ada.fill(f"/month/{MONTH}/freeze", "/prepare", **WHY), 409, says) == []
         assert told(ada.get(f"/month/{MONTH}/freeze"), 200) == []
         assert told(ada.get("/calendar"), 200) == []
 
@@ -299,7 +306,7 @@ def test_a_website_that_cannot_be_written_is_told(cpi: Cpi, tmp_path: Path, spee
         publisher, ada = with_site(application, tmp_path, text), application.person(ADA)
         (line,) = told(ada.get("/publish"), 200, "A file of the website can't be read. Mend what this line names")
         assert WRONG_CONFIG[text] in line
-        ada.post("/publish/now")
+        ada.fill("/publish", "/publish/now")
         waited(lambda: not publisher.running)
         lines = told(
             ada.get("/publish"), 200, "The website couldn't be written, and is as it was:", "Mend what cpi-tools"

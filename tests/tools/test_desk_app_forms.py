@@ -122,5 +122,5 @@ def test_others_sign_in_as_before_and_go_on(application: Application, ada: Perso
         assert sent(application.person(), "/sign-in", OF_FIELDS).status_code == 413
     ben = application.person(BEN)
     for person, name in ((ada, ADA), (ben, BEN)):
-        answer = person.post("/records/judge", text="outlet,60,Shop\n" * 3)
+        answer = person.sent("/records/judge", text="outlet,60,Shop\n" * 3)
         assert answer.status_code == 200 and name in answer.text

@@ -13,7 +13,7 @@ from typing import NoReturn
 
 import pytest
 
-from cpi_tools.desk_app import freeze_views
+from cpi_tools.desk_app import freeze_steps, freeze_views
 from cpi_tools.desk_app.freezes import PreparedFreeze
 from cpi_tools.others import Worded
 from cpi_tools.program import Cpi
@@ -22,7 +22,7 @@ from lib.served import free_port
 from . import surveys
 from .desk_apps import ADA, BEN, PATIENCE, Application, Person, words_of
 from .loads import DESK_KEY, served
-from .test_desk_app_month import CODE, MONTH, WHY, frozen_months, told
+from .test_desk_app_month import CODE, MONTH, SIGNED, WHY, frozen_months
 
 PAGE = f"/month/{MONTH}/freeze"
 FREEZE = ["freeze", MONTH, CODE]
@@ -37,7 +37,7 @@ def full(*_: object) -> NoReturn:
 def prepared(application: Application, ada: Person) -> Application:
     """The month was tried, and Ada has prepared its freeze."""
     application.tried(ada, MONTH)
-    assert ada.post(f"{PAGE}/prepare", **WHY).status_code == 303
+    assert ada.fill(PAGE, "/prepare", **WHY).status_code == 303
     return application
 
 
@@ -57,10 +57,10 @@ def test_without_an_office_nothing_is_frozen_and_it_stays_prepared(cpi: Cpi, tmp
         application = Application(cpi, file, tmp_path / "room", port)
         ada, ben = application.person(ADA), application.person(BEN)
         application.tried(ada, MONTH)
-        assert ada.post(f"{PAGE}/prepare", **WHY).status_code == 303
-        assert ben.get(PAGE).status_code == 200
+        assert ada.fill(PAGE, "/prepare", **WHY).status_code == 303
+        form = ben.form(PAGE, "/confirm")
         office.kill()
-    answer = ben.post(f"{PAGE}/confirm")
+    answer = ben.give(form, **SIGNED)
     assert answer.status_code == 503 and "Nothing was sent: The office at" in words_of(answer.text)
     assert kept(application) and "Prepared, and not sent yet" in ben.words(PAGE)
     assert [it[0] for it in frozen_months(application)] == BEFORE
@@ -70,20 +70,27 @@ def test_without_an_office_nothing_is_frozen_and_it_stays_prepared(cpi: Cpi, tmp
 
 
 def test_what_the_office_carried_out_already_waits_no_longer(prepared: Application, ada: Person) -> None:
+    form = prepared.person(BEN).form(PAGE, "/confirm")
     frozen_elsewhere(prepared)
     assert kept(prepared) and "Prepared, and not sent yet" in ada.words(PAGE)
     prepared.tried(ada, MONTH)
     assert "Prepared, and not sent yet" not in ada.words(PAGE) and not kept(prepared)
     assert f"carried out already: freeze {MONTH} {CODE}, revision 1" in ada.words("/log")
-    assert "No freeze of this month is prepared" in told(prepared.person(BEN), "confirm")
+    ben = prepared.person(BEN)
+    answer = ben.post(form.action, **{**dict(form.fields), "token": ben.token})
+    assert answer.status_code == 409 and "No freeze is prepared any more: Ada sent or dropped it" in words_of(
+        answer.text
+    )
     assert frozen_months(prepared)[-1] == (202602, (CODE,))
 
 
 def test_what_is_frozen_already_isn_t_sent_once_more(prepared: Application) -> None:
     """Before anybody tried the month again."""
+    ben = prepared.person(BEN)
+    form = ben.form(PAGE, "/confirm")
     frozen_elsewhere(prepared)
     sent = len(prepared.desk.log.entries)
-    answer = prepared.person(BEN).post(f"{PAGE}/confirm")
+    answer = ben.give(form, **SIGNED)
     assert answer.status_code == 409 and "It can't be frozen now: " in words_of(answer.text)
     assert len(prepared.desk.log.entries) == sent and kept(prepared)
 
@@ -93,11 +100,11 @@ def test_a_refusal_of_the_office_is_told_and_logged(prepared: Application, monke
 
     def quicker(_: object) -> Worded:
         frozen_elsewhere(prepared)
-        return freeze_views.NOTHING
+        return freeze_steps.NOTHING
 
     monkeypatch.setattr(freeze_views, "what_differs", quicker)
     ben = prepared.person(BEN)
-    answer = ben.post(f"{PAGE}/confirm")
+    answer = ben.fill(PAGE, "/confirm", **SIGNED)
     words = words_of(answer.text)
     assert answer.status_code == 409 and "is frozen, revision 1" not in words
     refused = prepared.desk.log.entries[-1]
@@ -112,11 +119,11 @@ def test_a_full_disk_or_a_wrong_file_is_told(
     file = application.room / "prepared-freeze.json"
     with monkeypatch.context() as patch:
         patch.setattr("cpi_tools.whole_files.os.fchmod", full)
-        answer = ada.post(f"{PAGE}/prepare", **WHY)
+        answer = ada.fill(PAGE, "/prepare", **WHY)
     assert answer.status_code == 400 and f"{file}: No space left on device" in words_of(answer.text)
     assert not file.exists() and "Prepared, and not sent yet" not in ada.words(PAGE)
     file.mkdir()
-    for answer in (ada.get(PAGE), application.person(BEN).post(f"{PAGE}/confirm")):
+    for answer in (ada.get(PAGE), application.person(BEN).post(f"{PAGE}/confirm", prepared="x", trial="x", seen="x")):
         assert answer.status_code >= 400 and f"{file}: Is a directory" in words_of(answer.text)
 
 

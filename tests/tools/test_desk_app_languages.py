@@ -37,9 +37,9 @@ def left_on(answer: str) -> list[str]:
 def steps(application: Application, ada: Person) -> None:
     """A month that was tried, a price that somebody noted, a record that was refused, and one without a reply."""
     application.tried(ada, MONTH)
-    ada.post(f"/month/{MONTH}/looks", collector="8", slot="1", price="290", what="note", text="γ")
-    offered = ada.post("/records/judge", text="outlet,12,Γ\n").text
-    ada.post("/records/send", offer=re.findall('name="offer" value="([^"]+)"', offered)[0])
+    ada.fill(f"/month/{MONTH}/looks", "/looks", 1, text="γ")
+    offered = ada.sent("/records/judge", text="outlet,12,Γ\n").text
+    ada.post("/records/send", left="", offer=re.findall('name="offer" value="([^"]+)"', offered)[0])
 
 
 def noted(application: Application, **said: str) -> Any:
@@ -65,10 +65,15 @@ def test_no_word_of_a_page_is_left_in_english(cpi: Cpi, tmp_path: Path, monkeypa
             left[path] = left_on(answer.text)
         for told in refused(ada):
             left[told] = left_on(told)
-        ada.post(f"/month/{MONTH}/freeze/prepare", **WHY)
+        left["moved"] = left_on(ada.fill(f"/month/{MONTH}/freeze", "/prepare", trial="x", **WHY).text)
+        ada.fill(f"/month/{MONTH}/freeze", "/prepare", **WHY)
         for person in (ada, ben):
             left[f"prepared, {person}"] = left_on(person.get(f"/month/{MONTH}/freeze").text)
-        left["frozen"] = left_on(ben.post(f"/month/{MONTH}/freeze/confirm").text)
+        form = ben.form(f"/month/{MONTH}/freeze", "/confirm")
+        left["late"] = left_on(ben.give(form, prepared="x", because="γ").text)
+        left["no reason"] = left_on(ben.give(form).text)
+        left["frozen"] = left_on(ben.follow(ben.give(form, because="γ")).text)
+        left["again"] = left_on(ben.give(form).text)
     assert {name[:60]: texts for name, texts in left.items() if texts} == {}
 
 
@@ -79,17 +84,19 @@ def seen_text(page: str) -> str:
 def refused(ada: Person) -> list[str]:
     """The pages of what is refused."""
     return [
-        ada.post("/records/judge", text="outlet,10,Other\nitem,X,1,2,3,4\n").text,
+        ada.sent("/records/judge", text="outlet,10,Other\nitem,X,1,2,3,4\n").text,
         ada.post("/records/judge", text="nothing,1\n").text,
         ada.post("/records/judge", text=f"freeze,{MONTH}\n").text,
         ada.post("/records/judge", text="\n").text,
-        ada.post("/records/send", offer="gone").text,
+        ada.post("/records/send", offer="gone", left="").text,
         ada.post("/calendar", token="wrong").text,
         ada.get("/nowhere").text,
-        ada.post(f"/month/{MONTH}/what-if", text="8/1=missing").text,
+        ada.sent(f"/month/{MONTH}/what-if", text="8/1=missing").text,
+        ada.get(f"/month/{MONTH}/freeze/confirm").text,
         ada.post(f"/month/{MONTH}/looks", collector="8", slot="1", price="290", what="note", text="").text,
+        ada.post(f"/month/{MONTH}/looks", collector="8", slot="1", price="291", what="note", text="γ").text,
         ada.post(f"/month/{MONTH}/freeze/prepare").text,
-        ada.post("/month/2026-03/freeze/confirm").text,
+        ada.post("/month/2026-03/freeze/confirm", prepared="x", trial="x", seen="x").text,
     ]
 
 
@@ -116,12 +123,9 @@ def test_moments_are_those_of_the_office_s_clock(cpi: Cpi, tmp_path: Path) -> No
     with applied(cpi, surveys.small(cpi, tmp_path), tmp_path / "room", speech=speech_of("fr")) as application:
         ada = application.person(ADA)
         fields = ["2026-04", "2026-07-01T12:00", "2026-07-02T12:00", "2026-07-03T12:00"]
-        offered = ada.client.post(
-            "/records/judge",
-            data={"token": ada.token, "word": "calendar", "field": fields},
-            base_url="http://127.0.0.1:8090",
-        ).text
-        ada.post("/records/send", offer=re.findall('name="offer" value="([^"]+)"', offered)[0])
+        data = {"token": ada.token, "word": "calendar", "field": fields}
+        offered = ada.follow(ada.client.post("/records/judge", data=data, base_url="http://127.0.0.1:8090")).text
+        ada.post("/records/send", left="", offer=re.findall('name="offer" value="([^"]+)"', offered)[0])
         words = ada.words("/calendar")
         assert "avril 2026 1 juillet 2026 à 12:00 CEST 2 juillet 2026 à 12:00 CEST" in words
         assert time.strftime("%Y") not in re.findall(r"\b(\d{4})-\d\d-\d\d", words)
@@ -142,16 +146,22 @@ def given(ada: Person) -> list[str]:
     (seen,) = re.findall('name="seen" value="([^"]+)"', ada.get("/sample/outlets").text)
     texts = ("1,2,3", "outlet;outlet\n1;2", '1,"2', "outlet;name", "outlet;name;name\n1;2;3")
     return [
+        ada.sent("/sample/outlets/send", seen=seen).text,
         ada.post("/sample/outlets/send", seen=seen).text,
-        ada.post("/sample/outlets/send", seen=seen).text,
+        ada.post("/sample/outlets/drop", shown="x", all="1").text,
         *(ada.post("/sample/outlets/judge", pasted=text).text for text in texts),
         ada.post("/sample/collectors/sheet", collector="7").text,
-        ada.post("/publish/plan", month="2026-03", revision="1").text,
+        ada.post("/publish/plan", month="2026-03", revision="1", what="plan", shown="x").text,
+        ada.fill("/publish", "/publish/plan", shown="x").text,
+        ada.fill("/publish", "/publish/now", written="x").text,
         ada.post("/year/make", year="x").text,
         ada.post("/year/make", year="2027").text,
-        ada.post("/year/2027/put", sheet="weights", code="09", weight="1").text,
+        ada.fill("/year/2027/", "/put", code="09", weight="1").text,
         ada.post("/year/2027/send", seen="x").text,
-        ada.post("/calendar/2026").text,
+        ada.post("/year/2028/send", seen="x").text,
+        ada.fill("/calendar/2026", "/calendar/2026", opens="", closes="", publishes="").text,
+        ada.fill("/calendar/2026", "/calendar/2026", was="x").text,
+        ada.post("/calendar/2026", token="x", opens="γ").text,
     ]
 
 
@@ -161,9 +171,11 @@ def test_no_word_of_the_sample_and_the_year_is_left_in_english(
     speech, moment = speech_of(nobodys_in(tmp_path, monkeypatch)), int(time.time()) + 86_400
     with applied(cpi, published_at(cpi, tmp_path, moment), tmp_path / "room", speech=speech) as application:
         publisher, ada = with_site(application, tmp_path), application.person(ADA)
-        for path in ("/year/make", "/year/2027/check", "/publish/now"):
+        for path in ("/year/make", "/year/2027/check"):
             ada.post(path, year="2027")
-            waited(lambda: not (application.desk.drafts.running or publisher.running))
+            waited(lambda: not application.desk.drafts.running)
+        ada.fill("/publish", "/publish/now")
+        waited(lambda: not (application.desk.drafts.running or publisher.running))
         left = {str(number): left_on(text) for number, text in enumerate(given(ada))}
         for path in KEPT:
             answer = ada.get(path, follow_redirects=True)
@@ -180,7 +192,7 @@ def test_what_cpi_refuses_of_a_draft_is_said_in_the_language(
         ada = application.person(ADA)
         ada.post("/year/make", year="2027")
         waited(lambda: not application.desk.drafts.running)
-        ada.post("/year/2027/put", sheet="weights", code="01.1.1.1-01", weight="599000")
+        ada.fill("/year/2027/", "/put", weight="599000")
         ada.post("/year/2027/check")
         waited(lambda: not application.desk.drafts.running)
         text = ada.get("/year/2027/").text

@@ -17,6 +17,7 @@ from cpi_tools.desk_app.tables_kept import TablesKept
 from cpi_tools.program import Cpi, record
 from cpi_tools.terminal import Fault
 from .desk_apps import ADA, BEN, LISTEN, Application, Person, applied, words_of
+from .page_forms import forms_of
 from lib.served import heard, message, peer_of
 from .loads import DESK_KEY
 from .surveys import key_of
@@ -79,7 +80,7 @@ def test_a_figure_is_explained_down_to_its_receipts(tried: Application, ada: Per
 def test_what_a_handful_of_prices_would_change(ada: Person) -> None:
     """Rice 220 and 252 over 200 and 240 is 1.07272727..; with flour unchanged at 84/80: 0.6 * 107.272727 + 0.4 *
     105."""
-    words = words_of(ada.post(f"/month/{MONTH}/what-if", text="7/1=220\n").text)
+    words = words_of(ada.sent(f"/month/{MONTH}/what-if", text="7/1=220\n").text)
     assert "00 105.698455 1.5 106.363636 2.1" in words and "01.1.1.1-01 106.164091 2.4 107.272727 3.5" in words
     refused = ada.post(f"/month/{MONTH}/what-if", text="7/1=220\n7/x=1\n")
     assert refused.status_code == 400 and "Line 2: 7/x=1 can't be tried. Wanted is a price like 7/2=210" in words_of(
@@ -121,8 +122,11 @@ def test_a_price_is_seen_by_a_person_and_noted_for_all(tried: Application, ada: 
     tried.again()
     tried.tried(ada := tried.person(ADA), MONTH)
     assert "0 to look at, 1 seen by you" in ada.words(page)
-    assert ada.post(page, what=NOTE, text=" ", **of).status_code == 503
+    assert ada.post(page, what=NOTE, text=" ", **of).status_code == 400
     assert ada.post(page, what=SEEN, collector="x", slot="1", price="2").status_code == 400
+    late = ada.post(page, what=NOTE, text="a word on it", collector="8", slot="1", price="251")
+    assert late.status_code == 409 and "Ada changed this after your page was loaded" in words_of(late.text)
+    assert "a word on it" in late.text
 
 
 def test_a_list_for_a_collector_has_that_one_s_prices(tried: Application, ada: Person) -> None:
@@ -182,8 +186,13 @@ def test_a_history_is_a_line_with_gaps() -> None:
 # ---- the freeze
 
 
+SIGNED = {"because": "called the shop: it is right"}
+"""Why a month is frozen with a price that nobody has seen: rice of one shop moves all items by more than is left open."""
+
+
 def told(person: Person, step: str, **form: str) -> str:
-    return words_of(person.post(f"/month/{MONTH}/freeze/{step}", **form).text)
+    """What comes of a form of the page: fields that it has carry what the page showed."""
+    return words_of(person.follow(person.fill(f"/month/{MONTH}/freeze", f"/freeze/{step}", **form)).text)
 
 
 def frozen_months(application: Application) -> list[tuple[int, tuple[str, ...]]]:
@@ -198,15 +207,21 @@ def test_two_people_freeze_a_month(tried: Application, ada: Person) -> None:
     ben, page = tried.person(BEN), f"/month/{MONTH}/freeze"
     assert "1 aggregate with nothing to compare" in ada.words(page) and "1 closed" in ada.words(page)
     assert f"Say why {CODE} is carried" in told(ada, "prepare")
-    assert "No freeze of this month is prepared" in told(ben, "confirm")
-    assert ada.post(f"{page}/prepare", **WHY).status_code == 303
+    assert "No freeze of this month is prepared" in words_of(
+        ben.post(f"{page}/confirm", prepared="x", trial="x", seen="x").text
+    )
+    assert ada.fill(page, "/prepare", **WHY).status_code == 303
     assert "You prepared it, so another person confirms it" in ada.words(page)
+    form = ben.form(page, "/confirm")
     for same in (ADA, "ADA", "\uff21da"):
-        assert "another person confirms it" in told(tried.person(same), "confirm")
+        own = tried.person(same)
+        assert not [it for it in forms_of(own.get(page).text) if it.action.endswith("/confirm")]
+        answer = own.post(form.action, **{**dict(form.fields), "token": own.token, **SIGNED})
+        assert answer.status_code == 403 and "another person confirms it" in words_of(answer.text)
     assert [it[0] for it in frozen_months(tried)] == [202512, 202601]
-    assert "February 2026 is frozen, revision 1" in told(ben, "confirm")
+    assert "February 2026 is frozen, revision 1" in told(ben, "confirm", **SIGNED)
     assert frozen_months(tried)[-1] == (202602, (CODE,))
-    assert "No freeze of this month is prepared" in told(ben, "confirm")
+    assert "No freeze is prepared any more: Ben sent or dropped it" in words_of(ben.give(form, **SIGNED).text)
     log = ada.get("/log.csv").text
     assert "prepared: freeze 2026-02" in log and "the shop is closed for a week" in log
     assert re.search(f'Ben,"freeze,{MONTH},{CODE}",done', log)
@@ -214,27 +229,35 @@ def test_two_people_freeze_a_month(tried: Application, ada: Person) -> None:
 
 def test_what_was_prepared_outlives_the_application_and_can_be_dropped(tried: Application, ada: Person) -> None:
     page = f"/month/{MONTH}/freeze"
-    assert ada.post(f"{page}/prepare", **WHY).status_code == 303
+    assert ada.fill(page, "/prepare", **WHY).status_code == 303
     tried.again()
+    assert "Have the month tried: then the figures that are signed are here" in tried.person(BEN).words(page)
     tried.tried(ben := tried.person(BEN), MONTH)
     assert "Prepared, and not sent yet" in ben.words(page) and "By Ada" in ben.words(page)
-    assert ben.post(f"{page}/drop").status_code == 303
+    assert ben.fill(page, "/drop").status_code == 303
     assert "Prepared, and not sent yet" not in ben.words(page)
     assert tried.desk.log.entries[-1].by == BEN and tried.desk.log.entries[-1].text.startswith("dropped: freeze")
 
 
 def test_a_freeze_that_would_make_another_table_isn_t_sent(tried: Application, ada: Person) -> None:
-    ben = tried.person(BEN)
-    assert ada.post(f"/month/{MONTH}/freeze/prepare", **WHY).status_code == 303
+    ben, page = tried.person(BEN), f"/month/{MONTH}/freeze"
+    assert ada.fill(page, "/prepare", **WHY).status_code == 303
+    form = ben.form(page, "/confirm")
     far = int(time.time()) + 86_400
     rows = f"calendar,{MONTH},2000,{far},{far}\n", f"calendar,{MONTH},2000,4000,5000\n"
     for key, body in ((DESK_KEY, rows[0]), (key_of(7), f"quote,1,{MONTH},price,214\n"), (DESK_KEY, rows[1])):
         with peer_of(tried.port) as peer:
             peer.sendall(message("POST /import", key=key, body=body.encode()))
             assert b"refused" not in heard(peer)
-    assert "its table would be another one: prepare it again" in told(ben, "confirm")
+    answer = ben.give(form, **SIGNED)
+    assert answer.status_code == 409 and "its table would be another one: drop it, and prepare it again" in answer.text
+    assert f'value="{SIGNED["because"]}"' in answer.text
     assert [it[0] for it in frozen_months(tried)] == [202512, 202601]
     assert PreparedFreeze(tried.room / "prepared-freeze.json").read()
+    tried.tried(ben, MONTH)
+    words = ben.words(page)
+    assert "The table is another one than the one that was prepared. Drop it, and prepare it again." in words
+    assert "What changed since it was prepared" in words and "Confirm, and freeze" not in words
 
 
 def test_before_its_window_has_closed_a_month_isn_t_prepared(application: Application, ada: Person) -> None:
@@ -245,7 +268,9 @@ def test_before_its_window_has_closed_a_month_isn_t_prepared(application: Applic
     application.tried(ada, MONTH)
     assert "open until" in ada.words(f"/month/{MONTH}/freeze")
     assert "It can be prepared once the window has closed" in ada.words(f"/month/{MONTH}/freeze")
-    assert "The window is open until" in told(ada, "prepare", **WHY)
+    answer = ada.fill(f"/month/{MONTH}/freeze", "/prepare", **WHY)
+    assert answer.status_code == 409 and "The window is open until" in words_of(answer.text)
+    assert f'value="{WHY[f"why-{CODE}"]}"' in answer.text
 
 
 def test_the_freeze_isn_t_a_record_among_others(ada: Person) -> None:
@@ -261,12 +286,12 @@ def test_the_freeze_isn_t_a_record_among_others(ada: Person) -> None:
 
 def test_records_are_judged_before_they_are_sent_and_once(application: Application, ada: Person) -> None:
     text = f"outlet,12,Harbour\noutlet,10,Other\nassign,7,3,12,RICE,2026-03,2026-12\ncollector,9,{key_of(9)}\n"
-    judged = ada.post("/records/judge", text=text)
+    judged = ada.sent("/records/judge", text=text)
     words = words_of(judged.text)
     assert "outlet,10,Other refused by 40" in words and "Send 3 records" in words
     assert not application.desk.log.entries and "\noutlet,10,Other\n</textarea>" in judged.text
     (offer,) = re.findall('name="offer" value="([^"]+)"', judged.text)
-    assert "3 of 3 done" in words_of(ada.post("/records/send", offer=offer, left="outlet,10,Other\n").text)
+    assert "3 of 3 done" in words_of(ada.sent("/records/send", offer=offer, left="outlet,10,Other\n").text)
     again = ada.post("/records/send", offer=offer, left="outlet,10,Other\n")
     assert again.status_code == 409 and "were sent already" in words_of(again.text)
     assert len(application.desk.log.entries) == 2
@@ -274,12 +299,12 @@ def test_records_are_judged_before_they_are_sent_and_once(application: Applicati
 
 def test_times_of_the_calendar_are_those_of_the_office_s_clock(application: Application, ada: Person) -> None:
     """10:00 UTC is 11:00 in Prague in winter, and noon in summer."""
-    judged = ada.post("/records/judge", text="calendar,2026-03,2026-03-01T11:00,2026-07-01T12:00,2026-07-01T12:00\n")
+    judged = ada.sent("/records/judge", text="calendar,2026-03,2026-03-01T11:00,2026-07-01T12:00,2026-07-01T12:00\n")
     assert "calendar,2026-03,1772359200,1782900000,1782900000 done" in words_of(judged.text)
     (offer,) = re.findall('name="offer" value="([^"]+)"', judged.text)
-    assert "1 of 1 done" in words_of(ada.post("/records/send", offer=offer).text)
+    assert "1 of 1 done" in words_of(ada.sent("/records/send", offer=offer, left="").text)
     assert "1 July 2026, 12:00 CEST (10:00 UTC)" in ada.words("/month/2026-03/")
-    odd = ada.post("/records/judge", text="calendar,2026-03,2026-03-01 11:00,2,3\n")
+    odd = ada.sent("/records/judge", text="calendar,2026-03,2026-03-01 11:00,2,3\n")
     assert "calendar,2026-03,2026-03-01 11:00,2,3 refused by 10" in words_of(odd.text)
 
 
@@ -290,9 +315,9 @@ def test_a_window_is_set_by_a_form_in_the_office_s_time(application: Application
     assert "February 2026 1 January 1970, 01:33 CET" in words and "closed, not frozen" in words
     fields = ["2026-03", "2030-03-01T11:00", "2030-07-01T12:00", "2030-07-05T12:00"]
     form = {"token": ada.token, "word": "calendar", "field": fields}
-    judged = ada.client.post("/records/judge", data=form, base_url=f"http://{LISTEN}")
+    judged = ada.follow(ada.client.post("/records/judge", data=form, base_url=f"http://{LISTEN}"))
     assert "calendar,2026-03,1898589600,1909130400,1909476000 done" in words_of(judged.text)
     (offer,) = re.findall('name="offer" value="([^"]+)"', judged.text)
-    assert "1 of 1 done" in words_of(ada.post("/records/send", offer=offer).text)
+    assert "1 of 1 done" in words_of(ada.sent("/records/send", offer=offer, left="").text)
     window = "1 March 2030, 11:00 CET 1 July 2030, 12:00 CEST 5 July 2030, 12:00 CEST not open yet"
     assert f"March 2026 {window}" in ada.words("/calendar")

@@ -69,7 +69,7 @@ def waited(condition: Callable[[], object]) -> None:
 
 def written(publisher: Publisher, person: Person) -> str:
     """The page's words after the website was written now."""
-    assert person.post("/publish/now").status_code == 303
+    assert person.fill("/publish", "/publish/now").status_code == 303
     waited(lambda: not publisher.running)
     return person.words("/publish")
 
@@ -96,7 +96,7 @@ def test_a_table_is_published_at_its_moment(cpi: Cpi, tmp_path: Path) -> None:
     """The moment is in a few seconds; if the machine is slower than that, it has passed, and the table is due at once."""
     with applied(cpi, frozen(cpi, tmp_path, int(time.time()) + 6), tmp_path / "room") as application:
         publisher, ada = with_site(application, tmp_path), application.person(ADA)
-        assert ada.post("/publish/plan", month=MONTH, revision="1", what="plan").status_code == 303
+        assert ada.fill("/publish", "/publish/plan").status_code == 303
         publisher.start()
         waited(lambda: not publisher.planned())
         waited(lambda: not publisher.running)
@@ -111,14 +111,14 @@ def test_a_plan_outlives_the_application_and_anybody_takes_it_back(
     application: Application, ada: Person, tmp_path: Path, moment: int
 ) -> None:
     with_site(application, tmp_path)
-    for _ in range(2):
-        ada.post("/publish/plan", month=MONTH, revision="1", what="plan")
+    form = ada.form("/publish", "/publish/plan")
+    assert [ada.give(form).status_code for _ in range(2)] == [303, 409]
     assert "Will be published then: Ada said so." in ada.words("/publish")
     application.again()
     publisher, ben = with_site(application, tmp_path), application.person(BEN)
     assert publisher.planned() == [Planned(ADA, MONTH, 1, moment)]
     assert publisher._look() > 0 and not publisher.running
-    ben.post("/publish/plan", month=MONTH, revision="1", what="drop")
+    assert ben.fill("/publish", "/publish/plan").status_code == 303
     assert publisher.planned() == [] and "Publish it at its moment" in ben.words("/publish")
     words = ben.words("/log")
     assert (
@@ -130,7 +130,7 @@ def test_a_plan_outlives_the_application_and_anybody_takes_it_back(
 @pytest.mark.parametrize("form", [{"month": "2026-03", "revision": "1"}, {"month": MONTH, "revision": "2"}, {}])
 def test_what_isn_t_frozen_can_t_be_planned(application: Application, ada: Person, tmp_path: Path, form: Any) -> None:
     with_site(application, tmp_path)
-    answer = ada.post("/publish/plan", **form)
+    answer = ada.post("/publish/plan", **{"month": "", "revision": "", "what": "plan", "shown": "", **form})
     assert answer.status_code == 400 and "There is nothing to publish:" in words_of(answer.text)
 
 

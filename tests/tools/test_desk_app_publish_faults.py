@@ -15,7 +15,7 @@ import pytest
 from cpi_tools.desk_app.publishing import AGAIN_AFTER, LOOKS_EVERY, Planned, Publisher
 from cpi_tools.program import Cpi
 from .desk_apps import ADA, Application, Person, applied
-from .test_desk_app_publish import MONTH, frozen, waited, with_site, written
+from .test_desk_app_publish import frozen, waited, with_site, written
 
 FULL = "The disk is full: make room on it, then do this again. The system says: "
 WRITTEN = "The website was written. cpi-tools publish says: "
@@ -86,10 +86,11 @@ def test_a_plan_that_is_done_and_can_t_be_taken_away_waits(
 def test_a_plan_that_can_t_be_kept_is_refused(
     publisher: Publisher, ada: Person, monkeypatch: pytest.MonkeyPatch
 ) -> None:
+    form = ada.form("/publish", "/publish/plan")
     for what in ("plan", "drop"):
         with monkeypatch.context() as patch:
             patch.setattr("cpi_tools.whole_files.os.fchmod", full)
-            answer = ada.post("/publish/plan", month=MONTH, revision="1", what=what)
+            answer = ada.give(form, what=what)
         assert answer.status_code == 400 and f"{publisher._plan}: No space left on device" in answer.text
     assert publisher.planned() == []
 

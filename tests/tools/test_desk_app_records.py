@@ -27,8 +27,8 @@ W,01.1.1.1-01,{weight}
 def chosen(person: Person, content: bytes, name: str = "rows.csv", **form: str) -> Any:
     """Has a file judged that a person chose."""
     data = {"token": person.token, "file": (io.BytesIO(content), name), **form}
-    return person.client.post(
-        "/records/judge", data=data, base_url=f"http://{LISTEN}", content_type="multipart/form-data"
+    return person.follow(
+        person.client.post("/records/judge", data=data, base_url=f"http://{LISTEN}", content_type="multipart/form-data")
     )
 
 
@@ -47,7 +47,7 @@ def test_of_a_file_each_refusal_has_its_line(ada: Person) -> None:
     assert refused == ["3", "5", "6"]  # (the second of these records begins in the third line)
     assert "refused by 40: the code, number, key or slot stands with other content;" in words
     assert "Send one record" in words
-    sent = ada.post("/records/send", offer=offer_of(answer.text), left="")
+    sent = ada.sent("/records/send", offer=offer_of(answer.text), left="")
     assert "1 of 1 done." in words_of(sent.text)
 
 
@@ -81,9 +81,9 @@ def test_a_file_that_is_no_text_is_told_and_what_was_typed_stays(
 
 def test_a_line_within_a_text_is_no_record_of_its_own(application: Application, ada: Person) -> None:
     """Else a freeze could be sent by one person, as a part of an outlet's name."""
-    answer = ada.post("/records/judge", text='outlet,51,"Shop\nfreeze,2026-02"\noutlet,52,Shop')
+    answer = ada.sent("/records/judge", text='outlet,51,"Shop\nfreeze,2026-02"\noutlet,52,Shop')
     assert "1 would be carried out, 1 refused." in words_of(answer.text)
-    assert "1 of 1 done." in words_of(ada.post("/records/send", offer=offer_of(answer.text), left="").text)
+    assert "1 of 1 done." in words_of(ada.sent("/records/send", offer=offer_of(answer.text), left="").text)
     assert "freeze" not in (application.room / "desk.log").read_text(encoding="utf-8")
 
 
@@ -105,20 +105,20 @@ def test_of_many_rows_the_refused_ones_are_listed_first_and_all_of_them_stay(
     assert lines == ["21", "22", "23", "1", "2", "3"]
     left = re.findall('<textarea[^>]* id="text"[^>]*>\n(.*?)</textarea>', answer.text, re.S)[0]
     assert left.splitlines() == bad
-    sent = ada.post("/records/send", offer=offer_of(answer.text), left=left)
+    sent = ada.sent("/records/send", offer=offer_of(answer.text), left=left)
     words = words_of(sent.text)
     assert "20 of 20 done." in words and "only those that weren't done are listed" in words
     assert "item,X" in words  # (they are in the field)
 
 
 def test_a_plan_is_typed_or_chosen_and_stays_until_it_is_right(ada: Person) -> None:
-    wrong = ada.post("/records/judge", word="plan", year="2027", text=PLAN.format(weight=999_000).replace("\n", "\r\n"))
+    wrong = ada.sent("/records/judge", word="plan", year="2027", text=PLAN.format(weight=999_000).replace("\n", "\r\n"))
     assert "refused by 44, fault 4, found 999000" in words_of(wrong.text)
     assert 'value="2027"' in wrong.text and "W,01.1.1.1-01,999000" in wrong.text and 'name="offer"' not in wrong.text
     arabic = "".join(chr(0x660 + int(it)) for it in "2027")
     right = chosen(ada, PLAN.format(weight=1_000_000).encode(), "plan.csv", word="plan", year=arabic)
     assert "1 would be carried out, 0 refused." in words_of(right.text)
-    assert "1 of 1 done." in words_of(ada.post("/records/send", offer=offer_of(right.text), left="").text)
+    assert "1 of 1 done." in words_of(ada.sent("/records/send", offer=offer_of(right.text), left="").text)
 
 
 def test_a_window_that_lets_a_table_out_too_early_is_warned_of_before_it_is_sent(
@@ -127,19 +127,19 @@ def test_a_window_that_lets_a_table_out_too_early_is_warned_of_before_it_is_sent
     """The table of 2026-03 would come out before the revision of 2026-02, which it is computed from."""
     far, further = 4_000_000_000, 4_100_000_000
     form = {"text": f"calendar,2026-02,1,{far},{further}\ncalendar,2026-03,1,{far},{far}\n"}
-    answer = ada.post("/records/judge", **form)
+    answer = ada.sent("/records/judge", **form)
     words = words_of(answer.text)
     assert "2 would be carried out" in words
     assert "Warning. The table of March 2026 comes out at 2 October 2096, 09:06 CEST" in words
     assert "which it is computed from, at 3 December 2099" in words and "set a later publishing moment for it" in words
-    later = ada.post("/records/judge", text=f"calendar,2026-03,1,{far},{further}\n")
+    later = ada.sent("/records/judge", text=f"calendar,2026-03,1,{far},{further}\n")
     assert "Warning." not in words_of(later.text)
 
 
 def test_the_file_for_the_phones_is_that_of_the_calendar(application: Application, ada: Person) -> None:
     far = 4_000_000_000
-    judged = ada.post("/records/judge", text=f"calendar,2096-09,{far - 9},{far},{far}\n")
-    ada.post("/records/send", offer=offer_of(judged.text), left="")
+    judged = ada.sent("/records/judge", text=f"calendar,2096-09,{far - 9},{far},{far}\n")
+    ada.sent("/records/send", offer=offer_of(judged.text), left="")
     answer = ada.get("/calendar/calendar.json")
     summer = {"opens_zone": ["CEST", 7200], "closes_zone": ["CEST", 7200]}
     assert json.loads(answer.text)["months"][-1] == {"month": "2096-09", "opens": far - 9, "closes": far, **summer}
@@ -157,5 +157,5 @@ def test_a_month_is_read_whatever_digits_the_keyboard_writes(ada: Person) -> Non
         "word": "calendar",
         "field": [month, "2026-09-01T06:00", "2026-09-30T18:00", "2026-10-10T09:00"],
     }
-    answer = ada.client.post("/records/judge", data=data, base_url=f"http://{LISTEN}")
+    answer = ada.follow(ada.client.post("/records/judge", data=data, base_url=f"http://{LISTEN}"))
     assert "calendar,2026-09," in answer.text and "1 would be carried out" in words_of(answer.text)

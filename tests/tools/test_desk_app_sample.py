@@ -29,10 +29,9 @@ def judged(person: Person, kind: str, **form: str) -> str:
 
 def sent(person: Person, kind: str) -> str:
     """The words of a kind's page after its good rows were sent."""
-    (seen,) = re.findall('name="seen" value="([^"]+)"', person.get(f"/sample/{kind}").text)
-    answer = person.post(f"/sample/{kind}/send", seen=seen)
-    assert answer.status_code == 200, words_of(answer.text)
-    return words_of(answer.text)
+    answer = person.fill(f"/sample/{kind}", f"/{kind}/send")
+    assert answer.status_code == 303, words_of(answer.text)
+    return words_of(person.follow(answer).text)
 
 
 def slots(application: Application) -> dict[tuple[int, int], Assignment]:
@@ -106,7 +105,8 @@ def test_rows_are_judged_on_a_copy_sent_and_only_the_refused_ones_stay(applicati
     assert "refused by 40" in ada.words("/sample/outlets")
     assert "Another shop" not in application.person(BEN).words("/sample/outlets")
     assert 'value="Another shop"' in ada.get(f"/sample/outlets?mend={number}").text
-    assert "Send 1 row" in judged(ada, "outlets", outlet="14", name="Another shop", instead=number)
+    mended = ada.fill(f"/sample/outlets?mend={number}", "/judge", 1, outlet="14", name="Another shop")
+    assert "Send 1 row" in words_of(ada.follow(mended).text)
     assert "Not carried out yet" not in sent(ada, "outlets") and outlets(application)[14] == "Another shop"
 
 
@@ -121,9 +121,10 @@ def test_a_row_stays_until_it_is_dropped(ada: Person) -> None:
     words = ada.words("/sample/outlets")
     assert "Not carried out yet 2 " in words and words.count("refused by 10") == 2
     numbers = re.findall('name="number" value="([0-9]+)"', ada.get("/sample/outlets").text)
-    ada.post("/sample/outlets/drop", number=numbers[0])
+    assert ada.post("/sample/outlets/drop", number=numbers[0], shown="").status_code == 409
+    ada.fill("/sample/outlets", "/drop", 1)
     assert "Not carried out yet 1 " in ada.words("/sample/outlets")
-    ada.post("/sample/outlets/drop", all="1")
+    ada.fill("/sample/outlets", "/drop")
     assert "Not carried out yet" not in ada.words("/sample/outlets")
 
 
@@ -189,7 +190,7 @@ def test_a_key_is_drawn_or_kept_in_memory_and_is_nowhere_to_be_read(application:
 def test_a_key_goes_with_its_row_and_is_gone_after_a_new_start(application: Application, ada: Person) -> None:
     judged(ada, "collectors", collector="8", key=key_of(13))
     (number,) = re.findall('name="number" value="([0-9]+)"', ada.get("/sample/collectors").text)
-    judged(ada, "collectors", collector="13", key="(key)", instead=number)
+    ada.fill(f"/sample/collectors?mend={number}", "/judge", 1, collector="13")
     judged(ada, "collectors", pasted=f"8,{key_of(14)}")
     assert "1 row sent, and carried out." in sent(ada, "collectors")
     with private_copy(application.file) as copy, read_copy(copy) as office:
@@ -203,7 +204,7 @@ def test_a_sheet_has_the_key_and_the_log_says_who_printed_it(application: Applic
     assert "(--phones)" in ada.words("/sample/collectors")
     assert ada.post("/sample/collectors/sheet", collector="7").status_code == 400
     application.desk.given = application.desk.given._replace(phones="https://prices.example")
-    answer = ada.post("/sample/collectors/sheet", collector="7", name="Lovelace <b>", language="en")
+    answer = ada.sent("/sample/collectors/sheet", collector="7", name="Lovelace <b>", language="en")
     groups = [key_of(7)[at : at + 4] for at in range(0, 32, 4)]
     assert answer.status_code == 200 and all(f"<span>{it}</span>" in answer.text for it in groups)
     assert "Lovelace &lt;b&gt;" in answer.text and "https://prices.example/collect/" in answer.text
@@ -233,7 +234,7 @@ def test_what_was_on_its_way_is_found_in_the_log(
     monkeypatch.setattr(desk.office, "wait", lambda: (_ for _ in ()).throw(NoReply("lost")))
     words = sent(ada, "outlets")
     assert "0 of 1 row carried out" in words and "no reply yet: it is looked up before anything else is sent" in words
-    assert ada.post("/sample/outlets/drop", all="1").status_code == 303
+    assert ada.fill("/sample/outlets", "/drop").status_code == 303
     assert "Not carried out yet 1 " in ada.words("/sample/outlets")
     application.again()
     ada = application.person(ADA)
@@ -318,7 +319,7 @@ def test_a_year_is_set_in_one_form_by_the_office_s_clock(application: Applicatio
     for field in ('"opens" value="2026-03-02T08:00"', '"closes" value="2026-04-24T18:00"'):
         assert f"name={field}" in page
     # (December would be as the year before, whose window is in 1970: its times are emptied)
-    rows = re.findall('name="(month|opens|closes|publishes)" value="([^"]*)"', page)
+    rows = re.findall('name="(month|was|opens|closes|publishes)" value="([^"]*)"', page)
     data: dict[str, Any] = {"token": ada.token}
     for name, value in rows:
         data.setdefault(name, []).append("" if value.startswith("197") else value)
@@ -332,7 +333,8 @@ def test_a_year_is_set_in_one_form_by_the_office_s_clock(application: Applicatio
     # (08:00 CEST and 09:30 CEST, two hours before UTC)
     assert windows[202604].opens == 1_775_109_600 and windows[202604].publishes == 1_777_707_000
     assert 202612 not in windows
-    ada.client.post("/calendar/2026", data=data, base_url="http://127.0.0.1:8090")
+    late = ada.client.post("/calendar/2026", data=data, base_url="http://127.0.0.1:8090")
+    assert late.status_code == 409 and "Ada sent another window of" in words_of(late.text)
     assert "Not carried out yet" not in ada.words("/sample/calendar")
     assert ada.get("/calendar/1999").status_code == 404
 

@@ -13,6 +13,7 @@ from cpi_tools.desk_app.draft_sheets import Draft, Settings
 from cpi_tools.desk_app.drafts import Checked
 from cpi_tools.desk_app.year_views import too_long
 from cpi_tools.stored import StoredOffice, read_copy
+from .page_forms import forms_of
 from .desk_apps import ADA, PATIENCE, Application, Person, words_of
 
 RICE, FLOUR = "01.1.1.1-01", "01.1.1.2-01"
@@ -41,8 +42,7 @@ def judged(application: Application, ada: Person) -> str:
 
 def sent(ada: Person) -> str:
     """The words of the page after what was judged was sent."""
-    (seen,) = re.findall('name="seen" value="([^"]+)"', ada.get(PAGE).text)
-    return words_of(ada.post(f"{PAGE[:-1]}/send", seen=seen).text)
+    return words_of(ada.follow(ada.fill(PAGE, "/2027/send")).text)
 
 
 def weights(office: StoredOffice) -> dict[str, int]:
@@ -66,7 +66,7 @@ def test_a_draft_is_what_next_year_makes(application: Application, ada: Person) 
     assert ada.get(f"{PAGE[:-1]}/weights.csv").text.splitlines() == ["code,weight", f"{RICE},600000", f"{FLOUR},400000"]
     again = ada.post("/year/make", year="2027")
     assert again.status_code == 409 and "There is a draft of 2027 already" in words_of(again.text)
-    assert ada.post(f"{PAGE[:-1]}/drop").status_code == 303
+    assert ada.fill(PAGE, "/2027/drop").status_code == 303
     assert application.desk.drafts.years() == [] and ada.get(PAGE).status_code == 404
 
 
@@ -83,31 +83,28 @@ def test_a_year_that_can_t_be_drafted_says_why(application: Application, ada: Pe
 
 def test_weights_that_don_t_add_up_are_told_and_refused_by_cpi(application: Application, ada: Person) -> None:
     made(application, ada)
-    ada.post(f"{PAGE[:-1]}/put", sheet="weights", code=RICE, weight="599000")
+    ada.fill(PAGE, "/2027/put", weight="599000")
     assert "The weights add up to 999,000, and should to 1,000,000." in ada.words(PAGE)
     words = judged(application, ada)
     assert "What is refused" in words and "classification.csv" in words and "999,000" in words
     assert "Send" not in words.partition("What is refused")[0].partition("Judge it")[2]
-    ada.post(f"{PAGE[:-1]}/put", sheet="weights", code=RICE, weight="60 %")
+    ada.fill(PAGE, "/2027/put", weight="60 %")
     assert f"Weights that are no numbers: {RICE}" in ada.words(PAGE)
-    refused = ada.post(f"{PAGE[:-1]}/put", sheet="weights", pasted=f"{RICE}\t600000\n09.1.1.1-01\t5\n")
+    refused = ada.fill(PAGE, "/2027/put", 2, pasted=f"{RICE}\t600000\n09.1.1.1-01\t5\n")
     assert refused.status_code == 400 and "The draft has no code 09.1.1.1-01" in words_of(refused.text)
     assert "09.1.1.1-01\t5" in refused.text
 
 
 def test_a_draft_is_pasted_judged_and_sent_once(application: Application, ada: Person) -> None:
     made(application, ada)
-    ada.post(f"{PAGE[:-1]}/set", unit="percent", decimal=",", reference="2026-01")
-    ada.post(f"{PAGE[:-1]}/put", sheet="weights", pasted=f"weight;code\n55,5;{RICE}\n44,5;{FLOUR}\n")
+    ada.fill(PAGE, "/2027/set", unit="percent", decimal=",", reference="2026-01")
+    ada.fill(PAGE, "/2027/put", 2, pasted=f"weight;code\n55,5;{RICE}\n44,5;{FLOUR}\n")
     assert ada.post(f"{PAGE[:-1]}/out", sheet="series", cell="8").status_code == 400
-    ada.client.post(
-        f"{PAGE[:-1]}/out",
-        data={"token": ada.token, "sheet": "series", "cell": ["8", "2", "11", "RICE", "2026-12", "2027-12"]},
-        base_url="http://127.0.0.1:8090",
-    )
-    ada.post(
-        f"{PAGE[:-1]}/put",
-        sheet="series",
+    out = [it for it in forms_of(ada.get(f"{PAGE}?sheet=series").text) if ("cell", "8") in it.fields]
+    assert ada.give(out[0]).status_code == 303
+    ada.fill(
+        f"{PAGE}?sheet=series",
+        "/2027/put",
         collector="8",
         slot="",
         outlet="11",

@@ -30,7 +30,7 @@ from cpi_tools.desk_app.field_notes import FieldNotes, Of, Said, TooMany
 from cpi_tools.desk_app.photographs import NotAPicture, without_traces
 from cpi_tools.program import Cpi
 from cpi_tools.terminal import Fault
-from .desk_apps import ADA, LISTEN, Application, Person, applied
+from .desk_apps import ADA, LISTEN, Application, Person, applied, words_of
 from lib.hostile import HOSTILE
 from lib.places import ROOT
 from lib.served import heard, message, peer_of
@@ -339,7 +339,8 @@ def test_they_are_written_as_csv(anna: Phone, ada: Person) -> None:
 def test_the_desk_removes_one_for_good(anna: Phone, ada: Person, tmp_path: Path) -> None:
     anna.send(1, 5, picture(), text="A face is to be seen here")
     assert ada.post(f"/month/{MONTH}/field-notes/1/remove").status_code == 303
-    assert ada.post(f"/month/{MONTH}/field-notes/1/remove").status_code == 404
+    again = ada.post(f"/month/{MONTH}/field-notes/1/remove")
+    assert again.status_code == 409 and "Ada changed this after your page was loaded" in words_of(again.text)
     assert anna.get(MONTH).json == {"notes": []} and "No note of this month." in ada.words(
         f"/month/{MONTH}/field-notes"
     )

@@ -200,6 +200,7 @@ def test_the_desk_s_pages_take_notes_publish_and_print_keys_if_the_settings_say_
     told = started(CPI_DESK_SITE="/etc/cpi/office.ini", CPI_DESK_PHONES="https://prices.example").stdout
     assert " --site /var/lib/cpi-site/published --site-config /etc/cpi/office.ini " in told
     assert " --phones https://prices.example " in told and "--site" not in started().stdout
+    assert " --second-key-file /etc/cpi/second " in started(CPI_DESK_SECOND_KEY="/etc/cpi/second").stdout
     wrong = started(CPI_DESK_NOTES="13 months")
     assert (wrong.returncode, wrong.stdout, wrong.stderr.count("\n")) == (WRONG, "", 1)
     assert "office.conf: CPI_DESK_NOTES is 13 months: wanted is a number of months, such as 13" in wrong.stderr

@@ -5,8 +5,11 @@ from __future__ import annotations
 import contextlib
 import http.client
 import threading
+import time
 from collections.abc import Iterator, Sequence
 from pathlib import Path
+
+from selenium.webdriver.common.keys import Keys
 
 from cpi_tools.csv_files import line_of
 from cpi_tools.desk_app.desk_log import DeskLog
@@ -14,9 +17,9 @@ from lib import hostile
 from lib.sample import Sample
 
 from .browser import Browser
-from .desk_pages import Person
-from .offices import ANNA, ARABIC, BENO, IMAGE, LEAVING, OVERRIDE, SCRIPT
-from .readable import faults_at_sizes
+from .desk_pages import Person, desk_pages
+from .offices import ANNA, ARABIC, BENO, DESK, IMAGE, LEAVING, OVERRIDE, SCRIPT
+from .readable import faults_at_sizes, faults_of_page
 from .stage import Stage
 
 HOSTILE = tuple(text.replace("\u2029", "") for text in hostile.HOSTILE)
@@ -64,13 +67,74 @@ def test_a_month_is_closed_by_two_people_with_a_keyboard(stage: Stage, ada: Pers
     ada.sign_in("Ben")
     ada.open(f"/month/{MONTH}/freeze")
     ada.tried(MONTH)
+    browser.wait_text("#prepared", "Nothing changed since it was prepared.")
+    assert "+25.6" in browser.text("#prepared") and "Flour" in browser.text("#prepared")
     ada.press("form[action$='/confirm'] button")
-    browser.wait_text(".told.good", "March 2011 is frozen, revision 1.")
+    stays_a_receipt(ada, browser)
     table = stage.ask("GET", f"/api/table/{MONTH}/csv").body.decode().splitlines()
     assert table[0].startswith("00,1000000,125.571859,")
     ada.open("/log")
     browser.wait_text("main", f"freeze,{MONTH}")
     assert browser.faults() == []
+
+
+LONGER_THAN_A_REFRESH = 10.0
+"""Seconds: a page loads itself each 3 of them while a trial runs."""
+
+
+def stays_a_receipt(ada: Person, browser: Browser) -> None:
+    """The page after the freeze is a receipt, and stays one: after a while, loaded anew, and from another application."""
+    heading, place = "March 2011 is frozen, revision 1.", f"/month/{MONTH}/freeze/receipt/1"
+    browser.wait_text("h1", heading)
+    time.sleep(LONGER_THAN_A_REFRESH)
+    for _ in range(2):
+        assert browser.text("h1") == heading and browser.run("return location.pathname") == place
+        assert "Prepared\nAda, " in browser.text(".facts") and "Confirmed\nBen, " in browser.text(".facts")
+        browser.driver.refresh()
+    ada.pages.kill()
+    ada.pages.start()
+    ada.sign_in("Ada")
+    ada.open(place)
+    assert browser.text("h1") == heading and faults_of_page(browser) == []
+
+
+def test_a_form_of_an_ended_session_comes_back(stage: Stage, ada: Person, browser: Browser) -> None:
+    """The application is started anew, so no session is left. What was typed is there after signing in, and goes out
+    once."""
+    ada.open("/records")
+    browser.type("#text", "outlet,78,Typed too late")
+    ada.pages.kill()
+    ada.pages.start()
+    ada.press("form[action$='/records/judge'] button")
+    browser.wait_text(".told.bad", "What you filled in is kept: sign in")
+    browser.driver.refresh()
+    ada.reach("#name")
+    ada.type("Ada", Keys.TAB, DESK)
+    ada.press("#key")
+    browser.wait_text("h1", "Not sent yet")
+    assert "Typed too late" in browser.text(".facts")
+    ada.press("main form button.main")
+    browser.wait_text("main", "1 would be carried out, 0 refused.")
+    ada.press("form[action$='/records/send'] button")
+    browser.wait_text("main", "1 of 1 done.")
+    browser.driver.refresh()
+    browser.wait_text("main", "1 of 1 done.")
+    kept = (ada.pages.folder / "room/desk.log").read_text(encoding="utf-8")
+    assert kept.count('"outlet","78"') == 1
+
+
+def test_a_desk_that_nobody_touches_closes(stage: Stage, browser: Browser, tmp_path: Path) -> None:
+    """The month at a glance loads itself each 45 seconds, and a session ends after a minute here."""
+    with desk_pages(stage, tmp_path, "", "--minutes", "1") as pages:
+        ada = Person(browser, pages)
+        ada.sign_in("Ada")
+        ada.send(f"calendar,{MONTH},4000,{FAR},{FAR}")
+        ada.open(f"/month/{MONTH}/")
+        browser.run("document.documentElement.dataset.first = 'yes'")
+        time.sleep(75)
+        assert not browser.run("return document.documentElement.dataset.first"), "the page didn't load itself"
+        ada.open("/records")
+        assert browser.run("return location.pathname") == "/sign-in"
 
 
 def test_a_reply_that_is_lost_is_looked_up(stage: Stage, ada: Person, browser: Browser, tmp_path: Path) -> None:

@@ -79,7 +79,9 @@ class Follower:
         self.seen(page)
         for button in re.findall(r"\*([^*]+)\*", says):
             if button == "Prepare the freeze":
-                self.give_reasons()
+                self.give_reasons("input[name^='why-']")
+            if button == "Confirm, and freeze the month":
+                self.give_reasons("#because")
             self.go("main button, header button", button)
             if button == "Try it now":
                 tried = "return !!document.querySelector('form[action$=\"/try\"]')"
@@ -102,9 +104,9 @@ class Follower:
             assert time.monotonic() < until, told
             time.sleep(0.2)
 
-    def give_reasons(self) -> None:
-        """Says of each aggregate why it is carried; there are some."""
-        fields = self.browser.all("input[name^='why-']")
+    def give_reasons(self, selector: str) -> None:
+        """Says of each aggregate why it is carried, or why prices were left unseen; there are some."""
+        fields = self.browser.all(selector)
         assert fields
         for field in fields:
             field.send_keys("no shop had it")

@@ -232,7 +232,7 @@ def december_is_frozen(desk: Desk, browser: Browser) -> None:
     desk.cut_off(desk.confirm, False, "Ben")
     desk.to_confirm(DECEMBER, "Ben")
     desk.confirm()
-    browser.wait_text(".told.good", "is frozen, revision 1.")
+    browser.wait_text("h1", "is frozen, revision 1.")
 
 
 def january_is_published(desk: Desk, stage: Stage, browser: Browser) -> None:
@@ -261,7 +261,7 @@ def january_is_revised(desk: Desk, stage: Stage, browser: Browser) -> None:
     desk.prepare(JANUARY)
     desk.to_confirm(JANUARY, "Ada")
     desk.confirm()
-    browser.wait_text(".told.good", "is frozen, revision 2.")
+    browser.wait_text("h1", "is frozen, revision 2.")
     assert table(stage, JANUARY)[0].startswith("00,1000000,102.405940,")
     assert table(stage, JANUARY, "/1")[0].startswith("00,1000000,86.960396,")
     assert browser.faults() == []

@@ -19,6 +19,7 @@ from ..told import Told, sentences, told as _
 from . import (
     calendar_views,
     freeze_views,
+    held_views,
     key_views,
     log_views,
     looks_views,
@@ -34,7 +35,9 @@ from .asked import file_name
 from .desk import Desk
 from .faults import says
 from .form_bounds import MOST_BYTES, fault_of_form, told_of_too_large
+from .held_forms import form_of_request
 from .reached import Reached
+from .refreshing import is_answer, is_by_itself, loads_itself, without_itself
 from .sessions import Session
 from .sign_in_views import COOKIE
 
@@ -54,11 +57,15 @@ VIEWS = (
     publish_views,
     records_views,
     log_views,
+    held_views,
 )
 """The modules of the pages."""
 
 FREE = ("sign_in.show", "sign_in.enter", "style")
 """What is answered without a session, by the names of the views."""
+
+LOADED = ("style", "field_notes.photo")
+"""What a page loads by itself, by the names of the views: no person does."""
 
 SETTINGS = "CPI_DESK_FRONT, --front"
 
@@ -66,8 +73,14 @@ FIELD, FIELD_PATHS = "field", "/notes/"
 """The views that collectors' phones ask, each time with a key of their own, and where they are."""
 ENDED = _("Your session has ended, so nothing was done. Sign in in another tab, go back here, and send it again.")
 NO_PAGE = _("There is no such page.")
-BY_STATUS = {404: NO_PAGE, 405: NO_PAGE}
+ONLY_A_FORM = _("A form is sent to this address, and it shows nothing. The log says what was done.")
+OWN_ERROR = _("The application met an error, which is its own. The log says what was done: read it before you go on.")
+BY_STATUS = {404: NO_PAGE, 405: NO_PAGE, 500: OWN_ERROR}
 """What is said to a request that isn't carried out."""
+
+NOT_DONE, NOT_SHOWN = _("Not done"), _("This page can't be shown")
+HEADINGS = {404: _("Page not found"), 405: _("Nothing to show here"), 500: _("An error of the application")}
+"""How the page is headed that answers a form which wasn't carried out, and one that a browser only asked for."""
 
 POLICY = (
     "default-src 'none'; style-src 'self'; img-src 'self' data:; form-action 'self'; base-uri 'none';"
@@ -84,6 +97,10 @@ FIELDS = {
 }
 
 
+AGAIN = (400, 503)
+"""The statuses of a form that a person may send again: with these the page has what was filled in."""
+
+
 def make_app(desk: Desk, reached: Reached) -> flask.Flask:
     """The application over a desk."""
     app = flask.Flask(__name__, static_folder=None, template_folder=None)
@@ -91,6 +108,7 @@ def make_app(desk: Desk, reached: Reached) -> flask.Flask:
     app.config.update(MAX_CONTENT_LENGTH=MOST_BYTES, MAX_FORM_MEMORY_SIZE=MOST_BYTES)
     templates = section_pages.environment(TEMPLATES, desk.teller)
     templates.globals.update(url_for=flask.url_for, file_name=file_name, day=desk.teller.day)
+    templates.globals.update(loads_itself=loads_itself, is_answer=is_answer)
 
     def page(template: str, status: int = 200, /, **named: object) -> Response:
         found: Optional[Session] = flask.g.get("session")
@@ -98,6 +116,7 @@ def make_app(desk: Desk, reached: Reached) -> flask.Flask:
             "here": "",
             "session": found,
             "style_at": flask.url_for("style"),
+            "script_root": flask.request.script_root,
             "desk": desk,
             "waiting": desk.log.open_entries(),
         }
@@ -132,20 +151,34 @@ def _let_in() -> Optional[Response]:
     origin = request.headers.get("Origin")
     if request.method == "POST" and origin and origin not in reached.origins:
         return _refused(403, _("The form came from another site, so nothing was done."))
-    session = flask.g.session = desk.sessions.of(request.cookies.get(COOKIE))
+    cookie = request.cookies.get(COOKIE)
+    session = flask.g.session = desk.sessions.of(cookie, request.endpoint not in LOADED and not is_by_itself())
     # (without a session nothing is read but the form to sign in)
     is_free = request.endpoint in FREE
     if session is None and not is_free:
         if request.method == "POST":
-            return _refused(403, ENDED)
-        return flask.redirect(flask.url_for("sign_in.show", to=request.full_path.rstrip("?")))
+            return _held(desk) if desk.sessions.was_one(cookie) else _refused(403, ENDED)
+        return flask.redirect(flask.url_for("sign_in.show", to=without_itself(request.full_path.rstrip("?"))))
     if fault := fault_of_form(session is not None):
         return _refused(413, fault)
     if is_free or session is None:
         return None
     if request.method == "POST" and not session.has_token(request.form.get("token", "")):
-        return _refused(403, _("The form is of another session, so nothing was done. Load the page anew."))
+        return held_views.shown(form_of_request(), 403)
+    desk.held.drop(request.form.get("held", ""))
     return None
+
+
+def _held(desk: Desk) -> Response:
+    """Keeps a form whose session has ended, and leads to signing in: after that it can be sent again."""
+    if fault := fault_of_form(True):
+        return _refused(413, fault)
+    if flask.request.endpoint == "sign_in.leave":
+        return flask.redirect(flask.url_for("sign_in.show"), 303)
+    name = desk.held.keep(form_of_request())
+    if name is None:
+        return _refused(403, ENDED)
+    return flask.redirect(flask.url_for("sign_in.show", to=f"{held_views.PATH}{name}"), 303)
 
 
 def _not_here(host: str, reached: Reached) -> Told:
@@ -158,8 +191,18 @@ def _not_here(host: str, reached: Reached) -> Told:
 
 
 def _refused(status: int, told: object) -> Response:
-    found: Response = flask.current_app.extensions["page"]("refused.html", status, told=told)
-    return found
+    is_form = flask.request.method == "POST" and flask.g.get("session") is not None and status in AGAIN
+    form = form_of_request() if is_form else None
+    page = flask.current_app.extensions["page"]
+    answer: Response = page("refused.html", status, told=told, heading=_heading(status), form=form)
+    return answer
+
+
+def _heading(status: int) -> Told:
+    """What a page is headed that isn't the one which was asked for: nothing was to be done by an address only."""
+    if flask.request.method == "POST" and status != 500:
+        return NOT_DONE
+    return HEADINGS.get(status, NOT_SHOWN)
 
 
 def _fault(fault: Fault) -> Response:
@@ -171,6 +214,8 @@ def _http_fault(fault: HTTPException) -> Response:
         return fault.get_response()  # type: ignore[return-value]
     if fault.code == 413:
         return _refused(fault.code, told_of_too_large())
+    if fault.code == 405 and flask.request.method != "POST":
+        return _refused(405, ONLY_A_FORM)
     return _refused(fault.code, BY_STATUS.get(fault.code) or _not_so(fault))
 
 

@@ -4,6 +4,7 @@ from __future__ import annotations
 
 import argparse
 import io
+from collections.abc import Mapping
 from typing import Any
 
 import flask
@@ -14,6 +15,9 @@ from ..sections import Section
 from ..terminal import a_month
 from .desk import Desk
 from .sessions import Session
+
+AFTER = "after"
+"""The part of an address that names what came of the form before."""
 
 
 def desk() -> Desk:
@@ -33,6 +37,24 @@ def page(template: str, status: int = 200, /, **named: object) -> Response:
     made: Any = flask.current_app.extensions["page"]
     found: Response = made(template, status, **named)
     return found
+
+
+def after(view: str, came: Mapping[str, object], /, **of_address: Any) -> Response:
+    """Leads from a form to a page that says what came of it, which is named as the page's template has it. No page answers
+    a form that was carried out, so loading it anew does nothing again."""
+    to: dict[str, Any] = {AFTER: desk().answers.keep(session().person, (view, came))}
+    return flask.redirect(flask.url_for(view, **of_address, **to), 303)
+
+
+def what_came() -> Mapping[str, Any]:
+    """What came of the form that led to this page; nothing if none did, or if it isn't kept any more."""
+    view, came = desk().answers.of(flask.request.args.get(AFTER, ""), session().person) or ("", {})
+    return came if view == flask.request.endpoint else {}
+
+
+def field(name: str) -> str:
+    """A field that the form has to have: without it, it is no form of these pages (400)."""
+    return flask.request.form[name]
 
 
 def month_of(text: str) -> int:

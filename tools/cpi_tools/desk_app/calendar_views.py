@@ -3,22 +3,26 @@
 from __future__ import annotations
 
 import time
+from collections.abc import Sequence
 from typing import NamedTuple
 
 import flask
 from werkzeug.wrappers import Response
 
 from ..calendar_file import text_of, windows_since
-from ..others import Worded
+from ..others import Worded, of_others
 from ..stored import read_copy
 from ..terminal import Fault, month_text
-from ..told import Told, whole
+from ..told import Month, Told, moment_of, sentences, whole
 from ..told import told as _
 from .asked import desk, page, session
+from .changes import NOTHING_DONE, last_sent
 from .faults import says
 from .sample_kinds import KINDS
 from .sampling import judge
-from .year_calendar import Row as YearRow, changed, rows_of
+from .standing import CALENDAR, what_stands
+from .year_calendar import Given, as_filled_in, changed, quicker, rows_of
+from .year_calendar import Row as YearRow
 
 views = flask.Blueprint("calendar", __name__)
 
@@ -63,9 +67,9 @@ def show_year(year: int) -> Response:
     return shown_year(year)
 
 
-def shown_year(year: int, status: int = 200, fault: Worded = Worded("")) -> Response:
-    """The form of a year, with why it wasn't taken."""
-    named = {"year": year, "rows": year_rows(year), "zone": desk().given.clock.name or "UTC"}
+def shown_year(year: int, status: int = 200, fault: Worded = Worded(""), given: Sequence[Given] = ()) -> Response:
+    """The form of a year, with why it wasn't taken, and with what was filled in."""
+    named = {"year": year, "rows": as_filled_in(year_rows(year), given), "zone": desk().given.clock.name or "UTC"}
     return page("year-calendar.html", status, fault=fault, **named)
 
 
@@ -79,19 +83,41 @@ def year_rows(year: int) -> list[YearRow]:
 
 @views.post("/calendar/<int:year>")
 def judge_year(year: int) -> Response:
-    """Takes the windows that differ from the office's, and judges them. The fields `month`, `opens`, `closes` and
-    `publishes` are there once for each month."""
-    kind, form = KINDS["calendar"], flask.request.form
-    given = [[*row] for row in zip(*(form.getlist(it) for it in kind.columns))]
-    rows = changed(year_rows(year), given)
+    """Takes the windows that differ from those which the form showed, and judges them. The fields `month`, `was`, `opens`,
+    `closes` and `publishes` are there once for each month."""
+    kind, now, given = KINDS["calendar"], year_rows(year), given_year(year)
+    rows = changed(given)
+    if others := quicker(now, given):
+        return shown_year(year, 409, sentences(*map(window_by, others), NOTHING_DONE), given)
     if not rows:
-        return shown_year(year, 400, _("No window differs from the office's, so there is nothing to send."))
+        return shown_year(year, 400, _("No window differs from the office's, so there is nothing to send."), given)
     try:
         desk().tray.take(session().person, kind.name, rows)
         judge(desk(), session().person, kind)
     except Fault as fault:
-        return shown_year(year, 503, says(fault))
+        return shown_year(year, 503, says(fault), given)
     return flask.redirect(flask.url_for("sample.show", kind=kind.name), 303)
+
+
+def given_year(year: int) -> list[Given]:
+    """The months of the form; one that lacks a field of a month, or has other months, is no form of this page (400)."""
+    columns = [flask.request.form.getlist(name) for name in ("month", "was", "opens", "closes", "publishes")]
+    months = {f"{year}-{number:02}" for number in range(1, 13)}
+    if not columns[0] or len({*map(len, columns)}) > 1 or not months.issuperset(columns[0]):
+        flask.abort(400)
+    return [Given(month, was, (opens, closes, publishes)) for month, was, opens, closes, publishes in zip(*columns)]
+
+
+def window_by(month: str) -> Told:
+    """That somebody set the window of a month."""
+    begins = [CALENDAR, month]
+    with desk().copies.latest() as copy, read_copy(copy.path) as office:
+        (stands,) = what_stands(office, [begins])
+    entry = last_sent(desk().log, begins, stands)
+    if entry is None:
+        return _("The window of {month} is another one now.", month=Month(month))
+    places = {"name": of_others(entry.by), "month": Month(month), "moment": moment_of(entry.at)}
+    return _("{name} sent another window of {month}, {moment}.", **places)
 
 
 # ---- the phones

@@ -3,7 +3,8 @@
 from __future__ import annotations
 
 import contextlib
-from collections.abc import Iterator, Sequence
+import threading
+from collections.abc import Iterator, Mapping, Sequence
 from pathlib import Path
 from typing import NamedTuple, Optional
 
@@ -16,10 +17,15 @@ from .desk_log import DeskLog
 from .drafts import Drafts
 from .field_notes import FieldNotes
 from .freezes import PreparedFreeze
+from .held_forms import HeldForms
+from .kept import Kept
 from .marks import Marks
 from .observed import Observed
+from .offers import Offer
 from .office import Office
 from .publishing import Publisher, Site
+from .seals import Seal
+from .second_key import SecondKey
 from .sending import Sender
 from .sessions import Session, Sessions
 from .standing import looked_up
@@ -27,6 +33,7 @@ from .tables_kept import TablesKept
 from .tray import Tray
 from .trials import Trials
 from .watching import Watch
+from .words import REASON_ABOVE
 
 LOG = "desk.log"
 
@@ -37,8 +44,9 @@ class Given(NamedTuple):
     """What the words of the command line say: the office's URL and file, the application's folder, the program, after
     how many idle seconds a session ends, the office's clock, where copies lie, how many quotes a trial leaves out in
     turn, for how many months notes of the field are kept, 0 if none are taken, the address of the front that collectors
-    reach, if sheets with their keys are printed here, how the pages speak, and where the website goes, if it is written
-    here.
+    reach, if sheets with their keys are printed here, how the pages speak, where the website goes, if it is written
+    here, from how many millionths of a point on a price that nobody has seen needs a reason at a freeze, and the file of
+    the second key, if there is one.
     """
 
     url: str
@@ -53,6 +61,8 @@ class Given(NamedTuple):
     phones: str = ""
     speech: Speech = SPEAKS_ENGLISH
     site: Optional[Site] = None
+    reason_above: int = REASON_ABOVE
+    second_key: Optional[Path] = None
 
 
 class Desk:
@@ -66,17 +76,25 @@ class Desk:
         self.log = DeskLog(given.room / LOG)
         self.copies = Copies(given.file, given.copies)
         self.watch = Watch(self.copies, Observed(given.room))
-        self.sessions = Sessions(self.office.is_desk, given.idle)
+        self.sessions = Sessions(self.office.is_desk, given.idle, seal=Seal(given.room / "session-key"))
+        self.held = HeldForms()
         self.sender = Sender(self.office, self.log, self._look_up)
         self.tables = TablesKept(given.room / "tables")
         self.trials = Trials(self.cpi, self.copies, self.tables, given.copies, given.left_out)
         self.marks = Marks(given.room / "looks.jsonl")
         self.prepared = PreparedFreeze(given.room / "prepared-freeze.json")
+        self.freezing = threading.Lock()
+        """Whoever holds it is the only one who prepares, drops or confirms a freeze."""
+        self.second_key = SecondKey(given.second_key) if given.second_key else None
         months = given.field_months
         self.field: Optional[FieldNotes] = FieldNotes(given.room / FIELD_NOTES, months) if months else None
         self.tray = Tray(given.room / "rows.json")
         self.drafts = Drafts(self.cpi, self.copies, given.room / "next-year")
         self.publisher = self._publisher(given.site) if given.site else None
+        self.answers = Kept[tuple[str, Mapping[str, object]]]()
+        """What came of forms, with the views after them that say so."""
+        self.offers = Kept[Offer]()
+        """Records that were judged on a copy and not sent."""
 
     def _publisher(self, site: Site) -> Publisher:
         return Publisher(site, self.given.file, self.cpi.path, self.given.room / "to-publish.json", self.log)

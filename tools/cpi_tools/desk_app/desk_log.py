@@ -32,6 +32,18 @@ SENT, ANSWERED, NOT_SENT, LOOKED_UP, SAID, CUT_OFF = "sent", "answered", "not se
 """What a line speaks of: records that go out; the replies to them; that they couldn't be sent; what the office's file
 has of them; a step of a person; a line that isn't whole."""
 
+FROZEN = "frozen"
+"""The same: a month that two people froze. Its one reply is the receipt (`frozen_receipts`)."""
+
+PREPARED, DROPPED, CONFIRMED, DONE_ALREADY = "prepared: ", "dropped: ", "confirmed: ", "carried out already: "
+"""How a step of a freeze begins, which goes on as `freeze_texts.said` has it."""
+
+FROZEN_STEP = "frozen: {what}; prepared by {by}"
+UNSEEN = "; confirmed with prices that nobody has seen: {because}"
+DROPPED_DRAFT, REMOVED_NOTE = "dropped the draft of {year}", "removed note {number} of the field, {month}"
+WRITTEN, PLANNED, NOT_PLANNED = "the website was written", "to be published", "not to be published"
+"""Other steps, or how they begin."""
+
 HIDDEN = "(key)"
 """Stands for the key of a collector, which is written nowhere."""
 
@@ -121,6 +133,7 @@ class DeskLog:
         # (the line that was cut off has no entry after it yet)
         is_cut = is_cut or bool(lines) and _entry(lines[-1]) is None
         self.entries = [*entries_of(data, path.name)]
+        self._sums = {entry[1].number: sum_of(line) for line in lines if (entry := _entry(line))}
         self._before = sum_of(lines[-1]) if lines else FIRST
         if is_cut:
             self.append(
@@ -144,9 +157,13 @@ class DeskLog:
             entry = Entry(number, int(time.time()), by, what, kept, of, [*replies], text)
             line = line_of_entry(entry, self._before)
             self._write(line)
-            self._before = sum_of(line)
+            self._before = self._sums[number] = sum_of(line)
             self.entries.append(entry)
             return entry
+
+    def sum_of_line(self, number: int) -> str:
+        """The SHA-256 of a line, which the line after it has."""
+        return self._sums[number]
 
     def _write(self, line: bytes) -> None:
         """Writes a line whole, or not at all. Raises Fault."""

@@ -6,6 +6,7 @@ from __future__ import annotations
 import csv
 import io
 import json
+import time
 from collections.abc import Callable, Sequence
 from fractions import Fraction
 from pathlib import Path
@@ -21,6 +22,7 @@ from ..terminal import Fault, because_of
 from ..told import told as _
 from ..whole_files import write_whole
 from .faults import not_as_written
+from .freezes import sum_of
 from .sample_kinds import Kind
 
 CLASSIFICATION, WEIGHTS, PLACES, SERIES = "classification", "weights", "places", "series"
@@ -33,7 +35,7 @@ SHEETS: dict[str, Kind] = {
 }
 """What is changed, by its name; weights are those of the classification."""
 
-KEYS = {CLASSIFICATION: 1, PLACES: 1, SERIES: 2}
+KEYS = {CLASSIFICATION: 1, WEIGHTS: 1, PLACES: 1, SERIES: 2}
 """How many columns name a row of a sheet; a series without a slot is named by all of them."""
 
 LISTS: dict[str, tuple[str, ...]] = {name: tuple(heads) for name, heads in HEADS.items()}
@@ -66,6 +68,12 @@ class Sum(NamedTuple):
 
 
 Cells = list[str]
+
+CHANGES = "changes.jsonl"
+"""A line for each change of a draft: the moment in seconds since 1970 UTC, who, and the sheet."""
+
+ALL = "all"
+"""Stands for all sheets and the settings."""
 
 
 class Draft:
@@ -122,6 +130,42 @@ class Draft:
         year = [] if name == SERIES else [str(self.year)]
         heads = [*(["year"] if year else []), *kind.columns]
         write_rows(self.sheets / f"{name}.csv", heads, [[*year, *row] for row in rows])
+
+    # ---- what a page showed, and who changed it since
+
+    def shown(self, name: str, cells: Optional[Sequence[str]] = None) -> str:
+        """A sum of what a page shows of the draft: of a sheet, of the settings or of ALL; of a sheet only the row that some
+        cells name, if there are any. Raises Fault."""
+        if name == SETTINGS:
+            return sum_of([self.settings(), self.reference()])
+        if name == ALL:
+            return sum_of([*(self.rows(it) for it in SHEETS), self.settings(), self.reference()])
+        if cells is None:
+            return sum_of(self.rows(name))
+        key = _key_of(name)
+        return sum_of(next((row for row in self.rows(name) if key(row) == key(cells)), None))
+
+    def note(self, by: str, name: str) -> None:
+        """Notes who changed a sheet, or the settings, and that it was now. Raises Fault."""
+        noted = self.notes() + [(int(time.time()), by, name)]
+        write(self.folder / CHANGES, "".join(f"{json.dumps(it)}\n" for it in noted))
+
+    def notes(self) -> list[tuple[int, str, str]]:
+        """Who changed what, the first change first. Raises Fault."""
+        path = self.folder / CHANGES
+        try:
+            lines = path.read_text(encoding="utf-8").splitlines() if path.exists() else []
+            return [(int(at), str(by), str(name)) for at, by, name in map(json.loads, lines)]
+        except OSError as fault:
+            raise Fault(because_of(fault)) from fault
+        except (ValueError, TypeError) as fault:
+            raise Fault(not_as_written(path, fault)) from fault
+
+    def changed_last(self, name: str) -> tuple[str, int]:
+        """Who changed a sheet, the settings or ALL last, and when; nobody, if nobody did. Raises Fault."""
+        named = {WEIGHTS, CLASSIFICATION} if name in (WEIGHTS, CLASSIFICATION) else {name}
+        of = [(by, at) for at, by, it in self.notes() if name == ALL or it in named]
+        return of[-1] if of else ("", 0)
 
     # ---- the reference month, and what the weights are in
 

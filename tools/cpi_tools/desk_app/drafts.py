@@ -9,7 +9,7 @@ import sqlite3
 import threading
 import time
 from collections import Counter
-from collections.abc import Callable, Iterable, Iterator
+from collections.abc import Callable, Iterable, Iterator, Sequence
 from pathlib import Path
 from typing import NamedTuple, Optional
 
@@ -20,11 +20,13 @@ from ..others import Worded, own_line
 from ..plan_rows import Weighed
 from ..program import Cpi
 from ..sent import Bundle, Problem, body_of
+from ..stored import read_copy
 from ..take_in import taken_in
 from ..terminal import Fault, because_of
 from ..told import Told
 from ..told import told as _
 from .copies import Copies
+from .standing import what_stands
 from .draft_sheets import Draft
 from .faults import met, of_system, says
 
@@ -34,8 +36,8 @@ UTC = "UTC0"
 
 class Checked(NamedTuple):
     """What `take-in` says of a draft on a copy of the moment `at`: what is refused, what a reader should look at, the
-    weights that were scaled, the records that would be carried out, by their words how many, and how many rows the
-    office has already."""
+    weights that were scaled, the records that would be carried out, by their words how many, how many rows the office has
+    already, and what stood in the office in the place of each record."""
 
     at: int
     problems: list[Problem]
@@ -44,6 +46,7 @@ class Checked(NamedTuple):
     records: list[list[str]]
     counts: Counter[str]
     passed_over: int
+    stood: Sequence[str] = ()
 
     @property
     def seen(self) -> str:
@@ -71,7 +74,8 @@ class Drafts:
 
     def __init__(self, cpi: Cpi, copies: Copies, folder: Path):
         self._cpi, self._copies, self._folder = cpi, copies, folder
-        self._lock = threading.Lock()
+        self._lock, self.changing = threading.Lock(), threading.Lock()
+        """Whoever holds the second one is the only one who changes a draft."""
         self._checked: dict[int, Checked] = {}
         self.sent: dict[int, list[Left]] = {}
         """What the office answered to records of a year's draft that it didn't carry out, since the last change."""
@@ -152,7 +156,9 @@ class Drafts:
             taken, judged = found
             records = [] if judged.problems else [*records_of(taken.bundles)]
             passed_over = sum(taken.passed_over.values())
-            said = judged.problems, taken.warnings, taken.weighed, records, judged.taken, passed_over
+            with read_copy(copy.path) as office:
+                stood = what_stands(office, records)
+            said = judged.problems, taken.warnings, taken.weighed, records, judged.taken, passed_over, stood
         self.sent.pop(year, None)
         self._checked[year] = Checked(int(time.time()), *said)
 

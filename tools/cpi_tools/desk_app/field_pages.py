@@ -9,9 +9,12 @@ import flask
 from werkzeug.wrappers import Response
 
 from ..csv_files import Writer, formulas_told
+from ..others import Worded
 from ..stored import Quote, StoredOffice, read_copy
 from ..terminal import slot_text, time_text
-from .asked import csv_file, desk, file_name, month_of, page
+from .asked import csv_file, desk, file_name, month_of, page, session
+from .changes import changed_by_step
+from .desk_log import REMOVED_NOTE, SAID
 from .field_notes import FieldNote, FieldNotes
 
 views = flask.Blueprint("field_notes", __name__)
@@ -81,13 +84,18 @@ def rows_of(office: StoredOffice, month: int, notes: list[FieldNote]) -> list[Ro
 @views.get("/month/<month>/field-notes")
 def show(month: str) -> Response:
     """The notes of a month, the latest first."""
+    return shown(month)
+
+
+def shown(month: str, status: int = 200, fault: Worded = Worded("")) -> Response:
+    """The same, with what came of a step."""
     number = month_of(month)
     notes = kept().of_month(number)[::-1]
     start = flask.request.args.get("from", "0")
     first = int(start) if start.isdecimal() and len(start) < 9 else 0
     rows = rows_now(number, notes[first : first + SHOWN])
     named = {"count": len(notes), "first": first, "step": SHOWN, "months": kept().months}
-    return page("field-notes.html", month=month, rows=rows, **named)
+    return page("field-notes.html", status, month=month, rows=rows, fault=fault, **named)
 
 
 @views.get("/month/<month>/field-notes.csv")
@@ -125,6 +133,9 @@ def photo(month: str, number: int) -> Response:
 @views.post("/month/<month>/field-notes/<int:number>/remove")
 def remove(month: str, number: int) -> Response:
     """Removes a note with its photograph for good."""
-    if not kept().remove(month_of(month), number):
-        flask.abort(404)
+    of, text = month_of(month), REMOVED_NOTE.format(number=number, month=month)
+    if number not in {it.number for it in kept().of_month(of)}:
+        return shown(month, 409, changed_by_step(text))
+    desk().log.append(session().person, SAID, text=text)
+    kept().remove(of, number)
     return flask.redirect(flask.url_for("field_notes.show", month=month), 303)

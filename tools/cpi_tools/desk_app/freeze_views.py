@@ -1,72 +1,112 @@
-"""The freeze of a month, as a checklist: one person prepares it, another one confirms it, and then it is sent."""
+"""The freeze of a month, as a checklist: one person prepares it, another one reads and confirms it, then it is sent, and a
+receipt says what was frozen.
+
+The forms of `/month/MONTH/freeze/` are `prepare` (`trial`, the sum of the trial that the page showed, and `why-CODE` of each
+aggregate on the carry list), `drop` (`prepared`, the sum of the freeze that the page showed) and `confirm` (both sums; `seen`,
+that of the prices that nobody had seen; `because` if it asks for a reason; `second-key` if there is one).
+"""
 
 from __future__ import annotations
 
 import time
-from typing import NamedTuple, Optional
+from collections.abc import Mapping
+from typing import Optional
 
 import flask
 from werkzeug.wrappers import Response
 
-from ..desk.closing import close
 from ..others import Worded, of_others
 from ..terminal import Fault
-from ..told import Figure, Told, moment_of, month_of as month_words, sentences, told_of, whole
+from ..told import moment_of, whole
+from ..told import month_of as month_words
 from ..told import told as _
-from .asked import desk, month_of, page, session
-from .desk_log import SAID
+from . import frozen_receipts
+from .asked import after, desk, field, month_of, page, session, what_came
+from .changes import changed_by
+from .desk_log import CONFIRMED, DONE_ALREADY, DROPPED, PREPARED, SAID
 from .faults import says
-from .freezes import Prepared, prepared_of, table_sum
+from .freeze_finish import finish, what_differs
+from .freeze_steps import NOTHING, steps_of
+from .freeze_texts import not_prepared, other_prepared, other_trial, said
+from .freezes import Prepared, prepared_of
+from .looks import Look
 from .looks_views import price_of
 from .sessions import is_same
+from .signed import Signed, signed_of
 from .told import told
 from .trials import Tried
 
 views = flask.Blueprint("freeze", __name__)
 
-
-NOTHING = Worded("")
 NO_TRIAL = _("There is no trial of this month that could be frozen: make one first.")
-CHANGED = _("The office isn't as it was when this was prepared, so its table would be another one: prepare it again.")
-NOT_PREPARED = _("No freeze of this month is prepared: somebody may have sent or dropped it. See the log.")
-
-
-class Step(NamedTuple):
-    """A step of the checklist: what it is, how it is, and whether it is as it should be: None is for people to
-    judge."""
-
-    name: Told
-    says: Worded
-    is_good: Optional[bool]
+MOST_LETTERS = 300
+"""Letters of a reason."""
 
 
 @views.get("/month/<month>/freeze")
 def show(month: str) -> Response:
     """The checklist."""
-    return shown(month)
+    return shown(month, **what_came())
 
 
-def shown(month: str, status: int = 200, fault: Worded = NOTHING, answer: Worded = NOTHING) -> Response:
-    """The checklist, with what came of a step."""
+def shown(
+    month: str, status: int = 200, fault: Worded = NOTHING, typed: Optional[Mapping[str, str]] = None
+) -> Response:
+    """The checklist, with what came of a step; `typed` are the fields of a form that wasn't taken."""
     number = month_of(month)
-    found = desk().trials.latest(number)
-    prepared = still_prepared(found)
-    steps = steps_of(number, found) if found else []
-    running, trial_fault = desk().trials.running, desk().trials.fault(number)
-    named = {"month": month, "found": found, "steps": steps, "prepared": prepared, "is_own": is_own(prepared)}
-    trial = {"running": running, "trial_fault": trial_fault, "now": int(time.time())}
-    return page("freeze.html", status, fault=fault, answer=answer, **named, **trial)
+    trial = desk().trials.latest(number)
+    prepared = still_prepared(trial)
+    waits = prepared if prepared and prepared.month == number else None
+    named: dict[str, object] = {
+        "month": month,
+        "found": trial,
+        "steps": steps_of(number, trial) if trial else [],
+        "prepared": waits,
+        "is_own": is_own(waits),
+        "signed": signed(waits, trial),
+        "has_second_key": bool(desk().second_key),
+        "running": desk().trials.running,
+        "trial_fault": desk().trials.fault(number),
+        "receipt": frozen_receipts.kept(desk().log, number, trial.state.revision) if trial else None,
+        "now": int(time.time()),
+        "most": MOST_LETTERS,
+        "typed": typed or {},
+    }
+    return page("freeze.html", status, fault=fault, **named)
 
 
-def still_prepared(found: Optional[Tried]) -> Optional[Prepared]:
+def signed(prepared: Optional[Prepared], trial: Optional[Tried]) -> Optional[Signed]:
+    """What the person reads who confirms; None without a trial that shows it."""
+    if prepared is None or trial is None:
+        return None
+    return signed_of(prepared, trial, open_looks(trial), desk().given.reason_above)
+
+
+def open_looks(trial: Tried) -> list[Look]:
+    """The prices to look at that nobody has seen, those first that move all items most."""
+    month = trial.state.month
+    seen = desk().marks.seen_by_anybody(month)
+    return [look for look in trial.looks if price_of(month, look) not in seen]
+
+
+def still_prepared(trial: Optional[Tried]) -> Optional[Prepared]:
     """The freeze that waits for a second person. One that the office carried out, while its reply was lost and the
     application ended, waits no longer."""
     prepared = desk().prepared.read()
-    if prepared and found and found.state.month == prepared.month and found.state.revision >= prepared.revision:
-        desk().log.append(session().person, SAID, text=f"carried out already: {said(prepared)}")
-        desk().prepared.drop()
-        return None
-    return prepared
+    if not prepared or not trial or trial.state.month != prepared.month or trial.state.revision < prepared.revision:
+        return prepared
+    # (whoever is at it just now finishes it)
+    if not desk().freezing.acquire(blocking=False):
+        return prepared
+    try:
+        if prepared.confirmed_by:
+            finish(prepared)
+        else:
+            desk().log.append(session().person, SAID, text=f"{DONE_ALREADY}{said(prepared)}")
+            desk().prepared.drop()
+    finally:
+        desk().freezing.release()
+    return None
 
 
 def is_own(prepared: Optional[Prepared]) -> bool:
@@ -74,127 +114,148 @@ def is_own(prepared: Optional[Prepared]) -> bool:
     return prepared is not None and is_same(prepared.by, session().person)
 
 
-def steps_of(month: int, found: Tried) -> list[Step]:
-    """The steps before a freeze, as the last trial has them."""
-    window, closed = found.state.window, found.closed
-    is_closed = time.time() >= window.closes
-    closes = moment_of(window.closes)
-    seen = desk().marks.seen_by(session().person, month)
-    left = sum(price_of(month, it) not in seen for it in found.looks)
-    until = _("closed {moment}", moment=closes)
-    steps = [
-        Step(
-            _("Window"), until if is_closed else _("open until {moment}: a freeze is refused", moment=closes), is_closed
-        ),
-        Step(_("Response"), response_of(found), None),
-        Step(_("Prices to look at"), looks_left(left, len(found.looks)), not left),
-    ]
-    if found.report.fault:
-        steps.append(Step(_("Trial"), found.report.fault, False))
-    if closed:
-        steps.append(Step(_("Carry list"), carry_list(len(closed.named)), not closed.named))
-    return [*steps, embargo(found.report.warnings)]
-
-
-def response_of(found: Tried) -> Worded:
-    """How many slots have a price."""
-    for it in found.report.cards:
-        if it.name == "priced" and it.word:
-            # t: how many percent of the slots have a price; slots is a text such as 8 of 10 slots
-            return _("{percent} priced: {slots}", percent=Figure(it.figure), slots=it.word)
-    return NOTHING
-
-
-def looks_left(left: int, count: int) -> Told:
-    """How many prices this person hasn't seen."""
-    if not left:
-        # t: all prices that are to be looked at
-        return _("all seen")
-    return _("{left} of {count} not seen by you", left=whole(left), count=whole(count))
-
-
-def carry_list(count: int) -> Told:
-    """What is on the carry list."""
-    if not count:
-        return _("empty: nothing needs it")
-    return told_of("{count} aggregate with nothing to compare", "{count} aggregates with nothing to compare", count)
-
-
-def embargo(warnings: list[Told]) -> Step:
-    """Whether a table comes out too early."""
-    good = _("no table comes out before one that it is computed from")
-    return Step(_("Embargo"), sentences(*warnings) if warnings else good, not warnings)
+# ---- prepared
 
 
 @views.post("/month/<month>/freeze/prepare")
 def prepare(month: str) -> Response:
-    """One person prepares the freeze."""
-    found, form = desk().trials.latest(month_of(month)), flask.request.form
-    if found is None or found.closed is None:
-        return shown(month, 409, NO_TRIAL)
-    if time.time() < found.state.window.closes:
-        closes = moment_of(found.state.window.closes)
-        return shown(month, 409, _("The window is open until {moment}: prepare it then.", moment=closes))
+    """One person prepares the freeze that the page showed."""
+    with desk().freezing:
+        return prepared_now(month)
+
+
+def prepared_now(month: str) -> Response:
+    """Prepares it, if nobody was quicker."""
+    trial, form, shown_sum = desk().trials.latest(month_of(month)), flask.request.form, field("trial")
+    if trial is None or trial.closed is None:
+        return shown(month, 409, NO_TRIAL, form)
+    if trial.sum != shown_sum:
+        return shown(month, 409, other_trial(trial), form)
+    if other := desk().prepared.read():
+        return shown(month, 409, other_prepared(other), form)
+    window = trial.state.window
+    if time.time() < window.closes:
+        text = _("The window is open until {moment}: prepare it then.", moment=moment_of(window.closes))
+        return shown(month, 409, text, form)
     try:
-        why = [form.get(f"why-{it.code}", "") for it in found.closed.named]
-        made = prepared_of(session().person, found.closed, found.report.table, why)
-        desk().log.append(session().person, SAID, text=f"prepared: {said(made)}")
+        made = prepared_of(session().person, trial.closed, window.publishes, reasons(trial))
+        desk().log.append(session().person, SAID, text=f"{PREPARED}{said(made)}")
         desk().prepared.keep(made)
     except Fault as fault:
-        return shown(month, 400, says(fault))
+        return shown(month, 400, says(fault), form)
     return flask.redirect(flask.url_for("freeze.show", month=month), 303)
 
 
-def said(it: Prepared) -> str:
-    """A prepared freeze in a line of the log."""
-    carried = "; ".join(f"{code} carried: {why}" for code, why in zip(it.carry, it.why))
-    return f"{' '.join(it.record)}, revision {it.revision}; table {it.table}{f'; {carried}' if carried else ''}"
+def reasons(trial: Tried) -> list[str]:
+    """Why each aggregate on the carry list is carried, by the form; without a field it is no form of this page."""
+    names = [f"why-{named.code}" for named in trial.closed.named] if trial.closed else []
+    return [field(name)[:MOST_LETTERS] for name in names]
 
 
 @views.post("/month/<month>/freeze/drop")
 def drop(month: str) -> Response:
-    """Forgets the prepared freeze; anybody may, and the log says who."""
-    if prepared := desk().prepared.read():
-        desk().log.append(session().person, SAID, text=f"dropped: {said(prepared)}")
-        desk().prepared.drop()
+    """Forgets the freeze that the page showed; anybody may, and the log says who."""
+    with desk().freezing:
+        return dropped_now(month)
+
+
+def dropped_now(month: str) -> Response:
+    """Forgets it, if nobody was quicker."""
+    prepared, shown_sum = desk().prepared.read(), field("prepared")
+    if prepared is None:
+        return shown(month, 409, not_prepared())
+    if prepared.sum != shown_sum:
+        return shown(month, 409, other_prepared(prepared))
+    desk().log.append(session().person, SAID, text=f"{DROPPED}{said(prepared)}")
+    desk().prepared.drop()
     return flask.redirect(flask.url_for("freeze.show", month=month), 303)
+
+
+# ---- confirmed
 
 
 @views.post("/month/<month>/freeze/confirm")
 def confirm(month: str) -> Response:
-    """Another person confirms it, and it is sent."""
-    prepared, number = desk().prepared.read(), month_of(month)
+    """Another person confirms what the page showed, and it is sent."""
+    with desk().freezing:
+        return confirmed_now(month)
+
+
+def confirmed_now(month: str) -> Response:
+    """Sends it, if the page showed what is prepared now, and everything that is asked was given."""
+    form, number, prepared = flask.request.form, month_of(month), desk().prepared.read()
+    shown_sum, shown_trial, seen = field("prepared"), field("trial"), field("seen")
     if prepared is None or prepared.month != number:
-        return shown(month, 409, NOT_PREPARED)
+        return shown(month, 409, not_prepared(), form)
     if is_own(prepared):
         by = of_others(prepared.by)
         # t: name is the person who prepared the freeze
         text = _("{name} prepared it, so another person confirms it, under a name of their own.", name=by)
-        return shown(month, 403, text)
+        return shown(month, 403, text, form)
+    if prepared.sum != shown_sum:
+        return shown(month, 409, other_prepared(prepared), form)
+    trial = desk().trials.latest(number)
+    read = signed(prepared, trial)
+    if trial is None or read is None:
+        return shown(month, 409, NO_TRIAL, form)
+    if trial.sum != shown_trial:
+        return shown(month, 409, other_trial(trial), form)
+    if read.seen != seen:
+        return shown(month, 409, changed_by(*desk().marks.last_of(number)), form)
+    because = form.get("because", "").strip()[:MOST_LETTERS]
+    if read.weighty and not because:
+        return shown(month, 400, _("Say why the month is frozen with prices that nobody has seen."), form)
+    if refused := refused_key(form):
+        return shown(month, 403, refused, form)
     if differs := what_differs(prepared):
-        return shown(month, 409, differs)
+        return shown(month, 409, differs, form)
+    return sent(month, prepared._replace(because=because))
+
+
+def refused_key(form: Mapping[str, str]) -> Worded:
+    """Why the second key of a form isn't taken, or nothing."""
+    second, typed = desk().second_key, form.get("second-key", "")
+    return second.refused(typed, session().key, flask.request.remote_addr or "") if second else NOTHING
+
+
+def sent(month: str, prepared: Prepared) -> Response:
+    """Sends a freeze that was confirmed, and leads to its receipt."""
+    confirmed = prepared._replace(confirmed_by=session().person, confirmed_at=int(time.time()))
     try:
-        desk().log.append(session().person, SAID, text=f"confirmed: {said(prepared)}")
-        (reply,) = desk().send(session(), [prepared.record])
+        desk().log.append(session().person, SAID, text=f"{CONFIRMED}{said(confirmed)}")
+        desk().prepared.keep(confirmed)
+        (reply,) = desk().send(session(), [confirmed.record])
     except Fault as fault:
+        desk().prepared.keep(prepared)
         return shown(month, 503, _("Nothing was sent: {fault}", fault=says(fault)))
-    answer = told(prepared.record, reply)
-    if reply is not None:
-        desk().prepared.drop()
-        desk().trials.begin(number)
+    answer = told(confirmed.record, reply)
     if not answer.is_done:
+        if reply is not None:
+            desk().prepared.drop()
+            desk().trials.begin(confirmed.month, session().person)
         return shown(month, 409, answer.answer)
-    places = {"month": month_words(number), "revision": whole(prepared.revision)}
-    return shown(month, answer=_("{month} is frozen, revision {revision}.", **places))
+    return to_receipt(month, confirmed)
 
 
-def what_differs(prepared: Prepared) -> Worded:
-    """Why a freeze now wouldn't be the one that was prepared, or nothing: it is tried again on a copy."""
+def to_receipt(month: str, confirmed: Prepared) -> Response:
+    """Leads to the receipt of a freeze that was carried out, or says that it was while the receipt can't be written."""
     try:
-        with desk().copies_now() as copy:
-            closed = close(desk().cpi, copy.path, prepared.month, int(time.time()))
+        finish(confirmed)
     except Fault as fault:
-        return _("It can't be frozen now: {fault}", fault=says(fault))
-    if [it.code for it in closed.named] != prepared.carry or table_sum(closed.table) != prepared.table:
-        return CHANGED
-    return NOTHING
+        places = {"month": month_words(confirmed.month), "revision": whole(confirmed.revision), "fault": says(fault)}
+        text = _("{month} is frozen, revision {revision}. Its receipt can't be written yet: {fault}", **places)
+        return after("freeze.show", {"fault": text}, month=month)
+    desk().trials.begin(confirmed.month, session().person)
+    return flask.redirect(flask.url_for("freeze.receipt", month=month, revision=confirmed.revision), 303)
+
+
+# ---- the receipt
+
+
+@views.get("/month/<month>/freeze/receipt/<int:revision>")
+def receipt(month: str, revision: int) -> Response:
+    """What was frozen, by whom, and what to do next: it stays at its address."""
+    kept = frozen_receipts.kept(desk().log, month_of(month), revision)
+    if kept is None:
+        flask.abort(404)
+    return page("receipt.html", month=month, kept=kept, receipt=kept.receipt, publisher=desk().publisher)

@@ -22,7 +22,9 @@ from .faults import not_as_written
 
 class Prepared(NamedTuple):
     """A freeze that waits for a second person: who prepared it and when, its month and revision, the carry list, why
-    each of its aggregates is carried, and the SHA-256 of the table that it would make."""
+    each of its aggregates is carried, the SHA-256 of the table that it would make, when that is published (seconds since
+    1970 UTC), and the table itself. Once somebody confirmed it, who and when, and why it was frozen with prices that
+    nobody had seen."""
 
     by: str
     at: int
@@ -31,11 +33,26 @@ class Prepared(NamedTuple):
     carry: list[str]
     why: list[str]
     table: str
+    publishes: int = 0
+    text: str = ""
+    confirmed_by: str = ""
+    confirmed_at: int = 0
+    because: str = ""
 
     @property
     def record(self) -> list[str]:
         """The record that is sent."""
         return ["freeze", month_text(self.month), *self.carry]
+
+    @property
+    def sum(self) -> str:
+        """A sum of what was prepared, so that nobody confirms or drops another freeze than the page showed."""
+        return sum_of([*self[: self._fields.index("text")]])
+
+
+def sum_of(shown: object) -> str:
+    """A sum of what a page showed: of lists, texts and numbers."""
+    return hashlib.sha256(json.dumps(shown).encode()).hexdigest()
 
 
 def table_sum(table: bytes) -> str:
@@ -43,7 +60,7 @@ def table_sum(table: bytes) -> str:
     return hashlib.sha256(table).hexdigest()
 
 
-def prepared_of(by: str, closed: Closed, table: bytes, why: Sequence[str]) -> Prepared:
+def prepared_of(by: str, closed: Closed, publishes: int, why: Sequence[str]) -> Prepared:
     """What one person prepares of a month that was frozen on a copy; `why` is of each aggregate on the carry list."""
     carry = [it.code for it in closed.named]
     if lacks := [code for code, each in zip(carry, why) if not each.strip()]:
@@ -52,9 +69,9 @@ def prepared_of(by: str, closed: Closed, table: bytes, why: Sequence[str]) -> Pr
             "Say why {codes} is carried: that is the desk's decision, and the log keeps it.", codes=", ".join(lacks)
         )
         raise Fault(text)
-    return Prepared(
-        by, int(time.time()), closed.month, closed.revision, carry, [it.strip() for it in why], table_sum(table)
-    )
+    reasons, table = [it.strip() for it in why], closed.table
+    made = Prepared(by, int(time.time()), closed.month, closed.revision, carry, reasons, table_sum(table), publishes)
+    return made._replace(text=table.decode())
 
 
 class PreparedFreeze:

@@ -2,7 +2,6 @@
 
 from __future__ import annotations
 
-import unicodedata
 from typing import NamedTuple, Optional
 
 import flask
@@ -11,6 +10,7 @@ from ..csv_files import line_of
 from ..others import of_others
 from ..told import told as _
 from .judging import NotRead
+from .typed import plain_digits
 
 PLAN = "plan"
 
@@ -40,7 +40,7 @@ def given() -> Given:
         plan = (year, rows.replace("\r\n", "\n"))
         return Given(f"{line_of([PLAN, *plan])}\n", name, plan)
     if form.get("word"):
-        first, *others = form.getlist("field")
+        first, *others = form.getlist("field") or flask.abort(400)
         return Given(f"{line_of([form['word'], plain_digits(first), *others])}\n", name, None)
     return Given(content if content is not None else form.get("text", ""), name, None)
 
@@ -57,8 +57,3 @@ def text_of_file(name: str, content: bytes) -> str:
         )
         raise NotRead(says) from fault
     return text
-
-
-def plain_digits(typed: str) -> str:
-    """A text with the digits 0 to 9, whatever the keyboard writes, and without blanks around it."""
-    return "".join(str(unicodedata.decimal(it, it)) for it in typed.strip())

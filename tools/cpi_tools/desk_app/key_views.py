@@ -8,6 +8,8 @@ The form `/sample/collectors/sheet` takes `collector`, a number; `name`, or noth
 from __future__ import annotations
 
 import argparse
+from collections.abc import Mapping
+from typing import NamedTuple, Optional
 
 import flask
 from werkzeug.wrappers import Response
@@ -20,7 +22,7 @@ from ..stored import read_copy
 from ..stored_pages import collectors_in, key_of
 from ..terminal import Fault
 from ..told import told as _
-from .asked import desk, session
+from .asked import after, desk, session, what_came
 from .desk_log import SAID
 from .faults import says
 from .sample_kinds import KINDS
@@ -32,34 +34,57 @@ POLICY = "default-src 'none'; style-src 'unsafe-inline'; img-src data:; base-uri
 """The page has its style in it, as the file that is printed elsewhere; it has no script, and none would run."""
 
 
+class Asked(NamedTuple):
+    """The sheet that is asked for: of which collector, with which name on it (None: none), in which language."""
+
+    collector: int
+    name: Optional[str]
+    language: Language
+
+
 @views.post("/sample/collectors/sheet")
-def sheet() -> Response:
-    """The sheet of one collector."""
+def ask_sheet() -> Response:
+    """Asks for the sheet of one collector: the log says so before it is shown."""
     try:
-        text = page_with_key()
+        asked = asked_in(flask.request.form)
+        desk().log.append(session().person, SAID, text=f"printed the sheet with the key of collector {asked.collector}")
     except Fault as fault:
         return shown(KINDS["collectors"], 400, _("No sheet was made: {fault}", fault=says(fault)))
-    answer = flask.Response(text)
+    return after("keys.sheet", {"asked": asked})
+
+
+@views.get("/sample/collectors/sheet")
+def sheet() -> Response:
+    """The sheet that was asked for; none is made for an address only."""
+    asked = what_came().get("asked")
+    if not isinstance(asked, Asked):
+        return flask.redirect(flask.url_for("sample.show", kind="collectors"))
+    answer = flask.Response(page_with_key(asked))
     answer.headers["Content-Security-Policy"] = POLICY
     return answer
 
 
-def page_with_key() -> str:
-    """The page of a sheet, after the log says that it was asked for. Raises Fault."""
+def asked_in(form: Mapping[str, str]) -> Asked:
+    """The sheet that a form asks for. Raises Fault."""
+    if not desk().given.phones:
+        raise Fault(_("The application wasn't told the address of the front that collectors reach (--phones)."))
+    named = Row(Origin("", 0), {NUMBER: form["collector"], NAME: form.get("name", "")})
+    with desk().copies_now() as copy, read_copy(copy.path) as office:
+        number = number_of(named, collectors_in(office))
+    name = name_of(named) if named[NAME].strip() else None
+    return Asked(number, name, language_in(form.get("language", "en")))
+
+
+def page_with_key(asked: Asked) -> str:
+    """The page of a sheet. Raises Fault."""
     # (its package draws codes, and nothing else here needs it)
     from ..keys.page import page_of, sheets_of
 
-    given, form = desk().given, flask.request.form
-    if not given.phones:
-        raise Fault(_("The application wasn't told the address of the front that collectors reach (--phones)."))
-    named = Row(Origin("", 0), {NUMBER: form.get("collector", ""), NAME: form.get("name", "")})
-    with desk().copies_now() as copy, read_copy(copy.path) as office:
-        number = number_of(named, collectors_in(office))
+    phones, number = desk().given.phones, asked.collector
+    with desk().copies.latest() as copy, read_copy(copy.path) as office:
         key = key_of(office, number)
-    name = name_of(named) if named[NAME].strip() else None
-    language = language_in(form.get("language", "en"))
-    desk().log.append(session().person, SAID, text=f"printed the sheet with the key of collector {number}")
-    return page_of(given.phones, sheets_of(given.phones, {number: key}, {number: name} if name else {}), language)
+    names = {number: asked.name} if asked.name else {}
+    return page_of(phones, sheets_of(phones, {number: key}, names), asked.language)
 
 
 def language_in(text: str) -> Language:

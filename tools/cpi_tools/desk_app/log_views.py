@@ -14,14 +14,14 @@ from ..report_language import ENGLISH, Teller
 from ..told import moment_of
 from ..told import told as _
 from .asked import csv_file, desk, page, session
-from .desk_log import ANSWERED, CUT_OFF, LOOKED_UP, NOT_SENT, SAID, SENT, Entry
+from .desk_log import ANSWERED, CUT_OFF, FROZEN, LOOKED_UP, NOT_SENT, SAID, SENT, Entry
 from .told import told
 
 views = flask.Blueprint("log", __name__)
 
 # t: a line of the log: what a person did here
 STEP = _("a step at the desk")
-STEPS = {SAID: STEP, CUT_OFF: _("a line that isn't whole")}
+STEPS = {SAID: STEP, FROZEN: STEP, CUT_OFF: _("a line that isn't whole")}
 """What the page says of lines that no record is in."""
 
 SHOWN = 100

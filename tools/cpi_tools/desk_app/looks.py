@@ -1,7 +1,7 @@
 """The prices of a month to look at, worst first, each with why, and with what to ask its collector.
 
 Which are unusual is said by the rule of `cpi-tools desk month`. The order is by an estimate of how far a price moves
-all items; no figure that is shown is an estimate.
+all items, which is shown, as one, to the person who confirms a freeze.
 """
 
 from __future__ import annotations
@@ -33,8 +33,8 @@ ASK_ELSE = told("The price changed far more than the others of its kind: is it t
 
 class Look(NamedTuple):
     """A price to look at: who has it, its series, its aggregate, what it is and where, the last price and this one in
-    minor units, the change in percent as a text, why, what to ask, and how far it moves all items by the estimate, in
-    millionths of a point."""
+    minor units, the change in percent as a text, why, what to ask, and by how many millionths of a point all items would
+    move without it, by the estimate."""
 
     slot: tuple[int, int]
     series: Series

@@ -2,18 +2,21 @@
 
 from __future__ import annotations
 
+from collections.abc import Mapping
 from typing import Any, NamedTuple
 
 import flask
 from markupsafe import Markup
 from werkzeug.wrappers import Response
 
-from ..others import isolated, of_others
+from ..others import Worded, isolated, of_others
 from ..stored import read_copy
 from ..terminal import Fault
 from ..told import Figure, Told, month_of as month_words, told_of
 from ..told import told as _
-from .asked import desk, month_of, page, session
+from .asked import desk, field, month_of, page, session
+from .changes import changed_by
+from .faults import says
 from .field_notes import FieldNote
 from .field_of_month import by_slot
 from .lines import line_of
@@ -25,6 +28,8 @@ views = flask.Blueprint("looks", __name__)
 
 SHOWN = 50
 """Prices of a page."""
+
+NOTHING = Worded("")
 
 
 class Row(NamedTuple):
@@ -46,45 +51,62 @@ def price_of(month: int, it: Look) -> Price:
 @views.get("/month/<month>/looks")
 def show(month: str) -> Response:
     """The prices that this person hasn't seen, or all of them."""
+    return shown(month, flask.request.args)
+
+
+def shown(month: str, asked: Mapping[str, str], status: int = 200, /, **typed: object) -> Response:
+    """The same, with what came of a note; `asked` says which prices, and from which one on."""
     number, found = month_of(month), desk().trials.latest(month_of(month))
-    named = {"month": month, "found": found, "running": desk().trials.running, "fault": desk().trials.fault(number)}
+    named: dict[str, object] = {"refused": NOTHING, "of": None, "text": "", **typed}
+    named.update(month=month, found=found, running=desk().trials.running, fault=desk().trials.fault(number))
     if found is None:
-        return page("looks.html", rows=[], is_all=False, count=0, seen=0, first=0, step=SHOWN, collectors=[], **named)
-    seen, is_all = desk().marks.seen_by(session().person, number), "all" in flask.request.args
+        return page(
+            "looks.html", status, rows=[], is_all=False, count=0, seen=0, first=0, step=SHOWN, collectors=[], **named
+        )
+    seen, is_all = desk().marks.seen_by(session().person, number), "all" in asked
     chosen = [it for it in found.looks if is_all or price_of(number, it) not in seen]
-    start = flask.request.args.get("from", "0")
+    start = asked.get("from", "0")
     first = int(start) if start.isdecimal() and len(start) < 9 else 0
     rows = rows_of(number, found, chosen[first : first + SHOWN])
     collectors = sorted({it.slot[0] for it in found.looks})
     counts = {"count": len(chosen), "seen": len(found.looks) - len(chosen), "first": first, "step": SHOWN}
-    return page("looks.html", rows=rows, is_all=is_all, collectors=collectors, **counts, **named)
+    return page("looks.html", status, rows=rows, is_all=is_all, collectors=collectors, **counts, **named)
 
 
 def rows_of(month: int, found: Tried, looks: list[Look]) -> list[Row]:
     """Some prices with their histories."""
     seen, notes = desk().marks.seen_by(session().person, month), desk().marks.notes_of(month)
-    rows, field = list[Row](), by_slot(month)
+    rows, notes_of_field = list[Row](), by_slot(month)
     with read_copy(found.copy) as office:
         for it in looks:
             price = price_of(month, it)
             picture = line_of(office.quotes_of_series(it.series), month, desk().teller.say)
-            rows.append(Row(it, picture, notes.get(price, []), price in seen, field.get(it.slot, [])))
+            rows.append(Row(it, picture, notes.get(price, []), price in seen, notes_of_field.get(it.slot, [])))
     return rows
 
 
 @views.post("/month/<month>/looks")
 def mark(month: str) -> Response:
-    """Notes that a person has seen a price, or hasn't, or what the desk notes of it."""
-    form = flask.request.form
+    """Notes that a person has seen a price that the page showed, or hasn't, or what the desk notes of it."""
+    form, what, found = flask.request.form, field("what"), desk().trials.latest(month_of(month))
     try:
-        price = Price(month_of(month), *(int(form.get(name, "")) for name in ("collector", "slot", "price")))
+        price = Price(month_of(month), *(int(field(name)) for name in ("collector", "slot", "price")))
     except ValueError:
         flask.abort(400)
-    text = " ".join(form.get("text", "").split())
-    what = form.get("what", SEEN)
-    if what not in (SEEN, UNSEEN, NOTE) or (what == NOTE and not text):
-        raise Fault(_("The note is empty, so nothing was noted: go back, and write what is known of the price."))
-    desk().marks.add(session().person, price, what, text if what == NOTE else "")
+    if what not in (SEEN, UNSEEN, NOTE):
+        flask.abort(400)
+    text = " ".join(field("text").split()) if what == NOTE else ""
+    typed = {"of": price[1:3], "text": text}
+    if found is None or price not in {price_of(price.month, it) for it in found.looks}:
+        by = (found.by, found.at) if found else ("", 0)
+        return shown(month, form, 409, refused=changed_by(*by), **typed)
+    if what == NOTE and not text:
+        refused = _("The note is empty, so nothing was noted: write what is known of the price.")
+        return shown(month, form, 400, refused=refused, **typed)
+    try:
+        desk().marks.add(session().person, price, what, text)
+    except Fault as fault:
+        return shown(month, form, 503, refused=says(fault), **typed)
     query: dict[str, Any] = {name: form[name] for name in ("from", "all") if form.get(name)}
     return flask.redirect(flask.url_for("looks.show", month=month, **query), 303)
 

@@ -93,6 +93,14 @@ class Marks:
                 (found.add if it.what == SEEN else found.discard)(it.of)
         return found
 
+    def seen_by_anybody(self, month: int) -> set[Price]:
+        """The prices of a month that somebody has seen."""
+        return set[Price]().union(*(self.seen_by(person, month) for person in {it.by for it in self._all}))
+
+    def last_of(self, month: int) -> tuple[str, int]:
+        """Who marked a price of a month last, and when in seconds since 1970 UTC; nobody, if nobody did."""
+        return next(((mark.by, mark.at) for mark in reversed(self._all) if mark.of.month == month), ("", 0))
+
     def notes_of(self, month: int) -> dict[Price, list[Mark]]:
         """The notes on prices of a month, the first ones first."""
         found: dict[Price, list[Mark]] = {}

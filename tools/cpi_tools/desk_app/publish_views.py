@@ -1,8 +1,9 @@
 """Publishing: which tables are in the website, which are due, and which come when; it is written now, or at a table's
 moment.
 
-The form `/publish/now` takes nothing; `/publish/plan` takes `month` and `revision` of a frozen month, and `what`, which is
-`plan` or `drop`.
+The form `/publish/now` takes `shown`, the sum of what the page showed to be due, and `written`, when it was written last;
+`/publish/plan` takes `month` and `revision`
+of a frozen month, `what`, which is `plan` or `drop`, and `shown`, the sum of what the page showed of the table.
 """
 
 from __future__ import annotations
@@ -16,8 +17,11 @@ from ..others import Worded, of_others
 from ..stored import read_copy
 from ..terminal import Fault
 from ..told import told as _
-from .asked import desk, page, session
+from .asked import desk, field, page, session
+from .changes import changed_by, changed_by_step
+from .desk_log import NOT_PLANNED, PLANNED, WRITTEN
 from .faults import says
+from .freezes import sum_of
 from .publishing import Planned, Publisher, Release
 
 views = flask.Blueprint("publish", __name__)
@@ -43,13 +47,24 @@ def shown(status: int = 200, fault: Worded = NOTHING) -> Response:
     now = int(time.time())
     named = {
         "publisher": publisher,
-        "due": [it for it in releases if it.at <= now and not it.is_published],
+        "due": due_at(releases, now),
+        "shown_due": shown_due(releases),
         "to_come": [it for it in releases[::-1] if it.at > now],
         "published": [it for it in releases if it.is_published],
         "address": address,
         "written_at": publisher.written_at(),
     }
     return page("publish.html", status, fault=fault, **named)
+
+
+def due_at(releases: list[Release], now: int) -> list[Release]:
+    """The tables that are out, and not in the website."""
+    return [it for it in releases if it.at <= now and not it.is_published]
+
+
+def shown_due(releases: list[Release]) -> str:
+    """A sum of the tables that the page shows as due."""
+    return sum_of([it.shown for it in due_at(releases, int(time.time()))])
 
 
 def releases_of(publisher: Publisher) -> list[Release]:
@@ -60,25 +75,37 @@ def releases_of(publisher: Publisher) -> list[Release]:
 
 @views.post("/publish/now")
 def now() -> Response:
-    """Writes the website with what is out."""
-    publisher_here().begin(session().person)
+    """Writes the website with what is out, if that is what the page showed."""
+    publisher, was, written = publisher_here(), field("shown"), field("written")
+    try:
+        releases = releases_of(publisher)
+    except Fault:
+        # (the page said why; `publish` meets it too, and says it again)
+        releases = []
+    if written != str(publisher.written_at() or 0):
+        return shown(409, changed_by_step(WRITTEN))
+    if shown_due(releases) != was:
+        return shown(409, changed_by("", 0))
+    publisher.begin(session().person)
     return flask.redirect(flask.url_for("publish.show"), 303)
 
 
 @views.post("/publish/plan")
 def plan() -> Response:
-    """Plans to publish a table at its moment, or takes that back."""
-    publisher, form = publisher_here(), flask.request.form
-    month, revision = form.get("month", ""), form.get("revision", "")
+    """Plans to publish a table at its moment, or takes that back, if the page showed how it is."""
+    publisher, month, revision, what = publisher_here(), field("month"), field("revision"), field("what")
     try:
-        if form.get("what") == "drop":
-            publisher.drop(session().person, month, int(revision) if revision.isdecimal() else 0)
+        found = [it for it in releases_of(publisher) if (it.month, str(it.revision)) == (month, revision)]
+        if not found or what not in ("plan", "drop"):
+            places = {"month": of_others(month), "revision": of_others(revision)}
+            raise Fault(_("There is nothing to publish: {month} has no revision {revision}.", **places))
+        if field("shown") != found[0].shown:
+            says_who = changed_by_step(PLANNED, NOT_PLANNED, has=f"{month}, revision {revision}")
+            return shown(409, says_who)
+        if what == "drop":
+            publisher.drop(session().person, month, found[0].revision)
         else:
-            found = [it for it in releases_of(publisher) if (it.month, str(it.revision)) == (month, revision)]
-            if not found:
-                places = {"month": of_others(month), "revision": of_others(revision)}
-                raise Fault(_("There is nothing to publish: {month} has no revision {revision}.", **places))
-            publisher.plan(Planned(session().person, month, int(revision), found[0].at))
+            publisher.plan(Planned(session().person, month, found[0].revision, found[0].at))
     except Fault as fault:
         return shown(400, says(fault))
     return flask.redirect(flask.url_for("publish.show"), 303)

@@ -29,6 +29,7 @@ from ..told import Told
 from ..told import told as _
 from ..whole_files import write_whole
 from .desk_log import SAID, DeskLog
+from .freezes import sum_of
 from .faults import met, not_as_written, of_system, says
 
 LOOKS_EVERY = 20.0
@@ -80,6 +81,11 @@ class Release(NamedTuple):
     is_published: bool
     planned_by: str
     page: str
+
+    @property
+    def shown(self) -> str:
+        """A sum of what the page shows of a table that is to come, so that nobody plans or drops another thing."""
+        return sum_of([self.month, self.revision, self.at, self.planned_by])
 
 
 class NotWritten(Fault):

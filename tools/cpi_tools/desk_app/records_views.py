@@ -10,13 +10,17 @@ from werkzeug.wrappers import Response
 
 from ..csv_files import line_of
 from ..program import Reply
+from ..stored import read_copy
 from ..terminal import Fault
 from ..told import told as _
-from .asked import desk, page, session
+from .asked import after, desk, field, page, session, what_came
+from .changes import replaced_since
 from .faults import says
 from .given_files import PLAN, given
 from .judging import judge as judge_on_copy
 from .judging import lines_of, records_of
+from .offers import Offer
+from .standing import what_stands
 from .told import NOT_SENT, Told, told
 
 views = flask.Blueprint("records", __name__)
@@ -38,8 +42,8 @@ class Row(NamedTuple):
 
 @views.get("/records")
 def show() -> Response:
-    """The form."""
-    return records_page()
+    """The form, with what `cpi` answered to the records of the form before."""
+    return records_page(200, **what_came())
 
 
 def records_page(status: int = 200, /, **named: object) -> Response:
@@ -72,21 +76,25 @@ def judge() -> Response:
         records = records_of(found.text, desk().given.clock)
         with desk().copies_now() as copy:
             replies, warnings = judge_on_copy(desk().cpi, copy.path, records)
+            with read_copy(copy.path) as office:
+                stood = what_stands(office, records)
     except Fault as fault:
         kept = "" if found.plan or len(found.text) > MOST_SHOWN_BYTES else found.text
         return records_page(400, text=kept, plan=found.plan, fault=says(fault), file=found.file)
     rows = [Row(*it) for it in zip(lines_of(found.text), map(told, records, replies))]
-    good = [fields for fields, row in zip(records, rows) if row.told.is_done]
+    good = [each for each, row in zip(zip(records, stood), rows) if row.told.is_done]
     bad = [row for row in rows if not row.told.is_done]
-    return records_page(
-        text="" if found.plan else "".join(f"{row.told.record}\n" for row in bad),
-        plan=found.plan if bad else None,
-        rows=shown(rows),
-        good=len(good),
-        bad=len(bad),
-        warnings=warnings,
-        offer=session().offer(good) if good else "",
-    )
+    offer = Offer([fields for fields, _stood in good], [each for _fields, each in good])
+    came = {
+        "text": "" if found.plan else "".join(f"{row.told.record}\n" for row in bad),
+        "plan": found.plan if bad else None,
+        "rows": shown(rows),
+        "good": len(good),
+        "bad": len(bad),
+        "warnings": warnings,
+        "offer": desk().offers.keep(session().person, offer) if good else "",
+    }
+    return after("records.show", came)
 
 
 def shown(rows: Sequence[Row]) -> list[Row]:
@@ -100,22 +108,32 @@ def shown(rows: Sequence[Row]) -> list[Row]:
 @views.post("/records/send")
 def send() -> Response:
     """Sends records that were judged, once."""
-    form = flask.request.form
-    records, left = session().judged.pop(form.get("offer", ""), None), form.get("left", "")
-    if records is None:
+    offer, left = desk().offers.take(field("offer"), session().person), field("left")
+    if offer is None:
         fault = _("These records were sent already, or the session is another one: the log says what became of them.")
         return records_page(409, text=left, fault=fault)
+    records = offer.records
+    text = left + "".join(f"{line_of(fields)}\n" for fields in records)
     try:
+        if others := replaced_since(records, offer.stood):
+            return records_page(409, text=text, fault=others)
         replies = desk().send(session(), records)
     except Fault as fault:
-        text = left + "".join(f"{line_of(fields)}\n" for fields in records)
         return records_page(503, text=text, fault=_("Nothing was sent: {fault}", fault=says(fault)))
     rows = answered(records, replies)
     text = left + "".join(
         f"{row.record}\n" for row in rows if row.answer == NOT_SENT or row.answer.startswith("refused")
     )
     listed = rows if len(rows) <= SHOWN else [row for row in rows if not row.is_done][:SHOWN]
-    return page("records-sent.html", rows=listed, count=len(rows), text=text, done=sum(row.is_done for row in rows))
+    came = {"rows": listed, "count": len(rows), "text": text, "done": sum(row.is_done for row in rows)}
+    return after("records.sent", came)
+
+
+@views.get("/records/sent")
+def sent() -> Response:
+    """What became of records that were sent; what isn't kept any more is in the log."""
+    came = what_came()
+    return page("records-sent.html", **came) if came else flask.redirect(flask.url_for("log.show"))
 
 
 def answered(records: Sequence[Sequence[str]], replies: Sequence[Optional[Reply]]) -> list[Told]:

@@ -7,17 +7,17 @@ forms, which need the session's `token`:
 - `/sample/KIND/judge` takes `pasted`, rows from a spreadsheet; or fields with the names of the kind's
   columns (item, text, unit, low, high; outlet, name; collector, key; collector, slot, outlet, item, first, last;
   collector, slot, to, to_slot, month; month, opens, closes, publishes), each of them once a row; or neither, and what
-  waits is judged anew. `instead` has numbers of waiting rows that go, apart by blanks.
+  waits is judged anew. `instead` has numbers of waiting rows that go, apart by blanks, and `shown` the sum of those.
 - `/sample/KIND/send` takes `seen`, the sum of the rows that the page showed, and sends those.
-- `/sample/KIND/drop` takes `number`, of one row or more, or `all`.
+- `/sample/KIND/drop` takes `number`, of one row, or `all`, and `shown`, the sum of the rows that go.
 """
 
 from __future__ import annotations
 
 import io
 import time
-from collections.abc import Sequence
-from typing import Any, NamedTuple
+from collections.abc import Mapping, Sequence
+from typing import Any, NamedTuple, Optional
 
 import flask
 from werkzeug.wrappers import Response
@@ -30,11 +30,11 @@ from ..stored_pages import LISTINGS, Found, found_in
 from ..terminal import Fault, month_text
 from ..told import Told, told_of, whole
 from ..told import told as _
-from .asked import csv_file, desk, page, session
+from .asked import after, csv_file, desk, field, page, session, what_came
 from .faults import says
 from .pasted import pasted
 from .sample_kinds import KINDS, Kind
-from .sampling import NotAsSeen, Sent, answer_of, judge, send, settle, state_of
+from .sampling import NotAsSeen, Sent, answer_of, judge, send, settle, state_of, sum_of_rows
 from .tray import COLLECTORS, GOING, GOOD, NEW, REFUSED, Waiting
 
 views = flask.Blueprint("sample", __name__)
@@ -46,6 +46,11 @@ ORDER = (REFUSED, NEW, GOING, GOOD)
 """Waiting rows as a page shows them: first those that want somebody's hand."""
 
 MONTHS = ("first", "last", "month")
+
+NOT_THOSE_ROWS = _(
+    "These rows were sent, mended or dropped after your page was loaded, perhaps in another window of yours. Nothing was"
+    " done: see what is here now."
+)
 
 
 class Shown(NamedTuple):
@@ -84,7 +89,7 @@ def show(kind: str) -> Response:
     """What is registered of a kind, and the rows that wait."""
     it = kind_of(kind)
     settle(desk(), session().person, it)
-    return shown(it)
+    return shown(it, **what_came())
 
 
 NOTHING = Worded("")
@@ -97,10 +102,13 @@ def shown(
     answer: Worded = NOTHING,
     text: str = "",
     unread: Worded = NOTHING,
+    typed: Optional[Mapping[str, str]] = None,
 ) -> Response:
-    """The page of a kind, with what came of a step; `text` is what couldn't be read."""
+    """The page of a kind, with what came of a step; `text` is what couldn't be read, `typed` the fields of a row that
+    wasn't taken."""
     waiting = desk().tray.rows(session().person, kind.name)
-    mended = [it for it in waiting if str(it.number) in flask.request.args.get("mend", "").split(",")]
+    chosen = flask.request.args.get("mend", "") or flask.request.form.get("instead", "").replace(" ", ",")
+    mended = [it for it in waiting if str(it.number) in chosen.split(",")]
     named: dict[str, Any] = {
         "kind": kind,
         "kinds": KINDS,
@@ -116,13 +124,25 @@ def shown(
         "seen": state_of(waiting),
         "answer_of": answer_of,
         "mended": mended[0] if len(mended) == 1 else None,
+        "cells": cells_of(kind, typed, mended),
         "instead": " ".join(str(it.number) for it in mended),
+        "mended_rows": mended,
+        "sum_of_rows": sum_of_rows,
+        "all_shown": sum_of_rows([it for it in waiting if it.state != GOING]),
         "text": text or (text_of(kind, mended) if len(mended) > 1 else ""),
         "zone": desk().given.clock.name or "UTC",
         "phones": desk().given.phones,
         "languages": in_themselves() if kind.name == COLLECTORS else {},
     }
     return page("sample.html", status, fault=fault, answer=answer, unread=unread, **named)
+
+
+def cells_of(kind: Kind, typed: Optional[Mapping[str, str]], mended: Sequence[Waiting]) -> list[str]:
+    """The cells of the form's row: those that a person filled in and that weren't taken, else those of the one row that is
+    mended."""
+    if typed and any(it in typed for it in kind.columns):
+        return [typed.get(it, "") for it in kind.columns]
+    return mended[0].cells if len(mended) == 1 else [""] * len(kind.columns)
 
 
 def listed(kind: Kind) -> Shown:
@@ -187,25 +207,35 @@ def file(kind: str) -> Response:
 @views.post("/sample/<kind>/judge")
 def judge_rows(kind: str) -> Response:
     """Takes rows, and judges all that wait."""
-    it, text, unread = kind_of(kind), flask.request.form.get("pasted", ""), list[str]()
-    instead = [int(each) for each in flask.request.form.get("instead", "").split() if each.isdecimal()]
+    it, form, unread = kind_of(kind), flask.request.form, list[str]()
+    text, typed = form.get("pasted", ""), form.to_dict()
+    rows = rows_in_fields(it)
+    gone = [
+        row for row in desk().tray.rows(session().person, it.name) if str(row.number) in form.get("instead", "").split()
+    ]
+    if form.get("instead") and sum_of_rows(gone) != field("shown"):
+        return shown(it, 409, NOT_THOSE_ROWS, text=text, typed=typed)
+    instead = [row.number for row in gone]
     try:
-        rows = rows_in_fields(it)
         if text.strip():
             rows, unread = pasted(text, it)
         if rows:
             desk().tray.take(session().person, it.name, rows, instead)
+            # (they are in the tray now, and so aren't in the form any more)
+            text, typed = "", {}
         judge(desk(), session().person, it)
     except Fault as fault:
-        return shown(it, 400, says(fault), text=text)
-    if unread:
-        return shown(it, unread=of_others(", ".join(unread)))
-    return flask.redirect(flask.url_for("sample.show", kind=it.name), 303)
+        return shown(it, 400, says(fault), text=text, typed=typed)
+    came = {"unread": of_others(", ".join(unread))} if unread else {}
+    return after("sample.show", came, kind=it.name)
 
 
 def rows_in_fields(kind: Kind) -> list[list[str]]:
     """The rows of a form that has a field for each column; one of which nothing but its month was given is none."""
     columns = [[each.strip() for each in flask.request.form.getlist(it)] for it in kind.columns]
+    if len({*map(len, columns)}) > 1:
+        # (a row without one of its cells is no row of this form)
+        flask.abort(400)
     rows = [[*row] for row in zip(*columns)]
     return [row for row in rows if any(cell for it, cell in zip(kind.columns, row) if it != "month")]
 
@@ -215,12 +245,12 @@ def send_rows(kind: str) -> Response:
     """Sends the rows that the page showed as good."""
     it = kind_of(kind)
     try:
-        sent = send(desk(), session(), it, flask.request.form.get("seen", ""))
+        sent = send(desk(), session(), it, field("seen"))
     except NotAsSeen as fault:
         return shown(it, 409, says(fault))
     except Fault as fault:
         return shown(it, 503, _("Nothing was sent: {fault}", fault=says(fault)))
-    return shown(it, answer=told_sent(sent))
+    return after("sample.show", {"answer": told_sent(sent)}, kind=it.name)
 
 
 def told_sent(sent: Sent) -> Told:
@@ -237,9 +267,11 @@ def told_sent(sent: Sent) -> Told:
 
 @views.post("/sample/<kind>/drop")
 def drop_rows(kind: str) -> Response:
-    """Drops waiting rows: those of these numbers, or all that aren't on their way."""
-    it, form = kind_of(kind), flask.request.form
+    """Drops waiting rows that the page showed: one, or all that aren't on their way."""
+    it, form, was = kind_of(kind), flask.request.form, field("shown")
     rows = [row for row in desk().tray.rows(session().person, it.name) if row.state != GOING]
-    gone = [row for row in rows if form.get("all") or str(row.number) in form.getlist("number")]
+    gone = rows if form.get("all") else [row for row in rows if str(row.number) == field("number")]
+    if sum_of_rows(gone) != was:
+        return shown(it, 409, NOT_THOSE_ROWS)
     desk().tray.change(session().person, it.name, {row.number: None for row in gone})
     return flask.redirect(flask.url_for("sample.show", kind=it.name), 303)

@@ -15,12 +15,15 @@ from ..stored import StoredOffice, read_copy
 from ..others import Worded, own_line
 from ..terminal import Fault
 from ..told import told as _
+from .changes import replaced_since
 from .desk import Desk
 from .desk_log import ANSWERED, HIDDEN, LOOKED_UP, SENT, Entry, shown
 from .free_slots import FreeSlots
+from .freezes import sum_of
 from .judging import at_clock, judged
 from .sample_kinds import Kind
 from .sessions import Session
+from .standing import what_stands
 from .told import NO_REPLY, NOT_SENT, told
 from .tray import COLLECTORS, GOING, GOOD, KEY, REFUSED, Tray, Waiting
 
@@ -101,9 +104,13 @@ def judge(desk: Desk, person: str, kind: Kind) -> None:
     with desk.copies_now() as copy:
         with read_copy(copy.path) as office:
             records = records_of(desk.tray, kind, rows, office, desk.given.clock)
+            stood = what_stands(office, [it.fields for it in records])
         asked = [it.fields for it in records if not it.fault]
         replies = iter(judged(desk.cpi, copy.path, asked))
-    changed = {it.row.number: _judged(it, None if it.fault else next(replies)) for it in records}
+    changed = {
+        it.row.number: _judged(it, None if it.fault else next(replies))._replace(stood=before)
+        for it, before in zip(records, stood)
+    }
     desk.tray.change(person, kind.name, changed)
 
 
@@ -116,6 +123,11 @@ def _judged(it: Record, reply: Optional[Reply]) -> Waiting:
 
 
 # ---- sending
+
+
+def sum_of_rows(rows: Sequence[Waiting]) -> str:
+    """A sum of rows as they were given, so that nobody drops or mends others than the page showed."""
+    return sum_of([[it.number, it.cells] for it in rows])
 
 
 def state_of(rows: Sequence[Waiting]) -> str:
@@ -143,6 +155,8 @@ def send(desk: Desk, session: Session, kind: Kind, seen: str) -> Sent:
         rows = [it for it in all_rows if it.state == GOOD]
         if not rows or state_of(all_rows) != seen:
             raise NotAsSeen(_("These rows were sent already, or changed since they were shown: see what is here now."))
+        if others := replaced_since([it.record for it in rows], [it.stood for it in rows]):
+            raise NotAsSeen(others)
         records = [_for_office(desk.tray, kind, it) for it in rows]
         since = desk.log.entries[-1].number if desk.log.entries else 0
         going = {it.number: it._replace(state=GOING, reply=None, why=NO_REPLY_YET, since=since) for it in rows}

@@ -18,6 +18,7 @@ from typing import Optional
 from ..terminal import Fault
 from ..told import told as _
 from ..told import told_of, whole
+from .seals import Seal
 from .tries import Tries
 
 KEY = re.compile("[0-9a-f]{32}")
@@ -41,20 +42,10 @@ class Session:
         self.person, self.key = person, key
         self.token = secrets.token_urlsafe(24)
         self.begun = self.used = now
-        self.judged: dict[str, list[list[str]]] = {}
-        """Records that were judged on a copy and not sent, by the name of their form."""
 
     def has_token(self, given: str) -> bool:
         """Whether a form is this session's own."""
         return hmac.compare_digest(self.token.encode(), given.encode())
-
-    def offer(self, records: list[list[str]]) -> str:
-        """Keeps records for one form; its name."""
-        name = secrets.token_urlsafe(12)
-        self.judged[name] = records
-        while len(self.judged) > 20:
-            del self.judged[next(iter(self.judged))]
-        return name
 
 
 def name_of(text: str) -> str:
@@ -75,8 +66,15 @@ def is_same(one: str, other: str) -> bool:
 class Sessions:
     """All of them. `is_desk` asks the office whether a key is the desk's; `idle` is in seconds."""
 
-    def __init__(self, is_desk: Callable[[str], bool], idle: int, clock: Callable[[], float] = time.monotonic):
+    def __init__(
+        self,
+        is_desk: Callable[[str], bool],
+        idle: int,
+        clock: Callable[[], float] = time.monotonic,
+        seal: Optional[Seal] = None,
+    ):
         self._is_desk, self._idle, self._clock = is_desk, idle, clock
+        self._seal = seal or Seal()
         # (one person signs in at a time; while the office is asked, others go on)
         self._door, self._lock = threading.Lock(), threading.Lock()
         self._by_name: dict[str, Session] = {}
@@ -100,20 +98,24 @@ class Sessions:
                 self._tries.wrong(address)
                 raise NotSignedIn(NO_KEY)
             self._tries.right(address)
-        secret = secrets.token_urlsafe(32)
+        secret = self._seal.sealed(secrets.token_urlsafe(32))
         with self._lock:
             self._by_name[secret] = Session(person, key, self._clock())
         return secret
 
-    def of(self, secret: Optional[str]) -> Optional[Session]:
-        """The session of a secret, if it hasn't ended."""
+    def was_one(self, secret: Optional[str]) -> bool:
+        """Whether a secret is that of a session, which may have ended long ago."""
+        return bool(secret) and self._seal.is_own(secret or "")
+
+    def of(self, secret: Optional[str], is_by_hand: bool = True) -> Optional[Session]:
+        """The session of a secret, if it hasn't ended. What a person asks for by hand keeps it, and nothing else does."""
         with self._lock:
             now = self._clock()
             for name, it in [*self._by_name.items()]:
                 if now - it.used > self._idle or now - it.begun > LONGEST_SESSION:
                     del self._by_name[name]
             found = self._by_name.get(secret or "")
-            if found:
+            if found and is_by_hand:
                 found.used = now
             return found
 

@@ -7,13 +7,17 @@ import urllib.parse
 import flask
 from werkzeug.wrappers import Response
 
+from ..told import told as _
 from .asked import desk, page
 from .faults import says
-from .given_files import plain_digits
+from .held_views import PATH
 from .office import NoReply, NotSent
 from .sessions import NotSignedIn
+from .typed import key_of
 
 views = flask.Blueprint("sign_in", __name__)
+
+KEPT = _("Your session had ended, so nothing was done. What you filled in is kept: sign in, and you can send it again.")
 
 COOKIE = "cpi_desk"
 
@@ -28,17 +32,13 @@ def place_after(to: str) -> str:
     return flask.request.script_root + (to if is_own else "/")
 
 
-def key_of(typed: str) -> str:
-    """A key as it was typed or pasted: with blanks, hyphens or capitals, perhaps, and with the digits of any keyboard."""
-    return "".join(plain_digits(typed).replace("-", "").split()).lower()
-
-
 @views.get("/sign-in")
 def show() -> Response:
     """The form. After it a person goes on to the page that was asked, unless its address is too long for the form."""
     to = flask.request.args.get("to", "/")
     is_short = len(urllib.parse.quote(to, safe="")) <= MOST_OF_PLACE
-    return page("sign-in.html", to=to if is_short else "/", name="", told="")
+    told = KEPT if to.startswith(PATH) else ""
+    return page("sign-in.html", to=to if is_short else "/", name="", told=told)
 
 
 @views.post("/sign-in")

@@ -13,7 +13,8 @@ from pathlib import Path
 from ..copying import private_copy
 from ..program import LAST_MOMENT, Cpi, Reply, record
 from ..stored import StoredOffice, read_copy
-from ..terminal import a_month
+from ..terminal import a_month, month_text
+from .freezes import sum_of
 
 STANDS, ABSENT = "stands", "absent"
 """The keys of what a look tells: `{"stands": true}`, or `{"absent": true}`, perhaps with the refusal of the copy."""
@@ -63,3 +64,30 @@ def is_frozen_since(office: StoredOffice, fields: Sequence[str], since: int) -> 
         return False
     frozen_at, _ = office.frozen_moments()[month, releases[-1].revision]
     return frozen_at >= since and {*releases[-1].carry} == {*fields[2:]}
+
+
+# ---- records that take the place of others
+
+
+CALENDAR = "calendar"
+
+REPLACED = (CALENDAR, "plan")
+"""The words of records that take the place of one that stands: any other one is refused if another one stands."""
+
+
+def what_stands(office: StoredOffice, records: Sequence[Sequence[str]]) -> list[str]:
+    """What stands in an office in the place of each record, as a text; nothing of those that replace nothing."""
+    if not any(fields[0] in REPLACED for fields in records):
+        return [""] * len(records)
+    windows = {month_text(it.month): ",".join(map(str, it[1:])) for it in office.calendar()}
+    plans, references = {str(it.year): it for it in office.plans()}, office.references()
+
+    def of(fields: Sequence[str]) -> str:
+        if fields[0] not in REPLACED or len(fields) < 2:
+            return ""
+        if fields[0] == CALENDAR:
+            return windows.get(fields[1], "")
+        found = plans.get(fields[1])
+        return sum_of([str(found), references.get(found.year, 0)]) if found else ""
+
+    return [of(fields) for fields in records]

@@ -23,7 +23,7 @@ from ..others import Worded, of_others
 from ..terminal import Fault, a_slot
 from ..told import told as _
 from ..told import whole
-from .asked import csv_file, desk, file_name, month_of, page, section_file
+from .asked import after, csv_file, desk, field, file_name, month_of, page, section_file, session, what_came
 from .faults import says
 from .trials import Tried
 
@@ -39,7 +39,7 @@ LINES_SHOWN = 12
 @views.post("/month/<month>/try")
 def begin(month: str) -> Response:
     """Freezes the month on a copy that is taken now, in the background."""
-    desk().trials.begin(month_of(month))
+    desk().trials.begin(month_of(month), session().person)
     to = flask.request.form.get("to", "")
     view = to if to in ("looks.show", "freeze.show") else "table.show"
     return flask.redirect(flask.url_for(view, month=month), 303)
@@ -99,21 +99,30 @@ def explain(month: str, code: str) -> Response:
     return page("explained.html", month=month, it=it, found=found, shown=LINES_SHOWN)
 
 
-@views.route("/month/<month>/what-if", methods=["GET", "POST"])
+@views.get("/month/<month>/what-if")
+def what_if_page(month: str) -> Response:
+    """A form for a handful of prices, with what those of the form before would change."""
+    return shown_what_if(month, **what_came())
+
+
+def shown_what_if(month: str, status: int = 200, /, **came: object) -> Response:
+    """The form, with what came of it."""
+    month_of(month)
+    empty: dict[str, object] = {"text": "", "fault": Worded(""), "result": None}
+    return page("what-if.html", status, month=month, example=EXAMPLE, **{**empty, **came})
+
+
+@views.post("/month/<month>/what-if")
 def try_prices(month: str) -> Response:
     """What a handful of prices would change."""
-    number, text, fault = month_of(month), flask.request.form.get("text", ""), Worded("")
-    result: Optional[Section] = None
-    if flask.request.method == "POST":
-        try:
-            tried = tried_of(text)
-            with desk().copies_now() as copy:
-                result = differences(what_if(desk().cpi, copy.path, number, int(time.time()), tried))
-        except Fault as told:
-            fault = says(told)
-    return page(
-        "what-if.html", 400 if fault else 200, month=month, text=text, fault=fault, result=result, example=EXAMPLE
-    )
+    number, text = month_of(month), field("text")
+    try:
+        tried = tried_of(text)
+        with desk().copies_now() as copy:
+            result = differences(what_if(desk().cpi, copy.path, number, int(time.time()), tried))
+    except Fault as fault:
+        return shown_what_if(month, 400, text=text, fault=says(fault))
+    return after("table.what_if_page", {"text": text, "result": result}, month=month)
 
 
 def tried_of(text: str) -> Asked:

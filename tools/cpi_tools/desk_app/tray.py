@@ -29,8 +29,8 @@ COLLECTORS, KEY = "collectors", 1
 
 class Waiting(NamedTuple):
     """A row: its number; its cells as they were given; the record that was judged, without a collector's key; where it
-    is; what was answered, or else why there is no answer; and of one on its way the number of the log's last line before
-    that."""
+    is; what was answered, or else why there is no answer; of one on its way the number of the log's last line before
+    that; and what stood in the office in its place as it was judged."""
 
     number: int
     cells: list[str]
@@ -39,6 +39,7 @@ class Waiting(NamedTuple):
     reply: Optional[Reply]
     why: str
     since: int
+    stood: str = ""
 
 
 def who(person: str) -> str:

@@ -23,6 +23,7 @@ from ..told import told as _
 from ..trial import State
 from .copies import Copies
 from .faults import met, says
+from .freezes import sum_of
 from .looks import Look, looks_of
 from .tables_kept import TablesKept
 
@@ -35,7 +36,8 @@ KEPT = 2
 
 class Tried(NamedTuple):
     """A month that was tried on a copy of the moment `at`: where the copy with the freeze lies, where the month stands,
-    the report, the prices to look at, and what a freeze would be (None if it is frozen, or can't be)."""
+    the report, the prices to look at, what a freeze would be (None if it is frozen, or can't be), and who asked for
+    it."""
 
     at: int
     copy: Path
@@ -43,14 +45,26 @@ class Tried(NamedTuple):
     report: Report
     looks: list[Look]
     closed: Optional[Closed]
+    by: str = ""
+
+    @property
+    def sum(self) -> str:
+        """A sum of what its pages show, so that nobody freezes another month than the page showed."""
+        table = self.report.table.decode()
+        looks = [[*it.slot, it.price, it.weight, str(it.says)] for it in self.looks]
+        said = [[str(it) for it in card] for card in self.report.cards]
+        carried = [[it.code, str(it.marks)] for it in self.closed.named] if self.closed else []
+        warned = [str(it) for it in self.report.warnings]
+        return sum_of([[*self.state.window], self.state.revision, table, looks, said, carried, warned])
 
 
 class Running(NamedTuple):
-    """A trial that runs: its month, since when, and what is being done."""
+    """A trial that runs: its month, since when, what is being done, and who asked for it."""
 
     month: int
     begun: int
     what: str
+    by: str = ""
 
 
 class Trials:
@@ -74,12 +88,12 @@ class Trials:
         """Why the last trial of a month came to nothing, or nothing."""
         return self._faults.get(month, Worded(""))
 
-    def begin(self, month: int) -> bool:
-        """Begins a trial of a month; whether it did: one at a time runs."""
+    def begin(self, month: int, by: str = "") -> bool:
+        """Begins a trial of a month for a person; whether it did: one at a time runs."""
         with self._lock:
             if self.running:
                 return False
-            self.running = Running(month, int(time.time()), _("copying the office"))
+            self.running = Running(month, int(time.time()), _("copying the office"), by)
         threading.Thread(target=self._run, args=(month,), daemon=True, name="trial").start()
         return True
 
@@ -132,7 +146,8 @@ class Trials:
             is_to_freeze = tried.frozen is not None and not tried.state.is_frozen
             closes = tried.state.window.closes
             closed = closed_of(facts, closes, tried.frozen, tried.early) if is_to_freeze and tried.frozen else None
-        return Tried(at, copy, tried.state, report, looks, closed)
+        by = self.running.by if self.running else ""
+        return Tried(at, copy, tried.state, report, looks, closed, by)
 
     def close(self) -> None:
         """Removes what is at hand."""

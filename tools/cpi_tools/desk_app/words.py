@@ -4,11 +4,14 @@ from __future__ import annotations
 
 import argparse
 import ipaddress
+import re
 import tempfile
 import urllib.parse
+from fractions import Fraction
 from pathlib import Path
 from typing import TYPE_CHECKING, Optional
 
+from ..exact import points
 from ..keys.words import an_origin
 from ..program import add_program
 from ..report_language import add_language, chosen_teller
@@ -20,6 +23,9 @@ if TYPE_CHECKING:
 LISTEN, URL = "127.0.0.1:8090", "http://127.0.0.1:8080"
 
 IDLE_MINUTES = 30
+
+REASON_ABOVE = 50_000
+"""Millionths of a point: half of the last digit that is published, so one such price may turn it."""
 
 
 def run(chosen: argparse.Namespace) -> int:
@@ -53,6 +59,8 @@ def run(chosen: argparse.Namespace) -> int:
         chosen.phones or "",
         teller.speech,
         site_of(chosen),
+        chosen.reason_above,
+        chosen.second_key_file,
     )
     serve(given, chosen.listen, chosen.front or "")
     return 0
@@ -86,6 +94,13 @@ def a_listener(text: str) -> str:
     return text
 
 
+def a_few_points(text: str) -> int:
+    """A type of argparse: points such as 0.05, as millionths of a point."""
+    if not re.fullmatch(r"[0-9]{1,3}(\.[0-9]{1,6})?", text, re.ASCII):
+        raise argparse.ArgumentTypeError(f"{text} isn't a number of points, like {points(REASON_ABOVE, 2)}")
+    return int(Fraction(text) * 1_000_000)
+
+
 def a_url(text: str) -> str:
     """A type of argparse: an address like http://127.0.0.1:8080, without a query."""
     at = urllib.parse.urlsplit(text)
@@ -117,6 +132,20 @@ refused
 """
 
 
+def add_second_person(words: argparse.ArgumentParser) -> None:
+    """The words of the second person, who confirms a freeze."""
+    says = "a freeze needs a reason if nobody has seen a price that moves all items by more"
+    words.add_argument(
+        "--reason-above",
+        type=a_few_points,
+        default=REASON_ABOVE,
+        metavar="POINTS",
+        help=f"{says} ({points(REASON_ABOVE, 2)})",
+    )
+    says = "a key that is asked of the person who confirms a freeze"
+    words.add_argument("--second-key-file", type=Path, metavar="FILE", help=says)
+
+
 def add_serve(jobs: argparse._SubParsersAction[ToolWords]) -> None:
     """The job `serve` of the tool `desk`."""
     words = jobs.add_parser("serve", help="the desk's pages in a browser", description=SERVE, epilog=SERVE_EPILOG)
@@ -146,6 +175,7 @@ def add_serve(jobs: argparse._SubParsersAction[ToolWords]) -> None:
         metavar="N",
         help="quotes that a trial leaves out in turn (%(default)s)",
     )
+    add_second_person(words)
     add(
         "--field-notes",
         type=at_least(0),

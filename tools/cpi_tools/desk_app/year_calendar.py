@@ -14,12 +14,41 @@ from ..terminal import month_text
 
 
 class Row(NamedTuple):
-    """A month: its three civil times (empty if nothing is known), whether it has a window, and whether it is frozen."""
+    """A month: its three civil times (empty if nothing is known), whether it has a window, whether it is frozen, and the
+    times that a person filled in, if the page shows those."""
 
     month: str
     times: tuple[str, str, str]
     is_set: bool
     is_frozen: bool
+    typed: Optional[tuple[str, str, str]] = None
+
+    @property
+    def was(self) -> str:
+        """What the form says that it showed of the month."""
+        return " ".join([SET if self.is_set else FREE, *self.times])
+
+
+SET, FREE = "set", "free"
+"""Whether a month has a window, in what a form says of it."""
+
+
+class Given(NamedTuple):
+    """A month of a form that came back: what the form showed of it, and the times that it has."""
+
+    month: str
+    was: str
+    times: tuple[str, str, str]
+
+    @property
+    def is_changed(self) -> bool:
+        """Whether a person changed what the form showed; times of a month that had no window are a proposal."""
+        return any(self.times) and self.was != " ".join([SET, *self.times])
+
+    @property
+    def is_touched(self) -> bool:
+        """Whether the times are others than the form showed."""
+        return self.was.partition(" ")[2] != " ".join(self.times)
 
 
 def civil(moment: int, clock: Clock) -> str:
@@ -64,7 +93,18 @@ def suggested(month: int, known: dict[int, tuple[str, str, str]]) -> Optional[tu
     return None
 
 
-def changed(rows: Sequence[Row], given: Sequence[Sequence[str]]) -> list[list[str]]:
-    """The rows of a form, month and three times, that have a time and aren't as the office has them already."""
-    standing = {(it.month, *it.times) for it in rows if it.is_set}
-    return [[*row] for row in given if any(row[1:]) and tuple(row) not in standing]
+def changed(given: Sequence[Given]) -> list[list[str]]:
+    """The rows that a person changed: month and three times."""
+    return [[it.month, *it.times] for it in given if it.is_changed]
+
+
+def quicker(rows: Sequence[Row], given: Sequence[Given]) -> list[str]:
+    """The months that a person changed and whose window is another one now than the form showed."""
+    now = {it.month: it.was for it in rows}
+    return [it.month for it in given if it.is_changed and now.get(it.month) != it.was]
+
+
+def as_filled_in(rows: Sequence[Row], given: Sequence[Given]) -> list[Row]:
+    """The months as they are now, with the times that a person filled in."""
+    typed = {it.month: it.times for it in given if it.is_touched}
+    return [it._replace(typed=typed.get(it.month)) for it in rows]

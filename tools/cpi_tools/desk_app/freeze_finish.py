@@ -1,0 +1,58 @@
+"""The freeze against the office: whether it would still be the one that was prepared, and its receipt once the office has
+carried it out."""
+
+from __future__ import annotations
+
+import contextlib
+import time
+
+from ..copying import private_copy
+from ..desk.closing import close
+from ..others import Worded
+from ..stored import read_copy
+from ..terminal import Fault
+from ..told import told as _
+from ..trial import as_frozen, state_of
+from . import frozen_receipts
+from .asked import desk
+from .faults import says
+from .freeze_steps import NOTHING
+from .freezes import Prepared, table_sum
+
+CHANGED = _(
+    "The office isn't as it was when this was prepared, so its table would be another one: drop it, and"
+    " prepare it again."
+)
+
+
+def what_differs(prepared: Prepared) -> Worded:
+    """Why a freeze now wouldn't be the one that was prepared, or nothing: it is tried again on a copy."""
+    try:
+        with desk().copies_now() as copy:
+            closed = close(desk().cpi, copy.path, prepared.month, int(time.time()))
+            with read_copy(copy.path) as office:
+                publishes = state_of(office, prepared.month).window.publishes
+    except Fault as fault:
+        return _("It can't be frozen now: {fault}", fault=says(fault))
+    is_other = [named.code for named in closed.named] != prepared.carry or table_sum(closed.table) != prepared.table
+    if is_other or prepared.publishes not in (0, publishes):
+        return CHANGED
+    return NOTHING
+
+
+def finish(prepared: Prepared) -> None:
+    """Keeps the receipt of a freeze that was carried out, and forgets what was prepared. Raises Fault if the log can't be
+    written: then the next page of the month tries it again."""
+    if frozen_receipts.kept(desk().log, prepared.month, prepared.revision) is None:
+        frozen_receipts.keep(desk().log, frozen_receipts.receipt_of(prepared, frozen_table(prepared)))
+    desk().prepared.drop()
+
+
+def frozen_table(prepared: Prepared) -> bytes:
+    """The table that the office has of a freeze; if no copy can be read now, the one that was confirmed."""
+    with contextlib.suppress(Fault), desk().copies_now() as copy:
+        with read_copy(copy.path) as office:
+            state = state_of(office, prepared.month)
+        with private_copy(copy.path) as own:
+            return as_frozen(desk().cpi, own, state, tuple(prepared.carry)).table
+    return prepared.text.encode()

@@ -1,0 +1,126 @@
+"""The receipt of a freeze: what was frozen, who prepared and who confirmed it, and the figures of its table. It is a line of
+the desk's log, so its page is there as long as the log is."""
+
+from __future__ import annotations
+
+from typing import NamedTuple, Optional
+
+from ..desk.report import changes
+from ..desk.trying import rows_of
+from ..exact import ALL_ITEMS, depth_of, points
+from ..others import of_others
+from ..sections import Section, columns
+from ..terminal import month_text
+from ..told import Figure, Told
+from ..told import told as _
+from .desk_log import FROZEN, FROZEN_STEP, DeskLog, Entry
+from .freezes import Prepared, table_sum
+
+HEADS = columns("=code", "title", "#level", "#month %", "#year %")
+
+LEVEL, MONTH_CHANGE, YEAR_CHANGE = 3, 4, 5
+"""Cells of a row of a table: the chained index, and both changes in percent."""
+
+
+class Figures(NamedTuple):
+    """A node of the table: its code and title, its level in points with one decimal, its changes in percent; one that it
+    hasn't is empty."""
+
+    code: str
+    title: str
+    level: str
+    month: str
+    year: str
+
+
+class Receipt(NamedTuple):
+    """What was frozen. Moments are in seconds since 1970 UTC; `table` is the SHA-256 of the bytes of the table that the
+    office has, `prepared` that of the one which was confirmed; `because` is why prices were left that nobody had seen.
+    """
+
+    month: int
+    revision: int
+    prepared_by: str
+    prepared_at: int
+    confirmed_by: str
+    confirmed_at: int
+    because: str
+    carry: list[str]
+    why: list[str]
+    table: str
+    prepared: str
+    publishes: int
+    figures: list[Figures]
+
+    @property
+    def section(self) -> Section:
+        """All items and the divisions, as a table of the page."""
+        rows = [[row.code, of_others(row.title), row.level, row.month, row.year] for row in self.figures]
+        return Section("figures", _("All items and divisions"), "", HEADS, rows)
+
+    @property
+    def lead(self) -> Optional[Told]:
+        """The level of all items and its changes, in a sentence; None of a table without rows."""
+        top = next((row for row in self.figures if row.code == ALL_ITEMS), None)
+        if top is None:
+            return None
+        named = {"level": Figure(top.level), "month": _signed(top.month)}
+        return changes(True, {**named, "annual": _signed(top.year)} if top.year else named)
+
+
+def _signed(change: str) -> Figure:
+    return Figure(change.replace("-", "\u2212"))
+
+
+def receipt_of(prepared: Prepared, table: bytes) -> Receipt:
+    """The receipt of a freeze that was confirmed and carried out, with the table that the office has of it."""
+    return Receipt(
+        month=prepared.month,
+        revision=prepared.revision,
+        prepared_by=prepared.by,
+        prepared_at=prepared.at,
+        confirmed_by=prepared.confirmed_by,
+        confirmed_at=prepared.confirmed_at,
+        because=prepared.because,
+        carry=prepared.carry,
+        why=prepared.why,
+        table=table_sum(table),
+        prepared=prepared.table,
+        publishes=prepared.publishes,
+        figures=figures_of(table),
+    )
+
+
+def figures_of(table: bytes) -> list[Figures]:
+    """All items and the divisions of a table."""
+    rows = [(code, row) for code, row in rows_of(table).items() if depth_of(code) <= 1]
+    return [
+        Figures(code, row[-1], points(int(row[LEVEL].replace(".", "")), 1), row[MONTH_CHANGE], row[YEAR_CHANGE])
+        for code, row in rows
+    ]
+
+
+class Kept(NamedTuple):
+    """A receipt with its line of the log, and the sum of that line."""
+
+    receipt: Receipt
+    line: int
+    sum: str
+
+
+def keep(log: DeskLog, receipt: Receipt) -> Entry:
+    """Writes a receipt into the log. Raises Fault."""
+    what = f"{month_text(receipt.month)}, revision {receipt.revision}; table {receipt.table}"
+    text = FROZEN_STEP.format(what=what, by=receipt.prepared_by)
+    return log.append(receipt.confirmed_by, FROZEN, replies=[receipt._asdict()], text=text)
+
+
+def kept(log: DeskLog, month: int, revision: int) -> Optional[Kept]:
+    """The receipt of a month's revision, if the log has one."""
+    for entry in reversed(log.entries):
+        if entry.what == FROZEN and entry.replies:
+            cells = {**entry.replies[0]}
+            if (cells["month"], cells["revision"]) == (month, revision):
+                cells["figures"] = [Figures(*row) for row in cells["figures"]]
+                return Kept(Receipt(**cells), entry.number, log.sum_of_line(entry.number))
+    return None
