@@ -23,6 +23,7 @@ from .marks import Marks
 from .observed import Observed
 from .offers import Offer
 from .office import Office
+from .photographs import Turns
 from .publishing import Publisher, Site
 from .seals import Seal
 from .second_key import SecondKey
@@ -88,6 +89,7 @@ class Desk:
         self.second_key = SecondKey(given.second_key) if given.second_key else None
         months = given.field_months
         self.field: Optional[FieldNotes] = FieldNotes(given.room / FIELD_NOTES, months) if months else None
+        self.turns = Turns()
         self.tray = Tray(given.room / "rows.json")
         self.drafts = Drafts(self.cpi, self.copies, given.room / "next-year")
         self.publisher = self._publisher(given.site) if given.site else None

@@ -115,17 +115,20 @@ class FieldNotes:
 
     # ---- writing
 
+    def number_of(self, of: Of, said: Said) -> Optional[int]:
+        """The number that the same note of the same price has, if it is kept; None if there is room for it. So whoever
+        sends it again, or too many, costs nothing else. Raises TooMany or Fault."""
+        with self._asking() as link:
+            return _number_of(link, of, digest_of(of, said))
+
     def add(self, of: Of, said: Said, photo: Optional[bytes]) -> int:
         """Keeps a note with its photograph as it is to be kept; its number. The same note of the same price has the
         number that it had. It is on the disk afterwards. Raises TooMany or Fault."""
         digest = digest_of(of, said)
         with self._asking() as link:
-            had = link.execute("SELECT number FROM note WHERE digest = ?", (digest,)).fetchone()
-            if had:
-                return int(had[0])
-            counted = "SELECT count(*) FROM note WHERE month = ? AND collector = ?"
-            if link.execute(counted, (of.month, of.collector)).fetchone()[0] >= MOST_NOTES:
-                raise TooMany
+            had = _number_of(link, of, digest)
+            if had is not None:
+                return had
             row = (of.collector, of.slot, of.month, of.receipt, int(self._clock()), *said[:4], photo, digest)
             made = link.execute(
                 "INSERT INTO note (collector, slot, month, receipt, at, is_sale, brand, quantity, text, photo, digest)"
@@ -167,6 +170,17 @@ class FieldNotes:
         with self._asking() as link:
             row = link.execute(f"SELECT photo FROM note WHERE number = ?{where}", (number, *of)).fetchone()
             return row[0] if row else None
+
+
+def _number_of(link: sqlite3.Connection, of: Of, digest: str) -> Optional[int]:
+    """The number of the note with a sum; None if another one may be kept of that collector and month. Raises TooMany."""
+    had = link.execute("SELECT number FROM note WHERE digest = ?", (digest,)).fetchone()
+    if had:
+        return int(had[0])
+    counted = "SELECT count(*) FROM note WHERE month = ? AND collector = ?"
+    if link.execute(counted, (of.month, of.collector)).fetchone()[0] >= MOST_NOTES:
+        raise TooMany
+    return None
 
 
 def digest_of(of: Of, said: Said) -> str:

@@ -18,10 +18,11 @@ from ..told import told as _
 from .asked import desk, month_of
 from .field_forms import Refused, sent_of
 from .field_limits import MOST_MESSAGE_BYTES, MOST_NOTES
-from .field_notes import FieldNotes, Of, TooMany
+from .field_notes import FieldNotes, Of, Said, TooMany
 from .form_bounds import has_too_many
 from .known_collectors import KnownCollector, NoCollector, collector_of_field
-from .photographs import NotAPicture, without_traces
+from .one_photograph import NO_PICTURE
+from .photographs import TOLD, Busy, NotAPicture, without_traces
 
 views = flask.Blueprint("field", __name__, url_prefix="/notes")
 
@@ -44,8 +45,25 @@ def caller(month: int) -> KnownCollector:
 
 @views.post("/<month>/<int:slot>")
 def send(month: str, slot: int) -> Response:
-    """Takes a note of a price."""
+    """Takes a note of a price. What costs little is looked at first, and a photograph is opened last."""
     notes, number = kept(), month_of(month)
+    photo = bounded_photo()
+    if photo and desk().turns.is_full():
+        raise Busy
+    who = caller(number)
+    sent = sent_of(flask.request.form, photo)
+    if number < notes.first_month():
+        raise Refused(409, fault="past", wanted=_("A month from {month} on.", month=month_text(notes.first_month())))
+    if sent.receipt > who.receipts.get(slot, 0):
+        raise Refused(
+            409, fault="price", wanted=_("The receipt of a price that the office has of this slot and month.")
+        )
+    return flask.jsonify(note=number_of(notes, Of(who.collector, slot, number, sent.receipt), sent.said))
+
+
+def bounded_photo() -> bytes:
+    """The photograph of a message, empty for none. Raises Refused if the message is too long, or NotAPicture if it has
+    one without a byte."""
     length = flask.request.content_length
     if length is None or length > MOST_MESSAGE_BYTES:
         raise Refused(
@@ -53,20 +71,23 @@ def send(month: str, slot: int) -> Response:
         )
     if has_too_many():
         flask.abort(413)
-    who = caller(number)
-    photo = flask.request.files.get("photo")
-    sent = sent_of(flask.request.form, photo.read() if photo else b"")
-    if number < notes.first_month():
-        raise Refused(409, fault="past", wanted=_("A month from {month} on.", month=month_text(notes.first_month())))
-    if sent.receipt > who.receipts.get(slot, 0):
-        raise Refused(
-            409, fault="price", wanted=_("The receipt of a price that the office has of this slot and month.")
-        )
-    of = Of(who.collector, slot, number, sent.receipt)
+    sent = flask.request.files.get("photo")
+    photo: bytes = sent.read() if sent else b""
+    if sent and not photo:
+        raise NotAPicture(TOLD[NO_PICTURE])
+    return photo
+
+
+def number_of(notes: FieldNotes, of: Of, said: Said) -> int:
+    """The number of a note that is kept, now or before. Raises Refused, NotAPicture, Busy or Fault."""
     try:
-        return flask.jsonify(note=notes.add(of, sent.said, without_traces(sent.said.photo) if photo else None))
-    except NotAPicture as fault:
-        raise Refused(400, fault="picture", wanted=fault.args[0]) from fault
+        had = notes.number_of(of, said)
+        if had is not None:
+            return had
+        if not said.photo:
+            return notes.add(of, said, None)
+        with desk().turns.turn(of.collector):
+            return notes.add(of, said, without_traces(said.photo))
     except TooMany as fault:
         raise Refused(
             409, fault="many", wanted=_("At most {most} notes of a month.", most=whole(MOST_NOTES))
@@ -100,12 +121,27 @@ def _refused(refused: Refused) -> Response:
     return answer
 
 
+@views.errorhandler(NotAPicture)
+def _no_picture(fault: NotAPicture) -> Response:
+    return _refused(Refused(400, fault="picture", wanted=fault.args[0]))
+
+
 @views.errorhandler(Fault)
 def _fault(fault: Fault) -> Response:
     """(Why is the desk's: a collector learns only to come again.)"""
     flask.current_app.logger.warning("field: %s", fault)
     answer = _refused(Refused(503, fault="office"))
     answer.headers["Retry-After"] = "10"
+    return answer
+
+
+@views.errorhandler(Busy)
+def _busy(busy: Busy) -> Response:
+    """(The phone keeps the note, and sends it again.)"""
+    if busy.args:
+        flask.current_app.logger.warning("field: a photograph can't be opened now: %s", busy)
+    answer = _refused(Refused(503, fault="busy"))
+    answer.headers["Retry-After"] = "2"
     return answer
 
 
