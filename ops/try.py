@@ -89,6 +89,9 @@ SITE = "published"
 CALENDAR = "calendar.json"
 """The windows of the office's calendar, as they were when it started."""
 
+DESK_SOCKET = "desk.sock"
+"""Where the desk's application listens for the front, and for nobody else: it is in the folder of a trial."""
+
 IN_MEMORY = "/dev/shm"
 """Where the made-up country lives, if it can: a disk would keep each of its 200,000 commands, one after another."""
 
@@ -214,7 +217,16 @@ def place_of(address: str, port: int, folder: Path) -> Place:
     if is_listening(at, port):
         raise Fault(f"port {port} of {address} is taken: name another by --port")
     own = {"published": folder / SITE, "calendar": folder / CALENDAR}
-    return Place(host, at, port, f"unix:{folder}/plain.sock", free_port(), ROOT / "web", **own, desk_port=free_port())
+    return Place(
+        host,
+        at,
+        port,
+        f"unix:{folder}/plain.sock",
+        free_port(),
+        ROOT / "web",
+        **own,
+        desk=f"unix:{folder / DESK_SOCKET}",
+    )
 
 
 def of_a_trial(folder: Path, text: str) -> str:
@@ -300,7 +312,7 @@ def desk_of(chosen: argparse.Namespace, cpi: Cpi, file: Path, place: Place, conf
     room, spoken = file.with_name(f"{file.stem}-desk"), chosen.language if chosen.language != SOURCE else None
     front = f"{place.url}/desk/"
     site = config.with_name(SITE)
-    tried = Tried(place.office_port, file, chosen.zone, room, place.desk_port, front, spoken, site, config)
+    tried = Tried(place.office_port, file, chosen.zone, room, Path(place.desk.removeprefix("unix:")), front, spoken, site, config)
     return TriedDesk(cpi, tried)
 
 

@@ -108,7 +108,7 @@ def filled(folder: Path, front: Front) -> str:
     text = text.replace("{\n\tservers {", own)
     words = {"HOST": "localhost", "PORT": str(front.office.port), "LOG": str(front.log), "WEB": f"{folder}/web"}
     words.update(
-        DESKPORT=str(front.desk.port),
+        DESK=f"127.0.0.1:{front.desk.port}",
         CONFIG=f"{folder}/set.js",
         SITE=f"{folder}/site",
         CALENDAR=f"{folder}/calendar.json",

@@ -523,7 +523,7 @@ def test_a_night_after_another_one_of_the_day_and_one_that_broke_off(tmp_path: P
 FILLED = {
     "@HTTP@": "18080", "@HTTPS@": "18443", "@HOST@": "localhost", "@PORT@": "18081", "@CERT@": "cert.pem",
     "@CERTKEY@": "key.pem", "@LOG@": "front.log", "@CACHE@": "cache", "@SOCKET@": "front.sock", "@WEB@": "web",
-    "@CONFIG@": "config.js", "@SITE@": "site", "@CALENDAR@": "calendar.json", "@DESKPORT@": "18090",
+    "@CONFIG@": "config.js", "@SITE@": "site", "@CALENDAR@": "calendar.json", "@DESK@": "127.0.0.1:18090",
 }  # fmt: skip
 
 
@@ -531,7 +531,7 @@ def filled(name: str, folder: Path) -> str:
     """A file of a front with its words between @ signs filled in; files lie in a folder."""
     text = (OPS / name).read_text()
     for word, value in FILLED.items():
-        text = text.replace(word, value if value.isdigit() or value == "localhost" else str(folder / value))
+        text = text.replace(word, value if value.replace(".", "").replace(":", "").isdigit() or value == "localhost" else str(folder / value))
     assert not re.search("@[A-Z]+@", text)
     return text
 

@@ -146,7 +146,7 @@ def test_whole_folders_are_in_it(members: dict[str, tarfile.TarInfo]) -> None:
 
 def test_each_file_of_ops_has_its_place(members: dict[str, tarfile.TarInfo]) -> None:
     places = {path.name: {str(Path(name).parent) for name in members if Path(name).name == path.name}
-              for path in (ROOT / "ops").iterdir() if path.name not in ("cpi.sysusers", "cpi.tmpfiles")}  # fmt: skip
+              for path in (ROOT / "ops").iterdir() if path.suffix not in (".sysusers", ".tmpfiles")}  # fmt: skip
     units, programs, others = {"usr/lib/systemd/system"}, {"usr/lib/cpi"}, {"usr/share/cpi/ops"}
     assert places == {
         "cpi.service": units, "cpi-backup.service": units, "cpi-backup.timer": units, "cpi-serve": programs,
@@ -155,7 +155,8 @@ def test_each_file_of_ops_has_its_place(members: dict[str, tarfile.TarInfo]) -> 
         "cpi-backup": programs, "cpi-stopped": programs, "nginx.conf": others, "Caddyfile": others, "logrotate-cpi": others,
         "try": others, "try.py": others, "sshd-cpi.conf": others, "office.conf": {"etc/cpi"},
     }  # fmt: skip
-    assert {"usr/lib/sysusers.d/cpi.conf", "usr/lib/tmpfiles.d/cpi.conf"} <= set(members)
+    tables = {"usr/lib/sysusers.d/cpi.conf", "usr/lib/tmpfiles.d/cpi.conf", "usr/lib/tmpfiles.d/cpi-desk.conf"}
+    assert tables <= set(members)
 
 
 def test_the_pages_are_there_as_they_stand(members: dict[str, tarfile.TarInfo]) -> None:
@@ -178,7 +179,7 @@ def test_nothing_is_started_by_it(package: Path, members: dict[str, tarfile.TarI
     root = '${DPKG_ROOT:+--root="$DPKG_ROOT"}'
     assert asked == {
         f"systemd-sysusers {root} cpi.conf",
-        f"systemd-tmpfiles {root} --create cpi.conf || true",
+        f"systemd-tmpfiles {root} --create cpi.conf cpi-desk.conf || true",
         "systemctl --system daemon-reload",
         "systemctl --quiet is-active cpi.service; then",
         "deb-systemd-invoke stop cpi-backup.timer cpi-follow.service cpi-desk.service cpi.service",

@@ -23,14 +23,16 @@ PREFIX = "/desk"
 
 
 class DeskPages:
-    """The process, at the port that the front leads to, with more words on its command line; it can be killed, and another
-    one takes its place over the same folder. `tools` is where its program is."""
+    """The process, with more words on its command line: behind a front at a socket that only the front opens, else at a
+    port, to which the front leads too. It can be killed, and another one takes its place over the same folder. `tools` is
+    where its program is."""
 
     tools = ROOT / "tools"
 
     def __init__(self, stage: Stage, folder: Path, front: str = "", *more: str):
         self.stage, self.folder, self.front, self.more = stage, folder, front, more
-        self.port = stage.front.place.desk_port
+        self.port = int(stage.front.place.desk.rpartition(":")[2]) if not front else 0
+        self.socket = stage.folder / "desk.sock"
         self.process: Optional[subprocess.Popen[str]] = None
         self.start()
 
@@ -47,7 +49,12 @@ class DeskPages:
             "--file",
             str(self.stage.db),
         ]
-        words += ["--room", str(self.folder / "room"), "--listen", f"127.0.0.1:{self.port}"]
+        words += [
+            "--room",
+            str(self.folder / "room"),
+            "--listen",
+            str(self.socket) if self.front else f"127.0.0.1:{self.port}",
+        ]
         words += ["--program", str(self.stage.cpi.path), *(["--front", self.front] if self.front else []), *self.more]
         told = {**os.environ, "PYTHONPATH": str(self.tools), "PYTHONDONTWRITEBYTECODE": "1"}
         command = [sys.executable, "-m", "cpi_tools", *words]
@@ -67,7 +74,8 @@ def desk_pages(stage: Stage, folder: Path, front: str = "", *more: str) -> Itera
     """The application, until the end."""
     pages = DeskPages(stage, folder, front, *more)
     try:
-        yield pages
+        with stage.desk_at(f"unix:{pages.socket}") if front else contextlib.nullcontext():
+            yield pages
     finally:
         pages.kill()
 

@@ -50,10 +50,27 @@ class Stage:
         self.plain_port = plain_port
         self.calendar, self.published = folder / "calendar.json", folder / "published"
         plain, web, own = f"127.0.0.1:{plain_port}", ROOT / "web", (None, self.published, self.calendar)
-        place = Place("localhost", "127.0.0.1", free_port(), plain, relay_port, web, *own, desk_port=free_port())
+        place = Place(
+            "localhost", "127.0.0.1", free_port(), plain, relay_port, web, *own, desk=f"127.0.0.1:{free_port()}"
+        )
         draw_certificate(folder, place.host)
         self.front = Front(ROOT / "ops/nginx.conf", folder, place)
         self.context = ssl.create_default_context(cafile=str(folder / "ca.crt"))
+
+    @contextlib.contextmanager
+    def desk_at(self, desk: str) -> Iterator[None]:
+        """The front looks for the desk's application at another place meanwhile."""
+        place = self.front.place
+        try:
+            self._desk_is_at(desk)
+            yield
+        finally:
+            self._desk_is_at(place.desk)
+
+    def _desk_is_at(self, desk: str) -> None:
+        self.front.stop()
+        self.front.place = self.front.place._replace(desk=desk)
+        self.front.start()
 
     @property
     def url(self) -> str:

@@ -2,7 +2,9 @@
 
 from __future__ import annotations
 
+import os
 import re
+import stat
 from collections.abc import Callable, Iterator
 from pathlib import Path
 
@@ -24,6 +26,20 @@ def fronted(stage: Stage, tmp_path: Path) -> Iterator[DeskPages]:
     """The application behind the front, as CPI_DESK_FRONT sets it."""
     with desk_pages(stage, tmp_path, f"{stage.url}{PREFIX}/") as it:
         yield it
+
+
+def test_nobody_past_the_front_reaches_it(fronted: DeskPages, stage: Stage) -> None:
+    """There is no port, and the socket is open to its owner and its folder's group."""
+    assert stat.S_IMODE(fronted.socket.stat().st_mode) == 0o660
+    assert fronted.process and not listening_ports(fronted.process.pid)
+
+
+def listening_ports(process: int) -> list[str]:
+    """The ports of TCP at which a process listens."""
+    table = "".join(Path(f"/proc/net/{name}").read_text(encoding="ascii") for name in ("tcp", "tcp6"))
+    at = {cells[9]: cells[1] for cells in map(str.split, table.splitlines()) if cells[3] == "0A"}
+    links = (os.readlink(it) for it in Path(f"/proc/{process}/fd").iterdir() if it.is_symlink())
+    return [at[it[8:-1]] for it in links if it.startswith("socket:[") and it[8:-1] in at]
 
 
 def signed_in(stage: Stage, key: str, **fields: str) -> Answer:
@@ -138,9 +154,12 @@ def test_without_its_address_there_it_says_what_to_set(stage: Stage, tmp_path: P
         assert answer.status == 400 and b"CPI_DESK_FRONT" in answer.body and "Set-Cookie" not in answer.fields
 
 
-def test_the_front_and_the_unit_name_one_port_and_one_address() -> None:
+def test_the_front_and_the_unit_name_one_socket_and_one_address() -> None:
     ops = {name: (ROOT / "ops" / name).read_text(encoding="utf-8") for name in ("nginx.conf", "Caddyfile", "cpi-desk")}
     guide = (ROOT / "docs/run/FRONT.md").read_text(encoding="utf-8")
-    assert "127.0.0.1:8090" in ops["cpi-desk"] and guide.count("@DESKPORT@|8090|") == 1
+    folder = (ROOT / "ops/cpi-desk.tmpfiles").read_text(encoding="utf-8")
+    assert "127.0.0.1:8090" in ops["cpi-desk"] and "CPI_DESK_LISTEN=/run/cpi-desk/front.sock" in ops["cpi-desk"]
+    assert guide.count("@DESK@|unix:/run/cpi-desk/front.sock|") == 1 and "\nd /run/cpi-desk 2710 " in folder
+    assert "unix:/run/cpi-desk/front.sock" in ops["nginx.conf"] and "unix//run/cpi-desk/front.sock" in ops["Caddyfile"]
     for name in ("nginx.conf", "Caddyfile"):
-        assert "127.0.0.1:@DESKPORT@" in ops[name] and "https://@HOST@/desk/" in ops[name]
+        assert "@DESK@" in ops[name] and "https://@HOST@/desk/" in ops[name]

@@ -64,8 +64,10 @@ def sent_to_the_front(stage: Stage, number: int) -> int:
 
 def sent_past_the_front(pages: DeskPages) -> bytes:
     """What the application answers to a long form of somebody at the machine."""
-    with socket.create_connection(("127.0.0.1", pages.port), 120) as line:
-        line.sendall(head_of(f"127.0.0.1:{pages.port}", f"{PREFIX}/sign-in", len(FIELDS)) + FIELDS)
+    with socket.socket(socket.AF_UNIX) as line:
+        line.settimeout(120)
+        line.connect(str(pages.socket))
+        line.sendall(head_of(f"localhost:{pages.stage.port}", f"{PREFIX}/sign-in", len(FIELDS)) + FIELDS)
         found = b""
         while piece := line.recv(65536):
             found += piece

@@ -30,13 +30,14 @@ DAYS_LEFT = 7
 LOCALHOST = "localhost"
 
 
-DESK_PORT = 8090
+DESK = "127.0.0.1:8090"
 """Where the desk's application listens if nobody says otherwise."""
 
 
 class Place(NamedTuple):
     """Where a front listens and what it serves: its name, address and port; where plain HTTP comes in (a port with its
-    address, or a socket), the ports of the office and of the desk's application, and the folder of its pages.
+    address, or a socket), the port of the office, and the folder of its pages. `desk` is where the desk's application
+    listens: an address with its port, or `unix:` and the path of a socket.
 
     `config` is the `config.js` of the pages, `published` the folder of the website, and `calendar` the file of `cpi-tools
     calendar`; without them they are those of the folder of the pages.
@@ -51,7 +52,7 @@ class Place(NamedTuple):
     config: Optional[Path] = None
     published: Optional[Path] = None
     calendar: Optional[Path] = None
-    desk_port: int = DESK_PORT
+    desk: str = DESK
 
     @property
     def url(self) -> str:
@@ -165,7 +166,7 @@ def configuration(source: Path, folder: Path, place: Place) -> str:
             "CACHE": f"{folder}/cache",
             "LOG": f"{folder}/access.log",
             "PORT": str(place.office_port),
-            "DESKPORT": str(place.desk_port),
+            "DESK": place.desk,
         },
     )
 

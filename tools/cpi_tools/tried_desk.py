@@ -17,7 +17,7 @@ PACKAGES = ("flask", "waitress", "jinja2")
 
 
 class Tried(NamedTuple):
-    """What the application of a trial is about: the office's port, file and clock, its own folder and port, its address
+    """What the application of a trial is about: the office's port, file and clock, its own folder and socket, its address
     behind the front, the language of its pages, or none if it is English, and the website's folder and configuration.
     """
 
@@ -25,7 +25,7 @@ class Tried(NamedTuple):
     file: Path
     zone: str
     room: Path
-    port: int
+    socket: Path
     front: str
     language: Optional[str]
     site: Path
@@ -49,7 +49,7 @@ class TriedDesk:
         """The command."""
         it = self.tried
         words = ["--office", f"http://127.0.0.1:{it.office_port}", "--file", str(it.file), "--zone", it.zone]
-        words += ["--room", str(it.room), "--listen", f"127.0.0.1:{it.port}", "--front", it.front]
+        words += ["--room", str(it.room), "--listen", str(it.socket), "--front", it.front]
         words += ["--site", str(it.site), "--site-config", str(it.config)]
         return [sys.executable, "-m", "cpi_tools", "desk", "serve", *words, "--program", str(self.cpi.path)]
 

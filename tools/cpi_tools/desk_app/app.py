@@ -144,10 +144,11 @@ def _let_in() -> Optional[Response]:
     desk: Desk = flask.current_app.extensions["desk"]
     reached: Reached = flask.current_app.extensions["reached"]
     request = flask.request
+    if request.path.startswith(FIELD_PATHS):
+        # (each of these has a key in a field of its own, which no page of elsewhere knows)
+        return None if request.blueprint == FIELD else _refused(404, NO_PAGE)
     if request.host.lower() not in reached.hosts:
         return _refused(400, _not_here(request.host, reached))
-    if request.path.startswith(FIELD_PATHS):
-        return None if request.blueprint == FIELD else _refused(404, NO_PAGE)
     origin = request.headers.get("Origin")
     if request.method == "POST" and origin and origin not in reached.origins:
         return _refused(403, _("The form came from another site, so nothing was done."))

@@ -1,24 +1,40 @@
-"""How the application is reached: at this machine, and perhaps through a front that speaks TLS and passes on whose request
-it is."""
+"""How the application is reached: at a port of this machine, or through a front that speaks TLS and passes on whose
+request it is.
+
+Whoever may open the place at which the application listens may say whose request it is, as the front does. A port is
+open to each process of the machine; a socket is for the front only, by its owner and mode.
+"""
 
 from __future__ import annotations
 
 import ipaddress
 import urllib.parse
+from pathlib import Path
 from typing import NamedTuple, Optional
+
+SOCKET_PEER = "localhost"
+"""The address that waitress names for whoever comes by a socket."""
 
 DEFAULT_PORTS = {"http": ":80", "https": ":443"}
 
 
 class Reached(NamedTuple):
-    """Host and port where the application listens, and its address behind a front, if there is one."""
+    """Where the application listens, a host with a port or the path of a socket, and its address behind a front, if there
+    is one."""
 
     listen: str
     front: Optional[str]
 
     @property
+    def socket(self) -> Optional[Path]:
+        """The socket at which it listens; None if that is a port."""
+        return Path(self.listen) if self.listen.startswith("/") else None
+
+    @property
     def own_hosts(self) -> set[str]:
-        """The values of the field Host of those who come without the front."""
+        """The values of the field Host of those who come without the front: by a socket nobody does."""
+        if self.socket:
+            return set()
         return {self.listen, f"localhost:{self.listen.rpartition(':')[2]}"}
 
     @property
@@ -47,8 +63,12 @@ class Reached(NamedTuple):
     @property
     def trusted_proxy(self) -> Optional[str]:
         """The address from which the front calls, who says whose request it is; None without one."""
+        if not self.front:
+            return None
+        if self.socket:
+            return SOCKET_PEER
         host = ipaddress.ip_address(self.listen.rpartition(":")[0].strip("[]"))
-        return ("::1" if host.version == 6 else "127.0.0.1") if self.front else None
+        return "::1" if host.version == 6 else "127.0.0.1"
 
     def is_secure(self, host: str) -> bool:
         """Whether a browser that asks for a host does so by TLS."""

@@ -1,13 +1,16 @@
-"""The application on a port of this machine, by waitress: requests come in, several at a time, until a signal ends
+"""The application on a port or a socket of this machine, by waitress: requests come in, several at a time, until a signal ends
 it."""
 
 from __future__ import annotations
 
 import contextlib
+import errno
 import os
+import socket
 import sys
 import threading
 from pathlib import Path
+from typing import Any
 
 import waitress
 
@@ -20,13 +23,16 @@ from .reached import Reached
 
 THREADS = 8
 
+SOCKET_MODE = "660"
+"""The owner of the socket and its group open it; that group is its folder's."""
+
 FORGETTING = 3_600
 """Seconds from one look for notes of the field that are kept no longer to the next."""
 
 
 def serve(given: Given, listen: str, front: str) -> None:
-    """Serves until the process is asked to end. `listen` is an address with its port, `front` the application's address
-    behind a front or nothing. Raises Fault."""
+    """Serves until the process is asked to end. `listen` is an address with its port or the path of a socket, `front` the
+    application's address behind a front or nothing. Raises Fault."""
     room(given.room)
     reached = Reached(listen, front or None)
     with new_room("cpi-desk-copies-", given.copies) as copies:
@@ -53,7 +59,7 @@ def listening(desk: Desk, reached: Reached) -> None:
         # (a front says whose request it is, and nobody else may)
         server = waitress.create_server(
             make_app(desk, reached),
-            listen=reached.listen,
+            **_place(reached),
             threads=THREADS,
             url_prefix=reached.prefix,
             ident="",
@@ -77,6 +83,17 @@ def listening(desk: Desk, reached: Reached) -> None:
     finally:
         over.set()
         server.close()
+
+
+def _place(reached: Reached) -> dict[str, Any]:
+    """Where it listens, in the words of waitress. The socket of another application that still listens isn't taken away.
+    Raises OSError."""
+    if not reached.socket:
+        return {"listen": reached.listen}
+    with contextlib.closing(socket.socket(socket.AF_UNIX)) as other:
+        if other.connect_ex(str(reached.socket)) == 0:
+            raise OSError(errno.EADDRINUSE, os.strerror(errno.EADDRINUSE))
+    return {"unix_socket": str(reached.socket), "unix_socket_perms": SOCKET_MODE}
 
 
 def _forgetting(desk: Desk, over: threading.Event) -> None:

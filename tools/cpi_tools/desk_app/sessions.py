@@ -35,6 +35,10 @@ class NotSignedIn(Fault):
     """A name or a key that isn't taken; one line."""
 
 
+class WrongKey(NotSignedIn):
+    """A key that isn't the desk's."""
+
+
 class Session:
     """A person at the desk."""
 
@@ -96,7 +100,7 @@ class Sessions:
                 )
             if not KEY.fullmatch(key) or not self._is_desk(key):
                 self._tries.wrong(address)
-                raise NotSignedIn(NO_KEY)
+                raise WrongKey(NO_KEY)
             self._tries.right(address)
         secret = self._seal.sealed(secrets.token_urlsafe(32))
         with self._lock:

@@ -2,6 +2,7 @@
 
 from __future__ import annotations
 
+import ipaddress
 import urllib.parse
 
 import flask
@@ -12,7 +13,7 @@ from .asked import desk, page
 from .faults import says
 from .held_views import PATH
 from .office import NoReply, NotSent
-from .sessions import NotSignedIn
+from .sessions import NotSignedIn, WrongKey
 from .typed import key_of
 
 views = flask.Blueprint("sign_in", __name__)
@@ -20,6 +21,9 @@ views = flask.Blueprint("sign_in", __name__)
 KEPT = _("Your session had ended, so nothing was done. What you filled in is kept: sign in, and you can send it again.")
 
 COOKIE = "cpi_desk"
+
+MOST_OF_ADDRESS = 60
+"""Letters of an address that is none, as far as a line has it."""
 
 MOST_OF_PLACE = 2_000
 """Letters, as an address has them, of the page to which a person goes on: the form is sent without a session, so it is
@@ -30,6 +34,14 @@ def place_after(to: str) -> str:
     """Where a person goes on after signing in: a page of this application, else its first one."""
     is_own = to.startswith("/") and not to.startswith("//") and "\\" not in to and to.isprintable()
     return flask.request.script_root + (to if is_own else "/")
+
+
+def shown(address: str) -> str:
+    """An address as a line has it, whatever a front wrote."""
+    try:
+        return str(ipaddress.ip_address(address))
+    except ValueError:
+        return ascii(address[:MOST_OF_ADDRESS])
 
 
 @views.get("/sign-in")
@@ -46,9 +58,13 @@ def enter() -> Response:
     """Signs a person in."""
     form = flask.request.form
     name, to = form.get("name", ""), form.get("to", "/")
+    address = flask.request.remote_addr or ""
     try:
-        secret = desk().sessions.sign_in(name, key_of(form.get("key", "")), flask.request.remote_addr or "")
+        secret = desk().sessions.sign_in(name, key_of(form.get("key", "")), address)
     except (NotSignedIn, NotSent, NoReply) as fault:
+        if isinstance(fault, WrongKey):
+            # (neither key nor name: a person may have typed one in the place of the other)
+            flask.current_app.logger.warning("desk: a wrong key from %s", shown(address))
         status = 403 if isinstance(fault, NotSignedIn) else 503
         return page("sign-in.html", status, to=to, name=name, told=says(fault))
     answer = flask.redirect(place_after(to), 303)

@@ -22,6 +22,9 @@ if TYPE_CHECKING:
 
 LISTEN, URL = "127.0.0.1:8090", "http://127.0.0.1:8080"
 
+MOST_OF_SOCKET = 107
+"""Bytes of the path of a socket."""
+
 IDLE_MINUTES = 30
 
 REASON_ABOVE = 50_000
@@ -37,8 +40,11 @@ def run(chosen: argparse.Namespace) -> int:
     from .desk import Given  # (its packages are this job's alone)
     from .serving import serve
 
+    is_socket = chosen.listen.startswith("/")
+    if is_socket and not chosen.front:
+        chosen.words.error("--listen with the path of a socket goes with --front")
     host = chosen.listen.rpartition(":")[0].strip("[]")
-    if not ipaddress.ip_address(host).is_loopback and not chosen.other_machines:
+    if not is_socket and not ipaddress.ip_address(host).is_loopback and not chosen.other_machines:
         raise Fault(
             f"{chosen.listen} can be reached from other machines, without TLS: --other-machines says that it may be"
         )
@@ -83,7 +89,9 @@ def site_of(chosen: argparse.Namespace) -> Optional[Site]:
 
 
 def a_listener(text: str) -> str:
-    """A type of argparse: an address with a port, like 127.0.0.1:8090 or [::1]:8090."""
+    """A type of argparse: an address with a port, like 127.0.0.1:8090 or [::1]:8090, or the path of a socket."""
+    if text.startswith("/"):
+        return a_socket(text)
     host, _, port = text.rpartition(":")
     try:
         ipaddress.ip_address(host.strip("[]"))
@@ -99,6 +107,13 @@ def a_few_points(text: str) -> int:
     if not re.fullmatch(r"[0-9]{1,3}(\.[0-9]{1,6})?", text, re.ASCII):
         raise argparse.ArgumentTypeError(f"{text} isn't a number of points, like {points(REASON_ABOVE, 2)}")
     return int(Fraction(text) * 1_000_000)
+
+
+def a_socket(text: str) -> str:
+    """A type of argparse: the whole path of a socket, which the system takes up to a length."""
+    if len(text.encode()) > MOST_OF_SOCKET or text.endswith("/"):
+        raise argparse.ArgumentTypeError(f"{text} isn't the path of a socket, of {MOST_OF_SOCKET} bytes at most")
+    return text
 
 
 def a_url(text: str) -> str:
@@ -153,9 +168,15 @@ def add_serve(jobs: argparse._SubParsersAction[ToolWords]) -> None:
     add("--office", type=a_url, default=URL, metavar="URL", help="the office's address (%(default)s)")
     add("--file", type=Path, required=True, metavar="FILE", help="the office's file, which is only read")
     add("--room", type=Path, required=True, metavar="FOLDER", help="where the application keeps its log and notes")
-    add("--listen", type=a_listener, default=LISTEN, metavar="ADDRESS", help="where it listens (%(default)s)")
+    add(
+        "--listen",
+        type=a_listener,
+        default=LISTEN,
+        metavar="ADDRESS",
+        help="where it listens (%(default)s): with --front, the path of a socket that only the front may open",
+    )
     add("--other-machines", action="store_true", help="it may listen at an address that other machines reach")
-    add("--front", type=a_url, metavar="URL", help="its address behind a front that speaks TLS")
+    add("--front", type=a_url, metavar="URL", help="its address behind a front that speaks TLS, which it believes")
     add(
         "--minutes",
         type=at_least(1),
