@@ -42,6 +42,7 @@ def systems(needed: Callable[[str], str], program: Path, tmp_path: Path) -> Iter
         for each in (first, second):
             each.boot()
             each.run("dpkg --no-triggers -i cpi.deb > /dev/null; (umask 077; printf '%032d' 7 > /etc/cpi/desk-key)")
+            each.run("echo CPI_ZONE=Europe/Prague >> /etc/cpi/office.conf")
             each.run(f"printf '{FIRST} first.example\\n{SECOND} second.example\\n' >> /etc/hosts")
             each.run("rm -f /etc/ssh/ssh_host_*; ssh-keygen -A > /dev/null; systemctl restart ssh")
         yield first, second

@@ -63,8 +63,10 @@ replay() {{ runuser -u cpi -- cpi replay --db /var/lib/cpi/office.db; }}
 
 echo "# there is no key"
 start; sleep 2; state; told '^cpi-serve: '
+echo "# there is no zone"
+write_key; start; sleep 2; state; told '^cpi-serve: ' | cut -d : -f 1-3
 echo "# a zone that isn't one"
-write_key; set_to CPI_ZONE Europe/Nowhere
+set_to CPI_ZONE Europe/Nowhere
 start; sleep 2; state; told '^cpi-serve: ' | cut -d : -f 1-4
 echo "# records before the first right start, and a place as zone"
 set_to CPI_ZONE Europe/Prague
@@ -76,7 +78,7 @@ cat /proc/[0-9]*/cmdline 2> /dev/null | tr '\\0' '\\n' | grep -c "^$key" || true
 echo "# a stop leaves one whole file"
 echo 'item,TEA,Tea,100 g,500,2000' | ask import
 [ "$(stat -c %s /var/lib/cpi/office.db-wal)" -gt 41 ]
-systemctl stop cpi; state; stat -c %s /var/lib/cpi/office.db-wal
+systemctl stop cpi; state; [ -e /var/lib/cpi/office.db-wal ] || echo no log
 cp /var/lib/cpi/office.db alone.db; echo 9,public,items | cpi replay --db alone.db
 echo "# after its connections it comes back"
 set_to CPI_LIMIT 2
@@ -90,7 +92,7 @@ systemctl kill --signal=KILL cpi; sleep 1; await_active; ask items < /dev/null
 echo "# another program was installed meanwhile"
 echo 'item,OIL,Oil,1 l,500,2000' | ask import > /dev/null
 cp /usr/bin/cpi other; echo >> other; mv other /usr/bin/cpi
-systemctl stop cpi; [ "$(stat -c %s /var/lib/cpi/office.db-wal)" -gt 41 ]; told '^cpi-stopped: ' | grep -o 'copy .*'
+systemctl stop cpi; [ -e /var/lib/cpi/office.db-wal ] || echo no log; told '^cpi-stopped: ' | grep -o 'copy .*'
 echo "# the file of a later program isn't tried again"
 replay < /dev/null
 python3 -c 'import sqlite3
@@ -104,6 +106,10 @@ start: 1
 0 failed
 cpi-serve: there is no file /etc/cpi/desk-key: wanted is the desk's key: \
 (umask 077; openssl rand -hex 16 > /etc/cpi/desk-key)
+# there is no zone
+start: 1
+0 failed
+cpi-serve: /etc/cpi/office.conf: CPI_ZONE isn't set
 # a zone that isn't one
 start: 1
 0 failed
@@ -120,7 +126,7 @@ cpi-serve: CPI_ZONE is Europe/Prague, whose clock follows CET-1CEST,M3.5.0,M10.5
 # a stop leaves one whole file
 {"rows":[{"done":true}]}
 0 inactive
-41
+no log
 {"items":[["RICE","Rice","1 kg",500,2000],["TEA","Tea","100 g",500,2000]]}
 # after its connections it comes back
 start: 0
@@ -135,7 +141,8 @@ active
 # after a kill too
 {"items":[["RICE","Rice","1 kg",500,2000],["TEA","Tea","100 g",500,2000]]}
 # another program was installed meanwhile
-copy /var/lib/cpi/office.db and /var/lib/cpi/office.db-wal before the next start
+no log
+copy /var/lib/cpi/office.db before the next start, which may bring it to later tables
 # the file of a later program isn't tried again
 start: 1
 1 failed

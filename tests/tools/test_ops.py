@@ -21,6 +21,7 @@ from zoneinfo import ZoneInfo
 import pytest
 
 from cpi_tools.program import Cpi
+from cpi_tools.stored import SCHEMA
 from lib.places import ROOT
 
 OPS = ROOT / "ops"
@@ -67,9 +68,10 @@ def test_what_the_units_start_is_there_and_named_in_the_guide() -> None:
     assert [path.name for path in sorted(OPS.iterdir()) if f"{path.name}" not in guide] == []
 
 
-ADDED = {"CPI_COPY", "CPI_COPY_EVERY"} | {f"CPI_DESK_{it}" for it in ("FRONT", "LISTEN", "NOTES", "PHONES", "SITE")}
-"""What an office with a second machine, or with the pages of the desk, adds to its office.conf. (If the package's own
-file changed, an upgrade of an office that has set something in it would ask which file to take.)"""
+ADDED = {"CPI_ZONE", "CPI_COPY", "CPI_COPY_EVERY"} | {
+    f"CPI_DESK_{it}" for it in ("FRONT", "LISTEN", "NOTES", "PHONES", "SITE")
+}
+"""What an office adds to its office.conf: its clock, and what a second machine or the pages of the desk ask for."""
 
 
 def test_each_variable_of_the_scripts_is_in_the_configuration() -> None:
@@ -161,7 +163,7 @@ def test_another_key_is_told_and_not_shown(cpi: Cpi, key: str, tmp_path: Path) -
 
 def test_settings_that_are_refused_are_told_with_their_place(cpi: Cpi, tmp_path: Path) -> None:
     wanted = "cpi-serve: /etc/cpi/office.conf: invalid value '0' for CPI_PORT: 0 is no port\n"
-    assert start(cpi, tmp_path, CPI_PORT="0")[:3] == (WRONG, "", wanted)
+    assert start(cpi, tmp_path, CPI_PORT="0", CPI_ZONE="UTC0")[:3] == (WRONG, "", wanted)
     none = start(cpi, tmp_path)
     assert (none.status, none.printed, none.told.count("\n")) == (WRONG, "", 1)
     assert none.told.startswith("cpi-serve: /etc/cpi/office.conf isn't there")
@@ -189,7 +191,7 @@ def test_a_program_that_is_not_there_is_told(cpi: Cpi, tmp_path: Path) -> None:
 
 def test_the_desk_s_pages_take_notes_publish_and_print_keys_if_the_settings_say_so(tmp_path: Path) -> None:
     script(tmp_path / "cpi-tools", 'echo "$@"\n')
-    settings = {"PATH": f"{tmp_path}:{os.environ['PATH']}", "CPI_OFFICE": str(tmp_path)}
+    settings = {"PATH": f"{tmp_path}:{os.environ['PATH']}", "CPI_OFFICE": str(tmp_path), "CPI_ZONE": "UTC0"}
 
     def started(**more: str) -> subprocess.CompletedProcess[str]:
         words = {"env": {**settings, **more}, "capture_output": True, "text": True, "check": False}
@@ -207,6 +209,21 @@ def test_the_desk_s_pages_take_notes_publish_and_print_keys_if_the_settings_say_
 
 
 # ---- the zone
+
+
+def test_an_office_without_a_clock_does_not_start_and_says_how_to_set_it(cpi: Cpi, tmp_path: Path) -> None:
+    """Neither does the desk's application. The shipped settings have none."""
+    shipped = dict(it.split("=", 1) for it in (OPS / "office.conf").read_text().splitlines() if it[:1] not in "#")
+    for settings in (shipped, {**shipped, "CPI_ZONE": ""}):
+        started = start(cpi, tmp_path, **settings)
+        assert (started.status, started.printed, started.told.count("\n")) == (WRONG, "", 1)
+        assert started.told.startswith(
+            "cpi-serve: /etc/cpi/office.conf: CPI_ZONE isn't set: wanted is the office's clock"
+        )
+        assert "CPI_ZONE=Europe/Prague" in started.told and not (tmp_path / "started").exists()
+    kept = {"PATH": os.environ["PATH"], "CPI_OFFICE": str(tmp_path)}
+    desk = subprocess.run([OPS / "cpi-desk"], env=kept, capture_output=True, text=True, check=False)
+    assert desk.returncode == WRONG and "office.conf: CPI_ZONE isn't set" in desk.stderr
 
 
 @pytest.mark.parametrize(
@@ -401,13 +418,13 @@ def test_the_end_of_its_connections_costs_nothing(cpi: Cpi, killed: Path) -> Non
     assert (ended[:3], (ended.folder / "failed").exists(), bytes_of(killed)) == ((0, "", ""), False, before)
 
 
-def test_another_program_than_the_one_that_served_leaves_the_file_alone(cpi: Cpi, killed: Path) -> None:
-    """It could bring the file to later tables before somebody has copied it."""
+def test_another_program_than_the_one_that_served_is_told_and_never_run(cpi: Cpi, killed: Path) -> None:
+    """It could bring the file to later tables before somebody has copied it; SQLite leaves the tables as they are."""
     before = bytes_of(killed)
     ended = stopped(cpi, killed, STOP, Path("/bin/true"))
     assert (ended.status, ended.printed, ended.told.count("\n")) == (0, "", 1)
-    assert f"copy {killed} and {killed}-wal before the next start" in ended.told
-    assert bytes_of(killed) == before
+    assert f"copy {killed} before the next start" in ended.told
+    assert items_of(killed) == [("RICE",)] and before[0] != killed.read_bytes()
 
 
 def test_a_file_that_is_held_is_told_and_nothing_is_lost(cpi: Cpi, killed: Path) -> None:
@@ -420,8 +437,41 @@ def test_a_file_that_is_held_is_told_and_nothing_is_lost(cpi: Cpi, killed: Path)
         ended = stopped(cpi, killed, STOP)
         other.kill()
     assert (ended.status, ended.printed, ended.told.count("\n")) == (1, "", 1)
-    assert f"{killed}-wal couldn't be put into {killed} (cpi: database failed)" in ended.told
+    assert f"{killed}-wal couldn't be put into {killed} (SQLite: database is locked)" in ended.told
     assert cpi.replay(["9,public,items"], db=killed) == [{"items": [["RICE", "Rice", "1 kg", 500, 2000]]}]
+
+
+def test_an_empty_file_keeps_its_log(cpi: Cpi, killed: Path) -> None:
+    """SQLite takes away the log of a file without a byte: so it is never asked of one."""
+    log = killed.with_name("office.db-wal").read_bytes()
+    killed.write_bytes(b"")
+    ended = stopped(cpi, killed, STOP)
+    assert (ended.status, ended.told.count("\n")) == (1, 1) and "the file is empty, and all is in its log" in ended.told
+    assert bytes_of(killed) == [b"", log]
+    (killed.parent / "room/failed").write_text("exited 1\n")
+    start(cpi, killed.parent, CPI_ZONE="UTC0", CPI_OFFICE=str(killed))
+    assert bytes_of(killed) == [b"", log]
+
+
+def test_a_look_at_the_schema_writes_nothing(cpi: Cpi, killed: Path) -> None:
+    """Though the schema's number is in the log only."""
+    before = bytes_of(killed)
+    for version, status in ((2, 0), (3, WRONG)):
+        if version == 3:
+            assert cpi.replay([], db=killed) == []
+            with contextlib.closing(sqlite3.connect(killed)) as file, file:
+                file.execute("UPDATE version SET number = 3")
+            before = [killed.read_bytes()]
+        (killed.parent / "room").mkdir(exist_ok=True)
+        (killed.parent / "room/failed").write_text("exited 1\n")
+        assert start(cpi, killed.parent, CPI_ZONE="UTC0", CPI_OFFICE=str(killed)).status == status
+        assert bytes_of(killed)[: len(before)] == before if version == 2 else killed.read_bytes() == before[0]
+        assert not killed.with_name("office.db-shm").exists()
+
+
+def test_the_scripts_know_the_schemas_of_this_version() -> None:
+    known = "|".join(f" {number} " for number in range(1, SCHEMA + 1))
+    assert f"'' |{known})".replace(" )", ")") in (OPS / "cpi-serve").read_text()
 
 
 def test_a_file_that_is_not_there_is_not_made(cpi: Cpi, tmp_path: Path) -> None:
@@ -531,7 +581,10 @@ def filled(name: str, folder: Path) -> str:
     """A file of a front with its words between @ signs filled in; files lie in a folder."""
     text = (OPS / name).read_text()
     for word, value in FILLED.items():
-        text = text.replace(word, value if value.replace(".", "").replace(":", "").isdigit() or value == "localhost" else str(folder / value))
+        text = text.replace(
+            word,
+            value if value.replace(".", "").replace(":", "").isdigit() or value == "localhost" else str(folder / value),
+        )
     assert not re.search("@[A-Z]+@", text)
     return text
 

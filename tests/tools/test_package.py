@@ -128,7 +128,7 @@ def test_each_file_has_the_time_of_its_version_and_belongs_to_root(members: dict
     assert {(member.uid, member.gid) for member in members.values()} == {(0, 0)}
     modes = {name: member.mode for name, member in members.items()}
     assert {modes[f"usr/{name}"] for name in ("bin/cpi", "bin/cpi-tools", "lib/cpi/cpi-serve")} == {0o755}
-    assert {modes[name] for name in ("etc/cpi/office.conf", "usr/share/doc/cpi/README.md")} == {0o644}
+    assert {modes[name] for name in ("etc/cpi/config.js", "usr/share/doc/cpi/README.md")} == {0o644}
 
 
 def test_whole_folders_are_in_it(members: dict[str, tarfile.TarInfo]) -> None:
@@ -153,7 +153,7 @@ def test_each_file_of_ops_has_its_place(members: dict[str, tarfile.TarInfo]) -> 
         "cpi-follow.service": units, "cpi-promoted.service": units, "cpi-follow": programs, "cpi-receive": programs,
         "cpi-desk.service": units, "cpi-desk": programs,
         "cpi-backup": programs, "cpi-stopped": programs, "nginx.conf": others, "Caddyfile": others, "logrotate-cpi": others,
-        "try": others, "try.py": others, "sshd-cpi.conf": others, "office.conf": {"etc/cpi"},
+        "try": others, "try.py": others, "sshd-cpi.conf": others, "office.conf": others,
     }  # fmt: skip
     tables = {"usr/lib/sysusers.d/cpi.conf", "usr/lib/tmpfiles.d/cpi.conf", "usr/lib/tmpfiles.d/cpi-desk.conf"}
     assert tables <= set(members)
@@ -173,7 +173,7 @@ def test_nothing_is_started_by_it(package: Path, members: dict[str, tarfile.TarI
     subprocess.run(["dpkg-deb", "--control", package, tmp_path / "told"], check=True)
     scripts = ["postinst", "postrm", "preinst", "prerm"]
     assert sorted(os.listdir(tmp_path / "told")) == ["conffiles", "control", "md5sums", *scripts]
-    assert (tmp_path / "told/conffiles").read_text() == "/etc/cpi/config.js\n/etc/cpi/office.conf\n"
+    assert (tmp_path / "told/conffiles").read_text() == "/etc/cpi/config.js\n"
     texts = [(tmp_path / "told" / name).read_text() for name in scripts]
     asked = {called for text in texts for called in re.findall(r"(?<!-v )\b(?:deb-)?systemd?(?:ctl|-\w+) .*", text)}
     root = '${DPKG_ROOT:+--root="$DPKG_ROOT"}'
@@ -182,6 +182,8 @@ def test_nothing_is_started_by_it(package: Path, members: dict[str, tarfile.TarI
         f"systemd-tmpfiles {root} --create cpi.conf cpi-desk.conf || true",
         "systemctl --system daemon-reload",
         "systemctl --quiet is-active cpi.service; then",
+        "systemctl --quiet is-active $service; then",
+        'systemctl restart$others"',
         "deb-systemd-invoke stop cpi-backup.timer cpi-follow.service cpi-desk.service cpi.service",
     }
     needs = re.findall(r"^(?:Depends|Recommends|Suggests): (.*)$", (tmp_path / "told/control").read_text(), re.M)

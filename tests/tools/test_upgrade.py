@@ -143,7 +143,39 @@ def test_an_upgrade_that_is_called_off_loses_no_setting(
 def test_settings_that_nobody_changed_are_those_of_the_package(root: Path, package: Path) -> None:  # noqa: F811
     assert "config.js" not in dpkg(root, "--install", package)
     assert read(root, "etc/cpi/config.js") == (ROOT / "web/config.js").read_text()
-    assert read(root, "etc/cpi/office.conf") == (ROOT / "ops/office.conf").read_text()
+    # (the clock of version 1.0 was in its file: the office goes on by it)
+    assert read(root, "etc/cpi/office.conf") == OFFICE_CONF
+
+
+def test_a_first_installation_has_settings_without_a_clock_and_says_so(
+    package: Path, later: Path, tmp_path: Path  # noqa: F811
+) -> None:
+    """They are the office's own from then on: a later package neither asks nor changes them."""
+    told = dpkg(tmp_path, "--install", package)
+    assert read(tmp_path, "etc/cpi/office.conf") == (ROOT / "ops/office.conf").read_text()
+    assert not re.search("^CPI_ZONE", read(tmp_path, "etc/cpi/office.conf"), re.M)
+    assert (
+        "cpi: set the office's clock before its next start, by a line CPI_ZONE=Europe/Prague in /etc/cpi/office" in told
+    )
+    assert "(until now" not in told
+    settings = (ROOT / "ops/office.conf").read_text() + "CPI_ZONE=UTC0\nCPI_KEEP_DAYS=99\n"
+    written(tmp_path, {"etc/cpi/office.conf": settings})
+    assert "office's clock" not in dpkg(tmp_path, "--install", later)
+    assert read(tmp_path, "etc/cpi/office.conf") == settings
+    assert "warning" not in dpkg(tmp_path, "--remove", "cpi") and read(tmp_path, "etc/cpi/office.conf") == settings
+    dpkg(tmp_path, "--purge", "cpi")
+    assert not (tmp_path / "etc/cpi").exists()
+
+
+def test_an_upgrade_says_which_settings_are_to_be_made(root: Path, package: Path) -> None:  # noqa: F811
+    settings = re.sub("CPI_ZONE=.*\n", "CPI_DESK_FRONT=https://prices.example/desk/\n", OFFICE_CONF)
+    written(root, {"etc/cpi/office.conf": settings})
+    told = dpkg(root, "--install", package)
+    assert "(until now an office without this line had CPI_ZONE=UTC0)" in told
+    assert "the front comes to the desk's pages by a port" in told and read(root, "etc/cpi/office.conf") == settings
+    written(root, {"etc/cpi/office.conf": f"{settings}CPI_ZONE=UTC0\nCPI_DESK_LISTEN=/run/cpi-desk/front.sock\n"})
+    told = dpkg(root, "--install", package)
+    assert "CPI_ZONE" not in told and "by a port" not in told
 
 
 def test_removal_and_purge_leave_what_is_the_offices(root: Path, package: Path) -> None:  # noqa: F811
