@@ -27,7 +27,7 @@ from lib.places import ROOT
 OPS = ROOT / "ops"
 KEY = "0123456789abcdef0123456789abcdef"
 UNITS = ["cpi.service", "cpi-backup.service", "cpi-backup.timer", "cpi-follow.service", "cpi-promoted.service"]
-UNITS += ["cpi-desk.service"]
+UNITS += ["cpi-desk.service", "cpi-keep.service", "cpi-keep.timer"]
 
 
 def needed(program: str) -> str:

@@ -151,7 +151,8 @@ def test_each_file_of_ops_has_its_place(members: dict[str, tarfile.TarInfo]) -> 
     assert places == {
         "cpi.service": units, "cpi-backup.service": units, "cpi-backup.timer": units, "cpi-serve": programs,
         "cpi-follow.service": units, "cpi-promoted.service": units, "cpi-follow": programs, "cpi-receive": programs,
-        "cpi-desk.service": units, "cpi-desk": programs,
+        "cpi-desk.service": units, "cpi-desk": programs, "cpi-keep.service": units, "cpi-keep.timer": units,
+        "cpi-keep": programs,
         "cpi-backup": programs, "cpi-stopped": programs, "nginx.conf": others, "Caddyfile": others, "logrotate-cpi": others,
         "try": others, "try.py": others, "sshd-cpi.conf": others, "office.conf": others,
     }  # fmt: skip
@@ -184,12 +185,12 @@ def test_nothing_is_started_by_it(package: Path, members: dict[str, tarfile.TarI
         "systemctl --quiet is-active cpi.service; then",
         "systemctl --quiet is-active $service; then",
         'systemctl restart$others"',
-        "deb-systemd-invoke stop cpi-backup.timer cpi-follow.service cpi-desk.service cpi.service",
+        "deb-systemd-invoke stop cpi-backup.timer cpi-keep.timer cpi-follow.service cpi-desk.service cpi.service",
     }
     needs = re.findall(r"^(?:Depends|Recommends|Suggests): (.*)$", (tmp_path / "told/control").read_text(), re.M)
     assert needs == [
         "libc6 (>= 2.34), python3 (>= 3.9)",
-        "python3-jinja2, python3-segno, python3-babel, python3-flask, python3-waitress, python3-pil",
+        "python3-jinja2, python3-segno, python3-babel, python3-flask, python3-waitress, python3-pil, borgbackup",
         "python3-openpyxl, libreoffice-calc-nogui, openssh-client, rsync, rclone, librsvg2-bin, fonts-dejavu-core",
     ]
 
@@ -351,9 +352,11 @@ def test_an_example_that_cant_write_says_so_in_a_line(installed: Path, tmp_path:
     assert ran.stderr.startswith("examples/national/run: /dev/null/there") and "--out" in ran.stderr
 
 
-def test_the_user_of_the_office_is_made(installed: Path) -> None:
+def test_the_users_of_the_office_and_of_its_generations_are_made(installed: Path) -> None:
     needed("systemd-sysusers")
-    assert re.search(r"^cpi:x:\d+:\d+:Price index office:/var/lib/cpi:", (installed / "etc/passwd").read_text(), re.M)
+    users = (installed / "etc/passwd").read_text()
+    assert re.search(r"^cpi:x:\d+:\d+:Price index office:/var/lib/cpi:", users, re.M)
+    assert re.search(r"^cpi-keep:x:\d+:\d+:Price index office, its generations:/var/lib/cpi-keep:", users, re.M)
 
 
 def test_it_goes_as_it_came(installed: Path, package: Path, tmp_path: Path) -> None:
@@ -361,6 +364,7 @@ def test_it_goes_as_it_came(installed: Path, package: Path, tmp_path: Path) -> N
     dpkg(tmp_path, "--install", package)
     wants = [f"multi-user.target.wants/{UNITS[0]}", f"timers.target.wants/{UNITS[2]}"]
     wants += [f"multi-user.target.wants/{UNITS[3]}", f"cpi.service.requires/{UNITS[4]}"]
+    wants += [f"timers.target.wants/{UNITS[7]}"]
     for want in wants:
         enabled = tmp_path / "etc/systemd/system" / want
         enabled.parent.mkdir(parents=True, exist_ok=True)

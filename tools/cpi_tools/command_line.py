@@ -17,6 +17,7 @@ from . import (
     explain,
     follow,
     gaps,
+    keep,
     keys,
     moved_weights,
     next_year,
@@ -34,7 +35,7 @@ from .terminal import Fault, ToolWords, ends_by_signals, is_line
 from .version import ShowVersion
 
 TOOLS = (
-    backup, drill, restore, follow, receive, promote, gaps, probe, doctor, keys, calendar_file, desk, explain, publish, take_in, take_out, next_year,
+    backup, drill, restore, follow, receive, keep, promote, gaps, probe, doctor, keys, calendar_file, desk, explain, publish, take_in, take_out, next_year,
     moved_weights,
 )  # fmt: skip
 

@@ -31,6 +31,7 @@ from .backup import log_of
 from .copying import log_beside
 from .drill import MOST_TOLD, Drilled, drill
 from .follow import mark_beside, restoring_beside
+from .generations import KEPT, PASSED, Damaged, drilled_in, repository_of, taken_generation
 from .held_folders import HeldFolder, NotPlain, held
 from .holders import is_held
 from .mirrors import sync
@@ -63,9 +64,18 @@ SYSTEMD = Path("/run/systemd/system")
 """It is there where systemd runs the machine."""
 
 
+class Wanted(NamedTuple):
+    """What is promoted: a copy by its folder, None for the newest one; or a generation by its name, and the folder in
+    which generations are kept."""
+
+    copy: Optional[str] = None
+    generation: Optional[str] = None
+    kept: Path = KEPT
+
+
 class Promoted(NamedTuple):
-    """A promotion: the folder of the copy, its note, what its drill found, and where the file lies that was at the place
-    before, if one was."""
+    """A promotion: the folder of the copy or the generation, its note, what its drill found, and where the file lies that
+    was at the place before, if one was."""
 
     name: str
     note: CopyNote
@@ -77,12 +87,12 @@ def promote(
     cpi: Cpi,
     dest: Path,
     office: Path,
-    name: Optional[str] = None,
+    wanted: Wanted = Wanted(),
     is_replacing: bool = False,
     is_again: bool = False,
     progress: Optional[Progress] = None,
 ) -> Promoted:
-    """Makes the newest copy at `dest`, or the one in its folder `name`, the file `office` of this machine.
+    """Makes the newest copy at `dest`, another one, or a generation of them the file `office` of this machine.
 
     `is_replacing` puts aside what is there, and `is_again` says that a copy of `dest` may have been promoted before, or
     that what is there may have prices that the copy hasn't. Raises Fault, and changes nothing, if the copy isn't whole.
@@ -94,11 +104,11 @@ def promote(
             raise Fault(f"{dest}: {_told_before(promotion)} (--again promotes a copy once more)")
         with new_room(".cpi-promote-", _place_of_room(office)) as room, held(office.parent) as home:
             now(f"copying {dest}")
-            name, note = _copied(dest, name, room / OFFICE)
+            name, note, of = _taken(dest, wanted, room)
             if is_replacing and not is_again:
                 _compare(room / OFFICE, office, note)
             now("drilling it")
-            drilled = _drilled(cpi, room / OFFICE, dest / name)
+            drilled = _drilled(cpi, room / OFFICE, of)
             drop_changes(dest)
             write_promotion(dest, note.copied)
             aside = _put_aside(office, home) if is_replacing else None
@@ -165,6 +175,35 @@ def _last_receipts(office: Path) -> Mapping[int, int]:
 
 
 # ---- the copy
+
+
+def _taken(dest: Path, wanted: Wanted, room: Path) -> tuple[str, CopyNote, Path]:
+    """Takes what is wanted to a room: what it is called, its note, and where it was. Raises Fault and OSError."""
+    if wanted.generation is not None:
+        note = _taken_generation(wanted.kept, wanted.generation, room)
+        return f"generation {wanted.generation}", note, wanted.kept / wanted.generation
+    name, note = _copied(dest, wanted.copy, room / OFFICE)
+    return name, note, dest / name
+
+
+def _taken_generation(kept: Path, name: str, room: Path) -> CopyNote:
+    """Takes a generation to a room; the note of the copy that it was. Of a name that isn't there the others are printed.
+    Raises Fault and OSError."""
+    repository = repository_of(kept)
+    if not repository.is_there():
+        raise Fault(f"{repository.path} isn't there, so no generation was kept in {kept}")
+    if name not in (there := drilled_in(repository.names())):
+        print("".join(f"{each}\n" for each in there), end="")
+        listed = "those that passed their drill are listed" if there else "and none has passed its drill"
+        raise Fault(f"{kept} has no generation {name}: {listed}")
+    try:
+        note = taken_generation(repository, f"{PASSED}{name}", room)
+    except Damaged as fault:
+        raise Fault(f"{kept / name} can't be taken, and nothing was promoted: {fault}") from fault
+    for path in (room / OFFICE, log_beside(room / OFFICE)):
+        with contextlib.suppress(FileNotFoundError):
+            sync(path)
+    return note
 
 
 def _copied(dest: Path, wanted: Optional[str], to: Path) -> tuple[str, CopyNote]:
@@ -316,6 +355,10 @@ to be sent again, and since when.
 A copy of DEST is promoted once, and --replace puts no office aside that took prices since the copy:
 both are refused with the moment and the machine, unless --again is given.
 
+If both copies have what an accident left, --generation takes an earlier state, which cpi-tools keep
+kept; a NAME that isn't there, such as list, prints the names of all. It is drilled and marked like
+a copy.
+
 With --start it starts the office, else it prints the command for that:
 {' '.join(START)}
 """
@@ -335,7 +378,10 @@ def add_words(tools: argparse._SubParsersAction[ToolWords]) -> None:
     add = words.add_argument
     add("dest", type=Path, metavar="DEST", help="the folder with the two copies")
     add("--office", type=a_file, default=HERE, metavar="FILE", help="the office's file on this machine (%(default)s)")
-    add("--copy", choices=NAMES, help="this one of the two copies, if the newest isn't whole")
+    which = words.add_mutually_exclusive_group()
+    which.add_argument("--copy", choices=NAMES, help="this one of the two copies, if the newest isn't whole")
+    which.add_argument("--generation", metavar="NAME", help="a generation that cpi-tools keep kept of them")
+    add("--kept", type=Path, default=KEPT, metavar="FOLDER", help="where generations are kept (%(default)s)")
     add("--replace", action="store_true", help="put a FILE that is there aside, with its log")
     add("--again", action="store_true", help="promote once more, or put aside what took prices since")
     add("--start", action="store_true", help="start the units of the office")
@@ -348,7 +394,8 @@ def run(chosen: argparse.Namespace) -> int:
     if chosen.start and not SYSTEMD.is_dir():
         raise Fault("systemd doesn't run this machine, so --start can't start the office: start it by hand")
     with Progress("cpi-tools promote") as progress:
-        how = (chosen.copy, chosen.replace, chosen.again)
+        wanted = Wanted(chosen.copy, chosen.generation, chosen.kept)
+        how = (wanted, chosen.replace, chosen.again)
         found = promote(Cpi(chosen.program), chosen.dest, chosen.office, *how, progress)
         print(f"{chosen.office}: {_told(found)}")
         if found.aside:

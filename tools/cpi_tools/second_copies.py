@@ -1,8 +1,10 @@
-"""A second copy of an office at another place: two folders that take turns, a note in each, and a mark of a promotion.
+"""A second copy of an office at another place: two folders that take turns, a note in each, a mark of a promotion, and a
+note on what is kept of them.
 
     DEST/copy-1/office.db, office.db-wal, office.db.json
     DEST/copy-2/office.db, office.db-wal, office.db.json
     DEST/promoted.json
+    DEST/drilled.json
 
 Each round brings the older of the two copies up to date, and writes its note last. So whatever stops a round, the other
 copy is whole. A note has the sums of its file and log, so a copy that was cut off shows even if a note of before is next
@@ -51,6 +53,10 @@ RECEIVED = "received.lock"
 
 REFUSED = "refused.json"
 """Is there as long as rounds are refused, since the office doesn't go on from its copy."""
+
+DRILLED = "drilled.json"
+"""Which generation of the copies passed its drill last, if somebody keeps them (`generations`). The key by which a
+follower carries only reads it."""
 
 MOST_BYTES = 1 << 16
 """Bytes of a note that are read."""

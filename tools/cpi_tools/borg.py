@@ -1,0 +1,148 @@
+"""A repository of Debian's borgbackup in a folder: each archive in it has the files of one moment.
+
+Borg runs as the user to whom the folder belongs, whoever runs the tool, so nothing in it ever belongs to another one.
+What is taken out comes through a pipe: borg writes no file for the tool, and gives none a name, an owner or a mode.
+"""
+
+from __future__ import annotations
+
+import os
+import re
+import shutil
+import subprocess
+import tarfile
+from collections.abc import Collection, Iterable, Mapping, Sequence
+from datetime import datetime, timezone
+from pathlib import Path
+from typing import IO, Any, NoReturn, Optional
+
+from .access import User
+from .terminal import Fault, because_of
+
+LOCK_WAIT = 120
+"""Seconds for which borg waits until another one has done its work in the repository."""
+
+FOLDER = "repository"
+"""The repository, in the folder of its user."""
+
+OWN = "borg"
+"""What borg keeps for itself, in the same folder: its cache, and which repositories it knows."""
+
+CUT = ("--chunker-params", "fixed,16384", "--files-cache", "disabled", "--compression", "zstd,3")
+"""How a file is cut and packed: an office's file changes page by page in its place, so pieces of four pages stay."""
+
+
+class Repository:
+    """The repository in a folder, and the user to whom both belong."""
+
+    def __init__(self, folder: Path, owner: User):
+        self.path, self._own, self._owner = folder.absolute() / FOLDER, folder.absolute() / OWN, owner
+
+    def is_there(self) -> bool:
+        """Whether there is a repository. Raises OSError if that can't be seen."""
+        return "config" in os.listdir(self.path) if self.path.exists() else False
+
+    def make(self) -> None:
+        """Makes the repository. (What is in it is as secret as the copies next to it, and by the same means: its
+        folder is closed to others.) Raises Fault."""
+        self._run("init", "--encryption", "none", str(self.path))
+
+    def names(self) -> list[str]:
+        """The names of all archives, the oldest first. Raises Fault."""
+        return self._run("list", "--short", str(self.path)).decode(errors="replace").splitlines()
+
+    def put(self, name: str, moment: int, folder: Path, files: Iterable[str]) -> None:
+        """Puts files of a folder into a new archive of a moment, in seconds since 1970 UTC. Raises Fault."""
+        at = datetime.fromtimestamp(moment, timezone.utc).strftime("%Y-%m-%dT%H:%M:%S")
+        self._run("create", *CUT, "--timestamp", at, self._at(name), *files, folder=folder)
+
+    def take_out(self, name: str, to: Mapping[str, Path]) -> None:
+        """Writes files of an archive to new files of mode 0600; other files of it are passed over. Raises Fault, also if
+        it lacks one, and OSError."""
+        words = self._words("export-tar", self._at(name), "-", *to)
+        with subprocess.Popen(words, stdout=subprocess.PIPE, stderr=subprocess.PIPE, **self._how()) as process:
+            assert process.stdout and process.stderr
+            try:
+                written, cut = _written(process.stdout, to), ""
+            except tarfile.TarError as fault:
+                written, cut = set(), str(fault)
+            finally:
+                process.stdout.close()
+            said = process.stderr.read()
+        if process.returncode or written != set(to):
+            self._refuse(said or cut.encode())
+
+    def rename(self, name: str, to: str) -> None:
+        """Gives an archive another name. Raises Fault."""
+        self._run("rename", self._at(name), to)
+
+    def remove(self, names: Collection[str]) -> None:
+        """Removes archives. Raises Fault."""
+        self._run("delete", str(self.path), *names)
+
+    def prune(self, begin: str, keep: Sequence[str]) -> None:
+        """Removes archives whose name begins so, but those that borg's words keep, and gives their room back. (It gives
+        some back each time: a repository that has much of it wants a large room at its next change.) Raises Fault."""
+        self._run("prune", "--glob-archives", f"{begin}*", *keep, str(self.path))
+        self._run("compact", str(self.path))
+
+    # ---- running borg
+
+    def _at(self, name: str) -> str:
+        """How borg names an archive."""
+        return f"{self.path}::{name}"
+
+    def _words(self, *words: str) -> list[str]:
+        """The words that run borg. Raises Fault if it isn't there."""
+        if not shutil.which("borg"):
+            raise Fault("there is no borg, which keeps generations: Debian's package borgbackup has it")
+        return ["borg", "--lock-wait", str(LOCK_WAIT), *words]
+
+    def _how(self, folder: Optional[Path] = None) -> dict[str, Any]:
+        """How borg is run: as the owner, with no setting of another one's, and with hours and days by UTC."""
+        kept = {"PATH": os.environ.get("PATH", os.defpath), "LC_ALL": "C.UTF-8", "TZ": "UTC"}
+        kept.update(BORG_BASE_DIR=str(self._own), HOME=str(self._own), PYTHONDONTWRITEBYTECODE="1")
+        # (it has no key, and is where its folder is)
+        kept.update(BORG_UNKNOWN_UNENCRYPTED_REPO_ACCESS_IS_OK="yes", BORG_RELOCATED_REPO_ACCESS_IS_OK="yes")
+        how: dict[str, Any] = {"env": kept, "stdin": subprocess.DEVNULL, "cwd": folder or "/", "umask": 0o077}
+        if self._owner.number != os.geteuid():
+            how.update(user=self._owner.number, group=self._owner.group, extra_groups=[])
+        return how
+
+    def _run(self, *words: str, folder: Optional[Path] = None) -> bytes:
+        """Runs borg; what it writes. Raises Fault with its cause in one line."""
+        try:
+            ran = subprocess.run(self._words(*words), capture_output=True, check=False, **self._how(folder))
+        except OSError as fault:
+            raise Fault(f"borg couldn't be started: {because_of(fault)}") from fault
+        if ran.returncode:
+            self._refuse(ran.stderr)
+        written: bytes = ran.stdout
+        return written
+
+    def _refuse(self, said: bytes) -> NoReturn:
+        """Raises Fault with the line of borg that says why."""
+        raise Fault(f"{self.path}: {cause_in(said.decode(errors='replace'))}")
+
+
+def _written(stream: IO[bytes], to: Mapping[str, Path]) -> set[str]:
+    """Writes the files of an archive that borg sends; which ones. Raises tarfile.TarError and OSError."""
+    written = set[str]()
+    with tarfile.open(fileobj=stream, mode="r|") as tar:
+        for member in tar:
+            source = tar.extractfile(member) if member.isreg() and member.name in to else None
+            if source and member.name not in written:
+                opened = os.open(to[member.name], os.O_WRONLY | os.O_CREAT | os.O_EXCL | os.O_CLOEXEC, 0o600)
+                with os.fdopen(opened, "wb") as file:
+                    shutil.copyfileobj(source, file, 1 << 20)
+                written.add(member.name)
+    return written
+
+
+def cause_in(said: str) -> str:
+    """Why borg failed: the system's first fault in what it wrote, else its first line that isn't of a traceback."""
+    if system := re.search(r"\[Errno \d+\] (.+?)(?:: '.*)?$", said, re.M):
+        return system[1]
+    others = ("Local Exception", "Traceback")
+    lines = [line for line in said.splitlines() if line.strip() and not line.startswith((" ", *others))]
+    return lines[0] if lines else "borg failed and gave no reason"

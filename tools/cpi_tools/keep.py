@@ -1,0 +1,244 @@
+"""`cpi-tools keep DEST FOLDER`: keeps a generation of the second copy at DEST, once it has passed its drill.
+
+Root opens the two copies, which belong to the user who gets them. Everything else is done by the user to whom FOLDER
+belongs, in a process that can't become root again: the newest whole copy goes into the repository, is taken out again,
+and drilled. So neither the first machine's key nor the user of the copies can change what was kept, and what they carry
+is read by a user who may do nothing else. Root last writes next to the copies which generation passed.
+"""
+
+from __future__ import annotations
+
+import argparse
+import contextlib
+import fcntl
+import shutil
+import sys
+import time
+from collections.abc import Callable, Iterator
+from pathlib import Path
+from typing import Any, NamedTuple, Optional
+
+from .access import user_of
+from .borg import Repository
+from .done_as import done_as
+from .drill import drill
+from .generations import (
+    FAILED,
+    FILES,
+    KEEP,
+    KEEP_FAILED,
+    KEPT,
+    NEW,
+    PASSED,
+    Damaged,
+    LastDrill,
+    drilled_in,
+    generation_of,
+    is_generation,
+    last_drill_of,
+    repository_of,
+    taken_generation,
+    write_last_drill,
+)
+from .open_copies import NotWhole, OpenCopy, open_copies, take_newest
+from .program import Cpi, add_program
+from .rooms import new_room
+from .second_copies import OFFICE, Sum, second_text
+from .terminal import Fault, Progress, ToolWords, because_of, counted, is_line
+
+FAILED_DRILL = 6
+"""The exit status if the generation failed its drill."""
+
+TRIES, PAUSE = 5, 3.0
+"""So often a copy is tried that a round changes meanwhile, with so many seconds between."""
+
+LOCK = "keep.lock"
+"""The file by which one keeper at a time works in the folder."""
+
+
+class Kept(NamedTuple):
+    """What was kept: the note of the copy as it is written next to the copies; whether it is a new generation; how many
+    there are that passed their drill; and a line for each archive of before that was removed without a drill."""
+
+    last: LastDrill
+    is_new: bool
+    passed: int
+    removed: tuple[str, ...]
+
+
+def keep(cpi: Cpi, dest: Path, folder: Path, clock: Callable[[], float] = time.time) -> Kept:
+    """Keeps a generation of the newest whole copy at `dest` in a folder, unless the last one has the same bytes. Its drill
+    may have failed then (`last.failed`). Raises Fault if none could be kept, which is written next to the copies too.
+    """
+    last = last_drill_of(dest)
+    try:
+        owner, now = user_of(folder.stat().st_uid), int(clock())
+        for turn in range(TRIES):
+            with open_copies(dest) as copies:
+                answer = done_as(owner, lambda: _answer(cpi, copies, folder, last, now))
+            if not answer["again"]:
+                break
+            if turn + 1 == TRIES:
+                raise Fault(str(answer["again"]))
+            time.sleep(PAUSE)
+        kept = _kept_in(answer, last or LastDrill(), now)
+        write_last_drill(dest, kept.last)
+    except (Fault, OSError) as error:
+        fault = error if isinstance(error, Fault) else Fault(because_of(error))
+        # (if that can't be written, a probe sees the age)
+        with contextlib.suppress(OSError):
+            write_last_drill(dest, (last or LastDrill())._replace(fault=str(fault)))
+        raise fault from error
+    return kept
+
+
+def _kept_in(answer: dict[str, Any], last: LastDrill, now: int) -> Kept:
+    """What another user's process answered. A copy of the future would never be old, so it is of now. Raises Fault if it
+    isn't what that process writes."""
+    name, failed, removed = str(answer["generation"]), str(answer["failed"]), tuple(map(str, answer["removed"]))
+    if not is_generation(name) or not is_line("".join((failed, *removed))):
+        raise Fault("what the user of the generations answered isn't of a generation")
+    if failed:
+        return Kept(last._replace(failed=f"{name}: {failed}", fault=""), True, int(answer["passed"]), removed)
+    file, log = (Sum(int(size), str(of)) for size, of in (answer["file"], answer["log"]))
+    kept = LastDrill(name, min(int(answer["copied"]), now), file, log)
+    return Kept(kept, bool(answer["is_new"]), int(answer["passed"]), removed)
+
+
+# ---- by the user of the folder
+
+
+def _answer(cpi: Cpi, copies: list[OpenCopy], folder: Path, last: Optional[LastDrill], now: int) -> dict[str, Any]:
+    """Keeps a generation; what is to be known of it. `again` says why no copy was whole at this moment. Raises Fault and
+    OSError."""
+    with _kept_by_one(folder), new_room(".cpi-keep-", folder) as room:
+        try:
+            taken = room / "taken"
+            taken.mkdir()
+            note = take_newest(copies, taken)
+        except NotWhole as fault:
+            return {"again": str(fault)}
+        repository = _repository(folder, last)
+        names = repository.names()
+        removed = _remove_unfinished(repository, names)
+        same = last and last.generation in drilled_in(names) and (last.file, last.log) == (note.file, note.log)
+        name = last.generation if last and same else generation_of(now)
+        failed = "" if same else _drilled_anew(cpi, repository, name, now, room)
+        passed = len(drilled_in(names if same else repository.names()))
+        answer = {"again": "", "generation": name, "is_new": not same, "failed": failed, "passed": passed}
+        return {**answer, "removed": removed, "copied": note.copied, "file": note.file, "log": note.log}
+
+
+@contextlib.contextmanager
+def _kept_by_one(folder: Path) -> Iterator[None]:
+    """Meanwhile no other keeper works in a folder. Raises Fault if one does, and OSError."""
+    with (folder / LOCK).open("a", encoding="ascii") as lock:
+        try:
+            fcntl.flock(lock, fcntl.LOCK_EX | fcntl.LOCK_NB)
+        except BlockingIOError as fault:
+            raise Fault(f"another cpi-tools keep works in {folder}") from fault
+        yield
+
+
+def _repository(folder: Path, last: Optional[LastDrill]) -> Repository:
+    """The repository of a folder, which is made the first time. Raises Fault if it is gone, and OSError."""
+    repository = repository_of(folder)
+    if not repository.is_there():
+        if last and last.generation:
+            raise Fault(
+                f"{repository.path} isn't there any more, and {last.generation} was kept in it: is its disk mounted?"
+            )
+        repository.make()
+    return repository
+
+
+def _remove_unfinished(repository: Repository, names: list[str]) -> list[str]:
+    """Removes what a keeper that was stopped put there and didn't drill; a line for each."""
+    left = [name for name in names if name.startswith(NEW)]
+    if left:
+        repository.remove(left)
+    return [f"{name} is removed, since a run was stopped before its drill" for name in left]
+
+
+def _drilled_anew(cpi: Cpi, repository: Repository, name: str, now: int, room: Path) -> str:
+    """Puts what was taken to a room into a repository, takes it out again, and drills that; why it failed, empty if it
+    passed. Only if it passed, older generations go. Raises Fault and OSError."""
+    repository.put(f"{NEW}{name}", now, room / "taken", FILES)
+    shutil.rmtree(room / "taken")
+    failed = _fault_of(cpi, repository, f"{NEW}{name}", room / "back")
+    repository.rename(f"{NEW}{name}", f"{FAILED if failed else PASSED}{name}")
+    repository.prune(*((FAILED, KEEP_FAILED) if failed else (PASSED, KEEP)))
+    return failed
+
+
+def _fault_of(cpi: Cpi, repository: Repository, archive: str, back: Path) -> str:
+    """Takes an archive out to a new folder and drills it; the first fault, empty if nothing is wrong. Raises Fault if it
+    can't be taken out or drilled, and OSError."""
+    back.mkdir()
+    try:
+        taken_generation(repository, archive, back)
+    except Damaged as fault:
+        return str(fault)
+    faults = drill(cpi, back / OFFICE).faults
+    return faults[0] if faults else ""
+
+
+# ---- words
+
+DESCRIPTION = """\
+Keeps a generation of the second copy that cpi-tools follow keeps in the folder DEST. The newest
+whole copy goes into a repository of borg in FOLDER, is taken out of it again, and drilled. Only if
+it passes, it counts, and older generations go: those of 24 hours, 31 days and 12 months stay. A copy
+with the bytes of the last generation is no new one. cpi-tools promote --generation takes one.
+
+FOLDER belongs to a user of its own, which the machine that carries to DEST can't reach. Root runs
+this tool: it opens the copies, and writes DEST/drilled.json, which cpi-tools probe --copy reads on
+both machines. Everything else is done by the user of FOLDER. Its disk needs as much room as a copy,
+and the folder for temporary files once more.
+
+cpi-keep.timer runs it each hour. The first run makes the repository; one that is gone later is a
+fault.
+"""
+
+EPILOG = """\
+example: cpi-tools keep /var/lib/cpi-copy/office /var/lib/cpi-keep
+
+exit status: 0 if the newest copy is a generation that passed its drill; 1 with one line why none was
+kept; 2 if the words are refused; 6 if it failed its drill: it is kept aside and doesn't count
+"""
+
+
+def add_words(tools: argparse._SubParsersAction[ToolWords]) -> None:
+    """The tool `keep`."""
+    words = tools.add_parser(
+        "keep",
+        help="keeps generations of a second copy, each once it is drilled",
+        description=DESCRIPTION,
+        epilog=EPILOG,
+    )
+    words.add_argument("dest", type=Path, metavar="DEST", help="the folder with the two copies")
+    words.add_argument("folder", type=Path, metavar="FOLDER", help=f"the folder of the generations, such as {KEPT}")
+    add_program(words)
+    words.set_defaults(run=run, tool="keep", words=words)
+
+
+def run(chosen: argparse.Namespace) -> int:
+    """Runs the tool by its words; its exit status."""
+    with Progress("cpi-tools keep") as progress:
+        progress.now(f"keeping a generation of {chosen.dest}")
+        kept = keep(Cpi(chosen.program), chosen.dest, chosen.folder)
+    for line in kept.removed:
+        print(f"{chosen.folder}: {line}")
+    count = counted(kept.passed, "generation")
+    if kept.last.failed:
+        print(f"cpi-tools keep: {chosen.folder}: {_failed_text(kept.last)}; {count} stay", file=sys.stderr)
+        return FAILED_DRILL
+    state = "passed its drill" if kept.is_new else "has the bytes of the newest copy"
+    print(f"{chosen.folder}: {kept.last.generation} {state}, copied {second_text(kept.last.copied)}; {count}")
+    return 0
+
+
+def _failed_text(last: LastDrill) -> str:
+    """The line on a generation that failed its drill."""
+    name, _, fault = last.failed.partition(": ")
+    return f"{name} failed its drill and doesn't count: {fault}"
