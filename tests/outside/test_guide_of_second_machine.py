@@ -21,6 +21,7 @@ RUNNING = (ROOT / "docs/run/RUNNING.md").read_text()
 (RESTORE,) = indented(section(RUNNING, "## To restore"))
 USER, KEY, ALLOWED, FOLLOW, PROBE = indented(section(GUIDE, "## To set it up"))
 (ANEW,) = indented(section(GUIDE, "## When the office isn't carried any more"))
+KEEP, GENERATION = indented(section(GUIDE, "## Generations"))
 (PROMOTE,) = indented(section(GUIDE, "## When the first machine is lost"))
 STOP, REPLACE, ASIDE, AGAIN = indented(section(GUIDE, "## Back again"))
 
@@ -114,6 +115,32 @@ def carried_anew(first: System, before: str) -> None:
     first.wait_for("cpi-tools probe --copy /var/lib/cpi-follow | grep -q 'would take back what the copy has'")
     first.run(ANEW)
     first.wait_for(PROBE)
+
+
+def test_a_generation_outlives_both_copies(systems: tuple[System, System]) -> None:
+    """An office made anew is carried by --anew, as nobody should; the user of the copies empties what is there."""
+    first, second = systems
+    records = "\n".join(clients.survey())
+    first.run(f"runuser -u cpi -- cpi replay --db {OFFICE} > /dev/null << 'END'\n{records}\nEND")
+    first.run("systemctl enable --quiet --now cpi.service cpi-backup.timer")
+    before = sent(first, 210)
+    followed(first, second, "second.example")
+    first.wait_for(PROBE)
+    second.run(KEEP)
+    first.wait_for(f"{PROBE.strip()} --prometheus | grep -q cpi_drilled_age_seconds")
+    second.run('systemctl is-active cpi-keep.timer; test "$(stat -c %U /var/lib/cpi-keep/repository)" = cpi-keep')
+    listed, take = GENERATION.splitlines()
+    first.run(f"systemctl stop cpi-follow cpi; rm -f {OFFICE} {OFFICE}-wal")
+    first.run(
+        ANEW.replace("systemctl start cpi-follow.service", "").replace("runuser", "systemctl start cpi\nrunuser", 1)
+    )
+    second.run("systemctl start cpi-keep.service")
+    second.run(f"runuser -u cpi-copy -- sh -c 'rm -f {COPY}/copy-1/* {COPY}/copy-2/*; ! rm -rf /var/lib/cpi-keep'")
+    second.run("systemctl start cpi-keep.service", 1)
+    first.kill()
+    name = second.run(f"{listed} || true").splitlines()[0]
+    second.run(take.replace("2026-01-31-090007", name))
+    assert missing(second, before, 0) == 0
 
 
 def lost_and_promoted(first: System, second: System, before: str) -> None:

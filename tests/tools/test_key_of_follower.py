@@ -15,16 +15,19 @@ import pytest
 
 from cpi_tools.carriers import Rsync
 from cpi_tools.follow import Follower
+from cpi_tools.generations import LastDrill, last_drill_of, write_last_drill
 from cpi_tools.mirrors import PAGE
 from cpi_tools.page_changes import CAME, CHANGES, put_in
 from cpi_tools.places import Elsewhere, Folder
 from cpi_tools.second_copies import (
+    DRILLED,
     LOG,
     MARK,
     NAMES,
     NOTE,
     OFFICE,
     RECEIVED,
+    Sum,
     fault_of,
     note_in,
     state_of,
@@ -245,6 +248,29 @@ def test_the_key_runs_nothing_else(second: Second) -> None:
         told = ran.stdout + ran.stderr
         assert ran.returncode != 0 and "uid=" not in told and "the follower's" not in told, (command, told)
     assert second.files() == before
+
+
+# ---- which generation passed its drill there
+
+
+def test_the_first_machine_reads_which_generation_passed_and_cant_say_it(second: Second) -> None:
+    """A probe there sees what the second machine wrote; by the key another note goes where nobody reads it."""
+    last = LastDrill("2027-01-15-080000", 1_800_000_000, Sum(1, "a"), Sum(0, "b"))
+    room = second.first.parent / "room"
+    write_last_drill(second.dest, last)
+    second.rounds(1)
+    assert last_drill_of(room) == last
+    mine = second.first / DRILLED
+    mine.write_text((second.dest / DRILLED).read_text().replace("2027", "2099"))
+    for to in ("second:.", f"second:./{NAMES[0]}/", f"second:./{DRILLED}"):
+        second.rsync(mine, to)
+    assert last_drill_of(second.dest) == last
+    write_last_drill(second.dest, last._replace(failed="2027-01-15-090000: bad"))
+    second.rounds(2)
+    assert last_drill_of(room) == last._replace(failed="2027-01-15-090000: bad")
+    (second.dest / DRILLED).unlink()
+    second.rounds(1)
+    assert last_drill_of(room) is None
 
 
 # ---- what lies there already, however it came

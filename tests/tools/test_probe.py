@@ -20,6 +20,7 @@ from cpi_tools import probe, probe_looks, probe_told
 from cpi_tools.command_line import parser
 from cpi_tools.backup import Note, note_beside, note_text
 from cpi_tools.certificates import Certificate
+from cpi_tools.generations import LastDrill, write_last_drill
 from cpi_tools.levels import CRITICAL, OK, UNKNOWN, WARNING, Levels, levels, worst
 from cpi_tools.machine_clock import MachineClock
 from cpi_tools.probe_looks import Answer, Backup, Backups, Files, Table, late_months
@@ -28,7 +29,7 @@ from cpi_tools.program import Cpi
 from cpi_tools.said import Line
 from cpi_tools.writes import Writes
 from cpi_tools.second_copies import REFUSED as REFUSAL
-from cpi_tools.second_copies import CopyNote, Sum, write_note, write_promotion, write_refusal
+from cpi_tools.second_copies import DRILLED, CopyNote, Sum, write_note, write_promotion, write_refusal
 from cpi_tools.stored import Window
 from cpi_tools.terminal import Fault
 from lib.places import ROOT
@@ -37,7 +38,7 @@ from .loads import served
 from .offices import TABLES
 from .test_ops import needed
 
-NOW = 1_800_000_000
+NOW, HOUR = 1_800_000_000, 3600
 NOTHING_NAMED = "not checked: the file, writes, backups, the second copy, the certificate, the clock"
 LIST = b'{"tables":[["2025-12",1,1000],["2026-01",1,1799990000],["2026-01",2,1799993600]]}\n'
 TABLES_OF_LIST = (Table(202512, 1, 1000), Table(202601, 1, 1_799_990_000), Table(202601, 2, 1_799_993_600))
@@ -505,3 +506,79 @@ def test_an_office_that_is_not_carried_any_more_is_critical(tmp_path: Path, caps
         (tmp_path / "copy" / REFUSAL).write_text("{")
         status, out = ran(capsys, "--url", url, "--copy", tmp_path / "copy")
         assert status == 3 and "isn't a refusal that cpi-tools follow wrote" in out
+
+
+# ---- its generations
+
+
+GOOD = LastDrill("2027-01-15-070000", NOW - HOUR, Sum(1, "a"), Sum(0, "b"))
+"""A generation that passed its drill an hour ago."""
+
+
+@pytest.fixture
+def kept(tmp_path: Path) -> Path:
+    """A folder with a second copy of now."""
+    note_at(tmp_path / "copy", "copy-1", 1, NOW)
+    return tmp_path / "copy"
+
+
+def test_generations_that_nobody_keeps_are_not_checked(kept: Path, capsys: pytest.CaptureFixture[str]) -> None:
+    with answering(LIST) as url:
+        status, out = ran(capsys, "--url", url, "--copy", kept)
+        assert status == 0 and "not checked: the file, writes, backups, generations, the certificate, the clock" in out
+        write_last_drill(kept, GOOD)
+        status, out = ran(capsys, "--url", url, "--copy", kept)
+    assert (
+        status == 0
+        and "; drilled generation of 2027-01-15 07:00 UTC; not checked: the file, writes, backups, the" in out
+    )
+    assert f"drilled_copied_seconds={NOW - HOUR} drilled_age_seconds=3600 drill_failed=0" in out
+
+
+def test_the_age_of_the_last_drilled_generation_is_judged(kept: Path, capsys: pytest.CaptureFixture[str]) -> None:
+    """The levels are 3 and 26 hours."""
+    with answering(LIST) as url:
+        for age, wanted, told in (
+            (3 * HOUR - 1, 0, "CPI OK: "),
+            (3 * HOUR, 1, "CPI WARNING: the last generation that passed its drill is 3 hours old | "),
+            (26 * HOUR, 2, "CPI CRITICAL: the last generation that passed its drill is 26 hours old | "),
+        ):
+            write_last_drill(kept, GOOD._replace(copied=NOW - age))
+            status, out = ran(capsys, "--url", url, "--copy", kept)
+            assert status == wanted and out.startswith(told) and f"drilled_age_seconds={age}" in out
+        assert ran(capsys, "--url", url, "--copy", kept, "--drilled", "27,30")[0] == 0
+
+
+@pytest.mark.parametrize(
+    ("last", "status", "told"),
+    [
+        (
+            GOOD._replace(failed="2027-01-15-075000: bad"),
+            2,
+            "a generation of the second copy failed its drill: 2027-01-15-0",
+        ),
+        (GOOD._replace(fault="no room"), 1, "no generation of the second copy was kept: no room"),
+        (
+            LastDrill(fault="no room"),
+            2,
+            "no generation of the second copy has passed its drill; no generation of the second",
+        ),
+    ],
+)
+def test_what_went_wrong_with_the_next_one_is_said(
+    last: LastDrill, status: int, told: str, kept: Path, capsys: pytest.CaptureFixture[str]
+) -> None:
+    write_last_drill(kept, last)
+    with answering(LIST) as url:
+        found = ran(capsys, "--url", url, "--copy", kept)
+        assert found[0] == status and f": {told}" in found[1] and f"drill_failed={int(bool(last.failed))}" in found[1]
+        _, out = ran(capsys, "--url", url, "--copy", kept, "--prometheus")
+    assert f"\ncpi_drill_failed {int(bool(last.failed))}\n" in out
+    assert ("\ncpi_drilled_age_seconds 3600\n" in out) == bool(last.generation)
+
+
+def test_a_note_on_generations_that_cant_be_read_hides_nothing(kept: Path, capsys: pytest.CaptureFixture[str]) -> None:
+    (kept / DRILLED).write_text("{")
+    with answering(LIST) as url:
+        status, out = ran(capsys, "--url", url, "--copy", kept)
+    assert (status, out.split(" | ")[0]) == (3, f"CPI UNKNOWN: {kept / DRILLED} isn't a note that cpi-tools keep wrote")

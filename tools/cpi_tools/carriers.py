@@ -15,7 +15,7 @@ from typing import Optional, Protocol
 
 from .copying import log_beside
 from .mirrors import PAGE
-from .second_copies import MARK, NAMES, NOTE, OFFICE, RECEIVED
+from .second_copies import DRILLED, MARK, NAMES, NOTE, OFFICE, RECEIVED
 from .terminal import Fault, because_of
 
 SILENCE = 30
@@ -72,8 +72,8 @@ class Rsync:
     def fetch(self, to: Path) -> None:
         """Files that are gone there go here too. Two notes of one second may have the same size, so all are read."""
         notes = [f"--include=/{name}/{NOTE}" for name in NAMES]
-        chosen = [*(f"--include=/{name}/" for name in NAMES), *notes, f"--include=/{MARK}", f"--include=/{RECEIVED}"]
-        chosen.append("--exclude=*")
+        chosen = [*(f"--include=/{name}/" for name in NAMES), *notes]
+        chosen += [*(f"--include=/{name}" for name in (MARK, RECEIVED, DRILLED)), "--exclude=*"]
         _run([*self._words, "--recursive", "--delete", "--ignore-times", *chosen, self._at, f"{to}/"], self.name)
 
     def carry(self, copy: Path, to: str, is_whole: bool) -> None:
@@ -98,7 +98,7 @@ class Rclone:
 
     def fetch(self, to: Path) -> None:
         """Files that are gone there go here too."""
-        chosen = [f"--include=/{name}/{NOTE}" for name in NAMES] + [f"--include=/{MARK}"]
+        chosen = [f"--include=/{name}/{NOTE}" for name in NAMES] + [f"--include=/{MARK}", f"--include=/{DRILLED}"]
         _run([*self._words, "sync", *chosen, self._at, str(to)], self.name)
 
     def carry(self, copy: Path, to: str, is_whole: bool) -> None:

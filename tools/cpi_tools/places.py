@@ -15,11 +15,26 @@ from pathlib import Path
 from typing import NamedTuple, Optional, Protocol
 
 from .carriers import Carrier, carrier_of
+from .held_folders import held
 from .marks import Known, known_of
 from .mirrors import MirroredOffice, Taken, second_of, stamp, sync
 from .page_changes import CARRIED, Changes, of_mirror, received_text, write_changes
-from .second_copies import NAMES, NOTE, OFFICE, RECEIVED, CopyNote, State, note_of, state_of, sums_of, write_note
+from .second_copies import (
+    DRILLED,
+    MOST_BYTES,
+    NAMES,
+    NOTE,
+    OFFICE,
+    RECEIVED,
+    CopyNote,
+    State,
+    note_of,
+    state_of,
+    sums_of,
+    write_note,
+)
 from .terminal import Fault
+from .whole_files import write_whole
 
 LOCK = "follow.lock"
 """The file by which one follower at a time writes to a folder."""
@@ -87,7 +102,20 @@ class Elsewhere:
         there = self._room / "there"
         there.mkdir(mode=0o700, parents=True, exist_ok=True)
         self._carrier.fetch(there)
+        self._show_last_drill(there)
         return state_of(there)
+
+    def _show_last_drill(self, there: Path) -> None:
+        """Puts the note on the last drill there where a probe of this machine sees it. Raises OSError."""
+        seen = self.seen / DRILLED
+        try:
+            with held(there) as fetched:
+                text = fetched.text(DRILLED, MOST_BYTES)
+        except FileNotFoundError:
+            seen.unlink(missing_ok=True)
+            return
+        if not seen.exists() or seen.read_text(encoding="utf-8", errors="replace") != text:
+            write_whole(seen, text.encode(), 0o600)
 
     def round(self, office: Path, state: State, patience: float, is_anew: bool) -> tuple[CopyNote, Taken]:
         """The mirror needn't be on the disk: what it lacks after a crash is seen in the next round."""

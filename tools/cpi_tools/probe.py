@@ -17,6 +17,7 @@ from typing import Optional, TypeVar
 
 from .certificates import certificate_at, place
 from .connections import connections_left
+from .generations import LastDrill, last_drill_of
 from .levels import OK, Levels, levels, levels_of_rest
 from .machine_clock import machine_clock
 from .probe_looks import (
@@ -64,6 +65,7 @@ def look(chosen: argparse.Namespace, now: int) -> Seen:
     second = looks.at(second_copy_of, chosen.copy) if chosen.copy else None
     answer, fault = _answer(chosen, looks)
     backups = looks.at(backups_of, chosen.backups) if chosen.backups else None
+    last_drill = looks.at(last_drill_of, chosen.copy) if chosen.copy else None
     said = looks.at(said_by, chosen)
     return Seen(
         now,
@@ -72,13 +74,14 @@ def look(chosen: argparse.Namespace, now: int) -> Seen:
         files=looks.at(files_of, chosen.file) if chosen.file else None,
         backups=backups,
         second=second,
+        last_drill=last_drill,
         late=looks.at(_late, answer, backups, chosen.file, now) if answer else None,
         writes=looks.at(writes_of, chosen.file, said) if said else None,
         left=looks.at(connections_left, said) if said else None,
         certificate=looks.at(certificate_at, chosen.certificate, chosen.timeout) if chosen.certificate else None,
         clock=looks.at(machine_clock) if chosen.clock else None,
         unseen=tuple(looks.faults),
-        unnamed=unnamed(chosen),
+        unnamed=unnamed(chosen, last_drill),
     )
 
 
@@ -119,13 +122,14 @@ def said_by(chosen: argparse.Namespace) -> Optional[Said]:
         ) from fault
 
 
-def unnamed(chosen: argparse.Namespace) -> tuple[str, ...]:
-    """The parts that weren't named."""
+def unnamed(chosen: argparse.Namespace, last_drill: Optional[LastDrill] = None) -> tuple[str, ...]:
+    """The parts that weren't named, or that nobody keeps."""
     parts = {
         "the file": chosen.file,
         "writes": chosen.file or chosen.unit or chosen.output,
         "backups": chosen.backups,
         "the second copy": chosen.copy,
+        "generations": last_drill or not chosen.copy,
         "the certificate": chosen.certificate,
         "the clock": chosen.clock,
     }
@@ -153,7 +157,9 @@ journal of UNIT and without --output, nobody can know whether writes succeed: st
 
 Second copy: --copy names DEST of cpi-tools follow if that is a folder of this machine, or else the
 room of the follower, which has the note of the copy that was carried last. A copy or a backup that
-is dated ahead of this machine's clock is a warning.
+is dated ahead of this machine's clock is a warning. Where cpi-tools keep keeps generations of it,
+the last one that passed its drill has an age too (--drilled); one that failed its drill is critical
+until another one passes, and one that couldn't be kept is a warning.
 
 Connections: the same lines say when few connections are left of the limit of `cpi serve`.
 """
@@ -188,6 +194,7 @@ LEVELS = (
     ("free", Levels(1024, 256), "MiB left on the disk, from which on downwards"),
     ("age", Levels(26, 50), "hours since the last backup"),
     ("copied", Levels(120, 600), "seconds since the second copy was made"),
+    ("drilled", Levels(3, 26), "hours since the last copy that became a generation and passed its drill"),
     ("left", Levels(10_000, 1000), "connections left of the limit, from which on downwards"),
     ("days", Levels(21, 7), "days until the certificate ends, from which on downwards"),
 )

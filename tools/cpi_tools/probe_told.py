@@ -8,6 +8,7 @@ from typing import NamedTuple, Optional
 
 from . import writes
 from .certificates import Certificate
+from .generations import LastDrill
 from .levels import CRITICAL, OK, STATES, UNKNOWN, WARNING, Judgement, state_of, state_of_rest, worst
 from .machine_clock import MachineClock
 from .probe_looks import Answer, Backups, Files, SecondCopy, Table
@@ -36,6 +37,7 @@ class Seen(NamedTuple):
     certificate: Optional[Certificate] = None
     clock: Optional[MachineClock] = None
     second: Optional[SecondCopy] = None
+    last_drill: Optional[LastDrill] = None
     unseen: tuple[str, ...] = ()
     unnamed: tuple[str, ...] = ()
 
@@ -52,7 +54,7 @@ class Judged(NamedTuple):
 
 def judged(seen: Seen, chosen: argparse.Namespace) -> Judged:
     """The state of an office: the worst of its parts, by the levels that were chosen; all that aren't well are told."""
-    parts = (_of_answer, _of_files, _of_backups, _of_second, _of_writes, _of_machine, _of_unseen)
+    parts = (_of_answer, _of_files, _of_backups, _of_second, _of_generations, _of_writes, _of_machine, _of_unseen)
     found = [each for part in parts for each in part(seen, chosen) if each[0] != OK]
     ordered = [told for weight in (CRITICAL, WARNING, UNKNOWN) for state, told in found if state == weight]
     return Judged(worst(state for state, _ in found), tuple(ordered))
@@ -119,6 +121,24 @@ def _ahead(name: str, seconds: int) -> Judgement:
     return WARNING, f"{name} is dated {counted(seconds, 'second')} ahead, so its age isn't known: one clock is wrong"
 
 
+def _of_generations(seen: Seen, chosen: argparse.Namespace) -> Iterator[Judgement]:
+    """The last generation that passed its drill, and why the one after it didn't."""
+    if not (last := seen.last_drill):
+        return
+    if last.failed:
+        yield CRITICAL, f"a generation of the second copy failed its drill: {last.failed}"
+    if last.fault:
+        yield WARNING, f"no generation of the second copy was kept: {last.fault}"
+    if not last.generation:
+        yield CRITICAL, "no generation of the second copy has passed its drill"
+    elif last.copied > seen.now:
+        yield _ahead("the last generation", last.copied - seen.now)
+    else:
+        hours = (seen.now - last.copied) // HOUR
+        told = f"the last generation that passed its drill is {counted(hours, 'hour')} old"
+        yield state_of(hours, chosen.drilled), told
+
+
 def _of_writes(seen: Seen, chosen: argparse.Namespace) -> Iterator[Judgement]:
     if seen.writes:
         yield writes.judged(seen.writes, seen.now, chosen.refused)
@@ -158,6 +178,8 @@ def _good_words(seen: Seen) -> Iterator[str]:
     yield f"last table {month_text(latest.month)} revision {latest.revision}" if latest else "no table yet"
     if seen.backups and seen.backups.last:
         yield f"backup of {time_text(seen.backups.last.copied)}"
+    if seen.last_drill and seen.last_drill.generation:
+        yield f"drilled generation of {time_text(seen.last_drill.copied)}"
     if seen.unnamed:
         yield f"not checked: {', '.join(seen.unnamed)}"
 
@@ -204,8 +226,17 @@ def _figures_of_files(seen: Seen) -> Iterator[Figure]:
             seen.now - seen.second.copied
         ), "Age of the second copy, below 0 if a clock is wrong."
         yield "second_refused", str(int(bool(seen.second.refused))), "Whether the office isn't carried to it any more."
+    yield from _figures_of_generations(seen.last_drill, seen.now)
     if seen.backups:
         yield "failed_drills", str(seen.backups.failed_drills), "Drills that failed after the last backup."
+
+
+def _figures_of_generations(last: Optional[LastDrill], now: int) -> Iterator[Figure]:
+    if last and last.generation:
+        yield "drilled_copied_seconds", str(last.copied), "When the copy of the last drilled generation was made."
+        yield "drilled_age_seconds", str(max(0, now - last.copied)), "Age of the last generation that passed its drill."
+    if last:
+        yield "drill_failed", str(int(bool(last.failed))), "Whether a later generation failed its drill."
 
 
 def _figures_of_the_rest(seen: Seen) -> Iterator[Figure]:
