@@ -103,6 +103,19 @@ def receiver(path: Path, dest: Path, more: str = "", programs: str = "") -> str:
     return str(path)
 
 
+def led_away(at: Path, outside: Path, how: str) -> None:
+    """Moves a file or a folder elsewhere, and puts at its place a link or a hard link to it, a pipe or a folder."""
+    at.rename(outside)
+    if how == "link":
+        at.symlink_to(outside)
+    elif how == "hard-link":
+        os.link(outside, at)
+    elif how == "pipe":
+        os.mkfifo(at)
+    else:
+        at.mkdir()
+
+
 def surveyed(cpi: Cpi, path: Path) -> Path:
     """The file of an office whose clients have sent nothing yet."""
     assert [reply for reply in cpi.replay(clients.survey(), db=path) if reply != {"done": True}] == []

@@ -6,6 +6,7 @@ from __future__ import annotations
 import fcntl
 import json
 import os
+import re
 import shutil
 import sqlite3
 import subprocess
@@ -37,6 +38,7 @@ from cpi_tools.terminal import Fault
 from .accidents import priced
 from .generations import Place, carried, forged, made_place
 from .ran import Ran, run
+from .second_machines import led_away
 
 NOW = 1_800_000_000
 """2027-01-15 08:00 UTC."""
@@ -197,15 +199,7 @@ def test_no_link_leads_to_another_file(what: str, how: str, place: Place, tmp_pa
     at, outside, room = place.dest / NAMES[1] / what, tmp_path / "outside", tmp_path / "room"
     room.mkdir()
     log_beside(place.dest / NAMES[1] / OFFICE).touch()
-    at.rename(outside)
-    if how == "link":
-        at.symlink_to(outside)
-    elif how == "hard-link":
-        os.link(outside, at)
-    elif how == "pipe":
-        os.mkfifo(at)
-    else:
-        at.mkdir()
+    led_away(at, outside, how)
     with open_copies.open_copies(place.dest) as copies:
         assert [bool(copy.fault) for copy in copies] == [False, True]
         assert "it isn't a " in copies[1].fault and [copies[1].note, copies[1].office, copies[1].log] == [None] * 3
@@ -280,21 +274,25 @@ def test_one_keeper_at_a_time_works(cpi: Cpi, place: Place) -> None:
 
 
 @pytest.fixture
-def small_disk(place: Place) -> Iterator[Path]:
-    """The folder of the generations on a disk of its own that is small."""
+def disk(place: Place) -> Iterator[Path]:
+    """The folder of the generations on a disk of its own, in memory."""
     if os.geteuid() != 0:
         pytest.skip("only root mounts a disk")
-    size = 3 * (place.dest / NAMES[0] / OFFICE).stat().st_size + (1 << 20)
-    subprocess.run(["mount", "-t", "tmpfs", "-o", f"size={size}", "tmpfs", place.folder], check=True)
+    subprocess.run(["mount", "-t", "tmpfs", "-o", "size=1g", "tmpfs", place.folder], check=True)
     try:
         yield place.folder
     finally:
         subprocess.run(["umount", place.folder], check=True)
 
 
+def resize(disk: Path, size: int) -> None:
+    """Gives a disk another size in bytes; what lies there stays."""
+    subprocess.run(["mount", "-o", f"remount,size={size}", disk], check=True)
+
+
 @pytest.mark.parametrize("left", [30_000, -30_000])
 def test_a_full_disk_is_said_and_what_was_kept_stays(
-    left: int, cpi: Cpi, office: Path, place: Place, small_disk: Path
+    left: int, cpi: Cpi, office: Path, place: Place, disk: Path
 ) -> None:
     """With so many bytes more than the copy needs, or fewer."""
     assert kept(cpi, place).status == 0
@@ -302,17 +300,32 @@ def test_a_full_disk_is_said_and_what_was_kept_stays(
     priced(cpi, office, 1, 100)
     carried(office, place)
     newest = state_of(place.dest).last()
-    free = shutil.disk_usage(small_disk).free
-    assert newest and free > newest.file.size + newest.log.size + left
-    (small_disk / "filled").write_bytes(bytes(free - newest.file.size - newest.log.size - left))
+    assert newest
+    resize(disk, shutil.disk_usage(disk).used + newest.file.size + newest.log.size + left)
     ran = kept(cpi, place)
     assert (ran.status, ran.out, ran.err.count("\n")) == (1, "", 1)
-    assert ("repository: No space left on device" if left > 0 else "and the disk of the generations has ") in ran.err
-    told = last_drill_of(place.dest)
-    assert told and told.fault in ran.err
-    (small_disk / "filled").unlink()
+    of_borg = "repository: (No space left on device|Insufficient free space to complete transaction .*)"
+    assert re.search(of_borg if left > 0 else "bytes, and the disk of the generations has ", ran.err)
+    last = last_drill_of(place.dest)
+    assert last and last.fault in ran.err and last.generation == good.removeprefix(PASSED)
+    resize(disk, 1 << 30)
     assert place.archives() == [good]
     assert kept(cpi, place).status == 0 and len(place.archives()) == 2
+
+
+def test_one_that_passed_counts_though_older_ones_cant_go(cpi: Cpi, place: Place, disk: Path) -> None:
+    """Borg removes something only if there is room for a whole segment, some 550 MB."""
+    resize(disk, 100 << 20)
+    ran = kept(cpi, place)
+    assert ran.status == 1 and " passed its drill, copied " in ran.out
+    told = f"older generations couldn't be removed: {place.folder}/repository: Insufficient free space to complete"
+    assert ran.err.startswith(f"cpi-tools keep: {place.folder}: {told}") and ran.err.count("\n") == 1
+    last = last_drill_of(place.dest)
+    assert last and place.archives() == [f"{PASSED}{last.generation}"] and last.fault.startswith(told)
+    resize(disk, 1 << 30)
+    assert kept(cpi, place).status == 0
+    last = last_drill_of(place.dest)
+    assert last and last.fault == ""
 
 
 def test_without_borg_its_package_is_named(cpi: Cpi, place: Place, monkeypatch: pytest.MonkeyPatch) -> None:

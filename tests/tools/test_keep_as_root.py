@@ -184,7 +184,16 @@ def test_only_root_acts_as_another_user(monkeypatch: pytest.MonkeyPatch) -> None
 @as_root
 def test_what_the_other_user_answers_is_looked_at(cpi: Cpi, place: Place, monkeypatch: pytest.MonkeyPatch) -> None:
     """That process reads what somebody carried, so it may be somebody else's by then."""
-    answer = {"again": "", "generation": "../x", "is_new": True, "failed": "", "passed": 1, "removed": [], "copied": 1}
+    answer = {
+        "again": "",
+        "generation": "../x",
+        "is_new": True,
+        "failed": "",
+        "left": "",
+        "passed": 1,
+        "removed": [],
+        "copied": 1,
+    }
     for change in ({}, {"generation": f"{PASSED}x"}, {"generation": "2026-01-01-000000", "failed": "a\nb"}):
         monkeypatch.setattr("cpi_tools.keep._answer", lambda *_, change=change: {**answer, **change})
         ran = run(cpi, "keep", *place)

@@ -37,7 +37,7 @@ from cpi_tools.program import Cpi
 from cpi_tools.terminal import Fault
 from lib.places import ROOT
 from .offices import LOAD_KEY, LOAD_MONTH
-from .second_machines import receiver
+from .second_machines import led_away, receiver
 
 MINE = b"ssh-ed25519 AAAAC3NzaC1lZDI1NTE5AAAAIMine of an attacker\n"
 OTHER = 65534
@@ -285,15 +285,7 @@ def test_changes_are_put_into_plain_files_only(how: str, what: str, second: Seco
     at, outside = second.dest / what, tmp_path / "outside"
     if how in ("hard-link", "folder") and at.is_dir():
         pytest.skip("a folder has one name")
-    at.rename(outside)
-    if how == "link":
-        at.symlink_to(outside)
-    elif how == "hard-link":
-        os.link(outside, at)
-    elif how == "pipe":
-        os.mkfifo(at)
-    else:
-        at.mkdir()
+    led_away(at, outside, how)
     before = second.files()
     content = outside.read_bytes() if outside.is_file() else sorted(path.name for path in outside.rglob("*"))
     with pytest.raises(Fault, match="it isn't a (plain file|folder|file of one name)$|isn't the copy that it changes$"):

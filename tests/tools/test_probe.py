@@ -557,11 +557,11 @@ def test_the_age_of_the_last_drilled_generation_is_judged(kept: Path, capsys: py
             2,
             "a generation of the second copy failed its drill: 2027-01-15-0",
         ),
-        (GOOD._replace(fault="no room"), 1, "no generation of the second copy was kept: no room"),
+        (GOOD._replace(fault="no room"), 1, "the last run of cpi-tools keep failed: no room"),
         (
             LastDrill(fault="no room"),
             2,
-            "no generation of the second copy has passed its drill; no generation of the second",
+            "no generation of the second copy has passed its drill; the last run of cpi-tools keep failed: no room",
         ),
     ],
 )

@@ -49,7 +49,7 @@ class Damaged(Fault):
 class LastDrill(NamedTuple):
     """What is known of the generations of a copy: the last one that passed its drill, empty if none did; the moment of
     the latest copy that had its bytes, in seconds since 1970 UTC; their sums; and since then the generation that failed
-    its drill with its reason, and why none was kept, each empty if that isn't so."""
+    its drill with its reason, and the fault of the last run, each empty if that isn't so."""
 
     generation: str = ""
     copied: int = 0

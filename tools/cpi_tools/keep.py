@@ -95,13 +95,14 @@ def keep(cpi: Cpi, dest: Path, folder: Path, clock: Callable[[], float] = time.t
 def _kept_in(answer: dict[str, Any], last: LastDrill, now: int) -> Kept:
     """What another user's process answered. A copy of the future would never be old, so it is of now. Raises Fault if it
     isn't what that process writes."""
-    name, failed, removed = str(answer["generation"]), str(answer["failed"]), tuple(map(str, answer["removed"]))
-    if not is_generation(name) or not is_line("".join((failed, *removed))):
+    name, failed, left = (str(answer[part]) for part in ("generation", "failed", "left"))
+    removed = tuple(map(str, answer["removed"]))
+    if not is_generation(name) or not is_line("".join((failed, left, *removed))):
         raise Fault("what the user of the generations answered isn't of a generation")
     if failed:
-        return Kept(last._replace(failed=f"{name}: {failed}", fault=""), True, int(answer["passed"]), removed)
+        return Kept(last._replace(failed=f"{name}: {failed}", fault=left), True, int(answer["passed"]), removed)
     file, log = (Sum(int(size), str(of)) for size, of in (answer["file"], answer["log"]))
-    kept = LastDrill(name, min(int(answer["copied"]), now), file, log)
+    kept = LastDrill(name, min(int(answer["copied"]), now), file, log, fault=left)
     return Kept(kept, bool(answer["is_new"]), int(answer["passed"]), removed)
 
 
@@ -124,8 +125,9 @@ def _answer(cpi: Cpi, copies: list[OpenCopy], folder: Path, last: Optional[LastD
         same = last and last.generation in drilled_in(names) and (last.file, last.log) == (note.file, note.log)
         name = last.generation if last and same else generation_of(now)
         failed = "" if same else _drilled_anew(cpi, repository, name, now, room)
+        left = "" if same else _prune(repository, bool(failed))
         passed = len(drilled_in(names if same else repository.names()))
-        answer = {"again": "", "generation": name, "is_new": not same, "failed": failed, "passed": passed}
+        answer = {"again": "", "generation": name, "is_new": not same, "failed": failed, "left": left, "passed": passed}
         return {**answer, "removed": removed, "copied": note.copied, "file": note.file, "log": note.log}
 
 
@@ -162,13 +164,22 @@ def _remove_unfinished(repository: Repository, names: list[str]) -> list[str]:
 
 def _drilled_anew(cpi: Cpi, repository: Repository, name: str, now: int, room: Path) -> str:
     """Puts what was taken to a room into a repository, takes it out again, and drills that; why it failed, empty if it
-    passed. Only if it passed, older generations go. Raises Fault and OSError."""
+    passed. Raises Fault and OSError."""
     repository.put(f"{NEW}{name}", now, room / "taken", FILES)
     shutil.rmtree(room / "taken")
     failed = _fault_of(cpi, repository, f"{NEW}{name}", room / "back")
     repository.rename(f"{NEW}{name}", f"{FAILED if failed else PASSED}{name}")
-    repository.prune(*((FAILED, KEEP_FAILED) if failed else (PASSED, KEEP)))
     return failed
+
+
+def _prune(repository: Repository, is_failed: bool) -> str:
+    """Removes older generations, if the new one passed its drill, else older ones that failed; why it couldn't, else
+    nothing: the new one is kept all the same."""
+    try:
+        repository.prune(*((FAILED, KEEP_FAILED) if is_failed else (PASSED, KEEP)))
+    except Fault as fault:
+        return f"older generations couldn't be removed: {fault}"
+    return ""
 
 
 def _fault_of(cpi: Cpi, repository: Repository, archive: str, back: Path) -> str:
@@ -193,8 +204,8 @@ with the bytes of the last generation is no new one. cpi-tools promote --generat
 
 FOLDER belongs to a user of its own, which the machine that carries to DEST can't reach. Root runs
 this tool: it opens the copies, and writes DEST/drilled.json, which cpi-tools probe --copy reads on
-both machines. Everything else is done by the user of FOLDER. Its disk needs as much room as a copy,
-and the folder for temporary files once more.
+both machines. Everything else is done by the user of FOLDER. Besides what is kept, its disk needs as
+much room as a copy and 600 MB for borg, and the folder for temporary files as much as a copy.
 
 cpi-keep.timer runs it each hour. The first run makes the repository; one that is gone later is a
 fault.
@@ -204,7 +215,8 @@ EPILOG = """\
 example: cpi-tools keep /var/lib/cpi-copy/office /var/lib/cpi-keep
 
 exit status: 0 if the newest copy is a generation that passed its drill; 1 with one line why none was
-kept; 2 if the words are refused; 6 if it failed its drill: it is kept aside and doesn't count
+kept, or why older ones couldn't be removed; 2 if the words are refused; 6 if it failed its drill: it
+is kept aside and doesn't count
 """
 
 
@@ -230,12 +242,14 @@ def run(chosen: argparse.Namespace) -> int:
     for line in kept.removed:
         print(f"{chosen.folder}: {line}")
     count = counted(kept.passed, "generation")
+    if kept.last.fault:
+        print(f"cpi-tools keep: {chosen.folder}: {kept.last.fault}", file=sys.stderr)
     if kept.last.failed:
         print(f"cpi-tools keep: {chosen.folder}: {_failed_text(kept.last)}; {count} stay", file=sys.stderr)
         return FAILED_DRILL
     state = "passed its drill" if kept.is_new else "has the bytes of the newest copy"
     print(f"{chosen.folder}: {kept.last.generation} {state}, copied {second_text(kept.last.copied)}; {count}")
-    return 0
+    return 1 if kept.last.fault else 0
 
 
 def _failed_text(last: LastDrill) -> str:

@@ -159,7 +159,7 @@ Second copy: --copy names DEST of cpi-tools follow if that is a folder of this m
 room of the follower, which has the note of the copy that was carried last. A copy or a backup that
 is dated ahead of this machine's clock is a warning. Where cpi-tools keep keeps generations of it,
 the last one that passed its drill has an age too (--drilled); one that failed its drill is critical
-until another one passes, and one that couldn't be kept is a warning.
+until another one passes, and another fault of cpi-tools keep is a warning.
 
 Connections: the same lines say when few connections are left of the limit of `cpi serve`.
 """

@@ -128,7 +128,7 @@ def _of_generations(seen: Seen, chosen: argparse.Namespace) -> Iterator[Judgemen
     if last.failed:
         yield CRITICAL, f"a generation of the second copy failed its drill: {last.failed}"
     if last.fault:
-        yield WARNING, f"no generation of the second copy was kept: {last.fault}"
+        yield WARNING, f"the last run of cpi-tools keep failed: {last.fault}"
     if not last.generation:
         yield CRITICAL, "no generation of the second copy has passed its drill"
     elif last.copied > seen.now:
