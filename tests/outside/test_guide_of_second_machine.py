@@ -202,7 +202,7 @@ def test_the_key_carries_pages_and_nothing_else(systems: tuple[System, System]) 
     wait_for_rounds(first, 2)
     first.run("systemctl stop cpi-follow")
     first.run(f"runuser -u cpi -- bash -u << 'END'{ATTACK}END")
-    assert second.run(f"ls {COPY}").split() == ["copy-1", "copy-2", "received", "received.lock"]
+    assert second.run(f"ls {COPY}").split() == ["copy-1", "copy-2", "desk", "received", "received.lock"]
     second.run(f"test -s {COPY}/copy-2/office.db; test ! -e /var/lib/cpi-copy/.ssh; test ! -e /var/lib/cpi-copy/stolen")
     # a key that the user of the copies could write wouldn't count either
     first.run("runuser -u cpi -- ssh-keygen -q -t ed25519 -N '' -f /var/lib/cpi/mine")

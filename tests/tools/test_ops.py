@@ -289,7 +289,9 @@ def followed(folder: Path, *words: str, **settings: str) -> Started:
     for name in ("cpi-tools", "systemctl", "sleep"):
         script(folder / name, f'echo {name} "$@" >> {folder}/asked\n' + (next_status if name == "cpi-tools" else ""))
     kept = {"PATH": f"{folder}:{os.environ['PATH']}", "CPI_OFFICE": "office.db", **settings}
-    ran = subprocess.run([OPS / "cpi-follow", *words], env=kept, capture_output=True, text=True, check=False)
+    text = (OPS / "cpi-follow").read_text().replace("/var/lib/cpi-desk", str(folder / "cpi-desk"))
+    words = (str(script(folder / "cpi-follow", text.partition("\n")[2])), *words)
+    ran = subprocess.run(words, env=kept, capture_output=True, text=True, check=False)
     return Started(ran.returncode, ran.stdout, ran.stderr, folder)
 
 
@@ -298,6 +300,12 @@ def test_the_second_copy_is_kept_as_the_settings_say(tmp_path: Path) -> None:
     assert followed(tmp_path, CPI_COPY="second:copy", CPI_COPY_EVERY="7")[:3] == (0, "", "")
     asked = "cpi-tools follow office.db second:copy --every 7 --room /var/lib/cpi-follow\n"
     assert (tmp_path / "asked").read_text() == asked
+    # (the desk's folder goes along if there is one)
+    (tmp_path / "cpi-desk").mkdir()
+    (tmp_path / "asked").unlink()
+    (tmp_path / "statuses").write_text("0\n")
+    assert followed(tmp_path, CPI_COPY="second:copy", CPI_COPY_EVERY="7")[:3] == (0, "", "")
+    assert (tmp_path / "asked").read_text() == f"{asked.strip()} --desk {tmp_path}/cpi-desk\n"
     for word in ("", "ask"):
         none = followed(tmp_path, *([word] if word else []), CPI_COPY="")
         assert (none.status, none.told.count("\n")) == (WRONG, 1) and "CPI_COPY is empty" in none.told
@@ -485,14 +493,17 @@ def test_a_file_that_is_not_there_is_not_made(cpi: Cpi, tmp_path: Path) -> None:
 # ---- the night
 
 
-def night(folder: Path, drill_status: int, log: str = "nowhere") -> subprocess.CompletedProcess[str]:
-    """The night's script, with tools that say what they do; backups are files with their notes."""
-    backup = 'backup) mkdir -p "${3%/*}"; echo new > "$3"; echo new > "$3.sha256" ;;'
+def night(folder: Path, drill_status: int, backup_status: int = 0) -> subprocess.CompletedProcess[str]:
+    """The night's script, with tools that say what they do; backups are files with their notes, and with the desk's
+    folder if that is there: in the place of /var/lib/cpi-desk it is one of this folder."""
+    desk = f'[ -z "${{5-}}" ] || [ {backup_status} != 0 ] || echo new > "$3.desk.tar"'
+    made = f'mkdir -p "${{3%/*}}"; echo new > "$3"; echo new > "$3.sha256"; {desk}; exit {backup_status}'
     drill = f'drill) test -e "$2.sha256" || exit 9; exit {drill_status} ;;'
-    script(folder / "cpi-tools", f'echo "$@"\ncase $1 in {backup} {drill} esac\n')
+    script(folder / "cpi-tools", f'echo "$@"\ncase $1 in backup) {made} ;; {drill} esac\n')
     kept = {"PATH": f"{folder}:{os.environ['PATH']}", "CPI_BACKUPS": str(folder / "kept"), "CPI_OFFICE": "office.db"}
-    kept["CPI_DESK_LOG"] = log
-    return subprocess.run([OPS / "cpi-backup"], env=kept, capture_output=True, text=True, check=False)
+    text = (OPS / "cpi-backup").read_text().replace("/var/lib/cpi-desk", str(folder / "cpi-desk"))
+    script(folder / "cpi-backup", text.partition("\n")[2])
+    return subprocess.run([folder / "cpi-backup"], env=kept, capture_output=True, text=True, check=False)
 
 
 OLD = {
@@ -539,12 +550,13 @@ def test_a_night_makes_a_backup_drills_it_and_removes_old_ones(tmp_path: Path) -
 
 
 def test_a_night_notes_the_last_line_of_the_desk_s_log_if_there_is_one(tmp_path: Path) -> None:
-    log, asked = tmp_path / "desk.log", list[str]()
+    desk, asked = tmp_path / "cpi-desk", list[str]()
+    desk.mkdir()
     for text in ("", "a line\n"):
-        log.write_text(text)
-        asked.append(night(tmp_path, 0, str(log)).stdout.splitlines()[0])
-    new = f"backup office.db {tmp_path / 'kept/.new' / TODAY}"
-    assert asked == [new, f"{new} --desk-log {log}"]
+        (desk / "desk.log").write_text(text)
+        asked.append(night(tmp_path, 0).stdout.splitlines()[0])
+    new = f"backup office.db {tmp_path / 'kept/.new' / TODAY} --desk {desk}"
+    assert asked == [new, f"{new} --desk-log {desk / 'desk.log'}"]
 
 
 def test_a_copy_that_is_not_whole_counts_for_nothing_and_nothing_is_removed(tmp_path: Path) -> None:
@@ -568,6 +580,24 @@ def test_a_night_after_another_one_of_the_day_and_one_that_broke_off(tmp_path: P
     assert night(tmp_path, 0).returncode == 0
     assert {path.name for path in (tmp_path / "kept").iterdir() if path.is_file()} == both(TODAY)
     assert {(tmp_path / "kept" / name).read_text() for name in both(TODAY)} == {"new\n"}
+
+
+def test_the_desk_s_folder_is_in_the_backup_of_the_night(tmp_path: Path) -> None:
+    """If it can't be read, the office's backup is there all the same, and the unit fails."""
+    (tmp_path / "cpi-desk").mkdir()
+    (tmp_path / "kept").mkdir()
+    new = tmp_path / "kept/.new" / TODAY
+    ran = night(tmp_path, 0)
+    assert (ran.returncode, ran.stdout) == (0, f"backup office.db {new} --desk {tmp_path}/cpi-desk\ndrill {new}\n")
+    files = {path.name for path in (tmp_path / "kept").iterdir() if path.is_file()}
+    assert files == both(TODAY) | {f"{TODAY}.desk.tar"}
+    assert night(tmp_path, 0, backup_status=4).returncode == 4
+    files = {path.name for path in (tmp_path / "kept").iterdir() if path.is_file()}
+    assert files == both(TODAY)
+    assert night(tmp_path, 1).returncode == 1
+    files = {path.name for path in (tmp_path / "kept").iterdir() if path.is_file()}
+    assert files == both(TODAY) | {f"{TODAY}.{end}" for end in ("bad", "bad-note", "bad-desk")}
+    assert night(tmp_path, 0, backup_status=1).returncode == 1
 
 
 FILLED = {

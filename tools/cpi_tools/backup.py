@@ -6,14 +6,18 @@ DEST and its note are written beside and renamed, so each is whole or isn't ther
 from __future__ import annotations
 
 import argparse
+import contextlib
 import hashlib
 import os
 import re
+import sys
 import time
 from pathlib import Path
 from typing import NamedTuple, Optional
 
 from .copying import EMPTIED_BYTES, PATIENCE, has_frames, log_beside, right_copy
+from .desk_backup import desk_beside, write_desk
+from .desk_files import LOG, seen_in
 from .program import LAST_MOMENT, Cpi, CpiFailed, add_program, record
 from .rooms import new_room
 from .terminal import Fault, Progress, ToolWords, a_file, at_least, because_of, counted, time_text
@@ -31,14 +35,16 @@ class BackupFailed(Fault):
 
 class Note(NamedTuple):
     """What is written beside a backup: the office's file, the moment at which copying began (seconds since 1970 UTC),
-    how many tables the program found, the backup's size in bytes, its SHA-256 in hexadecimal, and the last line of the
-    desk's log, as `last_line_of` has it, if the backup was asked to note that."""
+    how many tables the program found, the backup's size in bytes, its SHA-256 in hexadecimal, and that of the desk's folder
+    next to it, empty if there is none; and the last line of the desk's log, as `last_line_of` has it, if the backup was
+    asked to note that."""
 
     office: str
     copied: int
     tables: int
     size: int
     sha256: str
+    desk: str = ""
     desk_log: str = ""
 
 
@@ -53,6 +59,7 @@ def note_beside(path: Path) -> Path:
 def note_text(note: Note, name: str) -> str:
     """A note as `sha256sum --check` reads it; what else it tells are comments there."""
     told = f"# office: {note.office}\n# copied: {note.copied}\n# tables: {note.tables}\n# bytes: {note.size}\n"
+    told += f"# desk: {note.desk}\n" if note.desk else ""
     told += f"# desk log: {note.desk_log}\n" if note.desk_log else ""
     return f"{told}{note.sha256}  {name}\n"
 
@@ -66,13 +73,13 @@ def read_note(path: Path) -> Optional[Note]:
         return None
     except OSError as fault:
         raise BackupFailed(because_of(fault)) from fault
-    told = dict(re.findall(r"^# (office|copied|tables|bytes|desk log): (.*)$", text, re.M))
+    told = dict(re.findall(r"^# (office|copied|tables|bytes|desk|desk log): (.*)$", text, re.M))
     sums = re.findall(r"^([0-9a-f]{64})  ", text, re.M)
     numbers = [told.get(name, "") for name in ("copied", "tables", "bytes")]
     if len(sums) != 1 or "office" not in told or not all(re.fullmatch("[0-9]{1,18}", each) for each in numbers):
         raise BackupFailed(f"{beside} isn't a note that cpi-tools wrote")
     copied, tables, size = map(int, numbers)
-    return Note(told["office"], copied, tables, size, sums[0], told.get("desk log", ""))
+    return Note(told["office"], copied, tables, size, sums[0], told.get("desk", ""), told.get("desk log", ""))
 
 
 def last_line_of(path: Path) -> str:
@@ -128,10 +135,11 @@ def back_up(
     patience: float = PATIENCE,
     pause: Optional[int] = None,
     progress: Optional[Progress] = None,
+    desk: Optional[Path] = None,
     desk_log: Optional[Path] = None,
 ) -> Note:
     """Makes the backup `to` of an office's file, and a note of it beside, with the last line of `desk_log` if there is one;
-    the note.
+    the note. `desk` is the folder of the desk's pages, which goes along.
 
     `is_replacing` lets it take the place of what stands there. `patience` (seconds) and `pause` (a process) are those
     of `right_copy`. Raises BackupFailed, CopyFailed or CpiFailed, and leaves nothing, where it wasn't made.
@@ -144,18 +152,31 @@ def back_up(
             now(f"copying {path}")
             begun = int(time.time())
             copy = right_copy(path, room, patience, pause)
+            archive = room / "desk"
+            has_desk = desk is not None and _has_desk(desk, archive)
             now("cpi opens the copy")
             tables = settle(cpi, copy, path)
             now("writing it to the disk")
             line = last_line_of(desk_log) if desk_log else ""
-            note = Note(path.name, begun, tables, copy.stat().st_size, hash_of(copy), line)
+            of_desk = hash_of(archive) if has_desk else ""
+            note = Note(path.name, begun, tables, copy.stat().st_size, hash_of(copy), of_desk, line)
             written = room / "note"
             written.write_text(note_text(note, to.name), encoding="utf-8")
             written.chmod(0o600)
-            _put(copy, written, to, is_replacing)
+            _put(copy, written, to, is_replacing, archive if has_desk else None)
     except OSError as fault:
         raise BackupFailed(because_of(fault)) from fault
     return note
+
+
+def _has_desk(desk: Path, to: Path) -> bool:
+    """Whether the desk's folder was written to a file. If it can't be read, a line says so: the office comes first."""
+    try:
+        return write_desk(desk, to)
+    except (Fault, OSError) as fault:
+        because = because_of(fault) if isinstance(fault, OSError) else fault
+        print(f"cpi-tools backup: the desk's folder isn't in it: {because}", file=sys.stderr)
+        return False
 
 
 def log_of(to: Path) -> Path:
@@ -174,7 +195,7 @@ def _look_at(path: Path, to: Path, is_replacing: bool) -> None:
         raise BackupFailed(f"{to} is the office itself")
     if log_beside(path) in (to.resolve(), note_beside(to).resolve()):
         raise BackupFailed(f"{to} is the office's log")
-    for each in () if is_replacing else (to, note_beside(to)):
+    for each in () if is_replacing else (to, note_beside(to), desk_beside(to)):
         if os.path.lexists(each):
             raise BackupFailed(f"{each} is there already (--replace puts the backup in its place)")
     if to.exists() and not note_beside(to).exists():
@@ -190,26 +211,27 @@ def _look_at_log(to: Path) -> None:
         raise BackupFailed(f"{log} is there, and would be put into the backup: look whose it is, or name another file")
 
 
-def _put(copy: Path, written: Path, to: Path, is_replacing: bool) -> None:
-    """Puts a backup and its note into their place, each on the disk before it has its name.
+def _put(copy: Path, written: Path, to: Path, is_replacing: bool, archive: Optional[Path]) -> None:
+    """Puts a backup, the desk's folder and the note into their place, each on the disk before it has its name.
 
     Where one is replaced, the old note goes first: a backup whose note is of another would look like a damaged one.
     """
-    for each in (copy, written):
+    pairs = [(copy, to), *([(archive, desk_beside(to))] if archive else []), (written, note_beside(to))]
+    for each, _ in pairs:
         _sync(each)
     _look_at_log(to)
     log_of(to).unlink(missing_ok=True)
     if is_replacing:
         note_beside(to).unlink(missing_ok=True)
-        copy.replace(to)
-        written.replace(note_beside(to))
+        desk_beside(to).unlink(missing_ok=True)
+        for each, place in pairs:
+            each.replace(place)
     else:
-        _rename_to_new(copy, to)
-        try:
-            _rename_to_new(written, note_beside(to))
-        except BaseException:
-            to.unlink()
-            raise
+        with contextlib.ExitStack() as undone:
+            for each, place in pairs:
+                _rename_to_new(each, place)
+                undone.callback(place.unlink)
+            undone.pop_all()
     _sync(to.parent)
 
 
@@ -243,7 +265,8 @@ Copies an office's file with its log, whether cpi runs or not; lets cpi open the
 log into it; and writes one file DEST, and beside it DEST.sha256 with its sum, which
 `sha256sum --check` reads too. Both have mode 0600, since the collectors' keys are in the file.
 The office isn't locked, and nothing is written to it. Every command that was answered before the
-copy began is in it. `cpi-tools drill DEST` looks whether it is whole.
+copy began is in it. `cpi-tools drill DEST` looks whether it is whole. With --desk the folder of the
+desk's pages goes along, as one file DEST.desk.tar, whose sum is in the note too.
 
 To restore, stop the office, and let `cpi-tools restore DEST` put the old file aside with its log.
 """
@@ -251,9 +274,12 @@ To restore, stop the office, and let `cpi-tools restore DEST` put the old file a
 EPILOG = """\
 example: cpi-tools backup office.db backup/office.db
 
-exit status: 0 where the backup is there; 1 with one line why it isn't, and nothing is left;
-2 where the words are refused
+exit status: 0 if the backup is there; 1 with one line why it isn't, and nothing is left; 2 if the
+words are refused; 4 if it is there without the desk's folder, and a line says why
 """
+
+WITHOUT_DESK = 4
+"""The exit status if a desk's folder couldn't be read, and the office's backup is there without it."""
 
 
 def add_words(tools: argparse._SubParsersAction[ToolWords]) -> None:
@@ -266,6 +292,7 @@ def add_words(tools: argparse._SubParsersAction[ToolWords]) -> None:
     )
     words.add_argument("file", type=Path, metavar="FILE", help="the office's file, which is only read")
     words.add_argument("dest", type=a_file, metavar="DEST", help="the backup: a file that isn't there yet")
+    words.add_argument("--desk", type=Path, metavar="FOLDER", help="the folder of the desk's pages, which goes along")
     words.add_argument("--replace", action="store_true", help="DEST and its note take the place of another backup")
     words.add_argument(
         "--desk-log",
@@ -302,10 +329,13 @@ def run(chosen: argparse.Namespace) -> int:
             patience=chosen.patience,
             pause=chosen.pause,
             progress=progress,
+            desk=chosen.desk,
             desk_log=chosen.desk_log,
         )
     print(
         f"{chosen.dest}: {counted(note.size, 'byte')}, {counted(note.tables, 'table')},"
         f" copied {time_text(note.copied)}, SHA-256 {note.sha256}"
     )
-    return 0
+    if note.desk:
+        print(f"{desk_beside(chosen.dest)}: the desk's folder, SHA-256 {note.desk}")
+    return WITHOUT_DESK if chosen.desk and not note.desk and LOG in seen_in(chosen.desk) else 0

@@ -15,7 +15,7 @@ from typing import Optional, Protocol
 
 from .copying import log_beside
 from .mirrors import PAGE
-from .second_copies import DRILLED, MARK, NAMES, NOTE, OFFICE, RECEIVED
+from .second_copies import DESK, DRILLED, INDEX, MARK, NAMES, NOTE, OFFICE, RECEIVED
 from .terminal import Fault, because_of
 
 SILENCE = 30
@@ -73,7 +73,8 @@ class Rsync:
         """Files that are gone there go here too. Two notes of one second may have the same size, so all are read."""
         notes = [f"--include=/{name}/{NOTE}" for name in NAMES]
         chosen = [*(f"--include=/{name}/" for name in NAMES), *notes]
-        chosen += [*(f"--include=/{name}" for name in (MARK, RECEIVED, DRILLED)), "--exclude=*"]
+        chosen += [f"--include=/{name}" for name in (MARK, RECEIVED, DRILLED)]
+        chosen += [f"--include=/{DESK}/", f"--include=/{DESK}/{INDEX}", "--exclude=*"]
         _run([*self._words, "--recursive", "--delete", "--ignore-times", *chosen, self._at, f"{to}/"], self.name)
 
     def carry(self, copy: Path, to: str, is_whole: bool) -> None:

@@ -20,7 +20,9 @@ from typing import NamedTuple, Optional
 from .anew import Computed, Months, differing
 from .backup import BackupFailed, Note, hash_of, note_beside, read_note, remove_log
 from .copying import has_frames, log_beside, private_copy
+from .desk_backup import desk_beside, read_desk
 from .program import LAST_MOMENT, Cpi, CpiFailed, Reply, add_program, record
+from .rooms import new_room
 from .stored import Level, Release, StoredOffice, stored_office
 from .terminal import Fault, Progress, ToolWords, because_of, counted, month_text, time_text
 
@@ -63,6 +65,8 @@ def drill(cpi: Cpi, path: Path, progress: Optional[Progress] = None) -> Drilled:
     counts, faults = Counts(), list[str]()
     now("comparing it with its note")
     note = note_of(path, faults)
+    if note and note.desk:
+        faults += desk_faults_of(path, note.desk)
     with private_copy(path) as copy:
         now("cpi opens a copy")
         printed = _printed(cpi, copy, faults)
@@ -110,6 +114,21 @@ def note_of(path: Path, faults: list[str]) -> Optional[Note]:
     except OSError as fault:
         raise Fault(because_of(fault)) from fault
     return note
+
+
+def desk_faults_of(path: Path, wanted: str) -> list[str]:
+    """What is wrong with the desk's folder next to a backup, whose note says that it has this sum."""
+    archive = desk_beside(path)
+    try:
+        if hash_of(archive) != wanted:
+            return [f"the bytes of {archive.name} aren't those of its note"]
+        with new_room("cpi-tools-") as room:
+            read_desk(archive, room)
+    except OSError as fault:
+        return [because_of(fault)]
+    except Fault as fault:
+        return [str(fault)]
+    return []
 
 
 # ---- the program
@@ -232,7 +251,8 @@ COPY.sha256, cpi opens it, every table of every revision is what its frozen quot
 carried price, and is printed so, and the C library of SQLite finds no fault (integrity_check,
 foreign_key_check). One line gives the result and how much was checked; each fault is a line on
 standard error. The drill works on a copy of COPY, so COPY is never changed. A log next to COPY,
-COPY-wal, belongs to it. An office that is being served may be drilled too.
+COPY-wal, belongs to it. An office that is being served may be drilled too. If the note says that the
+desk's folder is in the backup, COPY.desk.tar has to be there with its sum.
 
 After a kill most of an office can be in its log, and the file without the log is then a sound but
 older office, perhaps an empty one. So a warning on standard error names a COPY that has neither a

@@ -13,8 +13,10 @@ import re
 import sys
 import time
 from pathlib import Path
+from typing import Optional
 
 from .copying import PATIENCE
+from .desk_follow import DeskFollower
 from .marks import NotCarried
 from .mirrors import Taken
 from .places import Place, kept_for_one, place_of
@@ -30,6 +32,9 @@ TOLD_AGAIN = 3600
 
 PROMOTED = 4
 """The exit status if the place was promoted."""
+
+OF_ANOTHER = ("place", "identity")
+"""The kinds of offices that aren't carried because the place is another's."""
 
 NOT_CARRIED = 5
 """The exit status if the office is damaged, or doesn't go on from its copy."""
@@ -56,13 +61,48 @@ def mark_as_former(office: Path, promotion: Promotion) -> str:
     return told
 
 
+class Causes:
+    """Why something isn't carried: each cause is said once, and again each hour while it stays so."""
+
+    def __init__(self) -> None:
+        self._cause, self._said_at = "", 0.0
+
+    @property
+    def is_said(self) -> bool:
+        """Whether a cause was said that isn't over."""
+        return bool(self._cause)
+
+    def say(self, text: str, cause: str) -> None:
+        """Says a text, unless it is of the same cause as the last one. (Other numbers make no other cause, such as how
+        long rsync waited.)"""
+        cause = re.sub(r"\d+", "0", cause)
+        if cause != self._cause or time.monotonic() - self._said_at > TOLD_AGAIN:
+            print(f"cpi-tools follow: {text}; it goes on to try", file=sys.stderr, flush=True)
+            self._cause, self._said_at = cause, time.monotonic()
+
+    def forget(self) -> None:
+        """The cause is over."""
+        self._cause = ""
+
+
 class Follower:
     """A follower of an office's file, and what it has told."""
 
-    def __init__(self, office: Path, place: Place, patience: float = PATIENCE, is_anew: bool = False):
-        """`is_anew` lets the first round carry an office that doesn't go on from the copy."""
+    def __init__(
+        self,
+        office: Path,
+        place: Place,
+        patience: float = PATIENCE,
+        is_anew: bool = False,
+        desk: Optional[Path] = None,
+    ):
+        """`is_anew` lets the first round carry an office that doesn't go on from the copy; `desk` is the desk's folder,
+        if it goes along."""
         self._office, self._place, self._patience, self._is_anew = office, place, patience, is_anew
-        self._fault, self._told_at, self._has_told = "", 0.0, False
+        self._has_told = False
+        self._of_office = Causes()
+        self._desk = DeskFollower(desk, place) if desk else None
+        self._of_desk = Causes()
 
     def promotion(self) -> str:
         """What is to be said if the place was promoted, and then the office's file is marked; else nothing. Raises
@@ -88,14 +128,30 @@ class Follower:
         except OSError as fault:
             raise Fault(because_of(fault)) from fault
         self._is_anew = False
-        if self._fault or not self._has_told:
+        if self._of_office.is_said or not self._has_told:
             size = counted(note.file.size + note.log.size, "byte")
             print(
                 f"{self._place.name}: copied {second_text(note.copied)}, {size}, {taken.written:,} of them new",
                 flush=True,
             )
-            self._fault, self._has_told = "", True
+            self._of_office.forget()
+            self._has_told = True
         return ""
+
+    def desk_round(self) -> bool:
+        """Carries what changed in the desk's folder, after a round of the office; whether its copy is as it is to be. A
+        fault is said, and holds the office's rounds up in nothing."""
+        if not self._desk:
+            return True
+        try:
+            said = self._desk.carry()
+        except Fault as fault:
+            self._of_desk.say(f"the desk's folder: {fault}", str(fault))
+            return False
+        self._of_desk.forget()
+        if said:
+            print(f"cpi-tools follow: {self._place.name}: {said}", file=sys.stderr, flush=True)
+        return True
 
     def _carried(self, state: State) -> tuple[CopyNote, Taken]:
         """The note of a round. Raises NotCarried with a line that names the office and the place, other Faults, and
@@ -113,13 +169,8 @@ class Follower:
             raise NotCarried(fault.kind, told) from fault
 
     def tell(self, fault: Fault) -> None:
-        """Tells why a round wasn't carried: once for each cause, and again each hour while it stays so. (The marks of an
-        office that isn't carried change as it goes on.)"""
-        # (nor is it another cause if rsync waited a second longer)
-        cause = fault.kind if isinstance(fault, NotCarried) else re.sub(r"\d+", "0", str(fault))
-        if cause != self._fault or time.monotonic() - self._told_at > TOLD_AGAIN:
-            print(f"cpi-tools follow: {fault}; it goes on to try", file=sys.stderr, flush=True)
-            self._fault, self._told_at = cause, time.monotonic()
+        """Tells why a round wasn't carried. (The marks of an office that isn't carried change as it goes on.)"""
+        self._of_office.say(str(fault), fault.kind if isinstance(fault, NotCarried) else str(fault))
 
     def keep(self, every: float) -> str:
         """Carries copy after copy until the place is promoted; what is to be said then."""
@@ -128,8 +179,12 @@ class Follower:
             try:
                 if told := self.round():
                     return told
+                self.desk_round()
             except Fault as fault:
                 self.tell(fault)
+                # (what happened to the office is no reason to lose its desk)
+                if isinstance(fault, NotCarried) and fault.kind not in OF_ANOTHER:
+                    self.desk_round()
             time.sleep(max(0.0, begun + every - time.monotonic()))
 
 
@@ -154,6 +209,11 @@ only grow. Before a round counts, SQLite looks at each page (quick_check). A rou
 and cpi-tools probe --copy is critical, if a page is damaged, if it is another office, or if it
 would take back what the copy has, as after a backup was restored or a lost file was made anew.
 Then the copy may be what you want: promote it. Or carry the office of now once, by --anew.
+
+With --desk the folder of the desk's pages goes along to DEST/desk after each round: its log, notes,
+and what waits there. Only changes are carried, and a log is only appended to. If one doesn't go on
+from its copy, the copy stays, and the folder is put next to it, which a line says. To another
+machine that needs cpi-receive there.
 
 A round that fails is one line, and the next round tries again. If the copy at DEST was promoted
 (cpi-tools promote), the follower puts FILE.promoted next to FILE, so that cpi-serve doesn't start
@@ -182,6 +242,7 @@ def add_words(tools: argparse._SubParsersAction[ToolWords]) -> None:
     how.add_argument("--once", action="store_true", help="carry one copy, and end")
     how.add_argument("--ask", action="store_true", help="only ask whether the copy was promoted, and end")
     add("--anew", action="store_true", help="let the first round take back what the copy has, or be another office")
+    add("--desk", type=Path, metavar="FOLDER", help="the folder of the desk's pages, which goes along")
     add("--room", type=Path, metavar="FOLDER", help="for a DEST elsewhere: what is carried lies here (FILE.follow)")
     add("--ssh", metavar="COMMAND", help="the program by which rsync reaches the other machine, with its words")
     add(
@@ -203,13 +264,20 @@ def _told(follower: Follower, chosen: argparse.Namespace) -> str:
         return follower.promotion() if chosen.ask else follower.round()
 
 
+def _ended_desk(follower: Follower, chosen: argparse.Namespace) -> int:
+    """The exit status after the rounds that were asked for: the desk's folder goes along with a round."""
+    return 0 if chosen.ask or follower.desk_round() else 1
+
+
 def run(chosen: argparse.Namespace) -> int:
     """Runs the tool by its words; its exit status."""
     room = chosen.room or chosen.file.with_name(f"{chosen.file.name}.follow")
     try:
         with kept_for_one(chosen.dest, room) if not chosen.ask else contextlib.nullcontext():
-            follower = Follower(chosen.file, place_of(chosen.dest, room, chosen.ssh), chosen.patience, chosen.anew)
+            place = place_of(chosen.dest, room, chosen.ssh)
+            follower = Follower(chosen.file, place, chosen.patience, chosen.anew, chosen.desk)
             told = _told(follower, chosen)
+            status = 0 if told else _ended_desk(follower, chosen)
     except NotCarried as fault:
         print(f"cpi-tools follow: {fault}", file=sys.stderr)
         return NOT_CARRIED
@@ -218,4 +286,4 @@ def run(chosen: argparse.Namespace) -> int:
     if told:
         print(f"cpi-tools follow: {told}: this office must not serve any more", file=sys.stderr)
         return PROMOTED
-    return 0
+    return status

@@ -80,6 +80,18 @@ class HeldFolder:
                 raise NotPlain(self.path / name, "the folder that was made")
             yield found
 
+    @contextlib.contextmanager
+    def made_folder(self, name: str) -> Iterator[HeldFolder]:
+        """A folder in it, which is made with mode 0700 if it isn't there. Raises OSError, as `folder` does."""
+        try:
+            os.mkdir(name, 0o700, dir_fd=self.number)
+        except FileExistsError:
+            pass
+        except OSError as fault:
+            raise self._named(fault, name) from fault
+        with self.folder(name) as found:
+            yield found
+
     def remove(self, name: str, is_missing_ok: bool = True) -> None:
         """Removes a file, or a link itself. Raises OSError."""
         try:

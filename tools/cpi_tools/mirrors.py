@@ -203,6 +203,11 @@ def sum_of(path: Path) -> tuple[int, str]:
     return size, _sum(sums)
 
 
+def sum_of_bytes(data: bytes) -> str:
+    """The sum of a file with these bytes."""
+    return _sum(_sums_of(data))
+
+
 def sync(path: Path) -> None:
     """Waits until a file or a folder is on the disk. Raises OSError."""
     opened = os.open(path, os.O_RDONLY | os.O_CLOEXEC)

@@ -10,15 +10,16 @@ from __future__ import annotations
 import contextlib
 import fcntl
 import time
-from collections.abc import Iterator
+from collections.abc import Callable, Iterator
 from pathlib import Path
 from typing import NamedTuple, Optional, Protocol
 
 from .carriers import Carrier, carrier_of
+from .desk_changes import CARRIED_DESK, Index, desk_received_text, index_of, put_in_desk
 from .held_folders import held
 from .marks import Known, known_of
 from .mirrors import MirroredOffice, Taken, second_of, stamp, sync
-from .page_changes import CARRIED, Changes, of_mirror, received_text, write_changes
+from .page_changes import CAME, CARRIED, Changes, of_mirror, received_text, write_changes
 from .second_copies import (
     DRILLED,
     MOST_BYTES,
@@ -56,6 +57,14 @@ class Place(Protocol):
         """Brings the older copy up to date; its note. `is_anew` lets it be an office that doesn't go on from the newer
         copy. Raises Fault and OSError, and the newer copy is whole then."""
 
+    def desk_index(self) -> Optional[Index]:
+        """What the copy of the desk's folder has, as it was seen last with the state; None if there is none. Raises
+        OSError."""
+
+    def put_desk(self, after: Index, write: Callable[[Path], None]) -> None:
+        """Puts changes of the desk's folder into its copy, which has `after` then; `write` writes them to a file. Raises
+        Fault and OSError."""
+
 
 class Folder:
     """A folder of this machine, such as one on another disk."""
@@ -82,6 +91,17 @@ class Folder:
         sync(folder)
         return note, taken
 
+    def desk_index(self) -> Optional[Index]:
+        """What the copy of the desk's folder has."""
+        return index_of(self._folder)
+
+    def put_desk(self, after: Index, write: Callable[[Path], None]) -> None:
+        """By the way of a place elsewhere, so the same rules hold."""
+        came = self._folder / CAME
+        came.mkdir(mode=0o700, exist_ok=True)
+        write(came / CARRIED_DESK)
+        put_in_desk(self._folder)
+
 
 class Elsewhere:
     """A place that a carrier reaches, with a room on this machine: the mirror that is carried, and what is known of the
@@ -95,7 +115,7 @@ class Elsewhere:
         self.name, self.seen, self._carrier, self._room = carrier.name, room, carrier, room
         self._mirrors, self._lags = Mirrors(), dict[str, Lag]()
         self._mirror: Optional[MirroredOffice] = None
-        self._is_unheard = False
+        self._is_unheard = self._is_asked = False
 
     def state(self) -> State:
         """What is there, as it was fetched now."""
@@ -137,6 +157,29 @@ class Elsewhere:
         last.mkdir(mode=0o700, exist_ok=True)
         write_note(last, note)
         return note, taken
+
+    def desk_index(self) -> Optional[Index]:
+        """What the copy of the desk's folder has, as it was fetched last."""
+        return index_of(self._room / "there")
+
+    def put_desk(self, after: Index, write: Callable[[Path], None]) -> None:
+        """As one file, which a program there puts in."""
+        if not self._takes_desk():
+            raise Fault(f"{self.name} has no cpi-receive, so the desk's folder isn't carried there")
+        changes = self._room / CARRIED_DESK
+        write(changes)
+        output = self._carrier.carry_changes(changes)
+        changes.unlink()
+        if desk_received_text(after) not in output.splitlines():
+            raise Fault(f"{self.name} doesn't take the desk's folder: bring cpi there to this version")
+
+    def _takes_desk(self) -> bool:
+        """Whether cpi-receive is there. After the first carrying of all that is seen by what was fetched since."""
+        there = self._room / "there"
+        if not (there / RECEIVED).exists() and not self._is_asked:
+            self._is_asked = True
+            self._carrier.fetch(there)
+        return (there / RECEIVED).exists()
 
     def _note_pages(self, mirror: MirroredOffice) -> None:
         """Notes for each copy that these pages were written now. Of another mirror nothing is known."""

@@ -29,6 +29,8 @@ from typing import IO, NamedTuple, Optional
 from .access import acting_as, this_user, user_of
 from .backup import log_of
 from .copying import log_beside
+from .desk_files import HERE as DESK
+from .desk_places import add_desk, promoted_desk, refuse_held
 from .drill import MOST_TOLD, Drilled, drill
 from .follow import mark_beside, restoring_beside
 from .generations import KEPT, PASSED, Damaged, drilled_in, repository_of, taken_generation
@@ -358,6 +360,8 @@ both are refused with the moment and the machine, unless --again is given.
 If both copies have what an accident left, --generation takes an earlier state, which cpi-tools keep
 kept; a NAME that isn't there, such as list, prints the names of all. It is drilled and marked like
 a copy.
+The desk's folder takes its place too, if DEST has a copy of it; one that is there is put aside in a
+folder in it, or stays, if its logs go on from those of the copy.
 
 With --start it starts the office, else it prints the command for that:
 {' '.join(START)}
@@ -384,6 +388,7 @@ def add_words(tools: argparse._SubParsersAction[ToolWords]) -> None:
     add("--kept", type=Path, default=KEPT, metavar="FOLDER", help="where generations are kept (%(default)s)")
     add("--replace", action="store_true", help="put a FILE that is there aside, with its log")
     add("--again", action="store_true", help="promote once more, or put aside what took prices since")
+    add_desk(words)
     add("--start", action="store_true", help="start the units of the office")
     add_program(words)
     words.set_defaults(run=run, tool="promote", words=words)
@@ -393,6 +398,8 @@ def run(chosen: argparse.Namespace) -> int:
     """Runs the tool by its words; its exit status."""
     if chosen.start and not SYSTEMD.is_dir():
         raise Fault("systemd doesn't run this machine, so --start can't start the office: start it by hand")
+    if desk := desk_of(chosen.office, chosen.desk):
+        refuse_held(desk)
     with Progress("cpi-tools promote") as progress:
         wanted = Wanted(chosen.copy, chosen.generation, chosen.kept)
         how = (wanted, chosen.replace, chosen.again)
@@ -403,6 +410,7 @@ def run(chosen: argparse.Namespace) -> int:
         if chosen.start:
             progress.now("starting the office")
             _start()
+    _place_desk(chosen)
     if not chosen.start:
         print(f"start it: {' '.join(START)}")
     moment = f"{second_text(found.note.copied)} ({found.note.copied})"
@@ -410,6 +418,21 @@ def run(chosen: argparse.Namespace) -> int:
     print("- the desk sends again what it sent since then (cpi-tools gaps --records)")
     print("- collectors send again what has no receipt here (cpi-tools gaps --receipts)")
     return 0
+
+
+def desk_of(office: Path, named: Optional[Path]) -> Optional[Path]:
+    """The desk's folder that belongs to an office's file: as it is named, or that of the package."""
+    return named or (DESK if office.absolute() == HERE else None)
+
+
+def _place_desk(chosen: argparse.Namespace) -> None:
+    """Puts the copy of the desk's folder into its place. The office is in its own by then, whatever comes of this."""
+    if desk := desk_of(chosen.office, chosen.desk):
+        try:
+            for line in promoted_desk(chosen.dest, desk, chosen.office.parent):
+                print(line)
+        except Fault as fault:
+            print(f"cpi-tools promote: the desk's folder isn't in its place: {fault}", file=sys.stderr)
 
 
 def _told(found: Promoted) -> str:

@@ -1,4 +1,5 @@
-"""`cpi-tools receive FOLDER`: puts the changed pages that a follower carried to a place into their copy there.
+"""`cpi-tools receive FOLDER`: puts the changed pages that a follower carried to a place into their copy there, and so what
+changed in the desk's folder.
 
 `cpi-receive` runs it, the command of the key by which the follower of another machine carries.
 """
@@ -6,15 +7,18 @@
 from __future__ import annotations
 
 import argparse
+import os
 import sys
 from pathlib import Path
 
-from .page_changes import put_in, received_text
+from .desk_changes import CARRIED_DESK, desk_received_text, put_in_desk
+from .page_changes import CAME, CARRIED, put_in, received_text
 from .terminal import ToolWords
 
 DESCRIPTION = """\
 Puts the changed pages that a follower of another machine carried to FOLDER into the copy there that
-they belong to. cpi-receive runs this after each carrying; nobody else has to. What doesn't belong to
+they belong to, and what changed in the desk's folder into its copy, whose logs are only appended
+to. cpi-receive runs this after each carrying; nobody else has to. What doesn't belong to
 that copy is refused, and changes nothing. If it is stopped, that copy is none until the follower
 carries a whole one, and the other copy counts.
 """
@@ -37,6 +41,10 @@ def add_words(tools: argparse._SubParsersAction[ToolWords]) -> None:
 
 def run(chosen: argparse.Namespace) -> int:
     """Runs the tool by its words; its exit status. The line goes to standard error, since rsync has the other one."""
-    changes = put_in(chosen.folder)
-    print(received_text(changes.name, changes.note), file=sys.stderr)
+    came = chosen.folder / CAME
+    if os.path.lexists(came / CARRIED) or not os.path.lexists(came / CARRIED_DESK):
+        changes = put_in(chosen.folder)
+        print(received_text(changes.name, changes.note), file=sys.stderr)
+    if os.path.lexists(came / CARRIED_DESK):
+        print(desk_received_text(put_in_desk(chosen.folder)), file=sys.stderr)
     return 0

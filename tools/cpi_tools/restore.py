@@ -19,8 +19,10 @@ from pathlib import Path
 from typing import IO, NamedTuple, Optional
 
 from .access import acting_as, user_of
-from .backup import log_of, note_beside, read_note, settle
+from .backup import WITHOUT_DESK, log_of, note_beside, read_note, settle
 from .copying import BLOCK, has_frames, right_copy
+from .desk_backup import desk_beside, read_desk
+from .desk_places import add_desk, place_desk, refuse_desk
 from .drill import MOST_TOLD, Drilled, drill, told_line
 from .follow import mark_beside, restoring_beside
 from .holders import holders_of, is_held
@@ -29,7 +31,7 @@ from .mirrors import sync
 from .other_logs import other_log_of
 from .places import LOCK
 from .program import Cpi, add_program
-from .promote import HERE, SYSTEMD
+from .promote import HERE, SYSTEMD, desk_of
 from .rooms import new_room
 from .second_copies import CopyNote, second_text, state_of
 from .terminal import Fault, Progress, ToolWords, a_file, because_of, counted
@@ -48,11 +50,13 @@ BESIDE = ("-wal", "-shm", "-journal")
 
 
 class Looked(NamedTuple):
-    """What was found of a backup: its private copy, one file without a log; what its drill found; and its marks."""
+    """What was found of a backup: its private copy, one file without a log; what its drill found; its marks; and a private
+    copy of the desk's folder, if that is in it."""
 
     copy: Path
     drilled: Drilled
     known: Known
+    desk: Optional[Path]
 
 
 # ---- what is in the way
@@ -117,6 +121,7 @@ def looked_at(cpi: Cpi, backup: Path, room: Path) -> Looked:
     copy = right_copy(backup, room)
     if read_note(backup):
         note_beside(copy).write_bytes(note_beside(backup).read_bytes())
+        desk_beside(copy).symlink_to(desk_beside(backup.absolute()))
     drilled = drill(cpi, copy)
     for told in drilled.faults[1:MOST_TOLD]:
         print(f"cpi-tools restore: {backup}: {told}", file=sys.stderr)
@@ -124,7 +129,16 @@ def looked_at(cpi: Cpi, backup: Path, room: Path) -> Looked:
         raise Fault(f"{backup} isn't a whole office, and nothing was changed: {drilled.faults[0]}")
     if has_frames(copy) or not drilled.note:
         settle(cpi, copy, backup)
-    return Looked(copy, drilled, _known(cpi, copy, backup))
+    desk = _desk_in(backup, room) if drilled.note and drilled.note.desk else None
+    return Looked(copy, drilled, _known(cpi, copy, backup), desk)
+
+
+def _desk_in(backup: Path, room: Path) -> Path:
+    """A private copy of the desk's folder in a backup. Raises Fault."""
+    made = room / "desk"
+    made.mkdir(mode=0o700)
+    read_desk(desk_beside(backup), made)
+    return made
 
 
 def _known(cpi: Cpi, copy: Path, backup: Path) -> Known:
@@ -247,6 +261,9 @@ FILE and its log aside together, in a folder next to it that is named by the mom
 BACKUP, as the owner of the folder and with mode 0600: all of it or nothing. If the machine stops
 within that, cpi-serve starts no office until the restore was run again.
 
+If the desk's folder is in BACKUP, it takes its place too, and the one there is put aside in a folder
+in it. It stays if its logs go on from those of BACKUP.
+
 What was answered after BACKUP was made isn't in it, and is in what was put aside, if that can be
 read. A follower doesn't carry an older office over a newer copy: promote that copy instead, or say
 cpi-tools follow --anew. The last line has the command that starts the office:
@@ -257,7 +274,8 @@ EPILOG = """\
 example: cpi-tools restore backup/office.db --office office.db
 
 exit status: 0 if BACKUP is the office now; 1 with one line why it isn't, and nothing was changed;
-2 if the words are refused
+2 if the words are refused; 4 if it is the office now, and a line says why the desk's folder isn't in
+its place
 """
 
 
@@ -271,6 +289,7 @@ def add_words(tools: argparse._SubParsersAction[ToolWords]) -> None:
     add("--office", type=a_file, default=HERE, metavar="FILE", help="the office's file on this machine (%(default)s)")
     told = "where cpi-tools follow keeps a second copy, or its room: says which is newer (the rooms that are known)"
     add("--copy", type=Path, metavar="FOLDER", help=told)
+    add_desk(words)
     add("--yes", action="store_true", help="don't ask")
     add_program(words)
     words.set_defaults(run=run, tool="restore", words=words)
@@ -280,6 +299,7 @@ def run(chosen: argparse.Namespace) -> int:
     """Runs the tool by its words; its exit status."""
     office, backup = chosen.office, chosen.backup
     folders = rooms_of(office) + ([chosen.copy] if chosen.copy else [])
+    desk = desk_of(office, chosen.desk)
     cpi = Cpi(chosen.program)
     try:
         refuse(office, backup)
@@ -288,19 +308,51 @@ def run(chosen: argparse.Namespace) -> int:
                 progress.now(f"drilling {backup}")
                 looked = looked_at(cpi, backup, room)
             _tell(office, backup, looked, folders)
+            print(desk_line(looked, desk))
             _ask(office, chosen.yes)
             refuse(office, backup)
             aside = put_in_place(looked.copy, office, f"the restore of {backup}")
+            _tell_restored(office, backup, looked.drilled, aside)
+            status = _restore_desk(looked, desk, office) if looked.desk and desk else 0
     except OSError as fault:
         raise Fault(because_of(fault)) from fault
-    found = looked.drilled
-    print(
-        f"{office}: restored from {backup}, with {counted(found.quotes, 'quote')} and {counted(found.tables, 'table')}"
-    )
+    print(f"start it: {START}")
+    return status
+
+
+def _tell_restored(office: Path, backup: Path, found: Drilled, aside: Optional[Path]) -> None:
+    """What was done."""
+    quotes, tables = counted(found.quotes, "quote"), counted(found.tables, "table")
+    print(f"{office}: restored from {backup}, with {quotes} and {tables}")
     if aside:
         print(f"{aside}: what was at that place before")
-    print(f"start it: {START}")
+
+
+def _restore_desk(looked: Looked, desk: Path, office: Path) -> int:
+    """Puts the desk's folder of a backup into its place, once the office is in its own; the exit status."""
+    assert looked.desk
+    try:
+        placed = place_desk(looked.desk, desk, office.parent.stat())
+    except (Fault, OSError) as fault:
+        because = because_of(fault) if isinstance(fault, OSError) else fault
+        print(f"cpi-tools restore: the desk's folder isn't in its place: {because}", file=sys.stderr)
+        return WITHOUT_DESK
+    if placed.is_placed:
+        print(f"{desk}: the desk's folder of the backup")
+    if placed.aside:
+        print(f"{placed.aside}: the one before")
     return 0
+
+
+def desk_line(looked: Looked, desk: Optional[Path]) -> str:
+    """What is to become of the desk's folder. Raises Fault if its pages have it and it is to be replaced."""
+    if not looked.desk:
+        return "the backup has no desk's folder, so that of this machine stays as it is"
+    if not desk:
+        return "the backup has a desk's folder too, which goes nowhere: --desk names its place"
+    if refuse_desk(looked.desk, desk):
+        return f"{desk} stays as it is: the desk's logs there go on from those of the backup"
+    return f"{desk} gets the desk's folder of the backup"
 
 
 def _tell(office: Path, backup: Path, looked: Looked, folders: list[Path]) -> None:

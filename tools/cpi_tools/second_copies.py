@@ -48,6 +48,9 @@ MARK = "promoted.json"
 """The mark of a place whose copy was promoted: nothing is carried there any more. `promote` writes it, and the key by
 which a follower carries only reads it."""
 
+DESK, INDEX = "desk", "index.json"
+"""The folder of a place with the copy of the desk's folder, and the file in it that says what the copy has."""
+
 RECEIVED = "received.lock"
 """Is at a place on another machine where a program puts changed pages into a copy: one carrying at a time has it."""
 
