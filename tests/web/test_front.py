@@ -489,5 +489,5 @@ def test_more_than_a_hundred_that_wait_are_told_to_come_again(stage: Stage) -> N
         found = all_at_once(120, told)
     assert Counter(found) == {401: 100, 503: 20}
     # (a queue that is full for a minute wrote thousands of lines)
-    told = [(stage.folder / name).read_text(encoding="utf-8") for name in ("error.log", "access.log-errors")]
-    assert "limiting" not in "".join(told)
+    logs = [(stage.folder / name).read_text(encoding="utf-8") for name in ("error.log", "access.log-errors")]
+    assert "limiting" not in "".join(logs)
