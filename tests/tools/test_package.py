@@ -45,7 +45,8 @@ def made_package(top: Path, to: Path, cpi: Cpi, **variables: str) -> Path:
     words = [str(top / "tools/package"), "--to", str(to), "--program", str(cpi.path)]
     ran = subprocess.run(words, capture_output=True, text=True, check=False, env={**kept, **variables})
     assert (ran.returncode, ran.stderr) == (0, "")
-    (found,) = to.glob("*")
+    (found,) = to.glob("*.deb")
+    assert sorted(os.listdir(to)) == ["SHA256SUMS", f"{found.stem}.cdx.json", found.name]
     assert ran.stdout.startswith(f"{found}: ")
     return found
 
@@ -120,7 +121,8 @@ def test_the_same_inputs_give_the_same_bytes(package: Path, cpi: Cpi, tmp_path: 
     finally:
         os.umask(before)
     assert again.name == package.name
-    assert again.read_bytes() == package.read_bytes()
+    for name in os.listdir(package.parent):
+        assert (again.parent / name).read_bytes() == (package.parent / name).read_bytes(), name
 
 
 def test_each_file_has_the_time_of_its_version_and_belongs_to_root(members: dict[str, tarfile.TarInfo]) -> None:
