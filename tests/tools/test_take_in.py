@@ -396,11 +396,15 @@ def test_two_prices_of_a_slot_that_are_alike_are_one_and_counted(cpi: Cpi, tmp_p
     folder = written(tmp_path / "office", of)
     ran = run(cpi, "take-in", folder, "--write", tmp_path / "records")
     told = "the price of slot 7/1 in 2026-01 is in row 5 too; prices that are there again: 3"
-    assert (ran.status, ran.err) == (0, f"cpi-tools take-in: warning: prices.csv, row 10, value: {told}\n")
+    lines = [
+        f"cpi-tools take-in: warning: prices.csv, row 10, value: {told}",
+        'cpi-tools take-in: prices.csv, month: "Jan-26" is read as 2026-01',
+    ]
+    assert (ran.status, ran.err.splitlines()) == (0, lines)
     office = replayed(cpi, tmp_path / "records", tmp_path / "office.db")
     assert tables(cpi, office)["2026-01", 1].startswith("00,1000000,104.181818,")
-    lines = (tmp_path / "records" / "records-01.csv").read_text(encoding="utf-8")
-    assert lines.count("quote,1,2026-01,price,210") == 1
+    records = (tmp_path / "records" / "records-01.csv").read_text(encoding="utf-8")
+    assert records.count("quote,1,2026-01,price,210") == 1
 
 
 def test_a_correction_has_its_revision(cpi: Cpi, tmp_path: Path) -> None:

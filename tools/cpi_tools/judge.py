@@ -108,7 +108,7 @@ class Judge:
         If a price was confirmed, it is sent with `confirm` from then on. A run of the program gets at most so many
         bundles; if there may be more of them the office is a file that is thrown away.
         """
-        self._confirm = taken.store.confirm
+        self._confirm, self._doubted = taken.store.confirm, taken.doubts.slots
         bundles = iter(taken.bundles)
         with new_room("cpi-tools-") as room:
             file = db or (room / "judged.db" if taken.bundles.most > most else None)
@@ -123,7 +123,10 @@ class Judge:
     def _send(self, session: Session, bundle: Bundle) -> None:
         outside = []
         for row, reply in bundle.answered(session.ask(bundle.line())):
-            if reply.get("refused") == 26 and self._is_confirmed:
+            if reply.get("refused") == 26 and (row.collector, row.fields[1]) in self._doubted:
+                # (whether it is outside depends on what is in doubt)
+                self._told.months[row.fields[2]].refused += 1
+            elif reply.get("refused") == 26 and self._is_confirmed:
                 outside.append(row)
                 bounds = (reply[name] for name in ("last", "low", "high"))
                 self._told.confirmed.append(Confirmed(row.origin.at(row.column(26)), row.fields[4], *bounds))

@@ -8,18 +8,20 @@ from __future__ import annotations
 
 import secrets
 from collections import Counter, defaultdict
-from collections.abc import Callable, Collection, Iterable, Iterator, Sequence
+from collections.abc import Callable, Collection, Iterable, Iterator, Mapping, Sequence
 from dataclasses import dataclass, field
+from fractions import Fraction
 from typing import NamedTuple, Optional, Union
 
 from .cells import BadSheet, Columns, Dated, Origin, Row, Sheet, SheetFault, cut
+from .doubts import NO_DOUBTS, Doubts, doubts_of
 from .known import Known, Window
 from .months_of_texts import month_of
 from .numbers_of_texts import Numbers
 from .office_sheets import DATES, MONTHS, MOVED, NEEDED, SHEETS, WINDOW
 from .plan_rows import PlanRows, Weighed
-from .price_cells import MonthRead, Place, PriceCells
-from .price_store import PriceStore
+from .price_cells import NO_CODES, MonthRead, Place, PriceCells
+from .price_store import PriceStore, Series
 from .sent import DESK, FIELDS, Bundle, Problem, Sent, bundled, problem_of, slot_of
 from .others import of_others
 from .sheets import Source
@@ -34,14 +36,17 @@ Clock = Callable[[Iterable[str]], dict[str, int]]
 
 class Options(NamedTuple):
     """How texts are read: minor units in a unit of the prices, the decimal sign, what the weights are given in (`ppm`
-    aren't scaled), whether prices outside the tolerance are confirmed, and the names of files, sheets and columns of
-    prices that aren't read on purpose, in small letters."""
+    aren't scaled), whether prices outside the tolerance are confirmed, the names of files, sheets and columns of prices
+    that aren't read on purpose, in small letters; the values that stand for a reason why there is no price, and those
+    of which a person says that they are prices."""
 
     minor: int = 1
     decimal: str = "."
     weights: str = "ppm"
     is_confirmed: bool = False
     ignored: frozenset[str] = frozenset()
+    codes: Mapping[str, str] = NO_CODES
+    priced: frozenset[Fraction] = frozenset()
 
 
 class Bundles:
@@ -58,7 +63,8 @@ class Bundles:
 class Taken:
     """What the files say: what is sent, in its order; what is wrong with the files themselves, and what else a reader
     should look at; the months that were read from other spellings; drawn keys by the collector's number; scaled
-    weights; how many rows of each sheet the office has already; and the prices."""
+    weights; how many rows of each sheet the office has already; the prices; and those of which it is in doubt whether
+    they are prices."""
 
     bundles: Bundles
     problems: list[Problem] = field(default_factory=list)
@@ -68,6 +74,7 @@ class Taken:
     weighed: list[Weighed] = field(default_factory=list)
     passed_over: Counter[str] = field(default_factory=Counter)
     store: PriceStore = field(default_factory=lambda: PriceStore(""))
+    doubts: Doubts = NO_DOUBTS
 
 
 class OfficeFiles:
@@ -310,7 +317,8 @@ class OfficeFiles:
 
     def _store_prices(self, sheet: Sheet, slots: Sequence[str]) -> list[SheetFault]:
         """Stores the prices of a sheet, but for those that the office has; what is wrong with them."""
-        cells = PriceCells(sheet, SHEETS["prices"], self._numbers, self._options.minor, self._options.ignored)
+        options = self._options
+        cells = PriceCells(sheet, SHEETS["prices"], self._numbers, options.minor, options.ignored, options.codes)
         if missing := [*missing_columns(sheet, cells.needed)]:
             return [*cells.faults.all(), *missing]
         series = [
@@ -320,19 +328,35 @@ class OfficeFiles:
         # (what was handed over since isn't the slot's any more, as long as it was given to it)
         series = [it for it in series if it not in self._known.given]
         handed = sorted(self._rows("handovers"), key=lambda row: row["month"])
-        cells.place([*self._known.places, *series], [it for it in handed if not self._known.has_handover(it)])
+        places = [*self._known.places, *series]
+        cells.place(places, [it for it in handed if not self._known.has_handover(it)])
         store = self._store
         store.file = sheet.file
         store.fill(cells.prices())
         same = self._tell_repeated(cells)
         for month in store.months():
             self.taken.passed_over["prices"] += store.take_stored(self._known.prices_of(month))
+        self._look_for_codes(cells)
         if not cells.count and not cells.faults.all():
             do = told("write its prices below the columns, or take the sheet out")
             cells.faults.add(SheetFault(cells.heading, told("the sheet has no price"), do))
         self.taken.readings += cells.readings()
         self.taken.warnings += same
         return cells.faults.all()
+
+    def _look_for_codes(self, cells: PriceCells) -> None:
+        """Notes the prices that may be none. A series of the office, and one that was handed over, has a last price, by
+        which the program judges."""
+        old = {(it.collector, it.slot) for it in (*self._known.places, *self._known.given)}
+        old |= {(row["to"], row["to_slot"]) for row in self._rows("handovers")}
+        codes = {row["item"]: row["code"] for row in self._rows("places")}
+        codes.update({row["item"]: row["code"] for row in self._rows("items") if row["code"]})
+        self._store.name_series(
+            Series(*slot, it.item, codes.get(it.item, ""), slot not in old) for slot, it in cells.slots.items()
+        )
+        minor = self._options.minor
+        priced = {int(value * minor) for value in self._options.priced}
+        self.taken.doubts = doubts_of(self._store, minor, priced)
 
     def _tell_repeated(self, cells: PriceCells) -> list[SheetFault]:
         """Tells rows of one series and month: each that differs from the first; of those that don't, how many."""

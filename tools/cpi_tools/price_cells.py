@@ -4,7 +4,8 @@ from __future__ import annotations
 
 import re
 from collections import defaultdict
-from collections.abc import Collection, Iterator, Sequence
+from collections.abc import Collection, Iterator, Mapping, Sequence
+from fractions import Fraction
 from typing import NamedTuple, Optional, Union
 
 from .cells import Capped, Columns, Numeral, Origin, Row, Sheet, SheetFault, cut
@@ -30,6 +31,9 @@ OF_A_ROW = ("month", "value")
 
 MONTH = of_others("2026-01")
 LIKE = told("write a month like {month}", month=MONTH)
+
+
+NO_CODES: Mapping[str, str] = {}
 
 
 class Place(NamedTuple):
@@ -73,13 +77,40 @@ class Cell(NamedTuple):
     text_column: str
 
 
+class Codes:
+    """The values that stand for a reason why there is no price."""
+
+    def __init__(self, codes: Mapping[str, str], numbers: Numbers):
+        self._numbers = numbers
+        self._texts = {text.strip().lower(): reason for text, reason in codes.items()}
+        found = ((numbers.of(text), reason) for text, reason in codes.items())
+        self._values: dict[Fraction, str] = {value: reason for value, reason in found if value is not None}
+
+    def reason(self, text: str) -> str:
+        """The reason that a text stands for, whatever its form is (`9999.99`, `9,999.990`); empty if it is no code."""
+        reason = self._texts.get(text.strip().lower(), "")
+        if reason or not self._values:
+            return reason
+        value = self._numbers.of(text)
+        return "" if value is None else self._values.get(value, "")
+
+
 class PriceCells:
     """Reads a sheet of prices."""
 
-    def __init__(self, sheet: Sheet, columns: Columns, numbers: Numbers, minor: int, ignored: Collection[str]):
+    def __init__(
+        self,
+        sheet: Sheet,
+        columns: Columns,
+        numbers: Numbers,
+        minor: int,
+        ignored: Collection[str],
+        codes: Mapping[str, str] = NO_CODES,
+    ):
         """`minor` is how many minor units are in a unit of the prices; `ignored` are columns in small letters that
-        aren't read on purpose."""
+        aren't read on purpose; `codes` are the texts that stand for a reason."""
         self._sheet, self._numbers, self._minor = sheet, numbers, minor
+        self._codes = Codes(codes, numbers)
         self._places: dict[tuple[str, str], list[Held]] = {}
         self._of_slots: dict[tuple[str, str], Place] = {}
         self._read: dict[str, str] = {}
@@ -182,6 +213,11 @@ class PriceCells:
         for it in held.values():
             self._places[it.place.outlet, it.place.item].append(it)
 
+    @property
+    def slots(self) -> Mapping[tuple[str, str], Place]:
+        """What each slot prices, by collector and slot."""
+        return self._of_slots
+
     def _slot(self, cell: Cell) -> Optional[tuple[str, str, str]]:
         """Collector and slot of a price, as told or by its outlet and item; and the column that tells."""
         row = cell.row
@@ -251,12 +287,13 @@ class PriceCells:
             else:
                 mark = word if others and word in MARKS else PRICE
                 value = value.strip()[len(first) :].strip() if others and word in MARKS else value
-        hint = ""
+        hint, confirm = "", cell.row["confirm"]
+        if mark != MISSING and (reason := self._codes.reason(value)):
+            mark, value, confirm = MISSING, reason, ""
         if mark != MISSING:
             value, hint = self._minor_units(cell, value)
         own = "collector" if column == "slot" else "item"
         columns = (column, cell.month_column, mark_column, cell.text_column, "confirm", own)
-        confirm = cell.row["confirm"]
         row = cell.row.origin.row
         return Price(
             cell.month, turn, collector, slot, mark, value.strip(), confirm, row, columns, str(cell.text), hint

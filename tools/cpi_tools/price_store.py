@@ -6,7 +6,7 @@ The store is a private file of SQLite without a name, which goes with the proces
 from __future__ import annotations
 
 import sqlite3
-from collections.abc import Iterable, Iterator
+from collections.abc import Collection, Iterable, Iterator
 from typing import NamedTuple
 
 from .cells import BadSheet, Origin
@@ -18,6 +18,9 @@ CREATE TABLE price (
   id INTEGER PRIMARY KEY, month TEXT, turn INT, collector TEXT, slot TEXT, mark TEXT, value TEXT, confirm TEXT,
   row INT, form INT, given TEXT, hint TEXT
 );
+CREATE TABLE series (
+  collector TEXT, slot TEXT, item TEXT, aggregate TEXT, is_new INT, PRIMARY KEY (collector, slot)
+) WITHOUT ROWID;
 CREATE TABLE stored (month TEXT, collector TEXT, slot TEXT, turn INT, mark TEXT, value TEXT);
 CREATE INDEX by_slot ON stored (collector, slot);
 """
@@ -27,6 +30,15 @@ INDEX = "CREATE INDEX by_month ON price (month, turn, collector, slot)"
 IS_STORED = """
 SELECT 1 FROM stored AS it WHERE it.month = price.month AND it.collector = price.collector AND it.slot = price.slot
   AND it.turn IN (price.turn, 0) AND it.mark = price.mark AND it.value = price.value
+"""
+
+
+IS_NUMBER = "mark != 'missing' AND value GLOB '[1-9]*' AND NOT value GLOB '*[^0-9]*' AND length(value) < 19"
+"""A price that is a whole number of minor units."""
+
+FIGURES = f"""
+SELECT id, item, aggregate, CAST(value AS INT) AS minor, is_new FROM price JOIN series USING (collector, slot)
+  WHERE {IS_NUMBER}
 """
 
 
@@ -46,6 +58,39 @@ class Price(NamedTuple):
     columns: tuple[str, ...]
     given: str
     hint: str
+
+
+class Series(NamedTuple):
+    """A slot with its item, the aggregate of that, empty if it isn't known, and whether no price of it is in an office."""
+
+    collector: str
+    slot: str
+    item: str
+    aggregate: str
+    is_new: bool
+
+
+class Figure(NamedTuple):
+    """A price in minor units: its number in the store, and its item and aggregate; `is_new` is that of its series."""
+
+    number: int
+    item: str
+    aggregate: str
+    minor: int
+    is_new: bool
+
+
+class PricedCell(NamedTuple):
+    """The cell of a price: its number in the store, its slot, its row, the column of its text, its text, and its value in
+    minor units."""
+
+    number: int
+    collector: str
+    slot: str
+    row: int
+    column: str
+    given: str
+    minor: int
 
 
 class Repeated(NamedTuple):
@@ -136,6 +181,56 @@ class PriceStore:
     def confirm(self, number: int) -> None:
         """A price is sent with `confirm` from now on."""
         self._link.execute("UPDATE price SET confirm = 'confirm' WHERE id = ?", (number,))
+
+    # ---- figures, for those who look at them together
+
+    def name_series(self, series: Iterable[Series]) -> None:
+        """Says what each slot prices."""
+        self._link.executemany("INSERT OR REPLACE INTO series VALUES (?, ?, ?, ?, ?)", series)
+
+    def figures(self) -> Iterator[Figure]:
+        """All prices, by item."""
+        return map(Figure._make, self._link.execute(f"{FIGURES} ORDER BY item, aggregate"))
+
+    def firsts(self) -> Iterator[Figure]:
+        """The first price of each slot, by item."""
+        first = f"SELECT collector, slot, min(month) AS month FROM price WHERE {IS_NUMBER} GROUP BY collector, slot"
+        firsts = f"SELECT min(id) FROM price JOIN ({first}) USING (collector, slot, month) WHERE {IS_NUMBER}"
+        return map(
+            Figure._make,
+            self._link.execute(f"{FIGURES} AND id IN ({firsts} GROUP BY collector, slot) ORDER BY item"),
+        )
+
+    def values(self) -> Iterator[int]:
+        """Each value once."""
+        rows = self._link.execute(f"SELECT DISTINCT CAST(value AS INT) FROM price WHERE {IS_NUMBER}")
+        return (value for (value,) in rows)
+
+    def values_of_many(self, items: int) -> Iterator[tuple[int, int]]:
+        """The values that are prices of at least so many items, each with the number of these."""
+        return self._link.execute(
+            f"SELECT minor, count(DISTINCT item) AS items FROM ({FIGURES}) GROUP BY minor HAVING items >= ?", (items,)
+        )
+
+    def figures_of(self, values: Collection[tuple[str, int]]) -> list[Figure]:
+        """The prices of items that have one of some values, in the order of the sheet."""
+        if not values:
+            return []
+        self._link.execute("CREATE TEMP TABLE wanted (item TEXT, minor INT, PRIMARY KEY (item, minor))")
+        self._link.executemany("INSERT INTO wanted VALUES (?, ?)", values)
+        rows = self._link.execute(f"{FIGURES} AND (item, minor) IN (SELECT item, minor FROM wanted) ORDER BY id")
+        found = [*map(Figure._make, rows)]
+        self._link.execute("DROP TABLE wanted")
+        return found
+
+    def cells(self, numbers: Iterable[int]) -> Iterator[PricedCell]:
+        """The cells of some prices."""
+        for number in numbers:
+            row = self._link.execute(
+                "SELECT collector, slot, row, form, given, CAST(value AS INT) FROM price WHERE id = ?", (number,)
+            ).fetchone()
+            collector, slot, at, form, given, minor = row
+            yield PricedCell(number, collector, slot, at, self._columns[form][3], given, minor)
 
     # ---- reading
 

@@ -9,6 +9,7 @@ from __future__ import annotations
 
 import functools
 import itertools
+import re
 from collections.abc import Callable, Collection, Iterator, Mapping, Sequence
 from pathlib import Path
 from typing import Optional
@@ -183,7 +184,7 @@ def is_named_so(file: Path, title: Title, titles: Sequence[Title]) -> bool:
 def sheet_of(file: str, texts: Texts, columns: Columns) -> Sheet:
     """The table that some texts are: the first row names the columns. Raises BadSheet if it doesn't."""
     first = [[*row] for row in itertools.islice(texts.rows, ROWS_LOOKED_AT)]
-    written = tuple(head.strip() for head in first[0]) if first else ()
+    written = tuple(unmarked(head.strip()) for head in first[0]) if first else ()
     heads = tuple(head.lower() for head in written)
     look_at_heading(file, first, columns)
     twice = [head for at, head in enumerate(heads) if head and head in heads[:at]]
@@ -228,7 +229,7 @@ def rows_of(sheet: Sheet, lines: Iterator[Sequence[str]], columns: Columns) -> I
     heads, kept = sheet.columns, {*columns.texts}
     named = next(at for at, head in enumerate(heads) if head)
     gaps = [at for at, head in enumerate(heads) if not head]
-    unnamed = Alike(sheet.faults)
+    unnamed, marked = Alike(sheet.faults), Alike(sheet.warnings)
     for number, line in enumerate(lines, 2):
         if not any(line) or not any(cell.strip() for cell in line):
             continue
@@ -240,8 +241,29 @@ def rows_of(sheet: Sheet, lines: Iterator[Sequence[str]], columns: Columns) -> I
         if odd:
             unnamed.add(SheetFault(origin, told('a cell is in no named column: "{text}"', text=cut(odd)), UNNAMED))
         cells = {head: cell if head in kept else trimmed(cell) for head, cell in zip(heads, line) if head}
+        for head, cell in cells.items():
+            if cell[:1] == MARK_OF_TEXT and (text := unmarked(cell)) != cell:
+                cells[head] = text
+                marked.add(SheetFault(origin.at(head), told_marked(cell), told("nothing, if the text is right so")))
         yield Row(origin, cells)
     unnamed.end()
+    marked.end()
+
+
+MARK_OF_TEXT = "'"
+"""What a spreadsheet program, and `--safe-csv`, write before a text so that nothing reads it as a number or a formula."""
+
+MARKED = re.compile(r"'(?=[-+=@.,]?[0-9]|[-+=@])")
+
+
+def unmarked(cell: str) -> str:
+    """A text without the mark, which is no letter of it; an apostrophe before a letter, as in `'t Hof`, belongs to it."""
+    return cell[1:] if MARKED.match(cell) else cell
+
+
+def told_marked(cell: str) -> Told:
+    """That a mark was taken away."""
+    return told("\"{text}\" is read without its first ', a spreadsheet's mark of a text", text=cut(cell))
 
 
 def trimmed(cell: str) -> str:

@@ -15,18 +15,20 @@ import sqlite3
 import sys
 import tempfile
 from collections.abc import Iterable, Iterator, Sequence
+from fractions import Fraction
 from pathlib import Path
 from typing import NamedTuple, Optional
 
 from . import csv_files
-from .cells import SheetFault
+from .cells import SheetFault, shown
 from .converted import converted
 from .copying import private_copy
 from .judge import Judge, Judged, moments_of
-from .numbers_of_texts import decimal
+from .numbers_of_texts import Numbers, decimal
 from .known import NOTHING, Known
 from .office_files import OfficeFiles, Options, Taken
 from .office_sheets import SHEETS
+from .price_cells import REASONS, MonthRead
 from .private_files import private_file, write_rows as write_rows
 from .program import Cpi, add_program
 from .report_language import ENGLISH, Teller, add_speech, chosen_speech
@@ -40,6 +42,9 @@ from .terminal import Fault, Progress, ToolWords, at_least, because_of, counted
 
 MOST_SHOWN = 20
 """Warnings that the terminal shows; `problems.csv` and `report.html` have all."""
+
+IN_DOUBT = 3
+"""The exit status if prices are in doubt, and nothing else is wrong."""
 
 
 class TakenIn(NamedTuple):
@@ -97,9 +102,10 @@ def write_check(out: Path, name: str, onto: Optional[Path], told: TakenIn, telle
     teller, the files are in English."""
     out.mkdir(mode=0o700, parents=True, exist_ok=True)
     problems = (("problem", *it.origin, it.number, it.because, it.do) for it in told.judged.problems)
+    doubts = (("doubt", *it.origin, "", it.because, it.do) for it in told.taken.doubts.cells)
     warnings = (("warning", *it.origin, "", it.because, it.do) for it in told.taken.warnings)
     heads = ("kind", "file", "row", "column", "number", "because", "do")
-    write_rows(out / "problems.csv", heads, itertools.chain(problems, warnings))
+    write_rows(out / "problems.csv", heads, itertools.chain(problems, doubts, warnings))
     (out / "weights.csv").unlink(missing_ok=True)
     if told.taken.weighed:
         weights = (
@@ -157,7 +163,9 @@ and cpi itself says what it would refuse: in an office in memory, or over a copy
 
 --check writes problems.csv (kind, file, row as a spreadsheet counts it, column, number of the
 refusal, because, do) and report.html. A column of prices that is no month, a file that isn't read,
-and whatever can be read in two ways are problems. --write makes the folder OUT with records-01.csv
+and whatever can be read in two ways are problems. A price that may be a code for a missing one is
+in doubt: a first price more than ten times away from the others of its item or aggregate; nines, or
+one value of many items, that are as far away. Say what it is by --missing or --price. --write makes the folder OUT with records-01.csv
 and on, if there is no problem, and prints the commands that send them; keys that weren't given are
 drawn, and are in OUT/keys.csv. The records have the collectors' keys in them: files here have mode
 0600. A workbook unpacks to at most 256 MiB.
@@ -169,7 +177,7 @@ example: cpi-tools take-in next-year/draft --onto office.db --check
          cpi-tools take-in spreadsheets --write records --minor 100 --weights percent
 
 exit status: 0 if there is no problem; 1 if there is one, or with one line what else went wrong;
-2 if the words are refused
+2 if the words are refused; 3 if the only doubt is whether prices are prices
 """
 
 
@@ -204,7 +212,23 @@ def add_words(tools: argparse._SubParsersAction[ToolWords]) -> None:
         help="a column of prices, a file or a sheet that isn't read on purpose; may be repeated",
     )
     words.add_argument(
-        "--confirm-history", action="store_true", help="prices outside the tolerance are confirmed, and listed"
+        "--missing",
+        action="append",
+        default=[],
+        metavar="VALUE=REASON",
+        help=f"a value of prices that says why there is none ({', '.join(REASONS)}), as 9999.99=stock; may be repeated",
+    )
+    words.add_argument(
+        "--price",
+        action="append",
+        default=[],
+        metavar="VALUE",
+        help="a value that is in doubt, and is a price; may be repeated",
+    )
+    words.add_argument(
+        "--confirm-history",
+        action="store_true",
+        help="prices outside the tolerance are confirmed, and listed; none of a series with one in doubt is",
     )
     add_speech(words, "report.html")
     csv_files.add_safe_csv(words)
@@ -214,8 +238,7 @@ def add_words(tools: argparse._SubParsersAction[ToolWords]) -> None:
 
 def run(chosen: argparse.Namespace) -> int:
     """Runs the tool by its words; its exit status."""
-    ignored = frozenset(name.strip().lower() for name in chosen.ignore)
-    options = Options(chosen.minor, chosen.decimal, chosen.weights, chosen.confirm_history, ignored)
+    options = options_of(chosen)
     cpi = Cpi(chosen.program)
     if chosen.write and os.path.lexists(chosen.write):
         raise Fault(f"{chosen.write} is there already: name a folder that isn't")
@@ -229,10 +252,15 @@ def run(chosen: argparse.Namespace) -> int:
                     taken_in(cpi, chosen.folder, options, chosen.zone, chosen.onto, [out, check], progress)
                 )
             show_warnings(told.taken.warnings)
-            if chosen.check or told.judged.problems:
+            show_readings(told.taken.readings)
+            doubts = told.taken.doubts.cells
+            if chosen.check or told.judged.problems or doubts:
                 write_check(out, chosen.folder.name, chosen.onto, told, teller)
             if told.judged.problems:
                 raise Fault(f"{counted(len(told.judged.problems), 'problem')}: {out / 'problems.csv'}")
+            if doubts:
+                show_doubts(doubts, out / "problems.csv")
+                return IN_DOUBT
             print(summary(told.taken, told.judged))
             if chosen.write and (files := write_records(chosen.write, told.taken)):
                 print(command(files, chosen.zone, chosen.onto))
@@ -241,6 +269,42 @@ def run(chosen: argparse.Namespace) -> int:
     except sqlite3.Error as fault:
         raise Fault(f"the prices can't be stored in {tempfile.gettempdir()}: {fault}") from fault
     return 0
+
+
+def options_of(chosen: argparse.Namespace) -> Options:
+    """How texts are read, by the words of the command; a value that is none is refused."""
+    ignored = frozenset(name.strip().lower() for name in chosen.ignore)
+    numbers, codes, priced = Numbers(chosen.decimal), dict[str, str](), set[Fraction]()
+    for text in chosen.missing:
+        value, _, reason = text.rpartition("=")
+        if not value.strip() or reason not in REASONS:
+            chosen.words.error(f"--missing {text}: write a value and a reason ({', '.join(REASONS)}), as 9999.99=stock")
+        codes[value] = reason
+    for text in chosen.price:
+        number = numbers.of(text)
+        if number is None:
+            chosen.words.error(f"--price {text}: it is no number with the decimal sign {chosen.decimal}")
+        else:
+            priced.add(number)
+    minor, decimal_sign, weights, confirm = chosen.minor, chosen.decimal, chosen.weights, chosen.confirm_history
+    return Options(minor, decimal_sign, weights, confirm, ignored, codes, frozenset(priced))
+
+
+def show_readings(readings: Sequence[MonthRead]) -> None:
+    """Prints the first months that were read of other spellings on standard error."""
+    for it in readings[:MOST_SHOWN]:
+        column = "" if it.column == it.text else f", {it.column}"
+        print(f"cpi-tools take-in: {it.file}{column}: {shown(it.text)} is read as {it.month}", file=sys.stderr)
+    if len(readings) > MOST_SHOWN:
+        print(f"cpi-tools take-in: {counted(len(readings) - MOST_SHOWN, 'more month')} read so", file=sys.stderr)
+
+
+def show_doubts(doubts: Sequence[SheetFault], problems: Path) -> None:
+    """Prints the first prices that are in doubt on standard error, and that nothing is taken in."""
+    for it in doubts[:MOST_SHOWN]:
+        print(f"cpi-tools take-in: {place(it.origin)}: {it.because}; {it.do}", file=sys.stderr)
+    count = counted(len(doubts), "price")
+    print(f"cpi-tools take-in: {count} in doubt, and nothing is taken in: {problems}", file=sys.stderr)
 
 
 def show_warnings(warnings: Sequence[SheetFault]) -> None:

@@ -8,7 +8,7 @@ from html import escape
 from pathlib import Path
 from typing import Optional
 
-from .cells import Origin
+from .cells import Origin, SheetFault
 from .judge import Judged
 from .numbers_of_texts import decimal
 from .office_files import Taken
@@ -76,15 +76,16 @@ def page(name: str, onto: Optional[Path], taken: Taken, judged: Judged, teller: 
     """The page of a check of `name`, in the language of a teller; `onto` is the office over a copy of which it was
     judged, if there is one."""
     sheet = Page(teller)
-    css = ' class="refused"' if judged.problems else ""
+    css = ' class="refused"' if judged.problems or taken.doubts.cells else ""
     taken_of_it = told("What cpi takes of it: {rows}.", rows=summary(taken, judged))
     parts = [
         f"<h1>{others(name)}</h1>",
         f"<p>{sheet.text(judged_over(onto))}</p>",
-        f"<p{css}><strong>{sheet.text(verdict(len(judged.problems)))}</strong></p>",
+        f"<p{css}><strong>{sheet.text(verdict(len(judged.problems), len(taken.doubts.cells)))}</strong></p>",
         f"<p>{sheet.text(taken_of_it)}</p>",
         *sheet.problems(judged),
-        *sheet.warnings(taken),
+        *sheet.faults(told("Prices in doubt"), taken.doubts.cells),
+        *sheet.faults(told("Warnings"), taken.warnings),
         *sheet.readings(taken),
         *sheet.months(judged),
         *sheet.weights(taken),
@@ -107,8 +108,12 @@ def judged_over(onto: Optional[Path]) -> Told:
     return told("Judged by cpi over a copy of {file}. Nothing was written to an office.", file=file)
 
 
-def verdict(refused: int) -> Told:
+def verdict(refused: int, doubted: int = 0) -> Told:
     """Whether all of it is taken."""
+    if doubted and not refused:
+        return told_of(
+            "{count} price in doubt; nothing is taken in.", "{count} prices in doubt; nothing is taken in.", doubted
+        )
     if not refused:
         return told("Nothing is refused.")
     return told_of("{count} problem; nothing is taken in.", "{count} problems; nothing is taken in.", refused)
@@ -189,12 +194,12 @@ class Page:
         if rows:
             yield self.table(told("Problems"), heads, rows, css="stacked")
 
-    def warnings(self, taken: Taken) -> Iterable[str]:
-        """What is taken, and should be looked at; all of it is in problems.csv."""
-        rows = [(it.origin, it.because, it.do) for it in taken.warnings]
+    def faults(self, title: Told, found: Sequence[SheetFault]) -> Iterable[str]:
+        """What should be looked at; all of it is in problems.csv."""
+        rows = [(it.origin, it.because, it.do) for it in found]
         if rows:
             heads = (told("where"), told("because"), told("do"))
-            yield self.table(told("Warnings"), heads, rows, css="stacked")
+            yield self.table(title, heads, rows, css="stacked")
 
     def readings(self, taken: Taken) -> Iterable[str]:
         """Texts in other spellings, and the months that they were read as."""
