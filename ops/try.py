@@ -312,7 +312,9 @@ def desk_of(chosen: argparse.Namespace, cpi: Cpi, file: Path, place: Place, conf
     room, spoken = file.with_name(f"{file.stem}-desk"), chosen.language if chosen.language != SOURCE else None
     front = f"{place.url}/desk/"
     site = config.with_name(SITE)
-    tried = Tried(place.office_port, file, chosen.zone, room, Path(place.desk.removeprefix("unix:")), front, spoken, site, config)
+    tried = Tried(
+        place.office_port, file, chosen.zone, room, Path(place.desk.removeprefix("unix:")), front, spoken, site, config
+    )
     return TriedDesk(cpi, tried)
 
 

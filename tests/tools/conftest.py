@@ -15,11 +15,13 @@ FAULT = fault_of("tools/setup")
 if not FAULT:
     from cpi_tools.pack.public import Published, from_file
     from cpi_tools.program import Cpi
+    from lib.places import ROOT
     from lib.sample import Sample
 
     from . import surveys
     from .desk_apps import ADA, Application, Person, applied
     from .offices import lived
+    from .packages import made_package
     from .published import Office, made as made_public
 
 
@@ -81,3 +83,9 @@ def application(cpi: Cpi, tmp_path: Path) -> Iterator[Application]:
 def ada(application: Application) -> Person:
     """A person who is signed in there."""
     return application.person(ADA)
+
+
+@pytest.fixture(scope="session")
+def package(cpi: Cpi, tmp_path_factory: pytest.TempPathFactory) -> Path:
+    """The package of the program that is tried."""
+    return made_package(ROOT, tmp_path_factory.mktemp("package"), cpi)

@@ -9,7 +9,7 @@ from pathlib import Path
 
 import pytest
 
-from .test_ops import needed
+from .needs import needed
 
 
 @contextlib.contextmanager

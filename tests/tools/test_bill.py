@@ -20,7 +20,7 @@ from cpi_tools.program import Cpi
 from crates import listed
 from lib.places import ROOT
 from . import test_package
-from .test_ops import needed
+from .needs import needed
 
 package = test_package.package
 

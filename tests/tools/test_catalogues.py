@@ -195,13 +195,13 @@ MODULES = sorted(
 
 def outside_of_python(module: str, others: Iterable[str] = ()) -> list[str]:
     """The texts of a module that are in no catalogue: strings of two words, but for docstrings, what such calls and
-    `others` take, and what is written to the log."""
+    `others` take, and what is written to the log or the journal."""
     tree, known = ast.parse(module), set[ast.AST]()
     for node in ast.walk(tree):
         called = node.func if isinstance(node, ast.Call) else None
         name = called.id if isinstance(called, ast.Name) else called.attr if isinstance(called, ast.Attribute) else ""
         is_docstring = isinstance(node, ast.Expr) and isinstance(node.value, ast.Constant)
-        if name in (*CALLS, *others) or name == "append" or is_docstring:
+        if name in (*CALLS, *others, "append", "warning") or is_docstring:
             known.update(ast.walk(node))
     texts = (it.value for it in ast.walk(tree) if isinstance(it, ast.Constant) and it not in known)
     return [

@@ -13,7 +13,7 @@ from cpi_tools.certificates import Certificate, Place, Server, certificate_at, p
 from cpi_tools.machine_clock import MachineClock, machine_clock, timex
 from cpi_tools.terminal import Fault
 from lib.served import free_port
-from .test_ops import needed
+from .needs import needed
 from .test_probe import answering
 
 KINDS = {

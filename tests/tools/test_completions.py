@@ -21,7 +21,8 @@ from lib.places import ROOT
 from cpi_tools.command_line import parser
 from cpi_tools.program import Cpi
 from manual import tools_of
-from .test_ops import needed, script
+from .needs import needed
+from .test_ops import script
 
 SECONDS = 90
 """How long a shell may take to complete a word."""

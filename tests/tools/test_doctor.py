@@ -25,7 +25,8 @@ from lib.places import ROOT
 from .disks import fill, mounted
 from .offices import LOAD_KEY, LOAD_MONTH
 from .ran import Ran, run
-from .test_ops import needed, script
+from .needs import needed
+from .test_ops import script
 
 NOBODY = 65534
 

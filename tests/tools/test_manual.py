@@ -12,7 +12,7 @@ from lib.places import ROOT
 from cpi_tools.command_line import parser
 from cpi_tools.words import PLAN_FAULTS, REFUSALS, Words
 from manual import manual
-from .test_ops import needed
+from .needs import needed
 
 
 @pytest.fixture(scope="module")

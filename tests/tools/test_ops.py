@@ -7,7 +7,6 @@ import contextlib
 import hashlib
 import os
 import re
-import shutil
 import sqlite3
 import subprocess
 import sys
@@ -23,19 +22,12 @@ import pytest
 from cpi_tools.program import Cpi
 from cpi_tools.stored import SCHEMA
 from lib.places import ROOT
+from .needs import needed
 
 OPS = ROOT / "ops"
 KEY = "0123456789abcdef0123456789abcdef"
 UNITS = ["cpi.service", "cpi-backup.service", "cpi-backup.timer", "cpi-follow.service", "cpi-promoted.service"]
 UNITS += ["cpi-desk.service", "cpi-keep.service", "cpi-keep.timer"]
-
-
-def needed(program: str) -> str:
-    """A program of this machine; the test is left out where it isn't there."""
-    found = shutil.which(program, path=f"{os.environ['PATH']}:/usr/sbin:/sbin")
-    if not found:
-        pytest.skip(f"there is no {program}")
-    return found
 
 
 def script(path: Path, text: str) -> Path:

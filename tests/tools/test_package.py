@@ -18,42 +18,13 @@ import pytest
 import cpi_tools
 from cpi_tools.program import Cpi
 from lib.places import ROOT
-from .test_ops import UNITS, needed
+from .needs import needed
+from .packages import epoch_of, made_package
+from .test_ops import UNITS
 
 INPUTS = ["tools", "docs", "ops", "web", "po", "examples", "dist", "README.md", "LICENSE", "CHANGELOG.md", "THIRD-PARTY.md",
           "SECURITY.md", "CONTRIBUTING.md", "crates.txt"]  # fmt: skip
 """All that a package is made of."""
-
-
-def epoch_of(top: Path) -> int:
-    """The beginning of the day of a package, in seconds since 1970: that of its release, or of the last commit."""
-    day = re.search(r"^## (?:[\d.]+, (\S+)|Unreleased .*)$", (top / "CHANGELOG.md").read_text(), re.M)
-    words = ["git", "log", "-1", "--date=format-local:%Y-%m-%d", "--format=%cd"]
-    ran = subprocess.run(words, cwd=top, env={**os.environ, "TZ": "UTC"}, capture_output=True, text=True, check=False)
-    named = (day and day[1]) or ran.stdout.strip() or "2026-11-28"
-    told = subprocess.run(["date", "-u", "-d", named, "+%s"], capture_output=True, text=True, check=True)
-    return int(told.stdout)
-
-
-def made_package(top: Path, to: Path, cpi: Cpi, **variables: str) -> Path:
-    """The package that `tools/package` of a repository makes of the program under test."""
-    needed("dpkg-deb")
-    kept = {name: value for name, value in os.environ.items() if name != "SOURCE_DATE_EPOCH"}
-    if not (top / ".git").exists():
-        # (without git nothing else tells the day of what isn't released)
-        variables.setdefault("SOURCE_DATE_EPOCH", str(epoch_of(ROOT)))
-    words = [str(top / "tools/package"), "--to", str(to), "--program", str(cpi.path)]
-    ran = subprocess.run(words, capture_output=True, text=True, check=False, env={**kept, **variables})
-    assert (ran.returncode, ran.stderr) == (0, "")
-    (found,) = to.glob("*.deb")
-    assert sorted(os.listdir(to)) == ["SHA256SUMS", f"{found.stem}.cdx.json", found.name]
-    assert ran.stdout.startswith(f"{found}: ")
-    return found
-
-
-@pytest.fixture(scope="module")
-def package(cpi: Cpi, tmp_path_factory: pytest.TempPathFactory) -> Path:
-    return made_package(ROOT, tmp_path_factory.mktemp("package"), cpi)
 
 
 @pytest.fixture(scope="module")

@@ -36,7 +36,7 @@ from lib.places import ROOT
 from lib.served import free_port
 from .loads import served
 from .offices import TABLES
-from .test_ops import needed
+from .needs import needed
 
 NOW, HOUR = 1_800_000_000, 3600
 NOTHING_NAMED = "not checked: the file, writes, backups, the second copy, the certificate, the clock"

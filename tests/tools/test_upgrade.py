@@ -12,7 +12,7 @@ from pathlib import Path
 import pytest
 
 from lib.places import ROOT
-from .test_package import dpkg, package  # noqa: F401
+from .test_package import dpkg
 
 OFFICE_CONF = """\
 # /etc/cpi/office.conf: what the units hand to the programs. No secret stands here.

@@ -12,7 +12,7 @@ from pathlib import Path
 import pytest
 
 from lib.places import ROOT
-from .test_ops import needed
+from .needs import needed
 from versions import Version, fault, release, sum_of_sources, versions
 
 HEAD = "# Changes\n\nWhat changed.\n\n"

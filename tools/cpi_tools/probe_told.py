@@ -234,7 +234,9 @@ def _figures_of_files(seen: Seen) -> Iterator[Figure]:
 def _figures_of_generations(last: Optional[LastDrill], now: int) -> Iterator[Figure]:
     if last and last.generation:
         yield "drilled_copied_seconds", str(last.copied), "When the copy of the last drilled generation was made."
-        yield "drilled_age_seconds", str(now - last.copied), "Age of the last drilled generation, below 0 if a clock is wrong."
+        yield "drilled_age_seconds", str(
+            now - last.copied
+        ), "Age of the last drilled generation, below 0 if a clock is wrong."
     if last:
         yield "drill_failed", str(int(bool(last.failed))), "Whether a later generation failed its drill."
 
