@@ -49,11 +49,11 @@ def carried(office: Path, place: Place, rounds: int = 1, is_anew: bool = False) 
 def forged(copy: Path) -> None:
     """Gives the note of a copy the sums of what lies next to it, as somebody could who has taken the first machine, or an
     earlier version that looked at no page."""
-    told = json.loads((copy / NOTE).read_text())
+    note = json.loads((copy / NOTE).read_text())
     log_beside(copy / OFFICE).touch()
     for part, name in (("file", OFFICE), ("log", LOG)):
-        told[part] = dict(zip(("size", "sum"), sum_of(copy / name)))
-    (copy / NOTE).write_text(json.dumps(told))
+        note[part] = dict(zip(("size", "sum"), sum_of(copy / name)))
+    (copy / NOTE).write_text(json.dumps(note))
 
 
 # ---- users

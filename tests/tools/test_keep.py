@@ -180,10 +180,10 @@ def test_if_both_are_changed_meanwhile_they_are_tried_again(
         damage(place.dest / name / OFFICE, 6000)
     ran = kept(cpi, place)
     assert (ran.status, ran.out) == (1, "") and len(pauses) == 2 + keeping.TRIES - 1
-    told = f"{place.dest / NAMES[1]} isn't whole: office.db hasn't the sum of its note"
-    assert ran.err == f"cpi-tools keep: {told}\n"
+    fault = f"{place.dest / NAMES[1]} isn't whole: office.db hasn't the sum of its note"
+    assert ran.err == f"cpi-tools keep: {fault}\n"
     last = last_drill_of(place.dest)
-    assert last and last.fault == told and last.generation
+    assert last and last.fault == fault and last.generation
     for name in NAMES:
         (place.dest / name / NOTE).unlink()
     assert f"{place.dest} has no copy with a whole note" in kept(cpi, place).err
@@ -318,10 +318,10 @@ def test_one_that_passed_counts_though_older_ones_cant_go(cpi: Cpi, place: Place
     resize(disk, 100 << 20)
     ran = kept(cpi, place)
     assert ran.status == 1 and " passed its drill, copied " in ran.out
-    told = f"older generations couldn't be removed: {place.folder}/repository: Insufficient free space to complete"
-    assert ran.err.startswith(f"cpi-tools keep: {place.folder}: {told}") and ran.err.count("\n") == 1
+    fault = f"older generations couldn't be removed: {place.folder}/repository: Insufficient free space to complete"
+    assert ran.err.startswith(f"cpi-tools keep: {place.folder}: {fault}") and ran.err.count("\n") == 1
     last = last_drill_of(place.dest)
-    assert last and place.archives() == [f"{PASSED}{last.generation}"] and last.fault.startswith(told)
+    assert last and place.archives() == [f"{PASSED}{last.generation}"] and last.fault.startswith(fault)
     resize(disk, 1 << 30)
     assert kept(cpi, place).status == 0
     last = last_drill_of(place.dest)

@@ -144,9 +144,9 @@ def test_who_gives_up_being_root_stays_another_user(tmp_path: Path) -> None:
             "read": os.read(opened, 9).decode(),
         }
 
-    found = done_as(user_of(OTHER), work)
+    answer = done_as(user_of(OTHER), work)
     os.close(opened)
-    assert found == {"ids": [OTHER] * 3 + [user_of(OTHER).group] * 3, "may": [], "read": "root's"}
+    assert answer == {"ids": [OTHER] * 3 + [user_of(OTHER).group] * 3, "may": [], "read": "root's"}
     assert os.geteuid() == 0
 
 
@@ -166,10 +166,10 @@ def test_a_fault_of_the_other_user_comes_back_as_it_is(capfd: pytest.CaptureFixt
         raise RuntimeError("nobody thought of it")
 
     nobody = user_of(OTHER)
-    for work, told in ((refused, "^it can't be done$"), (denied, "^/root: Permission denied$"),
+    for work, fault in ((refused, "^it can't be done$"), (denied, "^/root: Permission denied$"),
                        (killed, "ended with status -9, without an answer$"),
                        (wrong, "ended with status 1, without an answer$")):  # fmt: skip
-        with pytest.raises(Fault, match=told):
+        with pytest.raises(Fault, match=fault):
             done_as(nobody, work)
     assert "nobody thought of it" in capfd.readouterr().err
 

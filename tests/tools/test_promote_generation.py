@@ -105,16 +105,16 @@ def test_a_name_that_is_not_there_prints_those_that_are(cpi: Cpi, place: Place, 
     for asked in ("list", failed, f"{PASSED}{name}", f"{FAILED}{failed}", "", "*", "::"):
         ran = promoted(cpi, place, home, asked)
         assert (ran.status, ran.out) == (1, f"{name}\n")
-        told = f"{place.folder} has no generation {asked}: those that passed their drill are listed"
-        assert ran.err == f"cpi-tools promote: {told}\n"
+        fault = f"{place.folder} has no generation {asked}: those that passed their drill are listed"
+        assert ran.err == f"cpi-tools promote: {fault}\n"
     assert [*home.iterdir()] == [] and not (place.dest / MARK).exists()
 
 
 def test_a_repository_that_is_not_there_is_named(cpi: Cpi, place: Place, name: str, home: Path, tmp_path: Path) -> None:
     (place.folder / FOLDER).rename(tmp_path / "gone")
-    told = f"{place.folder}/repository isn't there, so no generation was kept in {place.folder}"
+    fault = f"{place.folder}/repository isn't there, so no generation was kept in {place.folder}"
     ran = promoted(cpi, place, home, name)
-    assert (ran.status, ran.out, ran.err) == (1, "", f"cpi-tools promote: {told}\n")
+    assert (ran.status, ran.out, ran.err) == (1, "", f"cpi-tools promote: {fault}\n")
     place.folder.rename(tmp_path / "away")
     ran = promoted(cpi, place, home, name)
     assert (ran.status, ran.err) == (1, f"cpi-tools promote: {place.folder}: No such file or directory\n")
@@ -154,7 +154,7 @@ def test_the_marks_and_refusals_are_those_of_a_copy(cpi: Cpi, place: Place, name
     assert promoted(cpi, place, home, name).status == 0
     promotion, to = state_of(place.dest).promotion, home / OFFICE
     assert promotion
-    (receipt,) = (it["receipt"] for it in cpi.replay([f"60,{LOAD_KEY},quote,99,{LOAD_MONTH},price,5"], db=to))
+    (receipt,) = (reply["receipt"] for reply in cpi.replay([f"60,{LOAD_KEY},quote,99,{LOAD_MONTH},price,5"], db=to))
     before = to.read_bytes()
     ran = promoted(cpi, place, home, name, "--replace")
     assert ran.status == 1 and f"{promotion.machine} was promoted {second_text(promotion.promoted)}" in ran.err
