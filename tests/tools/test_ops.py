@@ -281,23 +281,15 @@ def followed(folder: Path, *words: str, **settings: str) -> Started:
     for name in ("cpi-tools", "systemctl", "sleep"):
         script(folder / name, f'echo {name} "$@" >> {folder}/asked\n' + (next_status if name == "cpi-tools" else ""))
     kept = {"PATH": f"{folder}:{os.environ['PATH']}", "CPI_OFFICE": "office.db", **settings}
-    text = (OPS / "cpi-follow").read_text().replace("/var/lib/cpi-desk", str(folder / "cpi-desk"))
-    words = (str(script(folder / "cpi-follow", text.partition("\n")[2])), *words)
-    ran = subprocess.run(words, env=kept, capture_output=True, text=True, check=False)
+    ran = subprocess.run([OPS / "cpi-follow", *words], env=kept, capture_output=True, text=True, check=False)
     return Started(ran.returncode, ran.stdout, ran.stderr, folder)
 
 
 def test_the_second_copy_is_kept_as_the_settings_say(tmp_path: Path) -> None:
     (tmp_path / "statuses").write_text("0\n")
     assert followed(tmp_path, CPI_COPY="second:copy", CPI_COPY_EVERY="7")[:3] == (0, "", "")
-    asked = "cpi-tools follow office.db second:copy --every 7 --room /var/lib/cpi-follow\n"
+    asked = "cpi-tools follow office.db second:copy --every 7 --room /var/lib/cpi-follow --desk /var/lib/cpi-desk\n"
     assert (tmp_path / "asked").read_text() == asked
-    # (the desk's folder goes along if there is one)
-    (tmp_path / "cpi-desk").mkdir()
-    (tmp_path / "asked").unlink()
-    (tmp_path / "statuses").write_text("0\n")
-    assert followed(tmp_path, CPI_COPY="second:copy", CPI_COPY_EVERY="7")[:3] == (0, "", "")
-    assert (tmp_path / "asked").read_text() == f"{asked.strip()} --desk {tmp_path}/cpi-desk\n"
     for word in ("", "ask"):
         none = followed(tmp_path, *([word] if word else []), CPI_COPY="")
         assert (none.status, none.told.count("\n")) == (WRONG, 1) and "CPI_COPY is empty" in none.told
@@ -488,7 +480,7 @@ def test_a_file_that_is_not_there_is_not_made(cpi: Cpi, tmp_path: Path) -> None:
 def night(folder: Path, drill_status: int, backup_status: int = 0) -> subprocess.CompletedProcess[str]:
     """The night's script, with tools that say what they do; backups are files with their notes, and with the desk's
     folder if that is there: in the place of /var/lib/cpi-desk it is one of this folder."""
-    desk = f'[ -z "${{5-}}" ] || [ {backup_status} != 0 ] || echo new > "$3.desk.tar"'
+    desk = f'[ ! -d "$5" ] || [ {backup_status} != 0 ] || echo new > "$3.desk.tar"'
     made = f'mkdir -p "${{3%/*}}"; echo new > "$3"; echo new > "$3.sha256"; {desk}; exit {backup_status}'
     drill = f'drill) test -e "$2.sha256" || exit 9; exit {drill_status} ;;'
     script(folder / "cpi-tools", f'echo "$@"\ncase $1 in backup) {made} ;; {drill} esac\n')
@@ -534,7 +526,7 @@ def test_a_night_makes_a_backup_drills_it_and_removes_old_ones(tmp_path: Path) -
     ran = night(tmp_path, 0)
     assert (ran.returncode, ran.stderr) == (0, "")
     new = tmp_path / "kept/.new" / TODAY
-    assert ran.stdout == f"backup office.db {new}\ndrill {new}\n"
+    assert ran.stdout == f"backup office.db {new} --desk {tmp_path}/cpi-desk\ndrill {new}\n"
     kept = both(TODAY, *(name for name, (_, is_kept) in OLD.items() if is_kept))
     assert {path.name for path in (tmp_path / "kept").iterdir() if path.is_file()} == kept
     assert {(tmp_path / "kept" / name).read_text() for name in both(TODAY)} == {"new\n"}
