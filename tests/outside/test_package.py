@@ -80,8 +80,13 @@ sort -u asked
 """
 
 UPGRADED = """\
+cpi: set the office's clock before its next start, by a line CPI_ZONE=Europe/Prague in /etc/cpi/office.conf
+cpi: (before 1.1 an office without this line had CPI_ZONE=UTC0)
 cpi: the office still runs the program of before, and nothing restarts it. Stop it, and copy its file and log
 cpi: before you start it again: /usr/share/doc/cpi/docs/run/RUNNING.md, Upgrading
+cpi: these run the program of before, too, until: systemctl restart cpi-desk.service cpi-follow.service
+--quiet is-active cpi-desk.service
+--quiet is-active cpi-follow.service
 --quiet is-active cpi.service
 --system daemon-reload
 """

@@ -157,7 +157,7 @@ def test_a_first_installation_has_settings_without_a_clock_and_says_so(
     assert (
         "cpi: set the office's clock before its next start, by a line CPI_ZONE=Europe/Prague in /etc/cpi/office" in told
     )
-    assert "(until now" not in told
+    assert "(before 1.1" not in told
     settings = (ROOT / "ops/office.conf").read_text() + "CPI_ZONE=UTC0\nCPI_KEEP_DAYS=99\n"
     written(tmp_path, {"etc/cpi/office.conf": settings})
     assert "office's clock" not in dpkg(tmp_path, "--install", later)
@@ -171,7 +171,7 @@ def test_an_upgrade_says_which_settings_are_to_be_made(root: Path, package: Path
     settings = re.sub("CPI_ZONE=.*\n", "CPI_DESK_FRONT=https://prices.example/desk/\n", OFFICE_CONF)
     written(root, {"etc/cpi/office.conf": settings})
     told = dpkg(root, "--install", package)
-    assert "(until now an office without this line had CPI_ZONE=UTC0)" in told
+    assert "(before 1.1 an office without this line had CPI_ZONE=UTC0)" in told
     assert "the front comes to the desk's pages by a port" in told and read(root, "etc/cpi/office.conf") == settings
     written(root, {"etc/cpi/office.conf": f"{settings}CPI_ZONE=UTC0\nCPI_DESK_LISTEN=/run/cpi-desk/front.sock\n"})
     told = dpkg(root, "--install", package)
