@@ -61,7 +61,7 @@ def test_what_the_units_start_is_there_and_named_in_the_guide() -> None:
 
 
 ADDED = {"CPI_ZONE", "CPI_COPY", "CPI_COPY_EVERY"} | {
-    f"CPI_DESK_{it}" for it in ("FRONT", "LISTEN", "NOTES", "PHONES", "SITE")
+    f"CPI_DESK_{it}" for it in ("FRONT", "LISTEN", "NOTES", "PHONES", "SECOND_KEY", "SITE")
 }
 """What an office adds to its office.conf: its clock, and what a second machine or the pages of the desk ask for."""
 
