@@ -88,7 +88,7 @@ def readme_faults(text: str) -> Iterator[str]:
 
 # ---- the length
 
-MOST_WORDS, MOST_OF_ALL = 5000, 49250
+MOST_WORDS, MOST_OF_ALL = 5000, 49500
 """Words as `wc -w` counts them: of a document, and of the English pages of docs/ together."""
 
 SHORT = {"docs/develop/THEOREM.md": 1500}

@@ -1,9 +1,9 @@
-//! A month's index, as a whole and one aggregate at a time.
+//! A month's index, by the weights of its plan, and by moved ones.
 use crate::records::{referred_plan, two_months};
 use cpi_codes::Code;
 use cpi_index::{
-    ChainedLevel, NodeLevel, bases_of_year, carry_group, carry_month, chain, effective_weights,
-    elementary, groups_of_january, groups_of_month, put_by_series, upper,
+    ChainedLevel, NodeLevel, bases_of_year, carry_month, chain, effective_weights, elementary,
+    upper,
 };
 use std::alloc::Global;
 use std::test::Fail;
@@ -49,28 +49,5 @@ fn a_month_is_computed_by_moved_weights(rt: HostRuntime) -> Result<(), Fail> {
     let all_items = levels.first().map(|row| row.level);
     // (630,000 times 105 and 392,000 times 98, by 1,022,000)
     assert_eq!(rt; all_items, ChainedLevel::new(102_315_068));
-    Ok(())
-}
-
-#[test]
-fn aggregates_are_computed_in_turn(rt: HostRuntime) -> Result<(), Fail> {
-    let alloc = rt.alloc();
-    let year = two_months(alloc)?;
-    let groups = groups_of_january(alloc, &year.plan, &[], &year.december, &year.january)?;
-    let mut carried = Vec::new(alloc);
-    for group in &groups {
-        assert!(rt; carry_group(group, false, &mut carried)?.is_ok());
-    }
-    assert!(rt; put_by_series(&mut carried)?);
-    assert_eq!(rt; carried.len(), 4);
-    let later = groups_of_month(
-        alloc,
-        &year.plan,
-        &[],
-        &year.december,
-        &carried,
-        &year.january,
-    )?;
-    assert_eq!(rt; later.len(), 2);
     Ok(())
 }
