@@ -55,8 +55,8 @@ def test_the_second_person_reads_what_is_signed(prepared: Application) -> None:
         "8/1 Rice , 1 kg Market hall 2.4 1.517 the only price" in looks
         and "the only price that is compared in its aggregate" in looks
     )
-    assert f"{CODE} : the shop is closed for a week" in words
-    assert "33.3 % priced" not in words and "priced 33.3 %" in words
+    assert f"{CODE}: the shop is closed for a week" in words
+    assert "priced 33.3 % 1 of 3 slots, 30.0 % by weight" in words
     assert "Names are only names" in words
 
 

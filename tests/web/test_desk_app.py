@@ -68,7 +68,8 @@ def test_a_month_is_closed_by_two_people_with_a_keyboard(stage: Stage, ada: Pers
     ada.open(f"/month/{MONTH}/freeze")
     ada.tried(MONTH)
     browser.wait_text("#prepared", "Nothing changed since it was prepared.")
-    assert "+25.6" in browser.text("#prepared") and "Flour" in browser.text("#prepared")
+    signed = browser.text("#prepared")
+    assert "+19.8" in signed and "level 125.57" in signed and "Flour, wheat" in signed
     ada.press("form[action$='/confirm'] button")
     stays_a_receipt(ada, browser)
     table = stage.ask("GET", f"/api/table/{MONTH}/csv").body.decode().splitlines()
