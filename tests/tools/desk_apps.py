@@ -64,7 +64,7 @@ class Person:
         """Fills in a form of a page, and sends it with all that it carries; the answer."""
         return self.give(self.form(page, ends, at), **fields)
 
-    def give(self, form: PageForm, **fields: str) -> Any:
+    def give(self, form: PageForm, /, **fields: str) -> Any:
         """Sends a form that was shown, with some fields filled in; the answer."""
         data: dict[str, list[str]] = {}
         for name, text in form.carried(**fields):
