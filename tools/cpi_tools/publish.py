@@ -86,7 +86,7 @@ def write_pack(pack: Pack, folder: Path, now: Now, before: Before) -> None:
     series, config = pack.series, pack.config
     signature = _write_manifest(pack, folder)
     now("what each month is computed from")
-    shown, data = Shown(series, config.reference, config.rates), folder / "data"
+    shown, data = Shown(series, config.reference, config.rates, config.provisional), folder / "data"
     sums = _write_tables(series, data / "tables", before)
     span = Span(first_of(series, config.years), series.every[-1])
     years = earlier_years(series, span.first)

@@ -13,7 +13,9 @@ from .shown import EXACT, PUBLISHED
 
 ITEM = marked_as("what an index is of: the name of a dimension in a file of data", "Item")
 
-BREAK, IMPUTED = "b", "i"
+BREAK, IMPUTED, PROVISIONAL = "b", "i", "p"
+# t: what a status of a figure means
+REVISABLE = marked("Provisional: the office may still revise it")
 STATUSES = {
     BREAK: marked("Break: not linked to the earlier levels, or other elementary aggregates in it"),
     IMPUTED: marked("A price at or below the item was imputed"),
@@ -81,12 +83,37 @@ def figures_of(known: Known, measure: Measure, code: str) -> list[str]:
     return known.texts(measure.figure, code)
 
 
-def statuses_of(known: Known, code: str) -> Iterator[tuple[int, str]]:
-    """The months of an item with a status, counted from 0, and the status."""
-    marks = known.series.marks(code)
+def statuses_of(known: Known, code: str, is_level: bool = True) -> Iterator[tuple[int, str]]:
+    """The months of an item with a status, counted from 0, and the status; a figure that is no level is provisional at
+    most."""
+    marks, provisional = known.series.marks(code) if is_level else (), known.shown.provisional
     for at, (month, imputed) in enumerate(zip(known.series.months, known.texts(figures.IMPUTED, code))):
-        if imputed == "1" or (imputed and month in marks):
-            yield at, (BREAK if month in marks else "") + (IMPUTED if imputed == "1" else "")
+        status = (BREAK if month in marks else "") + (IMPUTED if is_level and imputed == "1" else "")
+        if imputed and (status or month in provisional):
+            yield at, status + (PROVISIONAL if month in provisional else "")
+
+
+def meanings_of(known: Known, speech: Speech) -> dict[str, str]:
+    """What each status means that the cube can have."""
+    found = {status: speech.t(text) for status, text in STATUSES.items()}
+    if known.shown.provisional:
+        last = speech.t(REVISABLE)
+        both = {
+            f"{it}{PROVISIONAL}": speech.t("{before}, {after}", before=says, after=last) for it, says in found.items()
+        }
+        found.update({PROVISIONAL: last, **both})
+    return found
+
+
+def provisional_note(months: int, speech: Speech) -> str:
+    """What is said if so many last months can be revised; nothing if none can."""
+    if not months:
+        return ""
+    return speech.tn(
+        "Provisional: the office may still revise the last month.",
+        "Provisional: the office may still revise the last {count} months.",
+        months,
+    )
 
 
 def notes_of(known: Known, code: str, speech: Speech = SPEAKS_ENGLISH) -> list[str]:
@@ -120,4 +147,5 @@ def general_notes(known: Known, config: Config, speech: Speech = SPEAKS_ENGLISH)
     if config.reference:
         base = speech.month(known.series.base)
         found.append(speech.t("The chained level is 100 in {month}, or in December before the item came.", month=base))
+    found += filter(None, [provisional_note(config.provisional if known.shown.provisional else 0, speech)])
     return found + [speech.t("Licence: {licence}", licence=config.licence) for _ in [0] if config.licence]

@@ -3,7 +3,8 @@
 The form has one language. The texts of the others are in `extension.languages`, by their tags, at the same places as in the
 dataset itself.
 
-Figures have the digits of the other forms, as numbers of JSON, and null if there is none; levels have their statuses.
+Figures have the digits of the other forms, as numbers of JSON, and null if there is none. Levels have their statuses, and
+each figure of a month that can still be revised has `p`.
 They are in the order of items, then of measures, then of months.
 """
 
@@ -14,7 +15,7 @@ from collections.abc import Iterator, Sequence
 from typing import Any, TextIO
 
 from .config import Config
-from .cube import IMPUTED_PRICES, STATUSES, Measure, general_notes, measures_of, notes_of, statuses_of
+from .cube import IMPUTED_PRICES, Measure, general_notes, meanings_of, measures_of, notes_of, statuses_of
 from .figures import Known
 from .tables import iso
 from .tongues import Tongue, first_of, others_of
@@ -58,13 +59,13 @@ def _about(known: Known, config: Config) -> dict[str, Any]:
         "id": ["item", "measure", "month"],
         "size": [len(series.all_titles), len(measures), len(series.months)],
         "role": {"time": ["month"], "metric": ["measure"]},
-        "extension": {"status": _statuses_in(own), **({"languages": others} if others else {})},
+        "extension": {"status": _statuses_in(known, own), **({"languages": others} if others else {})},
     }
 
 
-def _statuses_in(tongue: Tongue) -> dict[str, Any]:
+def _statuses_in(known: Known, tongue: Tongue) -> dict[str, Any]:
     """What the statuses mean."""
-    return {"label": {status: tongue.speech.t(text) for status, text in STATUSES.items()}}
+    return {"label": meanings_of(known, tongue.speech)}
 
 
 def _in_language(known: Known, tongue: Tongue) -> dict[str, Any]:
@@ -79,7 +80,7 @@ def _in_language(known: Known, tongue: Tongue) -> dict[str, Any]:
         "source": tongue.config.office,
         "note": general_notes(known, tongue.config, tongue.speech),
         "dimension": dimensions,
-        "extension": {"status": _statuses_in(tongue)},
+        "extension": {"status": _statuses_in(known, tongue)},
     }
 
 
@@ -102,10 +103,11 @@ def _dimensions(known: Known, tongue: Tongue) -> dict[str, Any]:
 
 
 def _statuses(known: Known, config: Config) -> Iterator[tuple[int, str]]:
-    """The places of levels with a status, counted from 0 over the whole cube."""
+    """The places of figures with a status, counted from 0 over the whole cube."""
     measures, months = measures_of(config), len(known.series.months)
     for at, code in enumerate(known.series.all_titles):
         for which, measure in enumerate(measures):
-            if measure.is_level:
-                begin = (at * len(measures) + which) * months
-                yield from ((begin + month, status) for month, status in statuses_of(known, code))
+            begin = (at * len(measures) + which) * months
+            figures = known.texts(measure.figure, code) if known.shown.provisional else ()
+            found = statuses_of(known, code, measure.is_level) if measure.is_level or figures else ()
+            yield from ((begin + month, status) for month, status in found if not figures or figures[month])

@@ -13,7 +13,7 @@ from typing import TextIO
 
 from ..terminal import time_text
 from .config import Config
-from .cube import BREAK, ITEM, STATUSES, Measure, all_measures_of, general_notes, notes_of
+from .cube import BREAK, ITEM, REVISABLE, STATUSES, Measure, all_measures_of, general_notes, notes_of
 from .figures import Known
 from .tongues import Tongue, first_of, others_of
 
@@ -116,8 +116,11 @@ def _of_measures(measures: Iterable[Measure], moment: str, tongue: Tongue) -> It
 
 
 def _notes(known: Known, measures: Iterable[Measure], tongue: Tongue) -> Iterator[tuple[str, str]]:
-    """The notes of items, and of each level after a break."""
+    """The notes of items, of each provisional month, and of each level after a break."""
     t, item = tongue.speech.t, quoted(tongue.speech.tc(*ITEM))
+    for month in known.series.months:
+        if month in known.shown.provisional:
+            yield f"VALUENOTE({quoted(t('Month'))},{quoted(tongue.speech.month(month))})", quoted(t(REVISABLE))
     for code in known.series.all_titles:
         notes = " ".join(notes_of(known, code, tongue.speech))
         yield f"VALUENOTE({item},{quoted(_item(known, code, tongue))})", quoted(notes)

@@ -15,7 +15,8 @@ character of an id, so `00` is `_T`, `01.1.1.1` is `CP01111` and `01.1.1.1-01` i
 FREQ is `M`, and `A` for annual averages of `CPI` (`N`) and their changes on the year before (`G1`).
 
 OBS_STATUS is `B` (break) for the first level of a node that is back, which isn't linked to the earlier ones, and of a
-special aggregate with other members, and `A` (normal value) else. `I` of its code list means that a receiver of the data imputed the whole observation. That a price
+special aggregate with other members; else `P` (provisional value) in a month that the office may still revise, and of a
+year with such a month; and else `A` (normal value). `I` of its code list means that a receiver of the data imputed the whole observation. That a price
 at or below the node was imputed is an attribute of its own, IMPUTED_PRICES.
 """
 
@@ -101,7 +102,7 @@ FIXED = {TIME, VALUE}
 CODES = [
     *(frozenset(codes) for name, (_, codes) in LISTS.items() if name != "IMPUTED_PRICES"),
     frozenset({"M", "A"}),
-    frozenset({"A", "B"}),
+    frozenset({"A", "B", "P"}),
 ]
 """Groups of codes in which each is another; `A` is a frequency, and a status."""
 
@@ -188,7 +189,12 @@ class Months:
     def __init__(self, known: Known, config: Config):
         self._known = known
         tables = [known.series.latest[month] for month in known.series.months]
-        of = [[(config.id(id), str(it.revision), iso(it.moment)) for it in tables] for id in ("A", "B")]
+        provisional = known.shown.provisional
+        usual = ["P" if it.month in provisional else "A" for it in tables]
+        of = [
+            [(config.id(id), str(it.revision), iso(it.moment)) for id, it in zip(ids, tables)]
+            for ids in (usual, ["B"] * len(tables))
+        ]
         # (by whether it is after a break, then by month, then by whether a price was imputed)
         self._attributes = [
             [{it: (status, it, revision, moment) for it in ("", "0", "1")} for status, revision, moment in found]
@@ -258,21 +264,24 @@ def _annual(known: Known, config: Config) -> Iterator[Observed]:
     for it in (Measure("CPI", "N", "IX", 6, None), rates):
         ids = [config.id(each) for each in (it.measure, it.unit, it.transformation)]
         for code in known.codes:
-            found, marks = [], series.marks(code)
+            found, marks = list[Observation](), series.marks(code)
             for each in years:
                 value = average_change(series, code, each.year) if it is rates else shown.average(code, each.year)
                 if value is not None:
-                    found.append(_of_year(config, each, marks, written(value, it.decimals)))
+                    status = _status_of_year(each, marks, shown.provisional)
+                    value_text = written(value, it.decimals)
+                    found.append((f"{each.year:04}", value_text, (config.id(status), "", "", iso(each.moment))))
             if found:
                 key = (config.id("A"), config.area, *ids[:2], item_id(code), ids[2])
                 bases = "" if it is rates else " ".join(hundred for _, hundred in shown.hundreds(code))
                 yield Observed(key, (bases, str(it.decimals)), found)
 
 
-def _of_year(config: Config, year: Year, marks: Sequence[str], value: str) -> Observation:
-    """A figure of a year; `marks` are the months of the node that come after a break."""
-    is_broken = not year.months.isdisjoint(marks)
-    return f"{year.year:04}", value, (config.id("B" if is_broken else "A"), "", "", iso(year.moment))
+def _status_of_year(year: Year, marks: Sequence[str], provisional: frozenset[str]) -> str:
+    """The status of a figure of a year; `marks` are the months of the node that come after a break."""
+    if not year.months.isdisjoint(marks):
+        return "B"
+    return "A" if year.months.isdisjoint(provisional) else "P"
 
 
 def _bases(it: Measure, known: Known, code: str) -> str:

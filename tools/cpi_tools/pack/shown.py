@@ -39,8 +39,11 @@ class NotCovered(Fault):
 class Shown:
     """The figures of all nodes as they are shown. Raises NotCovered if no table is of the reference period."""
 
-    def __init__(self, series: Series, reference: str = "", rates: str = EXACT):
+    def __init__(self, series: Series, reference: str = "", rates: str = EXACT, provisional: int = 0):
+        """The last `provisional` months can still be revised."""
         self.series, self.reference, self.rates = series, reference, rates
+        self.provisional = frozenset(series.months[-provisional:] if provisional else [])
+        """The provisional months, also of a part of the tables."""
         self.speech = SPEAKS_ENGLISH
         if reference not in ("", series.base) and not any(month.startswith(reference) for month in series.months):
             raise NotCovered(

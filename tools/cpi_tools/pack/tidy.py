@@ -24,6 +24,9 @@ HEAD = ("month", "revision", "published", "code", "depth", "title", "weight", "i
 
 NO_LINES: Mapping[str, Sequence[str]] = {}
 
+PROVISIONAL = "provisional"
+"""The last column of printed.csv if the office has months that it may still revise: 1 in these."""
+
 PRINTED_HEAD = ("month", "code", "title", "reference", "index", "month_change", "year_change")
 AVERAGE_HEAD = ("code", "title", "year", "average", "change", "reference", "chained_average")
 
@@ -126,15 +129,17 @@ def write_months(known: Known, folder: Path, kept: KeptLines = NOTHING_KEPT) -> 
     """The CSV files with rows for months, but those of SDMX, of special aggregates and of the nodes."""
     series, shown = known.series, known.shown
     rereferenced = ("month", "code", "title", "reference", "rereferenced")
+    printed = (*PRINTED_HEAD, PROVISIONAL) if shown.provisional else PRINTED_HEAD
     files: list[tuple[str, Sequence[str], Callable[[Known, Sequence[str]], Iterable[str]]]] = [
         ("cpi.csv", HEAD, _cpi_lines),
         ("contributions.csv", CONTRIBUTION_HEAD, _contribution_lines),
-        ("printed.csv", PRINTED_HEAD, _printed_lines),
+        ("printed.csv", printed, _printed_lines),
         ("twelve-month-rates.csv", ("month", "code", "title", "twelve_month_rate"), _rate_lines),
         *([("rereferenced.csv", rereferenced, _rereferenced_lines)] if shown.reference else []),
     ]
     for name, head, lines in files:
-        found = kept.read(name)
+        # (which months are provisional changes with each one)
+        found = None if PROVISIONAL in head else kept.read(name)
         months = series.months if found is None else kept.later(series.months)
         write_lines(folder / name, head, lines(known, months), found)
 
@@ -215,12 +220,13 @@ def _contribution_lines(known: Known, months: Sequence[str]) -> Iterator[str]:
 
 def _printed_lines(known: Known, months: Sequence[str]) -> Iterator[str]:
     """The figures of the pages: the index with one decimal, and the changes in percent."""
-    titles = csv_files.Cells()
+    titles, provisional = csv_files.Cells(), known.shown.provisional
     for month in months:
+        end = f",{int(month in provisional)}" if provisional else ""
         columns = (known.texts_of_month(figure, month) for figure in (PRINTED, MONTH_CHANGE, YEAR_CHANGE))
         for (code, title), index, *changes in zip(known.titles.items(), *columns):
             if index:
-                yield f"{month},{code},{titles[title]},{known.shown.hundred(month, code)},{index},{','.join(changes)}\n"
+                yield f"{month},{code},{titles[title]},{known.shown.hundred(month, code)},{index},{','.join(changes)}{end}\n"
 
 
 def _average_lines(shown: Shown, kept: KeptLines) -> Iterator[str]:

@@ -136,12 +136,19 @@ def _read_me(known: Known, config: Config) -> Iterator[str]:
         ),
         ("Weights", "As in use in the month's year; parts per million, unless prices moved them"),
         ("Contributions", "To the annual change of all items, in percentage points; six decimals are stored"),
+        ("Provisional", _provisional(known)),
         ("Licence", config.licence),
         ("Contact", config.contact),
     ]
     told = [line for line in lines if line[1]]
     yield from (_text_row(number, line) for number, line in enumerate(told, 1))
     yield SHEET_FOOT
+
+
+def _provisional(known: Known) -> str:
+    """Which months can still be revised; nothing if there are none."""
+    months = [month for month in known.series.months if month in known.shown.provisional]
+    return f"{months[0]} to {months[-1]}: the office may still revise these months" if months else ""
 
 
 def _sheet(known: Known, of: Sheet) -> Iterator[str]:

@@ -107,7 +107,10 @@ class Archives:
         (folder / YEARS).mkdir()
         for year in years:
             span = Span(f"{year}-01", f"{year}-12")
-            made[year] = its_sum = self.made_of(span, self.unexplained)
+            provisional = sorted(month for month in self._shown.provisional if span.first <= month <= span.last)
+            its_sum = self.made_of(span, self.unexplained)
+            # (a month that is final from now on has another status)
+            made[year] = its_sum = f"{its_sum} {' '.join(provisional)}" if provisional else its_sum
             name, is_same = f"data/{YEARS}/{year}.zip", self._before.made.get(year) == its_sum
             self._years_to = max(it for it in self._series.every if it <= span.last) if is_same else self._years_to
             if not is_same or not self._before.take(name, folder / YEARS / f"{year}.zip"):
