@@ -152,11 +152,12 @@ def lead(then: Then) -> str:
     way = -1 if then.change < 0 else 1
     ends = sorted(values, key=lambda it: (-it[0] * way, it[1]))
     told = []
-    for (value, code), begin in ((ends[0], "Most came from"), (ends[-1], "")):
+    total = signed(sum((value for value, _ in values), Fraction()), 1)
+    for (value, code), begin in ((ends[0], "The largest contribution came from"), (ends[-1], "")):
         title = then.known.titles[code]
         title = title[0].lower() + title[1:] if title[1].islower() else title
         if begin and value * way > 0:
-            told.append(f"{begin} {title} ({signed(value, 2)} percentage points)")
+            told.append(f"{begin} {title}, {signed(value, 2)} of {total} percentage points")
         elif not begin and value * way < 0:
             told.append(f"{title} worked against it ({signed(value, 2)})")
     sentence = "; ".join(told) + "." if told else ""

@@ -399,3 +399,18 @@ def test_a_language_that_is_gone_leaves_nothing(copied: Path) -> None:
     assert pages(copied).returncode == 0
     assert not [name for name in content(copied) if re.search(r"\bes\.(json|webmanifest|po)", name)]
     assert pages(copied, "--check").returncode == 0
+
+
+# ---- words that have to be exact
+
+
+@pytest.mark.parametrize(
+    ("language", "refusal", "silence"),
+    [("ar", "رفض", "يجيب"), ("es", "nieg|negativa", "respond|respuesta"), ("fr", "refuse", "répond")],
+)
+def test_a_shop_that_refuses_isnt_one_that_doesnt_answer(language: str, refusal: str, silence: str) -> None:
+    """The reason `refused`, on the phone and in its list."""
+    catalog = catalogues.read(ROOT / "po", language)
+    for text in ("The shop doesn’t tell", "Shop doesn’t tell"):
+        told = str(catalog[text].string).lower()
+        assert re.search(refusal, told) and not re.search(silence, told), told

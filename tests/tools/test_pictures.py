@@ -193,7 +193,7 @@ def test_a_file_has_the_words_of_its_language() -> None:
     whole = Shown(Series(two_years()))
     french, arabic = (whole.spoken(speech_of(tag)) for tag in ("fr", "ar"))
     texts = " ".join(re.findall(r">([^<>]+)</text>", drawing(of_node(french, "02")[0], "T", "Source")))
-    assert "Trait plein\u00a0: \u2068Title of 02\u2069 Trait interrompu\u00a0: \u2068Title of 00\u2069" in texts
+    assert "Trait plein\u00a0: \u2068Title of 02\u2069 Pointillés\u00a0: \u2068Title of 00\u2069" in texts
     assert not re.search("line|Index", texts)
     rows = [
         Given("01", "A", None, Ratio(3, 1), Bar("25", "75", False)),

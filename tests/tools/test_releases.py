@@ -53,7 +53,10 @@ def test_a_release_is_told_in_the_figures_of_its_month(by_hand: Path) -> None:
     """December 2026: coffee gave 0.75 * 4 points and tea 0.25 * 8, 5 together; all items went from 102.75 to 105."""
     told = words_of(by_hand / "release/2026-12-r1.html")
     assert "In December 2026 consumer prices were 5.0 percent higher than a year before" in told
-    assert "Most came from title of 01 (+3.00 percentage points). Against the month before, prices rose by 2.2" in told
+    assert (
+        "The largest contribution came from title of 01 , +3.00 of +5.0 percentage points. Against the month before, prices rose by 2.2"
+        in told
+    )
     assert "Index, December 2025 = 100 105.0" in told
     assert "Title of 01 75.00 % +4.0 % +3.00 Title of 02 25.00 % +8.0 % +2.00 Title of 00 100.00 % +5.0 % +5.00" in told
     assert "00 Title of 00 100.00 % 105.0 +2.2 % +5.0 % 01 Title of 01 75.00 % 104.0 +2.0 % +4.0 %" in told

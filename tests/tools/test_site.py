@@ -70,7 +70,10 @@ def test_the_first_page_says_what_happened(by_hand: Path) -> None:
     """Coffee gave 740/133 of 1260/133 percentage points, milk 420/133, and tea, which left, 100/133."""
     told = words_of(by_hand / "index.html")
     assert "In January 2027 consumer prices were 9.5 percent higher than a year before" in told
-    assert "Most came from title of 01 (+5.56 percentage points). Against the month before, prices rose by 4.0" in told
+    assert (
+        "The largest contribution came from title of 01 , +5.56 of +9.5 percentage points. Against the month before, prices rose by 4.0"
+        in told
+    )
     assert "Against the year before +9.5 % Against the month before +4.0 %" in told
     assert "Index, December 2025 = 100 109.2" in told
     assert "In January 2027 no price was imputed." in told
@@ -86,7 +89,10 @@ def test_a_fall_is_told_as_one(tmp_path: Path) -> None:
     publish(two_years()[:2], CONFIG._replace(reference=""), tmp_path / "public", None, lambda _: None)
     told = words_of(tmp_path / "public/index.html")
     assert "In January 2026 consumer prices fell by 0.3 percent against the month before" in told
-    assert "Most came from title of 01 (\u22121.50 percentage points); title of 02 worked against it (+1.25)" in told
+    assert (
+        "The largest contribution came from title of 01 , \u22121.50 of \u22120.3 percentage points; title of 02 worked against it (+1.25)"
+        in told
+    )
 
 
 def test_what_left_and_came_again_has_two_bases(again: Path) -> None:
@@ -155,7 +161,7 @@ def test_annual_contributions_over_a_december_under_embargo_are_not_told(tmp_pat
     publish(over_another_december(), CONFIG._replace(reference=""), tmp_path / "public", None, lambda _: None)
     told = words_of(tmp_path / "public/index.html")
     assert "In January 2027 consumer prices were 10.5 percent higher than a year before" in told
-    assert "Most came from" not in told
+    assert "The largest contribution" not in told
     untold = (
         "Some changes of this month rest on a revision that isn't published yet, so no contributions to the changes on"
     )

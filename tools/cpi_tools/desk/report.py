@@ -238,13 +238,16 @@ def changes(is_frozen: bool, named: Mapping[str, Figure]) -> Told:
 
 
 def of_most(most: Sequence[Division]) -> Told:
-    """The one division or the two that add most."""
+    """The one division or the two whose contributions are the largest."""
     named = {"title": of_others(most[0].title), "points": Figure(most[0].text)}
     if len(most) == 1:
-        return told("Most percentage points of the month come from {title} ({points}).", **named)
+        return told(
+            "The largest contribution to the month's change is that of {title}: {points} percentage points.", **named
+        )
     second = {"other": of_others(most[1].title), "other_points": Figure(most[1].text)}
     return told(
-        "Most percentage points of the month come from {title} ({points}) and {other} ({other_points}).",
+        "The largest contributions to the month's change are those of {title} ({points} percentage points) and {other}"
+        " ({other_points}).",
         **named,
         **second,
     )
