@@ -81,7 +81,7 @@ def first(tmp_path_factory: pytest.TempPathFactory) -> Path:
 
 
 @pytest.fixture(scope="module")
-def later(package: Path, tmp_path_factory: pytest.TempPathFactory) -> Path:  # noqa: F811
+def later(package: Path, tmp_path_factory: pytest.TempPathFactory) -> Path:
     """The package of today under a later version."""
     folder = tmp_path_factory.mktemp("later")
     subprocess.run(["dpkg-deb", "--raw-extract", package, folder / "cpi"], check=True)
@@ -110,9 +110,7 @@ def lost(root: Path) -> list[str]:
     return [name for name, text in KEPT.items() if not (root / name).exists() or read(root, name) != text]
 
 
-def test_an_upgrade_of_an_office_changes_no_setting_and_asks_nothing(
-    root: Path, package: Path, later: Path  # noqa: F811
-) -> None:
+def test_an_upgrade_of_an_office_changes_no_setting_and_asks_nothing(root: Path, package: Path, later: Path) -> None:
     """Neither from version 1.0, which had the settings of the pages among its own files, nor from this one."""
     settings = {"etc/cpi/office.conf": OFFICE_CONF.replace("CET-1CEST,M3.5.0,M10.5.0/3", "EET-2")}
     written(root, {**settings, "usr/share/cpi/web/config.js": edited(CONFIG_JS)})
@@ -129,7 +127,7 @@ def test_an_upgrade_of_an_office_changes_no_setting_and_asks_nothing(
 
 
 def test_an_upgrade_that_is_called_off_loses_no_setting(
-    root: Path, package: Path, tmp_path_factory: pytest.TempPathFactory  # noqa: F811
+    root: Path, package: Path, tmp_path_factory: pytest.TempPathFactory
 ) -> None:
     """The new files were unpacked, and nothing else done; the same upgrade is then tried again."""
     written(root, {"usr/share/cpi/web/config.js": edited(CONFIG_JS)})
@@ -140,7 +138,7 @@ def test_an_upgrade_that_is_called_off_loses_no_setting(
     assert lost(root) == []
 
 
-def test_settings_that_nobody_changed_are_those_of_the_package(root: Path, package: Path) -> None:  # noqa: F811
+def test_settings_that_nobody_changed_are_those_of_the_package(root: Path, package: Path) -> None:
     assert "config.js" not in dpkg(root, "--install", package)
     assert read(root, "etc/cpi/config.js") == (ROOT / "web/config.js").read_text()
     # (the clock of version 1.0 was in its file: the office goes on by it)
@@ -148,7 +146,7 @@ def test_settings_that_nobody_changed_are_those_of_the_package(root: Path, packa
 
 
 def test_a_first_installation_has_settings_without_a_clock_and_says_so(
-    package: Path, later: Path, tmp_path: Path  # noqa: F811
+    package: Path, later: Path, tmp_path: Path
 ) -> None:
     """They are the office's own from then on: a later package neither asks nor changes them."""
     told = dpkg(tmp_path, "--install", package)
@@ -167,7 +165,7 @@ def test_a_first_installation_has_settings_without_a_clock_and_says_so(
     assert not (tmp_path / "etc/cpi").exists()
 
 
-def test_an_upgrade_says_which_settings_are_to_be_made(root: Path, package: Path) -> None:  # noqa: F811
+def test_an_upgrade_says_which_settings_are_to_be_made(root: Path, package: Path) -> None:
     settings = re.sub("CPI_ZONE=.*\n", "CPI_DESK_FRONT=https://prices.example/desk/\n", OFFICE_CONF)
     written(root, {"etc/cpi/office.conf": settings})
     told = dpkg(root, "--install", package)
@@ -178,7 +176,7 @@ def test_an_upgrade_says_which_settings_are_to_be_made(root: Path, package: Path
     assert "CPI_ZONE" not in told and "by a port" not in told
 
 
-def test_removal_and_purge_leave_what_is_the_offices(root: Path, package: Path) -> None:  # noqa: F811
+def test_removal_and_purge_leave_what_is_the_offices(root: Path, package: Path) -> None:
     """A removal leaves the settings too. By a purge dpkg tells which of the package's folders the office left files in:
     that of the key, and that of a website of version 1.0."""
     dpkg(root, "--install", package)
@@ -197,14 +195,14 @@ def warned(told: str) -> list[str]:
     return folders
 
 
-def test_a_purge_of_this_version_warns_of_the_keys_folder_only(root: Path, package: Path) -> None:  # noqa: F811
+def test_a_purge_of_this_version_warns_of_the_keys_folder_only(root: Path, package: Path) -> None:
     shutil.rmtree(root / "usr/share/cpi/web/published")
     dpkg(root, "--install", package)
     assert warned(dpkg(root, "--purge", "cpi")) == ["/etc/cpi"]
     assert lost(root) == ["usr/share/cpi/web/published/index.html"]
 
 
-def test_the_folders_of_an_office_are_made_and_empty_ones_go(package: Path, tmp_path: Path) -> None:  # noqa: F811
+def test_the_folders_of_an_office_are_made_and_empty_ones_go(package: Path, tmp_path: Path) -> None:
     """They belong to the office's user, and the website can be read by everybody."""
     if os.geteuid() != 0:
         pytest.skip("dpkg --root asks for root")
