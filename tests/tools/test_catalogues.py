@@ -406,7 +406,7 @@ def test_a_language_that_is_gone_leaves_nothing(copied: Path) -> None:
 
 @pytest.mark.parametrize(
     ("language", "refusal", "silence"),
-    [("ar", "رفض", "يجيب"), ("es", "nieg|negativa", "respond|respuesta"), ("fr", "refuse", "répond")],
+    [("ar", "رفض", "يجيب"), ("es", "nieg|negativa", "respond|respuesta"), ("fr", "refus", "répond")],
 )
 def test_a_shop_that_refuses_isnt_one_that_doesnt_answer(language: str, refusal: str, silence: str) -> None:
     """The reason `refused`, on the phone and in its list."""

@@ -260,8 +260,8 @@ def test_lines_of_months_that_were_provisional_are_written_anew(
         written(tables[:number], config, out)
         months_made.append({*made["01.1.1.1-01"]})
         assert [*differences(out, anew(tables[:number], config, tmp_path / f"first{number}" / "public", kept))] == []
-    # February's provisional months begin in December, and December was one in February still
-    assert {month[:4] for month in months_made[0]} == {"2025", "2026", "2027"}
+    # February's provisional months begin in December, so the archive of 2026 is another one, and that of 2025 stays
+    assert {month[:4] for month in months_made[0]} == {"2026", "2027"}
     # those that are provisional in May, and February, which was one in April
     assert months_made[-1] == {"2027-02", "2027-03", "2027-04", "2027-05"}
 
