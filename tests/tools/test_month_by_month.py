@@ -118,12 +118,15 @@ def test_a_release_stays_as_it_is(runs: list[Run]) -> None:
     assert each == {"release": 58, "picture": 87, "embed": 29, "data/tables": 30}
 
 
-def test_an_archive_stays_but_for_a_revision(runs: list[Run]) -> None:
-    """The first year's, once there is one; no later table changes it, since its own year isn't revised."""
+def test_an_archive_stays_once_its_months_are_final(runs: list[Run]) -> None:
+    """That of the first year comes with January's release, which has a provisional December, and February's makes it anew.
+    No later table changes it, since its own year isn't revised."""
+    latest, changed = "", set[str]()
     for before, now in pairs(runs):
-        for name, data in before.files.items():
-            if name.startswith("data/years/2025"):
-                assert now.files[name] == data
+        latest = max(latest, *before.new)
+        if any(name.startswith("data/years/2025") and now.files[name] != data for name, data in before.files.items()):
+            changed.add(latest[:7])
+    assert changed == {"2026-01"}
     assert "data/years/2025.zip" in runs[-1].files and "data/years/2026.zip" in runs[-1].files
 
 
