@@ -13,10 +13,14 @@ from __future__ import annotations
 import importlib.util
 import os
 import shutil
-from collections.abc import Callable
+import subprocess
+from collections.abc import Callable, Iterator
 from pathlib import Path
 
 import pytest
+
+from lib.places import ROOT
+from .systems import FIRST, SECOND, System, two_systems
 
 
 @pytest.fixture(scope="session")
@@ -46,3 +50,20 @@ def needed(request: pytest.FixtureRequest) -> Callable[[str], str]:
         return path or name
 
     return found
+
+
+@pytest.fixture
+def systems(needed: Callable[[str], str], program: Path, tmp_path: Path) -> Iterator[tuple[System, System]]:
+    """Two machines with the package installed and the desk's key, as the guide asks."""
+    for name in ("dpkg-deb", "ip", "nsenter", "rrsync", "rsync", "sshd", "systemd-nspawn", "unshare"):
+        needed(name)
+    subprocess.run([ROOT / "tools/package", "--to", tmp_path, "--program", program], capture_output=True, check=True)
+    (package,) = tmp_path.glob("*.deb")
+    with two_systems(tmp_path, package) as (first, second):
+        for each in (first, second):
+            each.boot()
+            each.run("dpkg --no-triggers -i cpi.deb > /dev/null; (umask 077; printf '%032d' 7 > /etc/cpi/desk-key)")
+            each.run("echo CPI_ZONE=Europe/Prague >> /etc/cpi/office.conf")
+            each.run(f"printf '{FIRST} first.example\\n{SECOND} second.example\\n' >> /etc/hosts")
+            each.run("rm -f /etc/ssh/ssh_host_*; ssh-keygen -A > /dev/null; systemctl restart ssh")
+        yield first, second

@@ -4,17 +4,13 @@ those of the document, in its order. The first machine is killed, the second one
 from __future__ import annotations
 
 import re
-import subprocess
 import sys
-from collections.abc import Callable, Iterator
 from pathlib import Path
-
-import pytest
 
 from tools import clients
 from cpi_tools.gaps import MISSING
 from lib.places import ROOT
-from .systems import FIRST, SECOND, System, indented, section, two_systems
+from .systems import System, indented, section
 
 GUIDE = (ROOT / "docs/run/SECOND-MACHINE.md").read_text()
 RUNNING = (ROOT / "docs/run/RUNNING.md").read_text()
@@ -30,23 +26,6 @@ CLIENTS = f"{sys.executable} {Path(clients.__file__)} 8080"
 PRICES = 20
 INACTIVE = 3
 """What `systemctl is-active` ends with of a unit that isn't active."""
-
-
-@pytest.fixture
-def systems(needed: Callable[[str], str], program: Path, tmp_path: Path) -> Iterator[tuple[System, System]]:
-    """Two machines with the package installed and the desk's key, as the guide asks."""
-    for name in ("dpkg-deb", "ip", "nsenter", "rrsync", "rsync", "sshd", "systemd-nspawn", "unshare"):
-        needed(name)
-    subprocess.run([ROOT / "tools/package", "--to", tmp_path, "--program", program], capture_output=True, check=True)
-    (package,) = tmp_path.glob("*.deb")
-    with two_systems(tmp_path, package) as (first, second):
-        for each in (first, second):
-            each.boot()
-            each.run("dpkg --no-triggers -i cpi.deb > /dev/null; (umask 077; printf '%032d' 7 > /etc/cpi/desk-key)")
-            each.run("echo CPI_ZONE=Europe/Prague >> /etc/cpi/office.conf")
-            each.run(f"printf '{FIRST} first.example\\n{SECOND} second.example\\n' >> /etc/hosts")
-            each.run("rm -f /etc/ssh/ssh_host_*; ssh-keygen -A > /dev/null; systemctl restart ssh")
-        yield first, second
 
 
 def followed(serves: System, takes: System, name: str) -> None:
