@@ -29,6 +29,7 @@ def pytest_addoption(parser: pytest.Parser) -> None:
     parser.addoption("--office", default=None, help="the office of tests/tools, made before (else it is made)")
     parser.addoption("--leave-out", action="append", default=[], help="what isn't here on purpose (tests/outside)")
     parser.addoption("--kills", type=int, default=100, help="how often the first machine is killed (tests/outside)")
+    parser.addoption("--every", type=int, default=1, help="seconds from one round of the second copy to the next there")
 
 
 @pytest.fixture(scope="session")

@@ -37,6 +37,13 @@ def kills(request: pytest.FixtureRequest) -> int:
 
 
 @pytest.fixture(scope="session")
+def every(request: pytest.FixtureRequest) -> int:
+    """The seconds from one round of the second copy to the next."""
+    found: int = request.config.getoption("--every")
+    return found
+
+
+@pytest.fixture(scope="session")
 def needed(request: pytest.FixtureRequest) -> Callable[[str], str]:
     """Where a program of others, or a package of Python, is; a test fails where it isn't there and isn't left out."""
     left_out = request.config.getoption("--leave-out")

@@ -87,7 +87,9 @@ def told_of(kills: list[Kill]) -> str:
 
 
 @pytest.mark.timeout(12 * 3600)
-def test_kills(cpi: Cpi, networks: Networks, kills: int, tmp_path: Path, capsys: pytest.CaptureFixture[str]) -> None:
+def test_kills(
+    cpi: Cpi, networks: Networks, kills: int, every: int, tmp_path: Path, capsys: pytest.CaptureFixture[str]
+) -> None:
     """Of all that was answered before a kill, nothing is missing once it was sent again."""
     drawn, found = random.Random(67), list[Kill]()
     survey = surveyed(cpi, tmp_path / "survey.db")
@@ -97,7 +99,7 @@ def test_kills(cpi: Cpi, networks: Networks, kills: int, tmp_path: Path, capsys:
         for path in networks.dest.iterdir():
             shutil.rmtree(path) if path.is_dir() else path.unlink()
         shutil.copy(survey, first.office)
-        found.append(kill_and_promote(cpi, first, second, networks.follow, networks.dest, drawn))
+        found.append(kill_and_promote(cpi, first, second, networks.follow, networks.dest, drawn, every))
         shutil.rmtree(first.folder)
         shutil.rmtree(second.folder)
         with capsys.disabled():

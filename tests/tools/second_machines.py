@@ -181,18 +181,21 @@ def gaps_of(on: Machine, answered: Sequence[Answered], status: int) -> set[tuple
 
 
 def kill_under_load(
-    cpi: Cpi, first: Machine, follow: Sequence[str], dest: Path, drawn: random.Random
+    cpi: Cpi, first: Machine, follow: Sequence[str], dest: Path, drawn: random.Random, every: int
 ) -> tuple[list[Answered], float, float]:
-    """Kills the office and the follower of a machine at a random moment while the clients send: what they were
-    answered, the moment of the kill in seconds since 1970 UTC, and the same on the clock that never jumps."""
+    """Kills the office and the follower of a machine, which begins a round each `every` seconds, at a random moment of
+    some rounds while the clients send: what they were answered, the moment of the kill in seconds since 1970 UTC, and the same on the clock that never jumps.
+    """
     told = first.folder / "answered.csv"
     with office_on(cpi, first) as serving, told.open("w") as out:
-        following = first.started(TOOL, "follow", str(first.office), *follow, "--every", "1", out=subprocess.DEVNULL)
+        following = first.started(
+            TOOL, "follow", str(first.office), *follow, "--every", str(every), out=subprocess.DEVNULL
+        )
         # (a pipe that nobody reads would be full after some 2,000 rows, and then hold the clients up)
         sending = first.started(sys.executable, CLIENTS, str(first.port), "send", out=out.fileno())
         try:
             wait_for(lambda: len(state_of(dest).notes) == 2, "no copy came")
-            time.sleep(drawn.random() * 3)
+            time.sleep(drawn.random() * max(3, 2 * every))
             wait_for(lambda: told.read_bytes().count(b"\n") > LEAST, "the clients weren't answered")
             killed(serving)
             moment, begun = time.time(), time.monotonic()
@@ -205,11 +208,11 @@ def kill_under_load(
 
 
 def kill_and_promote(
-    cpi: Cpi, first: Machine, second: Machine, follow: Sequence[str], dest: Path, drawn: random.Random
+    cpi: Cpi, first: Machine, second: Machine, follow: Sequence[str], dest: Path, drawn: random.Random, every: int = 1
 ) -> Kill:
     """Kills the first machine's office and follower at a random moment, promotes the copy `dest` on the second one,
     sends again what is missing, and looks at all of it. The first machine has the file of an office (`surveyed`)."""
-    answered, moment, begun = kill_under_load(cpi, first, follow, dest, drawn)
+    answered, moment, begun = kill_under_load(cpi, first, follow, dest, drawn, every)
     second.ran(TOOL, "promote", str(dest), "--office", str(second.office), "--program", str(cpi.path))
     promotion = state_of(dest).promotion
     assert promotion
