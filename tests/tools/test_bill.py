@@ -19,10 +19,7 @@ from bill import licenses, packages
 from cpi_tools.program import Cpi
 from crates import listed
 from lib.places import ROOT
-from . import test_package
 from .needs import needed
-
-package = test_package.package
 
 FIELDS: dict[str, tuple[set[str], set[str]]] = {
     "bom": ({"bomFormat", "specVersion", "serialNumber", "version", "metadata", "components", "dependencies"}, set()),

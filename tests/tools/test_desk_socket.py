@@ -156,7 +156,7 @@ def test_the_socket_of_another_application_stays(cpi: Cpi, folder: Path, tmp_pat
 
 def test_words_that_don_t_go_together_are_refused(tmp_path: Path) -> None:
     (tmp_path / "office.db").write_bytes(b"")
-    words = [ROOT / "cpi-tools", "desk", "serve", "--file", tmp_path / "office.db", "--room", tmp_path, "--listen"]
+    words = [f"{ROOT}/cpi-tools", "desk", "serve", "--file", f"{tmp_path}/office.db", f"--room={tmp_path}", "--listen"]
     refused = {
         ("/run/cpi-desk/front.sock",): "--listen with the path of a socket goes with --front",
         ("/" + "x" * MOST_OF_SOCKET, "--front", FRONT): "isn't the path of a socket, of 107 bytes at most",

@@ -17,6 +17,7 @@ import pytest
 from PIL import Image
 
 from cpi_tools.desk_app import field_notes, field_views, one_photograph, photographs
+from cpi_tools.desk_app.field_limits import MOST_PHOTO_SIDE, MOST_SENT_SIDE
 from cpi_tools.desk_app.one_photograph import MOST_MEMORY, MOST_SECONDS, pixels_of
 from cpi_tools.desk_app.photographs import Busy, NotAPicture, Turns, without_traces
 from cpi_tools.program import Cpi
@@ -238,10 +239,10 @@ def test_a_picture_that_takes_more_memory_is_refused_by_its_process() -> None:
 @pytest.mark.parametrize("kind, mode", [("JPEG", "RGB"), ("PNG", "RGBA"), ("PNG", "I"), ("WEBP", "RGBA")])
 def test_the_largest_pictures_that_are_taken_are_within_the_bounds(kind: str, mode: str) -> None:
     made = io.BytesIO()
-    Image.new(mode, (one_photograph.MOST_SENT_SIDE,) * 2).save(made, kind)
+    Image.new(mode, (MOST_SENT_SIDE,) * 2).save(made, kind)
     kept = without_traces(made.getvalue())
     with Image.open(io.BytesIO(kept)) as found:
-        assert (found.format, found.size) == ("JPEG", (one_photograph.MOST_PHOTO_SIDE,) * 2)
+        assert (found.format, found.size) == ("JPEG", (MOST_PHOTO_SIDE,) * 2)
 
 
 def test_what_the_process_writes_is_what_pillow_makes_here() -> None:
