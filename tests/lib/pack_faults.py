@@ -18,9 +18,9 @@ from typing import Optional, TypeVar
 from .by_the_manual import Id, Month
 from .by_the_manual import Row as ByTheManual
 from .nation import published_at, revisions
-from .pack_figures import ALL, Figures, Given, Line, december_before, depth, months_of
+from .pack_figures import ALL, Figures, Given, Line, december_before, depth, lines_of_sets, months_of
 from .pack_forms import Attributes, px_cells, read_json_stat, read_sdmx_ml, read_sheets, rows_of_csv
-from .pack_vintages import reasons, rows_by_code
+from .pack_vintages import by_moment, reasons, rows_by_code
 
 Row = Mapping[str, str]
 Key = TypeVar("Key")
@@ -97,10 +97,33 @@ def earlier_row(known: Figures, tables: Reopened, month: str, revision: int, cod
     return line_row(known, month, code, Line(*figures, now.base, now.is_break), revision)
 
 
-def vintage_rows(known: Figures, tables: Reopened) -> Iterator[Row]:
-    """The rows that a revision changed: as they were at first, and as it has them."""
-    for month, code in sorted(known.first):
-        yield from (earlier_row(known, tables, month, revision, code) for revision in (1, 2))
+def vintage_rows(known: Figures, tables: Reopened, all_tables: Mapping[Id, Month]) -> Iterator[Row]:
+    """The rows that a revision changed: as they were at first, and as it has them; in each month those of sets come
+    last."""
+    of_sets = set_vintages(known, all_tables)
+    for month in sorted({month for month, _ in [*known.first, *of_sets]}):
+        for code in sorted(code for at, code in known.first if at == month):
+            yield from (earlier_row(known, tables, month, revision, code) for revision in (1, 2))
+        for at, name in sorted(of_sets):
+            yield from of_sets[at, name] if at == month else ()
+
+
+def set_vintages(known: Figures, tables: Mapping[Id, Month]) -> dict[tuple[str, str], list[Row]]:
+    """By month and set the rows that a later publication changed, as each publication had them."""
+    found, last, revision_of = dict[tuple[str, str], list[Row]](), dict[str, Month](), dict[str, int]()
+    for (month, revision), table in by_moment(tables):
+        last[month], revision_of[month] = table, revision
+        for name, lines in lines_of_sets(last, known.sets).items():
+            for at, line in lines.items():
+                row = {**line_row(known, at, name, line, revision_of[at]), "published": moment(month, revision)}
+                rows = found.setdefault((at, name), [])
+                if not rows or any(rows[-1][of] != row[of] for of in OF_A_FIGURE):
+                    rows.append(row)
+    return {of: rows for of, rows in found.items() if len(rows) > 1}
+
+
+OF_A_FIGURE = ("weight", "index", "chained", "month_change", "year_change", "imputed")
+"""The columns that a revision of prices can change."""
 
 
 def earlier_rows(known: Figures, tables: Reopened, code: str) -> Iterator[Row]:
@@ -220,7 +243,7 @@ def csv_faults(site: Path, known: Figures, tables: Mapping[Id, Month], folder: P
     reopened = {of: rows_by_code(table) for of, table in tables.items() if latest_of(of[0]) > 1}
     wanted = {
         "cpi": table_rows(known, known.nodes),
-        "vintages": vintage_rows(known, reopened),
+        "vintages": vintage_rows(known, reopened, tables),
         "revision-reasons": reason_rows(),
         "aggregates": table_rows(known, known.sets),
         "contributions": given_rows(known, lambda _: known.pairs()),

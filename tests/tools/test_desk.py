@@ -196,7 +196,7 @@ def test_the_small_office_by_hand(cpi: Cpi, small: Path, tmp_path: Path) -> None
     ran = run(cpi, "desk", "month", small, "2026-02", "--at", 4000, "--out", out)
     assert (ran.status, ran.err) == (0, "")
     assert "As things stand, all items would be at 105.7: 1.5 percent on the month before." in ran.out
-    assert "Food and drink (+1.456)" in ran.out
+    assert "is that of Food and drink: +1.456" in ran.out
     assert (out.stat().st_mode & 0o777, (out / "month.html").is_file()) == (0o700, True)
     cells = functools.partial(cells_of, out)
     assert cells("collectors") == [

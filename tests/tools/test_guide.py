@@ -62,7 +62,8 @@ def test_a_backup_is_restored_twice(cpi: Cpi, office: Path, tmp_path: Path) -> N
     assert (made.returncode, made.stderr) == (0, "")
     restore = block_behind("docs/run/RUNNING.md", "## To restore")
     stop, command, begin = restore.splitlines()
-    assert stop == "systemctl stop cpi-follow.service cpi.service" and begin == "systemctl start cpi.service"
+    assert stop == "systemctl stop cpi-follow.service cpi-desk.service cpi.service"
+    assert begin == "systemctl start cpi.service"
     backup = tmp_path / "backup/office.db"
     command = re.sub(
         r"/var/lib/cpi-backup/office-[0-9-]+\.db", str(backup), re.sub("^cpi-tools", "./cpi-tools", command)

@@ -251,8 +251,8 @@ COPY.sha256, cpi opens it, every table of every revision is what its frozen quot
 carried price, and is printed so, and the C library of SQLite finds no fault (integrity_check,
 foreign_key_check). One line gives the result and how much was checked; each fault is a line on
 standard error. The drill works on a copy of COPY, so COPY is never changed. A log next to COPY,
-COPY-wal, belongs to it. An office that is being served may be drilled too. If the note says that the
-desk's folder is in the backup, COPY.desk.tar has to be there with its sum.
+COPY-wal, belongs to it. An office that is being served may be drilled too. If the note says that
+the desk's folder is in the backup, COPY.desk.tar has to be there with its sum.
 
 After a kill most of an office can be in its log, and the file without the log is then a sound but
 older office, perhaps an empty one. So a warning on standard error names a COPY that has neither a

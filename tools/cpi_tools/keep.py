@@ -199,13 +199,13 @@ def _fault_of(cpi: Cpi, repository: Repository, archive: str, back: Path) -> str
 DESCRIPTION = """\
 Keeps a generation of the second copy that cpi-tools follow keeps in the folder DEST. The newest
 whole copy goes into a repository of borg in FOLDER, is taken out of it again, and drilled. Only if
-it passes, it counts, and older generations go: those of 24 hours, 31 days and 12 months stay. A copy
-with the bytes of the last generation is no new one. cpi-tools promote --generation takes one.
+it passes, it counts, and older generations go: those of 24 hours, 31 days and 12 months stay. A
+copy with the bytes of the last generation is no new one. cpi-tools promote --generation takes one.
 
 FOLDER belongs to a user of its own, which the machine that carries to DEST can't reach. Root runs
 this tool: it opens the copies, and writes DEST/drilled.json, which cpi-tools probe --copy reads on
-both machines. Everything else is done by the user of FOLDER. Besides what is kept, its disk needs as
-much room as a copy and 600 MB for borg, and the folder for temporary files as much as a copy.
+both machines. Everything else is done by the user of FOLDER. Besides what is kept, its disk needs
+as much room as a copy and 600 MB for borg, and the folder for temporary files as much as a copy.
 
 cpi-keep.timer runs it each hour. The first run makes the repository; one that is gone later is a
 fault.
@@ -214,9 +214,9 @@ fault.
 EPILOG = """\
 example: cpi-tools keep /var/lib/cpi-copy/office /var/lib/cpi-keep
 
-exit status: 0 if the newest copy is a generation that passed its drill; 1 with one line why none was
-kept, or why older ones couldn't be removed; 2 if the words are refused; 6 if it failed its drill: it
-is kept aside and doesn't count
+exit status: 0 if the newest copy is a generation that passed its drill; 1 with one line why none
+was kept, or why older ones couldn't be removed; 2 if the words are refused; 6 if it failed its
+drill: it is kept aside and doesn't count
 """
 
 

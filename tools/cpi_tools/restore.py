@@ -261,8 +261,8 @@ FILE and its log aside together, in a folder next to it that is named by the mom
 BACKUP, as the owner of the folder and with mode 0600: all of it or nothing. If the machine stops
 within that, cpi-serve starts no office until the restore was run again.
 
-If the desk's folder is in BACKUP, it takes its place too, and the one there is put aside in a folder
-in it. It stays if its logs go on from those of BACKUP.
+If the desk's folder is in BACKUP, it takes its place too, and the one there is put aside in a
+folder in it. It stays if its logs go on from those of BACKUP.
 
 What was answered after BACKUP was made isn't in it, and is in what was put aside, if that can be
 read. A follower doesn't carry an older office over a newer copy: promote that copy instead, or say
@@ -274,8 +274,8 @@ EPILOG = """\
 example: cpi-tools restore backup/office.db --office office.db
 
 exit status: 0 if BACKUP is the office now; 1 with one line why it isn't, and nothing was changed;
-2 if the words are refused; 4 if it is the office now, and a line says why the desk's folder isn't in
-its place
+2 if the words are refused; 4 if it is the office now, and a line says why the desk's folder isn't
+in its place
 """
 
 

@@ -165,10 +165,11 @@ and cpi itself says what it would refuse: in an office in memory, or over a copy
 refusal, because, do) and report.html. A column of prices that is no month, a file that isn't read,
 and whatever can be read in two ways are problems. A price that may be a code for a missing one is
 in doubt: a first price more than ten times away from the others of its item or aggregate; nines, or
-one value of many items, that are as far away. Say what it is by --missing or --price. --write makes the folder OUT with records-01.csv
-and on, if there is no problem, and prints the commands that send them; keys that weren't given are
-drawn, and are in OUT/keys.csv. The records have the collectors' keys in them: files here have mode
-0600. A workbook unpacks to at most 256 MiB.
+one value of many items, that are as far away. Say what it is by --missing or --price.
+
+--write makes the folder OUT with records-01.csv and on, if there is no problem, and prints the
+commands that send them; keys that weren't given are drawn, and are in OUT/keys.csv. The records
+have the collectors' keys in them: files here have mode 0600. A workbook unpacks to at most 256 MiB.
 """
 
 EPILOG = """\
