@@ -136,6 +136,9 @@ def _written(stream: IO[bytes], to: Mapping[str, Path]) -> set[str]:
                 with os.fdopen(opened, "wb") as file:
                     shutil.copyfileobj(source, file, 1 << 20)
                 written.add(member.name)
+    # (borg fills its last block up, and fails if nobody reads that)
+    while stream.read(1 << 20):
+        pass
     return written
 
 
