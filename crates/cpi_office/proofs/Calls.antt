@@ -1,10 +1,12 @@
 -- A call after a read, and a call under a premise.
-use Rattle.std.proofs.Common.{◌≡◌, Result, ◌∙◌, inl, inr, arith, sym, ap}
-use Rattle.std.specs.Prelude.{◌⊎◌, ◌≤◌, IsTrue, IsFalse}
+use Rattle.std.proofs.Common.{◌≡◌, Result, Ok, Err, true, ◌∙◌, inl, inr, arith, sym, ap}
+use Rattle.std.proofs.lemmas.Result.{IfOk-weaker}
+use Rattle.std.specs.Prelude.{◌⊎◌, ◌≤◌, ◌<◌, IfErr, IsTrue, IsFalse}
 use Rattle.cpi_release.specs.State.{State, Keeps, StaysClean, Reads}
 use Rattle.cpi_store.specs.Office.{Office}
 use Rattle.cpi_office.specs.Calls.{Serves, ServesWhere, Endures, Crashes, Lasts, IsServed, is_refused}
-use Rattle.cpi_office.specs.Calls.{is_unavailable}
+use Rattle.cpi_office.specs.Calls.{is_unavailable, Answers, AnswersWhere, reply_of}
+use Rattle.cpi_office.specs.declared.cause.Cause.{Cause}
 use Rattle.cpi_office.specs.Verdicts.{Verdict, Refuses, Stands, Makes, verdict_reply, with_verdict}
 use Rattle.std.proofs.lemmas.Bool.{false≢true}
 use Rattle.cpi_office.specs.declared.refusal.Refusal.{Refusal}
@@ -69,6 +71,23 @@ serves_after old mid new reply said wanted made after reads stays serves same = 
     cases : new.is_clean → IsServed reply said mid.held new.held made → IsServed reply wanted old.held new.held after
     cases clean (inl h) = let s = same (serves.was_clean clean) in inl (h.0 ∙ s.0, h.1 ∙ s.1)
     cases clean (inr h) = inr (h.0, h.1 ∙ reads.keeps.kept (serves.was_clean clean))
+
+-- an answer after a read, or a cause
+pub answers_after : {T F : Type 0} {result : Result T F} {Shown : T → Type 0} (old mid new : State Office)
+    (answer : Result Reply Cause) (said wanted : Reply) (made after : Office) →
+    Reads old mid result Shown → StaysClean old mid → Answers mid new answer said made →
+    (mid.is_clean → (said ≡ wanted) × (made ≡ after)) → Answers old new answer wanted after
+answers_after old mid new answer said wanted made after reads stays answers same = record {
+  serves = serves_after old mid new (reply_of answer) said wanted made after reads stays answers.serves same;
+  answered = λ clean. IfOk-weaker answer (λ reply. reply ≡ said) (λ reply. reply ≡ wanted)
+      (λ reply is. is ∙ (same (answers.serves.was_clean clean)).0) (answers.answered clean);
+  cause = caused answer answers.cause;
+}
+  where
+    caused : (answer : Result Reply Cause) → IfErr answer (λ c. c.is_store ≡ true → mid.failures < new.failures) →
+        IfErr answer (λ c. c.is_store ≡ true → old.failures < new.failures)
+    caused (Ok reply) rose = tt
+    caused (Err cause) rose = λ is. let later = rose is in omega (arith, reads.count, later)
 
 -- the same under premises, the later of which follows from the earlier
 pub serves_where_after : {T F : Type 0} {result : Result T F} {Shown : T → Type 0} (P Q : Type 0)
@@ -151,3 +170,32 @@ module _ (premise : Type 0) (old new : State Office) (reply : Reply) where
       cases : IsServed reply wanted old.held new.held after → IsTrue (is_refused reply) → new.held ≡ old.held
       cases (inr h) refused = h.1
       cases (inl h) refused = h.1 ∙ stays (ap is_refused (sym h.0) ∙ refused)
+
+-- an answer, or a cause, whether the premise holds or not
+pub answers_where : (premise : Type 0) (old new : State Office) (answer : Result Reply Cause) (v : Verdict) →
+    Answers old new answer (verdict_reply v) (with_verdict v old.held) →
+    AnswersWhere old new premise answer (verdict_reply v) (with_verdict v old.held)
+answers_where premise old new answer v answers = record {
+  serves = serves_where premise old new (reply_of answer) v answers.serves;
+  answered = λ clean p. answers.answered clean;
+  cause = answers.cause;
+}
+
+-- an answer after a read, under premises, the later of which follows from the earlier
+pub answers_where_after : {T F : Type 0} {result : Result T F} {Shown : T → Type 0} (P Q : Type 0)
+    (old mid new : State Office) (answer : Result Reply Cause) (said wanted : Reply) (made after : Office) →
+    Reads old mid result Shown → StaysClean old mid → AnswersWhere mid new Q answer said made →
+    (mid.is_clean → (P → Q) × (said ≡ wanted) × (made ≡ after)) → AnswersWhere old new P answer wanted after
+answers_where_after P Q old mid new answer said wanted made after reads stays answers same = record {
+  serves = serves_where_after P Q old mid new (reply_of answer) said wanted made after reads stays answers.serves same;
+  answered = λ clean p.
+      let s = same (answers.serves.was_clean clean) in
+      IfOk-weaker answer (λ reply. reply ≡ said) (λ reply. reply ≡ wanted) (λ reply is. is ∙ s.1)
+      (answers.answered clean (s.0 p));
+  cause = rose_since answer answers.cause;
+}
+  where
+    rose_since : (answer : Result Reply Cause) → IfErr answer (λ c. c.is_store ≡ true → mid.failures < new.failures) →
+        IfErr answer (λ c. c.is_store ≡ true → old.failures < new.failures)
+    rose_since (Ok reply) rose = tt
+    rose_since (Err cause) rose = λ is. let later = rose is in omega (arith, reads.count, later)

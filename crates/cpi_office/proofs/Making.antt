@@ -1,6 +1,6 @@
 -- The making of a release, over a book.
-use Rattle.std.proofs.Common.{◌≡◌, ◌≢◌, ℕ, true, List, Option, None, Result, Ok, Err, inl, inr, refl, sym, ap, subst}
-use Rattle.std.specs.Prelude.{◌⊎◌, IsFalse, MatchResult}
+use Rattle.std.proofs.Common.{◌≡◌, ◌≢◌, ℕ, true, List, Option, None, Result, Ok, Err, inl, inr, refl, sym, ap, ◌∙◌, subst}
+use Rattle.std.specs.Prelude.{◌⊎◌, IfOk, IsFalse, MatchResult}
 use Rattle.cpi_codes.specs.declared.codes.Code.{Code}
 use Rattle.cpi_plan.specs.Plan.{Plan}
 use Rattle.cpi_plan.specs.Calendar.{CalendarPart}
@@ -19,9 +19,12 @@ use Rattle.cpi_store.specs.Calls.{IsOffice}
 use Rattle.cpi_store.specs.Office.{Office}
 use Rattle.cpi_store.specs.Sound.{IsSound}
 use Rattle.cpi_store.specs.Sources.{office_sources}
-use Rattle.cpi_office.specs.Calls.{is_unavailable}
+use Rattle.cpi_office.specs.Calls.{is_unavailable, reply_of}
+use Rattle.cpi_office.specs.declared.cause.Cause.{Cause}
+use Rattle.cpi_office.specs.declared.reply.Reply.{Reply}
+use Rattle.cpi_office.specs.declared.reply.Reply.TheVariants.{Refused}
 use Rattle.cpi_office.specs.Freezing.{frozen_with, unless_fault, IsMade, fault_refusal, release_verdict}
-use Rattle.cpi_office.specs.Verdicts.{Refuses}
+use Rattle.cpi_office.specs.Verdicts.{Refuses, verdict_reply}
 use Rattle.cpi_office.specs.declared.refusal.Refusal.TheVariants.{Unavailable}
 use Rattle.cpi_office.proofs.FreezePreconditions.{next_meets_preconditions}
 
@@ -48,6 +51,15 @@ fault_told wanted (Index (NoReference code)) made = inl (ap release_verdict (mad
 fault_told wanted (Index (NoSample code)) made = inl (ap release_verdict (made (λ e. cc)))
 fault_told wanted (Index (NoMatch code)) made = inl (ap release_verdict (made (λ e. cc)))
 fault_told wanted (Index (OutOfRange code)) made = inl (ap release_verdict (made (λ e. cc)))
+
+-- a fault that is answered is the one that is wanted
+pub fault_answered : (wanted : Result Release IndexFault) (fault : FreezeFault) (answer : Result Reply Cause) →
+    reply_of answer ≡ Refused (fault_refusal fault) → IfOk answer (λ reply. fault_refusal fault ≢ Unavailable) →
+    (release_verdict wanted ≡ Refuses (fault_refusal fault)) ⊎ (fault_refusal fault ≡ Unavailable) →
+    IfOk answer (λ reply. reply ≡ verdict_reply (release_verdict wanted))
+fault_answered wanted fault (Err cause) is own told = tt
+fault_answered wanted fault (Ok reply) is own (inl same) = is ∙ ap verdict_reply (sym same)
+fault_answered wanted fault (Ok reply) is own (inr none) = absurd (own none)
 
 -- a freeze that isn't refused asks for what it may ask for
 pub asked_for : (o : Office) → IsSound o → (now : ℕ) (row : CalendarPart) (carry : List Code) →

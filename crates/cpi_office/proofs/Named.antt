@@ -116,3 +116,15 @@ named_is us a x e = cases (row_by_number (λ (u : Outlet). u.number) a.outlet us
     cases (Some u) f e = let is = rw f at e in rw f
         (let same : x ≡ record { assignment = a; outlet_name = u.name } =
         cc in same)
+
+-- an assignment that gets no name has no outlet
+pub lacks_outlet : (us : List Outlet) (a : Assignment) → IsNamed us a None →
+    row_by_number (λ (u : Outlet). u.number) a.outlet us ≡ None
+lacks_outlet us a e = cases (row_by_number (λ (u : Outlet). u.number) a.outlet us) refl e
+  where
+    cases : (w : Option Outlet) → row_by_number (λ (u : Outlet). u.number) a.outlet us ≡ w →
+        ◌≡◌ {A = Option Assigned} None (option_map (λ (u : Outlet). record { assignment = a; outlet_name = u.name })
+        (row_by_number (λ (u : Outlet). u.number) a.outlet us)) →
+        row_by_number (λ (u : Outlet). u.number) a.outlet us ≡ None
+    cases None f e = f
+    cases (Some u) f e = let no = rw f at e in cc

@@ -11,8 +11,9 @@ ghost use Rattle.cpi_office.specs.Assigning.{assigned_in, slot_given, to_collect
 ghost use Rattle.cpi_office.specs.Assigning.{may_be_assigned, assignment_sent};
 ghost use Rattle.cpi_office.specs.Verdicts.{with_verdict, verdict_reply};
 ghost use Rattle.cpi_office.specs.Named.{slot_standing, again_reply, is_first_series, same_assigned, IsNamed};
-ghost use Rattle.cpi_office.specs.Calls.{Serves};
+ghost use Rattle.cpi_office.specs.Calls.{Answers};
 
+use crate::cause::Cause;
 use crate::refusal::Refusal;
 use crate::reply::Reply;
 use crate::request::NewAssignment;
@@ -31,14 +32,14 @@ pub fn assign<B: Book>(
     book: &mut B,
     collector: CollectorId,
     new_assignment: NewAssignment,
-) -> Reply
+) -> Result<Reply, Cause>
     ensures { let o = (B.state book.old).held in let v = assigned_in collector new_assignment o in
-        Serves (B.state book.old) (B.state book.new) result (verdict_reply v) (with_verdict v o) }
+        Answers (B.state book.old) (B.state book.new) result (verdict_reply v) (with_verdict v o) }
 {
     if is_assignable(collector, &new_assignment) {
         assign_slot(alloc, book, collector, assignment_of(new_assignment))
     } else {
-        Reply::Refused(Refusal::BadRequest)
+        Ok(Reply::Refused(Refusal::BadRequest))
     }
 }
 
@@ -74,17 +75,16 @@ fn assign_slot<B: Book>(
     book: &mut B,
     collector: CollectorId,
     assignment: Assignment,
-) -> Reply
+) -> Result<Reply, Cause>
     requires made { IsWellMade (collector, assignment) }
     ensures { let o = (B.state book.old).held in let v = slot_given collector assignment o in
-        Serves (B.state book.old) (B.state book.new) result (verdict_reply v) (with_verdict v o) }
+        Answers (B.state book.old) (B.state book.new) result (verdict_reply v) (with_verdict v o) }
 {
-    match find_slot(book, collector, &assignment) {
-        Err(StoreFault) => Reply::Refused(Refusal::Unavailable),
-        Ok((Standing::Other, _)) => Reply::Refused(Refusal::Taken),
-        Ok((Standing::Same, _)) => assign_again(book, collector, assignment.slot),
-        Ok((Standing::Free, true)) => Reply::Refused(Refusal::UnknownItem),
-        Ok((Standing::Free, false)) => assign_new(alloc, book, collector, assignment),
+    match find_slot(book, collector, &assignment)? {
+        (Standing::Other, _) => Ok(Reply::Refused(Refusal::Taken)),
+        (Standing::Same, _) => assign_again(book, collector, assignment.slot),
+        (Standing::Free, true) => Ok(Reply::Refused(Refusal::UnknownItem)),
+        (Standing::Free, false) => assign_new(alloc, book, collector, assignment),
     }
 }
 
@@ -120,21 +120,19 @@ fn standing_assignment(assignment: &Assignment, old: Option<&Assigned>) -> Stand
 }
 
 // Answers an assignment that the slot has already: done, if the slot began its series and the collector is registered.
-fn assign_again<B: Book>(book: &mut B, collector: CollectorId, slot: Slot) -> Reply
+fn assign_again<B: Book>(book: &mut B, collector: CollectorId, slot: Slot) -> Result<Reply, Cause>
     ensures { let o = (B.state book.old).held in
         let first = is_first_series collector slot
         (row_by_number (λ g. g.assignment.slot) slot (held_by collector o.assignments)) in
-        Serves (B.state book.old) (B.state book.new) result
+        Answers (B.state book.old) (B.state book.new) result
         (again_reply first (row_by_number (λ b. b.number) collector o.collectors)) o }
 {
-    match names_series(book, collector, slot) {
-        Err(StoreFault) => Reply::Refused(Refusal::Unavailable),
-        Ok(false) => Reply::Refused(Refusal::Taken),
-        Ok(true) => match book.registration_at(collector) {
-            Err(StoreFault) => Reply::Refused(Refusal::Unavailable),
-            Ok(None) => Reply::Refused(Refusal::Taken),
-            Ok(Some(_)) => Reply::Done,
-        },
+    if !names_series(book, collector, slot)? {
+        return Ok(Reply::Refused(Refusal::Taken));
+    }
+    match book.registration_at(collector)? {
+        None => Ok(Reply::Refused(Refusal::Taken)),
+        Some(_) => Ok(Reply::Done),
     }
 }
 
@@ -160,7 +158,7 @@ fn assign_new<B: Book>(
     book: &mut B,
     collector: CollectorId,
     assignment: Assignment,
-) -> Reply
+) -> Result<Reply, Cause>
     requires made { IsWellMade (collector, assignment) }
     requires free { (B.state book.old).is_clean →
         row_by_number (λ g. g.assignment.slot) assignment.slot
@@ -171,12 +169,11 @@ fn assign_new<B: Book>(
         let outlet = row_by_number (λ u. u.number) assignment.outlet o.outlets in
         let registration = row_by_number (λ b. b.number) collector o.collectors in
         let v = outlet_judged (with_name o.outlets assignment) outlet registration in
-        Serves (B.state book.old) (B.state book.new) result (verdict_reply v) (with_verdict v o) }
+        Answers (B.state book.old) (B.state book.new) result (verdict_reply v) (with_verdict v o) }
 {
-    match name_outlet(alloc, book, assignment) {
-        Ok(Ok(Some(assigned))) => assign_to(book, collector, assigned),
-        Ok(Ok(None)) => Reply::Refused(Refusal::UnknownOutlet),
-        _ => Reply::Refused(Refusal::Unavailable),
+    match name_outlet(alloc, book, assignment)?? {
+        Some(assigned) => assign_to(book, collector, assigned),
+        None => Ok(Reply::Refused(Refusal::UnknownOutlet)),
     }
 }
 
@@ -217,7 +214,11 @@ fn with_name(
 }
 
 // Puts a new assignment, if the collector is registered.
-fn assign_to<B: Book>(book: &mut B, collector: CollectorId, assigned: Assigned) -> Reply
+fn assign_to<B: Book>(
+    book: &mut B,
+    collector: CollectorId,
+    assigned: Assigned,
+) -> Result<Reply, Cause>
     requires made { (B.state book.old).is_clean → IsWellMade (collector, assigned.assignment) }
     requires free { (B.state book.old).is_clean →
         row_by_number (λ g. g.assignment.slot) assigned.assignment.slot
@@ -230,14 +231,13 @@ fn assign_to<B: Book>(book: &mut B, collector: CollectorId, assigned: Assigned) 
         assigned ≡ with_name (B.state book.old).held.outlets assigned.assignment }
     ensures { let o = (B.state book.old).held in
         let v = to_collector assigned (row_by_number (λ b. b.number) collector o.collectors) in
-        Serves (B.state book.old) (B.state book.new) result (verdict_reply v) (with_verdict v o) }
+        Answers (B.state book.old) (B.state book.new) result (verdict_reply v) (with_verdict v o) }
 {
-    match book.registration_at(collector) {
-        Err(StoreFault) => Reply::Refused(Refusal::Unavailable),
-        Ok(None) => Reply::Refused(Refusal::UnknownCollector),
-        Ok(Some(registration)) => match book.put_assignment(registration, assigned) {
-            Ok(()) => Reply::Done,
-            Err(StoreFault) => Reply::Refused(Refusal::Unavailable),
-        },
+    match book.registration_at(collector)? {
+        None => Ok(Reply::Refused(Refusal::UnknownCollector)),
+        Some(registration) => {
+            book.put_assignment(registration, assigned)?;
+            Ok(Reply::Done)
+        }
     }
 }

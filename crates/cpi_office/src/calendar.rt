@@ -9,8 +9,9 @@ ghost use Rattle.cpi_release.specs.FrozenMonths.{frozen_months, keeps_frozen};
 ghost use Rattle.cpi_office.specs.Standing.{standing};
 ghost use Rattle.cpi_office.specs.Replacing.{scheduled_in, unless_frozen};
 ghost use Rattle.cpi_office.specs.Verdicts.{with_verdict, verdict_reply};
-ghost use Rattle.cpi_office.specs.Calls.{Serves};
+ghost use Rattle.cpi_office.specs.Calls.{Answers};
 
+use crate::cause::Cause;
 use crate::months::is_month_kept;
 use crate::refusal::Refusal;
 use crate::reply::Reply;
@@ -20,31 +21,28 @@ use cpi_store::{Book, StoreFault};
 
 /// Puts a month's row, in place of the month's row if there is one. A row of a frozen month that doesn't reopen it is
 /// [`Refusal::MonthFrozen`].
-pub fn put_calendar<B: Book>(book: &mut B, row: CalendarRow) -> Reply
+pub fn put_calendar<B: Book>(book: &mut B, row: CalendarRow) -> Result<Reply, Cause>
     ensures { let o = (B.state book.old).held in let v = scheduled_in row o in
-        Serves (B.state book.old) (B.state book.new) result (verdict_reply v) (with_verdict v o) }
+        Answers (B.state book.old) (B.state book.new) result (verdict_reply v) (with_verdict v o) }
 {
-    match find_calendar(book, &row) {
-        Err(StoreFault) => Reply::Refused(Refusal::Unavailable),
-        Ok(Standing::Same) => Reply::Done,
-        Ok(_) => store_calendar(book, row),
+    match find_calendar(book, &row)? {
+        Standing::Same => Ok(Reply::Done),
+        _ => store_calendar(book, row),
     }
 }
 
 // Stores a month's row, unless the month is frozen and the row doesn't reopen it.
-fn store_calendar<B: Book>(book: &mut B, row: CalendarRow) -> Reply
+fn store_calendar<B: Book>(book: &mut B, row: CalendarRow) -> Result<Reply, Cause>
     ensures { let o = (B.state book.old).held in
         let kept = keeps_frozen row.month (Some row.publishes) (frozen_months o.releases) in
         let v = unless_frozen kept Refusal.MonthFrozen (PutsCalendar row) in
-        Serves (B.state book.old) (B.state book.new) result (verdict_reply v) (with_verdict v o) }
+        Answers (B.state book.old) (B.state book.new) result (verdict_reply v) (with_verdict v o) }
 {
-    match is_month_kept(book, row.month(), row.publishes()) {
-        Err(StoreFault) => Reply::Refused(Refusal::Unavailable),
-        Ok(true) => Reply::Refused(Refusal::MonthFrozen),
-        Ok(false) => match book.put_calendar(row) {
-            Ok(()) => Reply::Done,
-            Err(StoreFault) => Reply::Refused(Refusal::Unavailable),
-        },
+    if is_month_kept(book, row.month(), row.publishes())? {
+        Ok(Reply::Refused(Refusal::MonthFrozen))
+    } else {
+        book.put_calendar(row)?;
+        Ok(Reply::Done)
     }
 }
 

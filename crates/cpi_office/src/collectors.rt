@@ -5,34 +5,34 @@ ghost use Rattle.cpi_release.specs.State.{Reads};
 ghost use Rattle.cpi_store.specs.Registration.{registration_of};
 ghost use Rattle.cpi_office.specs.Desk.{registration_verdict};
 ghost use Rattle.cpi_office.specs.Verdicts.{with_verdict, verdict_reply};
-ghost use Rattle.cpi_office.specs.Calls.{Serves};
+ghost use Rattle.cpi_office.specs.Calls.{Answers};
 
+use crate::cause::Cause;
 use crate::refusal::Refusal;
 use crate::reply::Reply;
 use cpi_store::{Book, Registration, StoreFault};
 
 /// Registers a collector. If the number or the key is taken, but not both by this collector, the answer is
 /// [`Refusal::Taken`].
-pub fn register<B: Book>(book: &mut B, registration: Registration) -> Reply
+pub fn register<B: Book>(book: &mut B, registration: Registration) -> Result<Reply, Cause>
     ensures { let o = (B.state book.old).held in
         let v = registration_verdict registration (row_by_number (λ b. b.number) registration.number o.collectors)
         (registration_of registration.key o.collectors) in
-        Serves (B.state book.old) (B.state book.new) result (verdict_reply v) (with_verdict v o) }
+        Answers (B.state book.old) (B.state book.new) result (verdict_reply v) (with_verdict v o) }
 {
-    match find_registrations(book, registration) {
-        Err(StoreFault) => Reply::Refused(Refusal::Unavailable),
-        Ok((Some(old), _)) => {
+    match find_registrations(book, registration)? {
+        (Some(old), _) => {
             if old.is_same(&registration) {
-                Reply::Done
+                Ok(Reply::Done)
             } else {
-                Reply::Refused(Refusal::Taken)
+                Ok(Reply::Refused(Refusal::Taken))
             }
         }
-        Ok((None, Some(_))) => Reply::Refused(Refusal::Taken),
-        Ok((None, None)) => match book.put_collector(registration) {
-            Ok(()) => Reply::Done,
-            Err(StoreFault) => Reply::Refused(Refusal::Unavailable),
-        },
+        (None, Some(_)) => Ok(Reply::Refused(Refusal::Taken)),
+        (None, None) => {
+            book.put_collector(registration)?;
+            Ok(Reply::Done)
+        }
     }
 }
 

@@ -14,9 +14,11 @@ ghost use Rattle.cpi_office.specs.Freezing.{carry_judged};
 ghost use Rattle.cpi_office.specs.Freezing.{may_be_weighed, has_unweighed};
 ghost use Rattle.cpi_office.specs.Freezing.{judged_release, release_verdict, IsMade, fault_refusal};
 ghost use Rattle.cpi_store.specs.Sound.{IsSound};
+ghost use Rattle.cpi_office.specs.declared.refusal.Refusal.TheVariants.{Unavailable};
 ghost use Rattle.cpi_office.specs.Verdicts.{with_verdict, verdict_reply};
-ghost use Rattle.cpi_office.specs.Calls.{ServesWhere};
+ghost use Rattle.cpi_office.specs.Calls.{AnswersWhere, reply_of};
 
+use crate::cause::Cause;
 use crate::months::{last, stays_frozen};
 use crate::refusal::Refusal;
 use crate::reply::Reply;
@@ -40,15 +42,14 @@ pub fn freeze<B: Book>(
     now: Moment,
     month: Month,
     carry: Rows<Code>,
-) -> Reply
+) -> Result<Reply, Cause>
     ensures { let o = (B.state book.old).held in let v = verdict_of_freeze now month carry o in
-        ServesWhere (B.state book.old) (B.state book.new) (IsSound o) result
+        AnswersWhere (B.state book.old) (B.state book.new) (IsSound o) result
         (verdict_reply v) (with_verdict v o) }
 {
-    match judge(alloc, book, now, month, carry.as_slice()) {
-        Err(StoreFault) => Reply::Refused(Refusal::Unavailable),
-        Ok(Err(refusal)) => Reply::Refused(refusal),
-        Ok(Ok(accepted)) => release(alloc, book, now, accepted, carry),
+    match judge(alloc, book, now, month, carry.as_slice())? {
+        Err(refusal) => Ok(Reply::Refused(refusal)),
+        Ok(accepted) => release(alloc, book, now, accepted, carry),
     }
 }
 
@@ -230,7 +231,7 @@ fn release<B: Book>(
     now: Moment,
     accepted: Accepted,
     carry: Rows<Code>,
-) -> Reply
+) -> Result<Reply, Cause>
     requires next { (B.state book.old).is_clean →
         is_next_month accepted.row.month (frozen_months (B.state book.old).held.releases) ≡ true }
     requires basis { let o = (B.state book.old).held in let frozen = frozen_months o.releases in
@@ -238,25 +239,28 @@ fn release<B: Book>(
         (basis.plan ≡ plan_for o.plans frozen accepted.row.month)
         × (basis.revision ≡ revision_to_give accepted.row.month frozen)) }
     ensures { let o = (B.state book.old).held in let v = release_verdict (judged_release now carry o accepted.row) in
-        ServesWhere (B.state book.old) (B.state book.new) (IsSound o) result
+        AnswersWhere (B.state book.old) (B.state book.new) (IsSound o) result
         (verdict_reply v) (with_verdict v o) }
 {
     match make(alloc, book, now, accepted, carry) {
-        Err(fault) => Reply::Refused(refusal_of(fault)),
-        Ok(release) => match book.put_release(release) {
-            Ok(()) => Reply::Done,
-            Err(StoreFault) => Reply::Refused(Refusal::Unavailable),
-        },
+        Err(fault) => answer_fault(fault),
+        Ok(release) => {
+            book.put_release(release)?;
+            Ok(Reply::Done)
+        }
     }
 }
 
-// The refusal for a release that can't be computed: lack of memory and a failed read of the store are 90.
-fn refusal_of(fault: FreezeFault) -> Refusal
-    ensures { result ≡ fault_refusal fault }
+// The answer for a release that can't be computed: its refusal, or the cause, if memory was refused or the store failed.
+fn answer_fault(fault: FreezeFault) -> Result<Reply, Cause>
+    ensures reply { reply_of result ≡ Reply.Refused (fault_refusal fault) }
+    ensures answered { IfOk result (λ reply. fault_refusal fault ≢ Unavailable) }
+    ensures cause { IfErr result (λ cause. cause.is_store ≡ true → fault ≡ Group) }
 {
     match fault {
-        FreezeFault::Index(IndexFault::NoMemory) | FreezeFault::Group => Refusal::Unavailable,
-        FreezeFault::Index(fault) => Refusal::Index(fault),
+        FreezeFault::Group => Err(Cause::from(StoreFault)),
+        FreezeFault::Index(IndexFault::NoMemory) => Err(Cause::from(AllocError)),
+        FreezeFault::Index(fault) => Ok(Reply::Refused(Refusal::Index(fault))),
     }
 }
 

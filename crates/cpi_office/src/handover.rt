@@ -1,5 +1,5 @@
 //! The desk hands a series over from one slot to another.
-ghost use Rattle.std.specs.Prelude.{◌≡◌, Some, None, Ok, IsSome, MatchOption, option_map, if◌then◌else◌};
+ghost use Rattle.std.specs.Prelude.{◌≡◌, ◌-◌, Some, None, Ok, IsSome, MatchOption, option_map, if◌then◌else◌};
 ghost use Rattle.std.specs.Option.{option_copied};
 ghost use Rattle.cpi_rows.specs.Keyed.{row_by_number};
 ghost use Rattle.cpi_rows.specs.Held.{held_by};
@@ -12,9 +12,10 @@ ghost use Rattle.cpi_office.specs.HandingOver.{handed_over, over_collectors, ove
 ghost use Rattle.cpi_office.specs.HandingOver.{judged_over, is_takeable, is_handed_within, is_not_after, taken_on};
 ghost use Rattle.cpi_office.specs.HandingOver.{stands_over, AreRegistered, AreThere, IsSlotFree};
 ghost use Rattle.cpi_office.specs.Verdicts.{with_verdict, verdict_reply};
-ghost use Rattle.cpi_office.specs.Calls.{Serves, ServesWhere};
+ghost use Rattle.cpi_office.specs.Calls.{Answers, AnswersWhere};
 
 use crate::assign::name_outlet;
+use crate::cause::Cause;
 use crate::months::last;
 use crate::refusal::Refusal;
 use crate::reply::Reply;
@@ -27,14 +28,14 @@ use std::alloc::Global;
 
 /// Hands a series over from a slot of one collector to a free slot of another, who may be the same. The new slot gets
 /// the former one's last price. A hand-over that was done before is [`Reply::Done`].
-pub fn hand_over<B: Book>(alloc: Global, book: &mut B, what: HandOver) -> Reply
+pub fn hand_over<B: Book>(alloc: Global, book: &mut B, what: HandOver) -> Result<Reply, Cause>
     ensures { let o = (B.state book.old).held in let v = handed_over what o in
-        ServesWhere (B.state book.old) (B.state book.new) (IsSound o) result (verdict_reply v) (with_verdict v o) }
+        AnswersWhere (B.state book.old) (B.state book.new) (IsSound o) result (verdict_reply v) (with_verdict v o) }
 {
     if can_take(&what) {
         hand_over_between(alloc, book, what)
     } else {
-        Reply::Refused(Refusal::BadRequest)
+        Ok(Reply::Refused(Refusal::BadRequest))
     }
 }
 
@@ -48,20 +49,20 @@ fn can_take(what: &HandOver) -> bool
 }
 
 // Hands a series over, if both collectors are registered.
-fn hand_over_between<B: Book>(alloc: Global, book: &mut B, what: HandOver) -> Reply
+fn hand_over_between<B: Book>(alloc: Global, book: &mut B, what: HandOver) -> Result<Reply, Cause>
     ensures { let o = (B.state book.old).held in
         let v = over_collectors what o (row_by_number (λ b. b.number) what.from o.collectors)
         (row_by_number (λ b. b.number) what.to o.collectors) in
-        ServesWhere (B.state book.old) (B.state book.new) (IsSound o) result (verdict_reply v) (with_verdict v o) }
+        AnswersWhere (B.state book.old) (B.state book.new) (IsSound o) result (verdict_reply v) (with_verdict v o) }
 {
-    match find_both(book, what.from, what.to) {
-        Err(StoreFault) => Reply::Refused(Refusal::Unavailable),
-        Ok((None, _)) => Reply::Refused(Refusal::UnknownCollector),
-        Ok((Some(former), taker)) => match taker {
-            None => Reply::Refused(Refusal::UnknownCollector),
-            Some(taker) => hand_over_slot(alloc, book, what, former, taker),
-        },
-    }
+    let (former, taker) = find_both(book, what.from, what.to)?;
+    let Some(former) = former else {
+        return Ok(Reply::Refused(Refusal::UnknownCollector));
+    };
+    let Some(taker) = taker else {
+        return Ok(Reply::Refused(Refusal::UnknownCollector));
+    };
+    hand_over_slot(alloc, book, what, former, taker)
 }
 
 // The registrations of both collectors.
@@ -86,20 +87,19 @@ fn hand_over_slot<B: Book>(
     what: HandOver,
     former: Registration,
     taker: Registration,
-) -> Reply
+) -> Result<Reply, Cause>
     requires registered { (B.state book.old).is_clean → AreRegistered former taker (B.state book.old).held }
     ensures { let o = (B.state book.old).held in
         let v = over_slots what o former taker
         (row_by_number (λ g. g.assignment.slot) what.slot (held_by former.number o.assignments))
         (row_by_number (λ g. g.assignment.slot) what.new_slot (held_by taker.number o.assignments)) in
-        ServesWhere (B.state book.old) (B.state book.new) (IsSound o) result (verdict_reply v) (with_verdict v o) }
+        AnswersWhere (B.state book.old) (B.state book.new) (IsSound o) result (verdict_reply v) (with_verdict v o) }
 {
-    match find_slots(book, &what, former.number, taker.number) {
-        Err(StoreFault) => Reply::Refused(Refusal::Unavailable),
-        Ok(None) => Reply::Refused(Refusal::UnknownSlot),
-        Ok(Some((given, new))) => match new {
+    match find_slots(book, &what, former.number, taker.number)? {
+        None => Ok(Reply::Refused(Refusal::UnknownSlot)),
+        Some((given, new)) => match new {
             None => hand_over_free(alloc, book, what, former, taker, given),
-            Some(new) => answer_standing(what, &given, &new),
+            Some(new) => Ok(answer_standing(what, &given, &new)),
         },
     }
 }
@@ -154,16 +154,15 @@ fn hand_over_free<B: Book>(
     former: Registration,
     taker: Registration,
     given: Given,
-) -> Reply
+) -> Result<Reply, Cause>
     requires there { (B.state book.old).is_clean → AreThere what former taker given (B.state book.old).held }
     requires free { (B.state book.old).is_clean → IsSlotFree what taker (B.state book.old).held }
     ensures { let o = (B.state book.old).held in let v = over_free what o former taker given in
-        ServesWhere (B.state book.old) (B.state book.new) (IsSound o) result (verdict_reply v) (with_verdict v o) }
+        AnswersWhere (B.state book.old) (B.state book.new) (IsSound o) result (verdict_reply v) (with_verdict v o) }
 {
-    match judge(book, &what, former.number, &given) {
-        Err(StoreFault) => Reply::Refused(Refusal::Unavailable),
-        Ok(Err(refusal)) => Reply::Refused(refusal),
-        Ok(Ok(assignment)) => put_over(alloc, book, &what, former, taker, given, assignment),
+    match judge(book, &what, former.number, &given)? {
+        Err(refusal) => Ok(Reply::Refused(refusal)),
+        Ok(assignment) => put_over(alloc, book, &what, former, taker, given, assignment),
     }
 }
 
@@ -235,7 +234,8 @@ fn take_on(what: &HandOver, former: &Given, own: &Own) -> Assignment
     }
 }
 
-// Ends the former assignment with the month before, names the new one's outlet, and stores both.
+// Ends the former assignment with the month before, names the new one's outlet, and stores both. A sound office has the
+// outlet of each assignment, so no outlet is unknown.
 fn put_over<B: Book>(
     alloc: Global,
     book: &mut B,
@@ -244,20 +244,18 @@ fn put_over<B: Book>(
     taker: Registration,
     given: Given,
     assignment: Assignment,
-) -> Reply
+) -> Result<Reply, Cause>
     requires there { (B.state book.old).is_clean → AreThere what.now former taker given (B.state book.old).held }
     requires free { (B.state book.old).is_clean → IsSlotFree what.now taker (B.state book.old).held }
     requires judged { (B.state book.old).is_clean → let o = (B.state book.old).held in
         judged_over what.now given.assignment (frozen_months o.releases) (held_by former.number o.quotes)
         ≡ Ok assignment }
     ensures { let o = (B.state book.old).held in let v = over_judged what.now o former taker given (Ok assignment) in
-        ServesWhere (B.state book.old) (B.state book.new) (IsSound o) result (verdict_reply v) (with_verdict v o) }
+        AnswersWhere (B.state book.old) (B.state book.new) (IsSound o) result (verdict_reply v) (with_verdict v o) }
 {
-    let Some(last_month) = what.month.prev() else {
-        return Reply::Refused(Refusal::Unavailable);
-    };
-    match name_outlet(alloc, book, assignment) {
-        Ok(Ok(Some(assigned))) => {
+    let last_month = month_before(what.month);
+    match name_outlet(alloc, book, assignment)?? {
+        Some(assigned) => {
             let ended = end_given(given, last_month);
             let handover = SeriesMove {
                 former,
@@ -267,12 +265,22 @@ fn put_over<B: Book>(
             };
             store_both(book, handover)
         }
-        _ => Reply::Refused(Refusal::Unavailable),
+        None => Ok(Reply::Refused(Refusal::UnknownOutlet)),
+    }
+}
+
+// The month before; the first month for itself.
+fn month_before(month: Month) -> Month
+    ensures { result ≡ month - 1 }
+{
+    match month.prev() {
+        Some(before) => before,
+        None => month,
     }
 }
 
 // Stores both assignments as one change.
-fn store_both<B: Book>(book: &mut B, handover: SeriesMove) -> Reply
+fn store_both<B: Book>(book: &mut B, handover: SeriesMove) -> Result<Reply, Cause>
     requires former { (B.state book.old).is_clean →
         row_by_number (λ b. b.number) handover.former.number (B.state book.old).held.collectors ≡ Some handover.former }
     requires taker { (B.state book.old).is_clean →
@@ -288,13 +296,11 @@ fn store_both<B: Book>(book: &mut B, handover: SeriesMove) -> Reply
         IsSome (row_by_number (λ u. u.number) handover.assigned.assignment.outlet (B.state book.old).held.outlets) }
     requires name { (B.state book.old).is_clean →
         handover.assigned ≡ with_name (B.state book.old).held.outlets handover.assigned.assignment }
-    ensures { Serves (B.state book.old) (B.state book.new) result
+    ensures { Answers (B.state book.old) (B.state book.new) result
         Reply.Done (office_with (HandsOver handover) (B.state book.old).held) }
 {
-    match book.put_handover(handover) {
-        Ok(()) => Reply::Done,
-        Err(StoreFault) => Reply::Refused(Refusal::Unavailable),
-    }
+    book.put_handover(handover)?;
+    Ok(Reply::Done)
 }
 
 // The former slot's assignment and series, with this last month.

@@ -8,10 +8,12 @@ ghost use Rattle.cpi_plan.specs.Items.{same_item};
 ghost use Rattle.cpi_office.specs.Standing.{standing};
 ghost use Rattle.cpi_office.specs.Desk.{item_put};
 ghost use Rattle.cpi_office.specs.Verdicts.{with_verdict, verdict_reply};
-ghost use Rattle.cpi_office.specs.Calls.{Serves};
+ghost use Rattle.cpi_office.specs.Calls.{Answers};
 
+use crate::cause::Cause;
 use crate::refusal::Refusal;
 use crate::reply::Reply;
+use crate::sight::Sight;
 use crate::standing::Standing;
 use cpi_plan::Item;
 use cpi_rows::Rows;
@@ -19,31 +21,28 @@ use cpi_store::{Book, StoreFault};
 use std::alloc::{AllocError, Global};
 
 /// Puts an item. A code that another item has is [`Refusal::Taken`].
-pub fn put_item<B: Book>(book: &mut B, item: Item) -> Reply
+pub fn put_item<B: Book>(book: &mut B, item: Item) -> Result<Reply, Cause>
     ensures { let o = (B.state book.old).held in
         let v = item_put item (row_by_number (λ i. i.code) item.code o.items) in
-        Serves (B.state book.old) (B.state book.new) result (verdict_reply v) (with_verdict v o) }
+        Answers (B.state book.old) (B.state book.new) result (verdict_reply v) (with_verdict v o) }
 {
-    match find_item(book, &item) {
-        Err(StoreFault) => Reply::Refused(Refusal::Unavailable),
-        Ok(Standing::Same) => Reply::Done,
-        Ok(Standing::Other) => Reply::Refused(Refusal::Taken),
-        Ok(Standing::Free) => match book.put_item(item) {
-            Ok(()) => Reply::Done,
-            Err(StoreFault) => Reply::Refused(Refusal::Unavailable),
-        },
+    match find_item(book, &item)? {
+        Standing::Same => Ok(Reply::Done),
+        Standing::Other => Ok(Reply::Refused(Refusal::Taken)),
+        Standing::Free => {
+            book.put_item(item)?;
+            Ok(Reply::Done)
+        }
     }
 }
 
 /// Lists the items in the order of their codes.
-pub fn items<B: Book>(alloc: Global, book: &mut B) -> Reply
-    ensures { Serves (B.state book.old) (B.state book.new) result
-        (Reply.Items (B.state book.old).held.items) (B.state book.old).held }
+pub fn items<S: Sight>(alloc: Global, sight: &mut S) -> Result<Reply, Cause>
+    ensures { Answers (S.state sight.old) (S.state sight.new) result
+        (Reply.Items (S.state sight.old).held.items) (S.state sight.old).held }
 {
-    match read_items(alloc, book) {
-        Ok(Ok(items)) => Reply::Items(Rows::of(items)),
-        _ => Reply::Refused(Refusal::Unavailable),
-    }
+    let items = read_items(alloc, sight)??;
+    Ok(Reply::Items(Rows::of(items)))
 }
 
 // Whether no item has the code, the same item or another.
@@ -72,13 +71,13 @@ fn standing_item(item: &Item, old: Option<&Item>) -> Standing
 }
 
 // A copy of the items. Fails, inside, if there is no memory.
-fn read_items<B: Book>(
+fn read_items<S: Sight>(
     alloc: Global,
-    book: &mut B,
+    sight: &mut S,
 ) -> Result<Result<Vec<Item>, AllocError>, StoreFault>
-    ensures { Reads (B.state book.old) (B.state book.new) result (λ found.
-        IfOk found (λ items. items.items ≡ (B.state book.old).held.items)) }
+    ensures { Reads (S.state sight.old) (S.state sight.new) result (λ found.
+        IfOk found (λ items. items.items ≡ (S.state sight.old).held.items)) }
 {
-    let public = book.public_part()?;
+    let public = sight.public()?;
     Ok(public.copy_items(alloc))
 }

@@ -7,6 +7,7 @@ ghost use Rattle.cpi_store.specs.Office.{empty_office};
 ghost use Rattle.cpi_store.specs.Sound.{IsSound};
 ghost use Rattle.cpi_office.specs.Laws.{StaysSound, ViewsAreRebuilt, ChangesAreEnough};
 ghost use Rattle.cpi_office.specs.Laws.{AnswersAreAlike, RepliesAreFromViews};
+ghost use Rattle.cpi_office.specs.Causes.{CausesAreAll};
 ghost use Rattle.cpi_office.specs.Releases.{ReleasesStay};
 ghost use Rattle.cpi_office.specs.ComputedTables.{TablesAreTold};
 ghost use Rattle.cpi_office.specs.FreezePreconditions.{JudgedMeetsPreconditions};
@@ -84,4 +85,10 @@ pub fn runs_tell_alike<B: Book, C: Book>()
 /// replies is [`Refusal::Unavailable`]. The caller isn't the desk, which sees all.
 pub fn replies_are_alike<B: Book, C: Book>()
     ensures { RepliesAreAlike B.state C.state }
+{}
+
+/// Over two offices of which a caller sees the same, a request is told the same, [`crate::Refusal::Unavailable`]
+/// included, if both calls gave an answer or neither did. The premises are what `answered` says of `Office::answer`.
+pub fn causes_are_all()
+    ensures { CausesAreAll }
 {}

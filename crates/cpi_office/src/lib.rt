@@ -1,10 +1,12 @@
 //! The office: what each caller sees, is answered and changes.
 #![tactic(auto)]
 
+mod answers;
 mod assign;
 mod calendar;
 mod caller;
 mod callers;
+mod cause;
 mod collectors;
 mod edition;
 mod examples;
@@ -24,19 +26,21 @@ mod refusal;
 mod reply;
 mod request;
 mod run;
+mod sight;
 mod standing;
 mod submit;
 mod tables;
 mod work;
 
 pub use caller::Caller;
+pub use cause::Cause;
 pub use edition::Edition;
 pub use examples::worked_runs;
 pub use freeze_examples::worked_freezes;
 pub use handover_examples::worked_handovers;
 pub use laws::{
-    empty_is_sound, others_do_not_matter, replies_are_alike, runs_tell_alike, tables_are_computed,
-    views_are_rebuilt,
+    causes_are_all, empty_is_sound, others_do_not_matter, replies_are_alike, runs_tell_alike,
+    tables_are_computed, views_are_rebuilt,
 };
 pub use office::Office;
 pub use plan_examples::worked_plans;

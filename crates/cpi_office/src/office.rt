@@ -1,7 +1,7 @@
 //! The office over a book.
-ghost use Rattle.std.specs.Prelude.{◌≡◌, IsFalse};
+ghost use Rattle.std.specs.Prelude.{◌≡◌, ◌<◌, IsFalse, IfOk, IfErr, true};
 ghost use Rattle.cpi_office.specs.Runs.{reply_to, after_one};
-ghost use Rattle.cpi_office.specs.Calls.{ServesWhere, is_failure_of};
+ghost use Rattle.cpi_office.specs.Calls.{ServesWhere, is_failure_of, reply_of};
 ghost use Rattle.cpi_office.specs.RebuiltProjections.{IsRebuilt};
 ghost use Rattle.cpi_office.specs.ComputedTables.{TellsTable};
 ghost use Rattle.cpi_store.specs.Sound.{IsSound};
@@ -9,6 +9,7 @@ ghost use Rattle.cpi_office.specs.Authorization.{TurnsAway};
 
 use crate::caller::Caller;
 use crate::callers::{serve_collector, serve_desk, serve_public};
+use crate::cause::{Cause, reply_of};
 use crate::reply::Reply;
 use crate::request::Request;
 use cpi_codes::Moment;
@@ -72,6 +73,27 @@ impl<B: Book> Office<B> {
         ensures tables { let before = (B.state self.old.book).held in
             (B.state self.new.book).is_clean → IsSound before → IsFalse (is_failure_of result) →
             TellsTable (record { now = now; caller = caller; request = request }) before result }
+    {
+        reply_of(self.answer(now, caller, request))
+    }
+
+    /// Answers a request as [`Office::handle`] does, but gives the cause in place of [`Refusal::Unavailable`]: a call
+    /// of the book failed, or memory was refused. From a sound office an answer is the reply of the definitions, and
+    /// so never that refusal.
+    ///
+    /// # Errors
+    ///
+    /// The cause. If it is the book, the count of its failures rose.
+    pub fn answer(&mut self, now: Moment, caller: Caller, request: Request) -> Result<Reply, Cause>
+        ensures serves { let o = (B.state self.old.book).held in
+            ServesWhere (B.state self.old.book) (B.state self.new.book) (IsSound o) (reply_of result)
+            (reply_to now caller request o) (after_one now caller request o) }
+        ensures turns { TurnsAway B.state B.finds_always self.old.book self.new.book caller (reply_of result)
+            (reply_to now caller request (B.state self.old.book).held) }
+        ensures answered { let o = (B.state self.old.book).held in (B.state self.new.book).is_clean → IsSound o →
+            IfOk result (λ reply. reply ≡ reply_to now caller request o) }
+        ensures cause { IfErr result (λ c. c.is_store ≡ true →
+            (B.state self.old.book).failures < (B.state self.new.book).failures) }
     {
         match caller {
             Caller::Public => serve_public(self.alloc, &mut self.book, now, request),

@@ -7,27 +7,27 @@ ghost use Rattle.cpi_store.specs.Outlet.{same_outlet};
 ghost use Rattle.cpi_office.specs.Standing.{standing};
 ghost use Rattle.cpi_office.specs.Desk.{outlet_put};
 ghost use Rattle.cpi_office.specs.Verdicts.{with_verdict, verdict_reply};
-ghost use Rattle.cpi_office.specs.Calls.{Serves};
+ghost use Rattle.cpi_office.specs.Calls.{Answers};
 
+use crate::cause::Cause;
 use crate::refusal::Refusal;
 use crate::reply::Reply;
 use crate::standing::Standing;
 use cpi_store::{Book, Outlet, StoreFault};
 
 /// Puts an outlet. A number that another outlet has is [`Refusal::Taken`].
-pub fn put_outlet<B: Book>(book: &mut B, outlet: Outlet) -> Reply
+pub fn put_outlet<B: Book>(book: &mut B, outlet: Outlet) -> Result<Reply, Cause>
     ensures { let o = (B.state book.old).held in
         let v = outlet_put outlet (row_by_number (λ u. u.number) outlet.number o.outlets) in
-        Serves (B.state book.old) (B.state book.new) result (verdict_reply v) (with_verdict v o) }
+        Answers (B.state book.old) (B.state book.new) result (verdict_reply v) (with_verdict v o) }
 {
-    match find_outlet(book, &outlet) {
-        Err(StoreFault) => Reply::Refused(Refusal::Unavailable),
-        Ok(Standing::Same) => Reply::Done,
-        Ok(Standing::Other) => Reply::Refused(Refusal::Taken),
-        Ok(Standing::Free) => match book.put_outlet(outlet) {
-            Ok(()) => Reply::Done,
-            Err(StoreFault) => Reply::Refused(Refusal::Unavailable),
-        },
+    match find_outlet(book, &outlet)? {
+        Standing::Same => Ok(Reply::Done),
+        Standing::Other => Ok(Reply::Refused(Refusal::Taken)),
+        Standing::Free => {
+            book.put_outlet(outlet)?;
+            Ok(Reply::Done)
+        }
     }
 }
 

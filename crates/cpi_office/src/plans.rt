@@ -10,8 +10,9 @@ ghost use Rattle.cpi_office.specs.Standing.{standing};
 ghost use Rattle.cpi_office.specs.Replacing.{sent_body, body_judged, planned_in, unless_frozen};
 ghost use Rattle.cpi_release.specs.FrozenMonths.{frozen_months, has_year_frozen};
 ghost use Rattle.cpi_office.specs.Verdicts.{with_verdict, verdict_reply};
-ghost use Rattle.cpi_office.specs.Calls.{Serves};
+ghost use Rattle.cpi_office.specs.Calls.{Answers};
 
+use crate::cause::Cause;
 use crate::months::is_year_frozen;
 use crate::refusal::Refusal;
 use crate::reply::Reply;
@@ -24,15 +25,19 @@ use std::alloc::{AllocError, Global};
 
 /// Puts the plan of a year, in place of the year's plan if there is one. A plan of a year with a frozen month is
 /// [`Refusal::PlanFrozen`].
-pub fn put_plan<B: Book>(alloc: Global, book: &mut B, year: Year, body: PlanBody) -> Reply
+pub fn put_plan<B: Book>(
+    alloc: Global,
+    book: &mut B,
+    year: Year,
+    body: PlanBody,
+) -> Result<Reply, Cause>
     ensures { let o = (B.state book.old).held in let v = planned_in year body o in
-        Serves (B.state book.old) (B.state book.new) result (verdict_reply v) (with_verdict v o) }
+        Answers (B.state book.old) (B.state book.new) result (verdict_reply v) (with_verdict v o) }
 {
-    match find_plan(alloc, book, year, body) {
-        Ok(Ok(Err(fault))) => Reply::Refused(Refusal::PlanFault(fault)),
-        Ok(Ok(Ok((_, Standing::Same)))) => Reply::Done,
-        Ok(Ok(Ok((plan, _)))) => store_plan(book, plan),
-        _ => Reply::Refused(Refusal::Unavailable),
+    match find_plan(alloc, book, year, body)?? {
+        Err(fault) => Ok(Reply::Refused(Refusal::PlanFault(fault))),
+        Ok((_, Standing::Same)) => Ok(Reply::Done),
+        Ok((plan, _)) => store_plan(book, plan),
     }
 }
 
@@ -102,19 +107,17 @@ fn standing_plan(plan: &YearPlan, old: Option<&YearPlan>) -> Standing
 }
 
 // Stores a plan, unless a month of its year is frozen.
-fn store_plan<B: Book>(book: &mut B, plan: YearPlan) -> Reply
+fn store_plan<B: Book>(book: &mut B, plan: YearPlan) -> Result<Reply, Cause>
     requires known { (B.state book.old).is_clean → has_unknown_item (B.state book.old).held.items plan.places ≡ false }
     ensures { let o = (B.state book.old).held in
         let frozen = has_year_frozen plan.year (frozen_months o.releases) in
         let v = unless_frozen frozen Refusal.PlanFrozen (PutsPlan plan) in
-        Serves (B.state book.old) (B.state book.new) result (verdict_reply v) (with_verdict v o) }
+        Answers (B.state book.old) (B.state book.new) result (verdict_reply v) (with_verdict v o) }
 {
-    match is_year_frozen(book, plan.year()) {
-        Err(StoreFault) => Reply::Refused(Refusal::Unavailable),
-        Ok(true) => Reply::Refused(Refusal::PlanFrozen),
-        Ok(false) => match book.put_plan(plan) {
-            Ok(()) => Reply::Done,
-            Err(StoreFault) => Reply::Refused(Refusal::Unavailable),
-        },
+    if is_year_frozen(book, plan.year())? {
+        Ok(Reply::Refused(Refusal::PlanFrozen))
+    } else {
+        book.put_plan(plan)?;
+        Ok(Reply::Done)
     }
 }

@@ -10,78 +10,82 @@ ghost use Rattle.cpi_office.specs.Answers.{decision_reply};
 ghost use Rattle.cpi_office.specs.Entries.{decision_verdict};
 ghost use Rattle.cpi_office.specs.Verdicts.{with_verdict};
 ghost use Rattle.cpi_office.specs.Receipts.{IsNewReceipt, office_with_quote};
-ghost use Rattle.cpi_office.specs.Calls.{Serves};
+ghost use Rattle.cpi_office.specs.Calls.{Answers};
 
+use crate::callers::{Bearer, Present};
+use crate::cause::Cause;
 use crate::refusal::Refusal;
 use crate::reply::Reply;
-use cpi_codes::{CollectorId, Moment};
-use cpi_store::{Book, Registration, StoreFault};
+use crate::sight::Sight;
+use cpi_store::StoreFault;
 use cpi_survey::{Decision, Entry, Quote};
 
-/// Answers an entry of a collector at a moment, in seconds since 1970 UTC.
-pub fn enter<B: Book>(book: &mut B, now: Moment, registration: Registration, entry: Entry) -> Reply
-    requires known { (B.state book.old).is_clean →
-        IsSome (row_by_number (λ b. b.number) registration.number (B.state book.old).held.collectors) }
-    ensures { let o = (B.state book.old).held in
-        let decision = entry_decision now entry (public_part o) (own_part registration.number o) in
-        Serves (B.state book.old) (B.state book.new) result
-        (decision_reply decision) (with_verdict (decision_verdict registration entry decision) o) }
+/// Answers an entry of a collector at the moment of the request.
+pub fn enter<S: Sight>(
+    sight: &mut S,
+    present: Present,
+    bearer: Bearer,
+    entry: Entry,
+) -> Result<Reply, Cause>
+    requires known { (S.state sight.old).is_clean →
+        IsSome (row_by_number (λ b. b.number) bearer.number (S.state sight.old).held.collectors) }
+    ensures { let o = (S.state sight.old).held in
+        let decision = entry_decision present entry (public_part o) (own_part bearer.number o) in
+        Answers (S.state sight.old) (S.state sight.new) result
+        (decision_reply decision) (with_verdict (decision_verdict bearer entry decision) o) }
 {
-    match decide(book, now, registration.number, entry) {
-        Err(StoreFault) => Reply::Refused(Refusal::Unavailable),
-        Ok(decision) => carry_out(book, registration, &decision),
-    }
+    let decision = decide(sight, present, bearer, entry)?;
+    carry_out(sight, bearer, &decision)
 }
 
 // Decides an entry of a collector by the public part and the collector's own.
-fn decide<B: Book>(
-    book: &mut B,
-    now: Moment,
-    collector: CollectorId,
+fn decide<S: Sight>(
+    sight: &mut S,
+    present: Present,
+    bearer: Bearer,
     entry: Entry,
 ) -> Result<Result<Decision, cpi_survey::Refusal>, StoreFault>
-    ensures { Reads (B.state book.old) (B.state book.new) result (λ decision.
-        let o = (B.state book.old).held in decision ≡ entry_decision now entry (public_part o) (own_part collector o)) }
+    ensures { Reads (S.state sight.old) (S.state sight.new) result (λ decision.
+        let o = (S.state sight.old).held in
+        decision ≡ entry_decision present entry (public_part o) (own_part bearer.number o)) }
 {
-    let parts = book.parts(collector)?;
-    Ok(parts.own.submit(parts.public, now, entry))
+    let parts = sight.own_parts(bearer)?;
+    Ok(parts.own.submit(parts.public, present.moment(), entry))
 }
 
 // Answers a decision, and stores its new quote, if it has one.
-fn carry_out<B: Book>(
-    book: &mut B,
-    registration: Registration,
+fn carry_out<S: Sight>(
+    sight: &mut S,
+    bearer: Bearer,
     decision: &Result<Decision, cpi_survey::Refusal>,
-) -> Reply
-    requires known { (B.state book.old).is_clean →
-        IsSome (row_by_number (λ b. b.number) registration.number (B.state book.old).held.collectors) }
-    requires new { (B.state book.old).is_clean →
-        IsNewReceipt decision.now (own_part registration.number (B.state book.old).held) }
-    ensures { Serves (B.state book.old) (B.state book.new) result
-        (decision_reply decision.now) (office_with_quote registration decision.now (B.state book.old).held) }
+) -> Result<Reply, Cause>
+    requires known { (S.state sight.old).is_clean →
+        IsSome (row_by_number (λ b. b.number) bearer.number (S.state sight.old).held.collectors) }
+    requires new { (S.state sight.old).is_clean →
+        IsNewReceipt decision.now (own_part bearer.number (S.state sight.old).held) }
+    ensures { Answers (S.state sight.old) (S.state sight.new) result
+        (decision_reply decision.now) (office_with_quote bearer decision.now (S.state sight.old).held) }
 {
     match decision {
-        Err(refusal) => Reply::Refused(Refusal::of_survey(refusal)),
-        Ok(Decision::Again(receipt)) => Reply::Receipt(*receipt),
-        Ok(Decision::Put(quote)) => store_quote(book, registration, *quote),
+        Err(refusal) => Ok(Reply::Refused(Refusal::of_survey(refusal))),
+        Ok(Decision::Again(receipt)) => Ok(Reply::Receipt(*receipt)),
+        Ok(Decision::Put(quote)) => store_quote(sight, bearer, *quote),
     }
 }
 
 // Stores a new quote, and answers its receipt.
-fn store_quote<B: Book>(book: &mut B, registration: Registration, quote: Quote) -> Reply
-    requires known { (B.state book.old).is_clean →
-        IsSome (row_by_number (λ b. b.number) registration.number (B.state book.old).held.collectors) }
-    requires slot { (B.state book.old).is_clean →
+fn store_quote<S: Sight>(sight: &mut S, bearer: Bearer, quote: Quote) -> Result<Reply, Cause>
+    requires known { (S.state sight.old).is_clean →
+        IsSome (row_by_number (λ b. b.number) bearer.number (S.state sight.old).held.collectors) }
+    requires slot { (S.state sight.old).is_clean →
         IsSome (row_by_number (λ a. a.assignment.slot) quote.slot
-        (own_part registration.number (B.state book.old).held).assignments) }
-    requires receipt { (B.state book.old).is_clean →
-        greatest_receipt (held_by registration.number (B.state book.old).held.quotes) < quote.receipt }
-    ensures { Serves (B.state book.old) (B.state book.new) result
-        (Reply.Receipt quote.receipt) (office_with (Quotes registration quote) (B.state book.old).held) }
+        (own_part bearer.number (S.state sight.old).held).assignments) }
+    requires receipt { (S.state sight.old).is_clean →
+        greatest_receipt (held_by bearer.number (S.state sight.old).held.quotes) < quote.receipt }
+    ensures { Answers (S.state sight.old) (S.state sight.new) result
+        (Reply.Receipt quote.receipt) (office_with (Quotes bearer quote) (S.state sight.old).held) }
 {
     let receipt = quote.receipt();
-    match book.put_quote(registration, quote) {
-        Ok(()) => Reply::Receipt(receipt),
-        Err(StoreFault) => Reply::Refused(Refusal::Unavailable),
-    }
+    sight.put_own_quote(bearer, quote)?;
+    Ok(Reply::Receipt(receipt))
 }

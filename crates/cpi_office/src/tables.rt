@@ -5,89 +5,89 @@ ghost use Rattle.cpi_release.specs.PublishedTables.{asked_table, frozen_month_of
 ghost use Rattle.cpi_release.specs.State.{Reads};
 ghost use Rattle.cpi_store.specs.Tables.{table_until};
 ghost use Rattle.cpi_office.specs.Answers.{table_bytes, reply_with_table};
-ghost use Rattle.cpi_office.specs.Calls.{Serves};
+ghost use Rattle.cpi_office.specs.Calls.{Answers};
 
+use crate::callers::Present;
+use crate::cause::Cause;
 use crate::edition::Edition;
 use crate::refusal::Refusal;
 use crate::reply::Reply;
-use cpi_codes::{Moment, Month};
+use crate::sight::Sight;
+use cpi_codes::Month;
 use cpi_release::{Form, Level, PrintedTable, Revision, printed};
 use cpi_rows::Rows;
-use cpi_store::{Book, StoreFault};
+use cpi_store::StoreFault;
 use std::alloc::{AllocError, Global};
 
-/// Lists the months and revisions whose tables are published by now, in seconds since 1970 UTC.
-pub fn tables<B: Book>(book: &mut B, now: Moment) -> Reply
-    ensures { let o = (B.state book.old).held in
-        Serves (B.state book.old) (B.state book.new) result
-        (Reply.Tables (map frozen_month_of (published_until now o.releases))) o }
+/// Lists the months and revisions whose tables are published at the moment of the request.
+pub fn tables<S: Sight>(sight: &mut S, present: Present) -> Result<Reply, Cause>
+    ensures { let o = (S.state sight.old).held in
+        Answers (S.state sight.old) (S.state sight.new) result
+        (Reply.Tables (map frozen_month_of (published_until present o.releases))) o }
 {
-    match book.tables_until(now) {
-        Ok(frozen_months) => Reply::Tables(Rows::of(frozen_months)),
-        Err(StoreFault) => Reply::Refused(Refusal::Unavailable),
-    }
+    let frozen_months = sight.published(present)?;
+    Ok(Reply::Tables(Rows::of(frozen_months)))
 }
 
 /// Prints the table of a month in this edition, if it is published by now. Else the answer is [`Refusal::NoTable`],
 /// which doesn't show whether there is a table under embargo.
-pub fn table<B: Book>(
+pub fn table<S: Sight>(
     alloc: Global,
-    book: &mut B,
-    now: Moment,
+    sight: &mut S,
+    present: Present,
     month: Month,
     form: Form,
     edition: Edition,
-) -> Reply
-    ensures { let o = (B.state book.old).held in
-        Serves (B.state book.old) (B.state book.new) result
-        (reply_with_table form month (asked_table month edition (published_until now o.releases))) o }
+) -> Result<Reply, Cause>
+    ensures { let o = (S.state sight.old).held in
+        Answers (S.state sight.old) (S.state sight.new) result
+        (reply_with_table form month (asked_table month edition (published_until present o.releases))) o }
 {
-    match read_table(alloc, book, now, month, form, edition) {
-        Ok(Ok(Some(printed_table))) => Reply::Table(printed_table),
-        Ok(Ok(None)) => Reply::Refused(Refusal::NoTable),
-        _ => Reply::Refused(Refusal::Unavailable),
+    match read_table(alloc, sight, present, month, form, edition)?? {
+        Some(printed_table) => Ok(Reply::Table(printed_table)),
+        None => Ok(Reply::Refused(Refusal::NoTable)),
     }
 }
 
 // The printed table in this edition, if it is published by now. Fails, inside, if there is no memory.
-fn read_table<B: Book>(
+fn read_table<S: Sight>(
     alloc: Global,
-    book: &mut B,
-    now: Moment,
+    sight: &mut S,
+    present: Present,
     month: Month,
     form: Form,
     edition: Edition,
 ) -> Result<Result<Option<PrintedTable>, AllocError>, StoreFault>
-    ensures { Reads (B.state book.old) (B.state book.new) result (λ found.
+    ensures { Reads (S.state sight.old) (S.state sight.new) result (λ found.
         IfOk found (λ printed_table.
-        let releases = (B.state book.old).held.releases in
-        printed_table ≡ option_map (table_bytes form month) (table_until month edition now releases))) }
+        let releases = (S.state sight.old).held.releases in
+        printed_table ≡ option_map (table_bytes form month) (table_until month edition present releases))) }
 {
     match edition.revision() {
-        Some(revision) => print_revision(alloc, book, now, month, form, revision),
-        None => match book.revision_until(month, now)? {
-            Some(latest) => print_revision(alloc, book, now, month, form, latest),
+        Some(revision) => print_revision(alloc, sight, present, month, form, revision),
+        None => match sight.latest_published(present, month)? {
+            Some(latest) => print_revision(alloc, sight, present, month, form, latest),
             None => Ok(Ok(None)),
         },
     }
 }
 
 // The printed table of a revision, if it is published by now. Fails, inside, if there is no memory.
-fn print_revision<B: Book>(
+fn print_revision<S: Sight>(
     alloc: Global,
-    book: &mut B,
-    now: Moment,
+    sight: &mut S,
+    present: Present,
     month: Month,
     form: Form,
     revision: Revision,
 ) -> Result<Result<Option<PrintedTable>, AllocError>, StoreFault>
-    ensures { Reads (B.state book.old) (B.state book.new) result (λ found.
+    ensures { Reads (S.state sight.old) (S.state sight.new) result (λ found.
         IfOk found (λ printed_table.
-        let releases = (B.state book.old).held.releases in
+        let releases = (S.state sight.old).held.releases in
         printed_table ≡ option_map (printed_bytes form month revision)
-        (option_map (λ t. t.levels) (table_until month (Some revision) now releases)))) }
+        (option_map (λ t. t.levels) (table_until month (Some revision) present releases)))) }
 {
-    let found = book.table(month, revision, now)?;
+    let found = sight.published_table(present, month, revision)?;
     Ok(printed_of(alloc, form, month, revision, found))
 }
 

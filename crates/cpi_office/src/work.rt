@@ -4,40 +4,46 @@ ghost use Rattle.cpi_release.specs.State.{Reads};
 ghost use Rattle.cpi_store.specs.Office.{own_part, public_part};
 ghost use Rattle.cpi_survey.specs.Work.{work};
 ghost use Rattle.cpi_office.specs.Answers.{work_reply};
-ghost use Rattle.cpi_office.specs.Calls.{Serves};
+ghost use Rattle.cpi_office.specs.Calls.{Answers};
 
+use crate::callers::Bearer;
+use crate::cause::Cause;
 use crate::refusal::Refusal;
 use crate::reply::Reply;
-use cpi_codes::{CollectorId, Month};
+use crate::sight::Sight;
+use cpi_codes::Month;
 use cpi_rows::Rows;
-use cpi_store::{Book, StoreFault};
+use cpi_store::StoreFault;
 use cpi_survey::WorkRow;
 use std::alloc::{AllocError, Global};
 
 /// Lists the collector's slots that are to be priced in the month.
-pub fn work<B: Book>(alloc: Global, book: &mut B, collector: CollectorId, month: Month) -> Reply
-    ensures { let o = (B.state book.old).held in
-        Serves (B.state book.old) (B.state book.new) result
-        (work_reply (work month (public_part o) (own_part collector o))) o }
+pub fn work<S: Sight>(
+    alloc: Global,
+    sight: &mut S,
+    bearer: Bearer,
+    month: Month,
+) -> Result<Reply, Cause>
+    ensures { let o = (S.state sight.old).held in
+        Answers (S.state sight.old) (S.state sight.new) result
+        (work_reply (work month (public_part o) (own_part bearer.number o))) o }
 {
-    match read_work(alloc, book, collector, month) {
-        Ok(Ok(answer)) => work_reply(answer),
-        _ => Reply::Refused(Refusal::Unavailable),
-    }
+    let answer = read_work(alloc, sight, bearer, month)??;
+    Ok(work_reply(answer))
 }
 
 // The work list, or its refusal. Fails, inside, if there is no memory.
-fn read_work<B: Book>(
+fn read_work<S: Sight>(
     alloc: Global,
-    book: &mut B,
-    collector: CollectorId,
+    sight: &mut S,
+    bearer: Bearer,
     month: Month,
 ) -> Result<Result<Result<Rows<WorkRow>, cpi_survey::Refusal>, AllocError>, StoreFault>
-    ensures { Reads (B.state book.old) (B.state book.new) result (λ found.
+    ensures { Reads (S.state sight.old) (S.state sight.new) result (λ found.
         IfOk found (λ answer.
-        answer ≡ work month (public_part (B.state book.old).held) (own_part collector (B.state book.old).held))) }
+        answer ≡ work month (public_part (S.state sight.old).held) (own_part bearer.number (S.state sight.old).held))) }
 {
-    let parts = book.parts(collector)?;
+    let parts = sight.own_parts(bearer)?;
     Ok(parts.own.work(alloc, parts.public, month))
 }
 

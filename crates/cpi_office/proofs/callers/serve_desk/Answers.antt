@@ -6,14 +6,14 @@ use Rattle.cpi_office.specs.Assigning.{assigned_in}
 use Rattle.cpi_office.specs.Replacing.{planned_in, scheduled_in, body_judged}
 use Rattle.cpi_release.specs.FrozenMonths.{frozen_months}
 use Rattle.cpi_store.specs.Sound.{IsSound}
-use Rattle.cpi_office.proofs.Calls.{serves_where}
+use Rattle.cpi_office.proofs.Calls.{answers_where}
 use Rattle.cpi_office.proofs.callers.serve_desk.Goals as goal
 
 pub returns-in-PutPlan-clause-serves : goal.returns-in-PutPlan-clause-serves
 returns-in-PutPlan-clause-serves g c =
     let o = (g.B.Book.state c.args.book.now).held in
     rw c.in-PutPlan.is
-    (serves_where (IsSound o) (g.B.Book.state c.args.book.now) (g.B.Book.state c.put_plan.new.book) c.put_plan.result
+    (answers_where (IsSound o) (g.B.Book.state c.args.book.now) (g.B.Book.state c.put_plan.new.book) c.put_plan.result
     (planned_in c.in-PutPlan.year c.in-PutPlan.body o) c.put_plan.ensures)
 
 pub returns-in-PutPlan-clause-turns : goal.returns-in-PutPlan-clause-turns
@@ -31,7 +31,7 @@ pub returns-in-PutCalendar-clause-serves : goal.returns-in-PutCalendar-clause-se
 returns-in-PutCalendar-clause-serves g c =
     let o = (g.B.Book.state c.args.book.now).held in
     rw c.in-PutCalendar.is
-    (serves_where (IsSound o) (g.B.Book.state c.args.book.now)
+    (answers_where (IsSound o) (g.B.Book.state c.args.book.now)
     (g.B.Book.state c.put_calendar.new.book) c.put_calendar.result
     (scheduled_in c.in-PutCalendar.row o) c.put_calendar.ensures)
 
@@ -39,7 +39,7 @@ pub returns-in-Assign-clause-serves : goal.returns-in-Assign-clause-serves
 returns-in-Assign-clause-serves g c =
     let o = (g.B.Book.state c.args.book.now).held in
     rw c.in-Assign.is
-    (serves_where (IsSound o) (g.B.Book.state c.args.book.now) (g.B.Book.state c.assign.new.book) c.assign.result
+    (answers_where (IsSound o) (g.B.Book.state c.args.book.now) (g.B.Book.state c.assign.new.book) c.assign.result
     (assigned_in c.in-Assign.collector c.in-Assign.new_assignment o) c.assign.ensures)
 
 pub returns-in-HandOver-clause-turns : goal.returns-in-HandOver-clause-turns

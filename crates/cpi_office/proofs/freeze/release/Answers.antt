@@ -6,7 +6,8 @@ use Rattle.cpi_store.specs.Sound.{IsSound}
 use Rattle.cpi_store.proofs.Released.{none_follows}
 use Rattle.cpi_office.specs.Freezing.{judged_release, release_verdict, fault_refusal}
 use Rattle.cpi_office.proofs.Calls.{refused_where}
-use Rattle.cpi_office.proofs.Making.{all_read, fault_told}
+use Rattle.std.proofs.lemmas.Result.{IfErr-weaker}
+use Rattle.cpi_office.proofs.Making.{all_read, fault_told, fault_answered}
 use Rattle.cpi_office.proofs.freeze.release.Goals as goal
 
 pub returns-in-Err : goal.returns-in-Err
@@ -15,10 +16,16 @@ returns-in-Err g c =
     let made = c.in-Err.ensures in
     let fault = c.in-Err.fault in
     let wanted = judged_release c.args.now c.args.carry old.held c.args.accepted.row in
-    rw c.refusal_of.ensures
-    (refused_where (IsSound old.held) old (g.B.Book.state c.make.new.book) (fault_refusal fault)
-    (release_verdict wanted) made.keeps (λ told. made.stays (all_read fault told)) made.count
-    (λ clean sound. fault_told wanted fault (made.made clean sound)))
+    let new = g.B.Book.state c.make.new.book in
+    let told = c.answer_fault.ensures in
+    record {
+      serves = rw told.reply (refused_where (IsSound old.held) old new (fault_refusal fault) (release_verdict wanted)
+          made.keeps (λ told. made.stays (all_read fault told)) made.count
+          (λ clean sound. fault_told wanted fault (made.made clean sound)));
+      answered = λ clean sound. fault_answered wanted fault c.answer_fault.result told.reply told.answered
+          (fault_told wanted fault (made.made clean sound));
+      cause = IfErr-weaker c.answer_fault.result _ _ (λ cause group is. made.group (group is)) told.cause;
+    }
 
 pub put_release-requires : goal.put_release-requires
 put_release-requires g c = record {

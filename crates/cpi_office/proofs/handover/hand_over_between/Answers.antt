@@ -1,4 +1,4 @@
-use Rattle.std.proofs.Common.{rules, ◌≡◌, ℕ, List, Some, sym, ap, ◌∙◌}
+use Rattle.std.proofs.Common.{◌≡◌, ℕ, List, Some, sym, ap, ◌∙◌}
 use Rattle.cpi_rows.specs.Keyed.{row_by_number}
 use Rattle.cpi_rows.proofs.Found.{at_key}
 use Rattle.cpi_store.specs.declared.registration.Registration.{Registration}
@@ -15,13 +15,11 @@ by_number n b registrations found =
 pub hand_over_slot-requires : goal.hand_over_slot-requires
 hand_over_slot-requires g c = record {
   registered = λ clean.
-      let reads = c.in-Ok-Some-default.ensures in
+      let reads = c.in_ok-former.ensures in
       let found = reads.shown clean in
       let registrations = (g.B.Book.state c.args.book.now).held.collectors in
-      let taken : c.in-Ok-Some-default.taker ≡ Some c.in-Some.taker = search rules in
       rw (reads.keeps.kept clean) (record {
-        former_is = by_number c.args.what.from c.in-Ok-Some-default.former registrations
-            (sym found.0 ∙ c.in-Ok-Some-default.field-0-0-is);
-        taker_is = by_number c.args.what.to c.in-Some.taker registrations (sym found.1 ∙ taken);
+        former_is = by_number c.args.what.from c.in-Some.former registrations (sym found.0 ∙ c.in-Some.is);
+        taker_is = by_number c.args.what.to c.in-Some-taker.taker registrations (sym found.1 ∙ c.in-Some-taker.is);
       });
 }

@@ -6,9 +6,9 @@ use Rattle.cpi_office.proofs.plans.put_plan.Goals as goal
 pub store_plan-requires : goal.store_plan-requires
 store_plan-requires g c = record {
   known = λ clean.
-      let reads = c.in-Ok-Ok-Ok.ensures in
+      let reads = c.in_ok-find_plan.ensures in
       let o = (g.B.Book.state c.args.book.now).held in
-      let plan = c.in-Ok-Ok-Ok.plan in
+      let plan = c.in-Ok.plan in
       rw (reads.keeps.kept clean) (judged_known c.args.year (sent_body o.items c.args.body) o.plans plan _
-      (sym (rw c.in-Ok-Ok-Ok.field-0-is at (reads.shown clean)) ∙ c.in-Ok-Ok-Ok.field-0-0-is));
+      (sym (rw c.in_ok-fault.was at (reads.shown clean)) ∙ c.in-Ok.is));
 }

@@ -7,18 +7,23 @@ if_ok : {A E : Type 0} (r : Result A E) (x : A) (P : A → Type 0) → r ≡ Ok 
 if_ok (Ok y) x P e p = let is : y ≡ x = cc in subst P is p
 if_ok (Err f) x P e p = let no : Err f ≡ Ok x = e in cc
 
-pub returns-in-Ok-Ok-Some : goal.returns-in-Ok-Ok-Some
-returns-in-Ok-Ok-Some g c =
-    let reads = c.in-Ok-Ok-Some.ensures in
-    let shown = if_ok c.in-Ok-Ok-Some.field-0 c.in-Ok-Ok-Some.field-0-0 _ c.in-Ok-Ok-Some.field-0-is in
+pub returns-in-Some : goal.returns-in-Some
+returns-in-Some g c =
+    let reads = c.in_ok-read_table.ensures in
+    let shown = if_ok c.in_ok-read_table.field-0 c.in_ok-printed_table.field-0 _ c.in_ok-printed_table.was in
     record {
-      was_clean = reads.keeps.was_clean;
-      served = λ clean. inl (
-        printed_found c.args.form c.args.month _ c.in-Ok-Ok-Some.printed_table
-            (sym c.in-Ok-Ok-Some.field-0-0-is ∙ shown (reads.shown clean)),
-        reads.keeps.kept clean,
-      );
-      count = reads.count;
-      endures = read_endures _ _ _ reads.keeps reads.stays;
-      crash = λ was kept o left. inl (reads.keeps.crash was kept o left);
+      serves = record {
+        was_clean = reads.keeps.was_clean;
+        served = λ clean. inl (
+          printed_found c.args.form c.args.month _ c.in-Some.printed_table
+              (sym c.in-Some.is ∙ shown (reads.shown clean)),
+          reads.keeps.kept clean,
+        );
+        count = reads.count;
+        endures = read_endures _ _ _ reads.keeps reads.stays;
+        crash = λ was kept o left. inl (reads.keeps.crash was kept o left);
+      };
+      answered = λ clean. printed_found c.args.form c.args.month _ c.in-Some.printed_table
+          (sym c.in-Some.is ∙ shown (reads.shown clean));
+      cause = tt;
     }

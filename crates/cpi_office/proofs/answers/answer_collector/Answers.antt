@@ -1,4 +1,4 @@
-use Rattle.std.proofs.Common.{Some, refl, sym, ◌∙◌}
+use Rattle.std.proofs.Common.{Some, Ok, ap, refl, sym, ◌∙◌}
 use Rattle.cpi_survey.specs.Decision.{entry_decision}
 use Rattle.cpi_store.specs.Office.{public_part, own_part}
 use Rattle.cpi_office.specs.Authentication.{collector_view}
@@ -6,16 +6,16 @@ use Rattle.cpi_office.specs.declared.request.Request.TheVariants as request
 use Rattle.cpi_office.proofs.Failures.{decision_own, work_own, table_own}
 use Rattle.cpi_release.specs.PublishedTables.{asked_table}
 use Rattle.cpi_office.proofs.Authorization.{told_itself, turned_is}
-use Rattle.cpi_office.proofs.callers.serve_known.Goals.{in-Items, in-Tables, in-Table, in-Submit, in-Work, in-Quotes}
-use Rattle.cpi_office.proofs.callers.serve_known.Goals.{in_default}
-use Rattle.cpi_office.proofs.callers.serve_known.Goals as goal
+use Rattle.cpi_office.proofs.answers.answer_collector.Goals.{in-Items, in-Tables, in-Table, in-Submit, in-Work, in-Quotes}
+use Rattle.cpi_office.proofs.answers.answer_collector.Goals.{in_default}
+use Rattle.cpi_office.proofs.answers.answer_collector.Goals as goal
 
 pub returns-clause-turns : goal.returns-clause-turns
 returns-clause-turns g c = λ turned.
-    let o = (g.B.Book.state c.args.book.now).held in
-    let v = collector_view c.args.now o (Some c.args.registration) in
-    let own = own_part c.args.registration.number o in
-    let now = c.args.now in
+    let o = (g.S.Sight.state c.args.sight.now).held in
+    let v = collector_view c.args.present o (Some c.args.bearer) in
+    let own = own_part c.args.bearer.number o in
+    let now = c.args.present in
     let r = c.args.request in
     elim c.match-request.branch [
       | in-Items w ↦ told_itself now r request.Items v own w.in-Items.is refl turned
@@ -29,5 +29,5 @@ returns-clause-turns g c = λ turned.
           (work_own w.in-Work.month (public_part o) own).1 turned
       | in-Quotes w ↦ told_itself now r (request.Quotes w.in-Quotes.first w.in-Quotes.last) v own w.in-Quotes.is refl
           turned
-      | in_default w ↦ w.result-is ∙ sym (turned_is now r v own turned)
+      | in_default w ↦ w.result-is ∙ ap Ok (sym (turned_is now r v own turned))
     ]
