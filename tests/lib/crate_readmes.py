@@ -1,6 +1,6 @@
 """What the README of a crate owes: it is short, its example is code that is built, and it names each wrong program.
 
-`crate_readme_faults`  at most 60 lines; each example is in the file that the line before it names; each edit of must-fail.
+`crate_readme_faults`  at most 60 lines; each example is in the file that the line before it names; each edit that must be refused.
 `all_numbers`          the numbers of the decisions in them.
 """
 
@@ -42,7 +42,7 @@ def crate_readme_faults(name: str, text: str) -> Iterator[str]:
         source = ROOT / "crates" / it["file"]
         if not source.is_file() or unindented(it["code"]) not in unindented(source.read_text(encoding="utf-8")):
             yield f"its example isn't in {it['file']}"
-    edits = (ROOT / "crates" / crate[1] / "must-fail").glob("*.edit")
+    edits = (ROOT / "crates" / crate[1]).glob("must-*/*.edit")
     yield from (f"no word of the wrong program {it.stem}" for it in sorted(edits) if f"`{it.stem}`" not in text)
 
 

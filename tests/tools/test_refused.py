@@ -505,6 +505,81 @@ def test_an_edit_is_refused_and_then_kept(clone: Clone, stand_in: StandIn) -> No
     assert clone.files().items() >= before.items()
 
 
+UNKNOWN = """\
+src/lib.rt:4:5: error[unknown-method]: `u32` has no method `two`
+"""
+
+
+@pytest.fixture
+def uncompiled(clone: Clone) -> Clone:
+    """A repository with one edit, which the compiler has to refuse."""
+    (clone.top / "crates/low/must-fail/two.edit").unlink()
+    text = "code: unknown-method\nfile: src/lib.rt\nold:     1\nnew:     1.two()\n"
+    clone.write("low/must-not-compile/three.edit", text)
+    return clone
+
+
+def test_an_edit_that_must_not_compile_is_refused_by_its_code_and_then_kept(
+    uncompiled: Clone, stand_in: StandIn
+) -> None:
+    stand_in.write(write_ending(UNKNOWN, 1))
+    for runs in (1, 1):
+        ran = uncompiled.run(kit=stand_in.folder)
+        assert (ran.status, ran.out[-1], len(stand_in.runs())) == (0, "1 passed, 0 failed", runs)
+        said = "refused: one, src/lib.rt:4, unknown-method: `u32` has no method `two`"
+        assert find_verdict(ran, "low/three") == said
+
+
+@pytest.mark.parametrize(
+    ("said", "status", "why"),
+    [
+        (UNKNOWN.replace("unknown-method", "private-field"), 1, "the compiler doesn't answer [unknown-method]"),
+        (UNKNOWN.replace(":4:5", ":40:5"), 1, "the compiler doesn't answer [unknown-method]"),
+        (UNKNOWN.replace("src/lib", "src/two"), 1, "the compiler doesn't answer [unknown-method]"),
+        ("fn low::one: proved\nonly=1 proved=1\n", 0, "the compiler reads it: "),
+        (SEEN, 1, "the compiler reads it: note: src/lib.rt:4:5: "),
+        (UNKNOWN, 2, "the compiler reads it: "),
+    ],
+)
+def test_an_edit_that_compiles_or_has_another_error_is_not_refused(
+    uncompiled: Clone, stand_in: StandIn, said: str, status: int, why: str
+) -> None:
+    stand_in.write(write_ending(said, status))
+    ran = uncompiled.run(kit=stand_in.folder)
+    assert (ran.status, ran.out[-1]) == (1, "0 passed, 1 failed")
+    assert find_verdict(ran, "low/three").startswith(f"NOT REFUSED: {why}")
+
+
+def test_an_edit_that_must_not_compile_shares_no_run(uncompiled: Clone, stand_in: StandIn) -> None:
+    uncompiled.write_edit("low/two", "src/lib.rt", "pub fn one() -> u32", "pub fn one() -> u32 ")
+    stand_in.write(write_ending(UNKNOWN + SEEN, 1))
+    ran = uncompiled.run(kit=stand_in.folder)
+    assert (ran.status, ran.out[-1], len(stand_in.runs())) == (0, "2 passed, 0 failed", 2)
+
+
+@pytest.mark.parametrize(
+    ("text", "fault"),
+    [
+        ("", "it has 0 lines 'code: CODE', and not one"),
+        ("code: E0599\n", "it has 0 lines 'code: CODE', and not one"),
+        ("code: one\ncode: two\n", "it has 2 lines 'code: CODE', and not one"),
+    ],
+)
+def test_an_edit_that_must_not_compile_needs_one_code(clone: Clone, stand_in: StandIn, text: str, fault: str) -> None:
+    stand_in.write(write_ending(UNKNOWN, 1))
+    clone.write("low/must-not-compile/three.edit", f"{text}file: src/lib.rt\nold:     1\nnew:     2\n")
+    assert find_verdict(clone.run(kit=stand_in.folder), "low/three") == f"BAD EDIT: {fault}"
+
+
+def test_a_name_is_that_of_one_edit_and_only_one_kind_has_a_code(clone: Clone, stand_in: StandIn) -> None:
+    stand_in.write(write_ending(SEEN, 1))
+    clone.write("low/must-not-compile/two.edit", "code: one\nfile: src/lib.rt\nold:     1\nnew:     2\n")
+    clone.write("low/must-fail/one.edit", "code: one\nfile: src/lib.rt\nold:     1\nnew:     2\n")
+    ran = clone.run(kit=stand_in.folder)
+    assert find_verdict(ran, "low/one") == "BAD EDIT: a 'code:' line is for an edit of must-not-compile/"
+    assert "low/two: BAD EDIT: another edit has this name" in ran.out
+
+
 def test_a_run_that_is_killed_is_tried_once_more(clone: Clone, stand_in: StandIn) -> None:
     stand_in.write(f"[ $(wc -l < {stand_in.calls()}) -gt 1 ] || kill -9 $$\n{write_ending(SEEN, 1)}")
     assert clone.run(kit=stand_in.folder).status == 0

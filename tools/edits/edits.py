@@ -1,4 +1,8 @@
-"""The edits of a crate, `must-fail/*.edit`, as `rt` reads them, and the functions that each of them changes."""
+"""The edits of a crate, `must-fail/*.edit` and `must-not-compile/*.edit`, and the functions that each of them changes.
+
+`rt` reads those of `must-fail/` in the same way. An edit of `must-not-compile/` has a line more, `code: CODE`: the code of
+the error by which the compiler must refuse it.
+"""
 
 from __future__ import annotations
 
@@ -14,6 +18,8 @@ NAME = re.compile(r"[A-Za-z0-9_-][A-Za-z0-9_.-]*\.edit")
 """The names that `rt` reads as those of edits."""
 
 FOLDER = "must-fail"
+UNCOMPILED = "must-not-compile"
+FOLDERS = (FOLDER, UNCOMPILED)
 
 
 class Pair(NamedTuple):
@@ -28,7 +34,8 @@ class Edit(NamedTuple):
     """An edit of a crate.
 
     `functions` are those that it changes. `is_wide` says that it may change any other function too. `fault` says why it
-    can't be tried, and is empty if it can.
+    can't be tried, and is empty if it can. `code` is that of the compiler's error; it is empty if the prover has to refuse
+    the edit.
     """
 
     name: str
@@ -36,6 +43,7 @@ class Edit(NamedTuple):
     functions: tuple[Item, ...] = ()
     is_wide: bool = True
     fault: str = ""
+    code: str = ""
 
     def names(self) -> set[str]:
         return {it.name for it in self.functions}
@@ -57,11 +65,11 @@ class Edit(NamedTuple):
         return self.is_wide or not self.functions
 
 
-def list_edits(folder: Path) -> tuple[list[Path], list[Path]]:
-    """The edits of the crate in a folder, and other files of `must-fail/` that are no notes (.md)."""
+def list_edits(folder: Path, within: str = FOLDER) -> tuple[list[Path], list[Path]]:
+    """The edits in a folder of the crate's folder, and other files there that are no notes (.md)."""
     good, bad = [], []
-    for path in sorted((folder / FOLDER).rglob("*")):
-        if path.is_file() and path.parent.name == FOLDER and NAME.fullmatch(path.name):
+    for path in sorted((folder / within).rglob("*")):
+        if path.is_file() and path.parent.name == within and NAME.fullmatch(path.name):
             good.append(path)
         elif path.is_file() and path.suffix != ".md":
             bad.append(path)
@@ -70,12 +78,36 @@ def list_edits(folder: Path) -> tuple[list[Path], list[Path]]:
 
 def read_edits(folder: Path, crate: Crate) -> list[Edit]:
     """Reads all edits of the crate in a folder. One that can't be tried has a fault."""
-    good, bad = list_edits(folder)
-    misplaced = "an edit stands right in must-fail/, and its name ends in .edit"
+    edits = [edit for within in FOLDERS for edit in read_folder(folder, within, crate)]
+    names = [edit.name for edit in edits]
     return [
-        *(read_edit(path.stem, path.read_text(encoding="utf-8", errors="replace"), crate) for path in good),
-        *(Edit(path.relative_to(folder / FOLDER).as_posix(), fault=misplaced) for path in bad),
+        edit._replace(fault="another edit has this name") if edit.name in names[:at] else edit
+        for at, edit in enumerate(edits)
     ]
+
+
+def read_folder(folder: Path, within: str, crate: Crate) -> list[Edit]:
+    """Reads the edits in a folder of the crate's folder."""
+    good, bad = list_edits(folder, within)
+    misplaced = f"an edit stands right in {within}/, and its name ends in .edit"
+    return [
+        *(read_file(path, within == UNCOMPILED, crate) for path in good),
+        *(Edit(path.relative_to(folder / within).as_posix(), fault=misplaced) for path in bad),
+    ]
+
+
+def read_file(path: Path, has_code: bool, crate: Crate) -> Edit:
+    """Reads a file with an edit, which has the code of the compiler's error or not."""
+    text = path.read_text(encoding="utf-8", errors="replace")
+    edit = read_edit(path.stem, text, crate)
+    codes = re.findall(r"^code: ([a-z][a-z-]*)$", text, re.M)
+    if edit.fault or not has_code and "\ncode:" not in f"\n{text}":
+        return edit
+    if not has_code:
+        return edit._replace(fault=f"a 'code:' line is for an edit of {UNCOMPILED}/")
+    if len(codes) != 1:
+        return edit._replace(fault=f"it has {len(codes)} lines 'code: CODE', and not one")
+    return edit._replace(code=codes[0])
 
 
 def read_edit(name: str, text: str, crate: Crate) -> Edit:

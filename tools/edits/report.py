@@ -117,3 +117,21 @@ def list_unread(report: Report) -> list[re.Match[str]]:
     errors = [it for it in map(ERROR.match, report.lines) if it] if report.status == REFUSED else []
     plain = [re.sub(r"`[^`]*`", "", it["what"]) for it in errors]
     return [it for it, words in zip(errors, plain) if it["code"] or not it["name"] or UNREAD.search(words)]
+
+
+def find_uncompiled(edit: Edit, report: Report) -> str:
+    """The function that an edit changes and that the compiler refuses with the edit's code, with the place and the error:
+    `FUNCTION, FILE:LINE, ERROR`. It is `` if no such error is at such a function."""
+    for error in list_unread(report):
+        name = edit.find_function_at(error["file"], int(error["line"]))
+        if name and error["code"] == f"[{edit.code}]":
+            return f"{name}, {error['file']}:{error['line']}, {edit.code}: {error['name'] or ''}{error['what']}"
+    return ""
+
+
+def find_compiled(edit: Edit, report: Report) -> str:
+    """Why a run doesn't show that the compiler refuses an edit with the edit's code."""
+    errors = [it for it in list_unread(report) if it["code"]]
+    if errors:
+        return f"the compiler doesn't answer [{edit.code}] at a function that it changes: {errors[0].string[:200]}"
+    return f"the compiler reads it: {report.find_first_note()}"

@@ -9,7 +9,7 @@ from .cache import Cache
 from .edits import Edit
 from .groups import group_edits
 from .prover import Prover
-from .report import Report, find_refusal, find_unread, find_unreadable, is_proved
+from .report import Report, find_compiled, find_refusal, find_uncompiled, find_unread, find_unreadable, is_proved
 from .sources import Crate
 
 REFUSED, NOT_REFUSED, BAD_EDIT, NOT_TRIED = "refused", "NOT REFUSED", "BAD EDIT", "NOT TRIED"
@@ -50,14 +50,21 @@ class Trial:
         return before - len(self.left)
 
     def next_group(self) -> list[Edit]:
-        """The edits that are tried next: as many as can share a run, or one by itself."""
+        """The edits that are tried next: as many as can share a run, or one by itself. Those that the compiler must refuse
+        come first, one by one."""
+        if uncompiled := [it for it in self.left if it.code]:
+            return uncompiled[:1]
         groups = group_edits(self.crate, [it for it in self.left if it.name not in self.single], self.calls)
         return groups[0] if groups else self.left[:1]
 
     def try_all(self) -> Verdicts:
         """Tries all edits, a group at a time. What a run says of calls decides which edits share the next one."""
         while self.left:
-            self.try_group(self.next_group())
+            group = self.next_group()
+            if group[0].code:
+                self.settle(group[0], self.try_to_compile(group[0]))
+            else:
+                self.try_group(group)
             self.left = [it for it in self.left if it.name not in self.verdicts]
         return self.verdicts
 
@@ -71,6 +78,15 @@ class Trial:
         if not any(decided):
             # (if the compiler stops at some of them, the others are tried together once more)
             self.single.update(it.name for it in find_unreadable(group, report) or group)
+
+    def try_to_compile(self, edit: Edit) -> Verdict:
+        """What the compiler says of an edit that it must refuse. If it takes the edit, the prover tries what changed."""
+        report = self.prover.check_functions(self.crate, [edit], edit.names())
+        if text := find_uncompiled(edit, report):
+            return Verdict(REFUSED, text)
+        if report.status < 0:
+            return Verdict(NOT_TRIED, f"its check ended with status {report.status}: {report.find_last()}")
+        return Verdict(NOT_REFUSED, find_compiled(edit, report))
 
     def decide(self, edit: Edit, report: Report, is_single: bool) -> bool:
         """Decides what an edit comes to, if a run over its group says enough of it; whether that is so."""
