@@ -477,12 +477,17 @@ def test_a_file_that_is_not_there_is_not_made(cpi: Cpi, tmp_path: Path) -> None:
 # ---- the night
 
 
+DAY = "2026-11-15"
+"""The day of each night here, whatever the machine's clock says: a run of tests may go on over midnight."""
+
+
 def night(folder: Path, drill_status: int, backup_status: int = 0) -> subprocess.CompletedProcess[str]:
     """The night's script, with tools that say what they do; backups are files with their notes, and with the desk's
     folder if that is there: in the place of /var/lib/cpi-desk it is one of this folder."""
     desk = f'[ ! -d "$5" ] || [ {backup_status} != 0 ] || echo new > "$3.desk.tar"'
     made = f'mkdir -p "${{3%/*}}"; echo new > "$3"; echo new > "$3.sha256"; {desk}; exit {backup_status}'
     drill = f'drill) test -e "$2.sha256" || exit 9; exit {drill_status} ;;'
+    script(folder / "date", f'[ "$*" = "-u +%F" ] && echo {DAY}\n')
     script(folder / "cpi-tools", f'echo "$@"\ncase $1 in backup) {made} ;; {drill} esac\n')
     kept = {"PATH": f"{folder}:{os.environ['PATH']}", "CPI_BACKUPS": str(folder / "kept"), "CPI_OFFICE": "office.db"}
     text = (OPS / "cpi-backup").read_text().replace("/var/lib/cpi-desk", str(folder / "cpi-desk"))
@@ -503,7 +508,7 @@ OLD = {
 }
 """Files by their names: how many days old they are, and whether they stay."""
 
-TODAY = f"office-{time.strftime('%Y-%m-%d', time.gmtime())}.db"
+TODAY = f"office-{DAY}.db"
 
 
 def old_backups(folder: Path) -> None:
