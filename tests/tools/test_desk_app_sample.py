@@ -129,10 +129,10 @@ def test_a_row_stays_until_it_is_dropped(ada: Person) -> None:
 
 
 def test_a_form_has_a_field_for_each_column(application: Application, ada: Person) -> None:
-    tea = {"item": "TEA", "text": "Tea, black", "unit": "100 g", "low": "500", "high": "2000"}
-    assert "TEA Tea, black 100 g 500 2000" in judged(ada, "items", **tea)
+    tea = {"item": "TEA", "text": "Tea, black", "unit": "100 g", "low": "-50", "high": "+100 %"}
+    assert "TEA Tea, black 100 g −50 % +100 %" in judged(ada, "items", **tea)
     assert "1 row sent, and carried out." in sent(ada, "items")
-    assert "TEA Tea, black 100 g 500 2000 0" in ada.words("/sample/items?query=black+TEA")
+    assert "TEA Tea, black 100 g −50 % +100 % 0" in ada.words("/sample/items?query=black+TEA")
 
 
 # ---- slots, hand-overs, windows
@@ -290,7 +290,7 @@ def test_without_an_office_nothing_is_sent_and_the_rows_stay(application: Applic
 
 
 def test_a_list_is_searched_cut_down_and_saved(application: Application, ada: Person) -> None:
-    assert "RICE Rice 1 kg 500 2000 2" in ada.words("/sample/items")
+    assert "RICE Rice 1 kg −50 % +100 % 2" in ada.words("/sample/items")
     assert "10 Corner shop 2" in ada.words("/sample/outlets") and "7 2 8 1" in ada.words("/sample/collectors")
     words = ada.words("/sample/assignments?query=market+rice")
     assert "In the office 1 " in words and "8 1 11 Market hall RICE Rice 2025-12 2026-12 8/1" in words

@@ -26,7 +26,7 @@ DECEMBER, JANUARY = f"{YEAR - 1}-12", f"{YEAR}-01"
 FAR = 9_999_999_000
 
 SAMPLE = {
-    "items": ("item;text;unit;low;high", "RICE;Rice, white;1 kg;500;2000", "FLOUR;Flour, wheat;1 kg;500;2000"),
+    "items": ("item;text;unit;low;high", "RICE;Rice, white;1 kg;-50 %;+100 %", "FLOUR;Flour, wheat;1 kg;-50 %;+100 %"),
     "outlets": ("outlet;name", "10;Corner shop", "11;Market hall"),
     "collectors": ("collector;key", f"7;{ANNA}", f"8;{BENO}"),
     "assignments": (

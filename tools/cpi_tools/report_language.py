@@ -7,20 +7,21 @@ import argparse
 import os
 import re
 from collections.abc import Callable, Mapping
-from typing import Any
+from typing import Any, Optional
 
 from .languages import SOURCE, a_language, known
+from .money import TICKS, Money
 from .others import CLOSES, LEFT_TO_RIGHT, Worded, worded
 from .pack.clocks import UTC, Clock, clock_of
 from .speech import DIGITS, LATIN, SPEAKS_ENGLISH, Speech, speech_of
 from .terminal import Fault
-from .told import Code, Figure, Moment, Month, MonthName, Told
+from .told import Code, Figure, Moment, Month, MonthName, Price, Ticks, Told
 
 VARIABLE, DIGITS_VARIABLE, ZONE_VARIABLE = "CPI_LANGUAGE", "CPI_DIGITS", "CPI_ZONE"
 """The variables of the environment that an office sets for its reports: their language, the digits of all languages but
 English, and the clock."""
 
-KINDS = (Code, Figure, Moment, Month, MonthName)
+KINDS = (Code, Figure, Moment, Month, MonthName, Price, Ticks)
 """What a place or a cell holds besides texts."""
 
 FIGURE = re.compile(r"[+\u2212-]?[0-9][0-9,]*(\.[0-9]+)?([ \u202f]?%)?")
@@ -42,11 +43,19 @@ def add_language(words: argparse.ArgumentParser, what: str) -> None:
     words.add_argument("--zone", metavar="ZONE", help=says)
 
 
-class Teller:
-    """What says a report: a language, and the clock of its moments."""
+def no_money() -> Optional[Money]:
+    """That the currency isn't known: prices are in minor units."""
+    return None
 
-    def __init__(self, speech: Speech = SPEAKS_ENGLISH, clock: Clock = UTC):
-        self.speech, self.clock = speech, clock
+
+class Teller:
+    """What says a report: a language, the clock of its moments, and `money`, which gives the office's currency if it is
+    known."""
+
+    def __init__(
+        self, speech: Speech = SPEAKS_ENGLISH, clock: Clock = UTC, money: Callable[[], Optional[Money]] = no_money
+    ):
+        self.speech, self.clock, self.money = speech, clock, money
 
     @property
     def filters(self) -> Mapping[str, Callable[..., Any]]:
@@ -55,6 +64,8 @@ class Teller:
             "say": self.say,
             "told_cell": self.cell,
             "figure": self.figure,
+            "price": self.price,
+            "amount": self.amount,
             "whole": self.whole,
             "in_percent": self.in_percent,
             "code": self.code,
@@ -97,12 +108,27 @@ class Teller:
     def figure(self, value: object) -> object:
         """A figure, such as `1,626.5` or `+0.3 %`; anything else stays as it is. A whole number is written without marks
         of thousands, since it may be that of a collector."""
+        if isinstance(value, (Price, Ticks)):
+            return self.price(value)
         text = str(value) if isinstance(value, int) else value
         if not isinstance(text, str) or not FIGURE.fullmatch(text):
             return value
         if text.endswith("%") and self.speech.language.tag != SOURCE:
             return self.in_percent(text.rstrip("% \u202f"))
         return self.code(self.speech.figure(text))
+
+    def price(self, value: int) -> object:
+        """A price in minor units, or `Ticks`, as an amount with the currency's digits, `31,116.00`; as it is, if the
+        currency isn't known."""
+        money = self.money()
+        if money is None:
+            return self.code(self.speech.figure(str(int(value))))
+        ticks = value if isinstance(value, Ticks) else value * TICKS
+        return self.code(self.speech.figure(money.amount(ticks)))
+
+    def amount(self, value: int) -> object:
+        """The same; nothing, if the currency isn't known."""
+        return self.price(value) if self.money() else ""
 
     def whole(self, number: int) -> object:
         """How many there are, `1,626`."""

@@ -61,6 +61,19 @@ def whole(number: int) -> Figure:
     return Figure(f"{number:,}")
 
 
+class Price(int):
+    """A price in minor units of money: a page that knows the office's currency shows an amount."""
+
+
+class Ticks(int):
+    """What a series counts as, in ticks (10,000 a minor unit of money): such a page shows an amount."""
+
+
+def price_of(value: Optional[int]) -> Optional[Price]:
+    """A price in minor units, if there is one."""
+    return None if value is None else Price(value)
+
+
 class Told(Worded):
     """A text of ours in English. Its source is the text of the catalogues; with a count there are two of them. One
     that `is_english` has words of its own in English."""

@@ -22,7 +22,7 @@ from ..sections import Cell, Section, columns
 from ..stored import Series, Window
 from ..terminal import Fault, month_text
 from ..trial import MOST_REVISIONS, Record, State, calendar_record, frozen_with, must, printed
-from ..told import told
+from ..told import Price, price_of, told
 from .facts import Facts
 from .response import PLACE
 
@@ -158,7 +158,8 @@ def influence(facts: Facts, left: Sequence[Left]) -> Section:
     """The quotes that were left out, and what they move."""
     rows: list[list[Cell]] = []
     for it in left:
-        price = [facts.last.get(facts.holder[it.series][:2]), facts.frozen[it.series].value]
+        last = facts.last.get(facts.holder[it.series][:2])
+        price = [price_of(last), Price(facts.frozen[it.series].value)]
         moves = [facts.rows[ALL_ITEMS].within - it.all_items, facts.rows[it.code].within - it.aggregate]
         moved = [decimal(each, 10**6, digits) for each, digits in zip(moves, (4, 2))]
         alone = CARRIED if facts.matched(it.code) == [it.series] else ""

@@ -7,7 +7,7 @@ from collections.abc import Iterable, Mapping
 from typing import Optional
 
 from ..stored import OBSERVED, Frozen, Series
-from ..told import Told, row, told, whole
+from ..told import Price, Told, row, told, whole
 
 SILENT = "silent"
 """Stands for the mark of a slot for which nothing was sent."""
@@ -51,5 +51,5 @@ def mark_text(quote: Optional[Frozen]) -> Told:
         return mark_words(SILENT)
     if quote.mark not in OBSERVED:
         return mark_words(quote.mark)
-    # t: a mark and its price in minor units: price 210
-    return told("{mark} {price}", mark=mark_words(quote.mark), price=quote.value)
+    # t: a mark and its price: price 2.10
+    return told("{mark} {price}", mark=mark_words(quote.mark), price=Price(quote.value))

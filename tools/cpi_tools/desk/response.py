@@ -13,7 +13,7 @@ from ..exact import decimal
 from ..sections import Cell, Section, columns, heads
 from ..stored import OBSERVED, REASONS, Assignment, Quote
 from ..terminal import month_before
-from ..told import month_of, told
+from ..told import Price, month_of, price_of, told
 from .facts import NO_PLACE, Facts
 from .marks import SILENT, mark_words
 
@@ -150,7 +150,7 @@ PLACE = heads("slot", "=aggregate", "item", "outlet")
 def silent(facts: Facts) -> Section:
     """The slots for which nothing was sent."""
     rows: list[list[Cell]] = [
-        [*facts.place_cells(it), facts.last.get(it[:2])] for it in facts.slots if facts.quote(it) is None
+        [*facts.place_cells(it), price_of(facts.last.get(it[:2]))] for it in facts.slots if facts.quote(it) is None
     ]
     note = told("Slots for which nothing was sent. At the freeze they count as missing.")
     names, empty = columns(*PLACE, "#last price"), told("Something was sent for every slot.")
@@ -202,10 +202,11 @@ def replacements(facts: Facts) -> Section:
         if quote and quote.mark in ("comparable", "other"):
             carried = facts.carried.get(it.series)
             scale = decimal(carried.knum, carried.kden * 10_000, 4) if carried else ""
-            rows.append([*facts.place_cells(it), facts.last.get(it[:2]), mark_words(quote.mark), quote.value, scale])
+            last, price = price_of(facts.last.get(it[:2])), Price(quote.value)
+            rows.append([*facts.place_cells(it), last, mark_words(quote.mark), price, scale])
     note = told(
-        "A replacement marked 'other' enters without moving the index; its scale says what a minor unit of its price"
-        " counts as."
+        "A replacement marked 'other' enters without moving the index; its scale says what a unit of its price counts"
+        " as."
     )
     names = columns(*PLACE, "#last price", "mark", "#price", "#scale")
     return Section("replacements", told("Replacements"), note, names, rows, is_open=False)

@@ -14,7 +14,7 @@ from typing import NamedTuple, Optional
 
 from ..exact import decimal, rounded
 from ..sections import Cell, Section, columns
-from ..told import Figure, Told, row, told, whole
+from ..told import Figure, Price, Told, row, told, whole
 from .facts import Facts, Ratio
 from .response import PLACE
 
@@ -107,7 +107,13 @@ def outliers(facts: Facts, width: int) -> Section:
     found = [(it, row(why_unusual(facts, usual, it))) for it in facts.ratios]
     greatest = sorted((it for it in found if it[1]), key=lambda it: -abs(in_ten_thousandths(it[0]) - ONE))
     rows: list[list[Cell]] = [
-        [*facts.place_cells(it.slot), it.last, it.price, decimal(100 * (it.price - it.last), it.last, 1), why]
+        [
+            *facts.place_cells(it.slot),
+            Price(it.last),
+            Price(it.price),
+            decimal(100 * (it.price - it.last), it.last, 1),
+            why,
+        ]
         for it, why in greatest
     ]
     note = told(

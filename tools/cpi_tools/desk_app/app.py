@@ -39,6 +39,7 @@ from .held_forms import form_of_request
 from .reached import Reached
 from .refreshing import is_answer, is_by_itself, loads_itself, without_itself
 from .sessions import Session
+from .site_config import prices_are
 from .sign_in_views import COOKIE
 
 TEMPLATES = Path(__file__).resolve().parent / "templates"
@@ -108,6 +109,9 @@ def make_app(desk: Desk, reached: Reached) -> flask.Flask:
     app.config.update(MAX_CONTENT_LENGTH=MOST_BYTES, MAX_FORM_MEMORY_SIZE=MOST_BYTES)
     templates = section_pages.environment(TEMPLATES, desk.teller)
     templates.globals.update(url_for=flask.url_for, file_name=file_name, day=desk.teller.day)
+    templates.globals.update(
+        prices_are=lambda: prices_are(desk.teller.money()), has_money=lambda: bool(desk.teller.money())
+    )
     templates.globals.update(loads_itself=loads_itself, is_answer=is_answer)
 
     def page(template: str, status: int = 200, /, **named: object) -> Response:

@@ -29,6 +29,7 @@ from .seals import Seal
 from .second_key import SecondKey
 from .sending import Sender
 from .sessions import Session, Sessions
+from .site_config import SiteConfig
 from .standing import looked_up
 from .tables_kept import TablesKept
 from .tray import Tray
@@ -72,7 +73,8 @@ class Desk:
     def __init__(self, given: Given):
         """Raises Fault if the log or a file of the folder can't be taken."""
         self.given, self.cpi = given, Cpi(given.program)
-        self.teller = Teller(given.speech, given.clock)
+        self.site_config = SiteConfig(given.site.config if given.site else None, given.speech.language.tag)
+        self.teller = Teller(given.speech, given.clock, self.site_config.money)
         self.office = Office(given.url)
         self.log = DeskLog(given.room / LOG)
         self.copies = Copies(given.file, given.copies)

@@ -55,10 +55,11 @@ class Checked(NamedTuple):
 
 
 class Left(NamedTuple):
-    """A record that wasn't carried out, as it is shown, and what was answered."""
+    """A record that wasn't carried out, as it is shown, what was answered, and its sentence if there is one."""
 
     record: Worded
     answer: Worded
+    says: Optional[Told] = None
 
 
 class Running(NamedTuple):

@@ -9,9 +9,11 @@ import flask
 from werkzeug.wrappers import Response
 
 from ..csv_files import Writer, formulas_told
+from ..desk.marks import mark_text
 from ..others import Worded
-from ..stored import Quote, StoredOffice, read_copy
+from ..stored import Frozen, Quote, StoredOffice, read_copy
 from ..terminal import slot_text, time_text
+from ..told import Told
 from .asked import csv_file, desk, file_name, month_of, page, session
 from .changes import changed_by_step
 from .desk_log import REMOVED_NOTE, SAID
@@ -40,9 +42,9 @@ class Row(NamedTuple):
         return slot_text((self.note.collector, self.note.slot))
 
     @property
-    def stored_now(self) -> str:
-        """`price 252`, or the reason why there is none."""
-        return f"{self.stored.mark} {self.stored.value or ''}".strip() if self.stored else ""
+    def stored_now(self) -> Optional[Told]:
+        """`price 2.52`, or the reason why there is none."""
+        return mark_text(Frozen("", 0, self.stored.mark, self.stored.value)) if self.stored else None
 
     @property
     def is_of_earlier(self) -> bool:

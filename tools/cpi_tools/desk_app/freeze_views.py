@@ -15,6 +15,7 @@ from typing import Optional
 import flask
 from werkzeug.wrappers import Response
 
+from ..desk.trying import rows_of
 from ..others import Worded, of_others
 from ..terminal import Fault
 from ..told import moment_of, whole
@@ -31,6 +32,8 @@ from .freeze_texts import not_prepared, other_prepared, other_trial, said
 from .freezes import Prepared, prepared_of
 from .looks import Look
 from .looks_views import price_of
+from .record_names import Names
+from .record_sentences import sentence_of
 from .sessions import is_same
 from .signed import Signed, signed_of
 from .told import told
@@ -62,6 +65,7 @@ def shown(
         "found": trial,
         "steps": steps_of(number, trial) if trial else [],
         "prepared": waits,
+        "prepared_says": sentence_of(waits.record, Names(titles=titles_of(waits))) if waits else None,
         "is_own": is_own(waits),
         "signed": signed(waits, trial),
         "has_second_key": bool(desk().second_key),
@@ -73,6 +77,11 @@ def shown(
         "typed": typed or {},
     }
     return page("freeze.html", status, fault=fault, **named)
+
+
+def titles_of(prepared: Prepared) -> dict[str, str]:
+    """The titles of the nodes in the table that was prepared."""
+    return {code: row[-1] for code, row in rows_of(prepared.text.encode()).items()}
 
 
 def signed(prepared: Optional[Prepared], trial: Optional[Tried]) -> Optional[Signed]:

@@ -19,6 +19,7 @@ from ..terminal import Fault, a_month
 from ..told import Told, whole
 from ..told import told as _
 from ..trial import state_of
+from .clock_faults import window_faults
 from .standing import TABLES
 
 FREEZE = "freeze"
@@ -75,6 +76,12 @@ def _looked_at(fields: list[str], line: int) -> list[str]:
         places = {"line": whole(line), "word": of_others(fields[0][:20]), "words": of_others(", ".join(WORDS))}
         raise NotRead(_("Line {line}: {word} is no word of a record here. Wanted is one of {words}.", **places))
     return fields
+
+
+def clock_warnings(text: str, clock: Clock) -> list[Told]:
+    """The warnings of windows in a text whose times the clock leaves out or has twice, which `records_of` read."""
+    rows = csv.reader(text.splitlines(keepends=True), strict=True)
+    return [it for fields in rows if fields for it in window_faults(fields, clock)]
 
 
 def at_clock(fields: list[str], clock: Clock) -> list[str]:

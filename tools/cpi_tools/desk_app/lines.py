@@ -7,7 +7,7 @@ from collections.abc import Callable, Mapping
 from markupsafe import Markup, escape
 
 from ..terminal import month_before
-from ..told import Figure, Told, told_of, whole
+from ..told import Price, Told, told_of, whole
 
 MONTHS, WIDE, HIGH, EDGE = 13, 120, 32, 3
 
@@ -45,7 +45,7 @@ def line_of(quotes: Mapping[int, tuple[str, int]], month: int, say: Callable[[To
         parts[-1] += f"{'L' if parts[-1] else 'M'}{x:.1f} {y:.1f}"
         places.append(f'<circle class="dot" cx="{x:.1f}" cy="{y:.1f}" r="{2.6 if each == month else 1.4}"/>')
     path = "".join(parts)
-    spans = {"months": whole(MONTHS), "low": Figure(low), "high": Figure(high)}
+    spans = {"months": whole(MONTHS), "low": Price(low), "high": Price(high)}
     name = told_of(
         "One price in {months} months, {low}",
         "{count} prices in {months} months, from {low} to {high}",

@@ -3,7 +3,7 @@
 from __future__ import annotations
 
 import io
-from typing import NamedTuple
+from typing import NamedTuple, Optional
 
 import flask
 from werkzeug.wrappers import Response
@@ -11,10 +11,12 @@ from werkzeug.wrappers import Response
 from ..csv_files import Writer, formulas_told, line_of
 from ..others import OwnLine, Worded, of_others, own_line
 from ..report_language import ENGLISH, Teller
-from ..told import moment_of
+from ..told import Told, moment_of
 from ..told import told as _
 from .asked import csv_file, desk, page, session
 from .desk_log import ANSWERED, CUT_OFF, FROZEN, LOOKED_UP, NOT_SENT, SAID, SENT, Entry
+from .record_names import names_in
+from .record_sentences import sentence_of
 from .told import told
 
 views = flask.Blueprint("log", __name__)
@@ -36,6 +38,7 @@ class Line(NamedTuple):
     by: str
     said: Worded
     answer: str
+    says: Optional[Told] = None
 
     @property
     def is_step(self) -> bool:
@@ -45,7 +48,7 @@ class Line(NamedTuple):
     @property
     def cells(self) -> list[object]:
         """The line of a file."""
-        return [self.number, moment_of(self.at), *self[2:]]
+        return [self.number, moment_of(self.at), self.by, self.said, self.answer]
 
 
 def lines_of(entries: list[Entry]) -> list[Line]:
@@ -55,12 +58,15 @@ def lines_of(entries: list[Entry]) -> list[Line]:
     for it in entries:
         if it.what == SENT:
             end = settled.get(it.number)
+            names = names_in(it.records)
             for place, fields in enumerate(it.records):
                 if end is not None and end.what == NOT_SENT:
                     answer = _("not sent: {line}", line=own_line(end.text))
                 else:
                     answer = told(fields, end.replies[place] if end else None).answer
-                found.append(Line(it.number, it.at, it.by, of_others(line_of(fields)), answer))
+                found.append(
+                    Line(it.number, it.at, it.by, of_others(line_of(fields)), answer, sentence_of(fields, names))
+                )
         elif it.what not in (ANSWERED, LOOKED_UP, NOT_SENT):
             # (the file has it in English)
             found.append(Line(it.number, it.at, it.by, own_line(it.text), STEPS.get(it.what, it.what)))
@@ -72,7 +78,9 @@ def searched(lines: list[Line], query: str, teller: Teller = ENGLISH) -> list[Li
     words = query.casefold().split()
 
     def text_of(it: Line) -> str:
-        return " ".join(map(str, [*it.cells, teller.moment(it.at), teller.say(it.answer)])).casefold()
+        return " ".join(
+            map(str, [*it.cells, *map(teller.say, (moment_of(it.at), it.answer, it.says or ""))])
+        ).casefold()
 
     return [it for it in lines if all(word in text_of(it) for word in words)]
 
@@ -84,7 +92,8 @@ def show() -> Response:
     start = flask.request.args.get("from", "0")
     lines = searched(lines_of([*desk().log.entries]), query, desk().teller)[::-1]
     first = int(start) if start.isdecimal() and len(start) < 9 else 0
-    named = {"query": query, "count": len(lines), "first": first, "step": SHOWN}
+    named: dict[str, object] = {"query": query, "count": len(lines), "first": first, "step": SHOWN}
+    named["record_says"] = sentence_of
     return page("log.html", lines=lines[first : first + SHOWN], **named)
 
 

@@ -12,7 +12,7 @@ from werkzeug.wrappers import Response
 from ..others import Worded, isolated, of_others
 from ..stored import read_copy
 from ..terminal import Fault
-from ..told import Figure, Told, month_of as month_words, told_of
+from ..told import Figure, Price as Amount, Told, month_of as month_words, told_of
 from ..told import told as _
 from .asked import desk, field, month_of, page, session
 from .changes import changed_by
@@ -149,10 +149,10 @@ def head_of(month: int, collector: int, count: int) -> Told:
 
 def prices_of(it: Look) -> Told:
     """The last price and this one."""
-    price = Figure(it.price)
+    price = Amount(it.price)
     if it.last is None:
         return _("no last price, now {price}", price=price)
     if not it.percent:
-        return _("last price {last}, now {price}", last=Figure(it.last), price=price)
-    places = {"last": Figure(it.last), "price": price, "change": Figure(it.percent)}
+        return _("last price {last}, now {price}", last=Amount(it.last), price=price)
+    places = {"last": Amount(it.last), "price": price, "change": Figure(it.percent)}
     return _("last price {last}, now {price}, {change} percent", **places)

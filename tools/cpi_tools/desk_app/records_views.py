@@ -10,16 +10,19 @@ from werkzeug.wrappers import Response
 
 from ..csv_files import line_of
 from ..program import Reply
-from ..stored import read_copy
+from ..stored import StoredOffice, read_copy
 from ..terminal import Fault
+from ..told import Told as Sentence
 from ..told import told as _
 from .asked import after, desk, field, page, session, what_came
 from .changes import replaced_since
 from .faults import says
 from .given_files import PLAN, given
 from .judging import judge as judge_on_copy
-from .judging import lines_of, records_of
+from .judging import clock_warnings, lines_of, records_of
 from .offers import Offer
+from .record_names import names_in, names_of
+from .record_sentences import sentence_of
 from .standing import what_stands
 from .told import NOT_SENT, Told, told
 
@@ -34,10 +37,12 @@ MOST_SHOWN_BYTES = 500_000
 
 
 class Row(NamedTuple):
-    """A record with the line at which it is, and what is told of it."""
+    """A record with the line at which it is, what is told of it, and its sentence if there is one."""
 
     line: int
     told: Told
+    fields: Sequence[str]
+    says: Optional[Sentence] = None
 
 
 @views.get("/records")
@@ -78,20 +83,21 @@ def judge() -> Response:
             replies, warnings = judge_on_copy(desk().cpi, copy.path, records)
             with read_copy(copy.path) as office:
                 stood = what_stands(office, records)
+                rows = [Row(*it) for it in zip(lines_of(found.text), map(told, records, replies), records)]
+                listed = said(office, shown(rows), records)
     except Fault as fault:
         kept = "" if found.plan or len(found.text) > MOST_SHOWN_BYTES else found.text
         return records_page(400, text=kept, plan=found.plan, fault=says(fault), file=found.file)
-    rows = [Row(*it) for it in zip(lines_of(found.text), map(told, records, replies))]
     good = [each for each, row in zip(zip(records, stood), rows) if row.told.is_done]
     bad = [row for row in rows if not row.told.is_done]
     offer = Offer([fields for fields, _stood in good], [each for _fields, each in good])
     came = {
         "text": "" if found.plan else "".join(f"{row.told.record}\n" for row in bad),
         "plan": found.plan if bad else None,
-        "rows": shown(rows),
+        "rows": listed,
         "good": len(good),
         "bad": len(bad),
-        "warnings": warnings,
+        "warnings": [*clock_warnings(found.text, desk().given.clock), *warnings],
         "offer": desk().offers.keep(session().person, offer) if good else "",
     }
     return after("records.show", came)
@@ -103,6 +109,12 @@ def shown(rows: Sequence[Row]) -> list[Row]:
         return [*rows]
     kinds = [[row for row in rows if row.told.is_done == is_done] for is_done in (False, True)]
     return [row for kind in kinds for row in kind[:SHOWN]]
+
+
+def said(office: StoredOffice, rows: Sequence[Row], records: Sequence[Sequence[str]]) -> list[Row]:
+    """The rows that a page lists with their sentences; `records` are all that were judged, which may name each other."""
+    names = names_of(office, records, [row.fields for row in rows])
+    return [row._replace(says=sentence_of(row.fields, names)) for row in rows]
 
 
 @views.post("/records/send")
@@ -124,7 +136,9 @@ def send() -> Response:
     text = left + "".join(
         f"{row.record}\n" for row in rows if row.answer == NOT_SENT or row.answer.startswith("refused")
     )
-    listed = rows if len(rows) <= SHOWN else [row for row in rows if not row.is_done][:SHOWN]
+    names = names_in(records)
+    pairs = [(row, sentence_of(fields, names)) for row, fields in zip(rows, records)]
+    listed = pairs if len(rows) <= SHOWN else [pair for pair in pairs if not pair[0].is_done][:SHOWN]
     came = {"rows": listed, "count": len(rows), "text": text, "done": sum(row.is_done for row in rows)}
     return after("records.sent", came)
 

@@ -31,8 +31,12 @@ from ..terminal import Fault, month_text
 from ..told import Told, told_of, whole
 from ..told import told as _
 from .asked import after, csv_file, desk, field, page, session, what_came
+from .bounds import NOT_READ, bounds_shown, has_bounds
+from .clock_faults import window_faults
 from .faults import says
 from .pasted import pasted
+from .record_names import names_of
+from .record_sentences import sentence_of
 from .sample_kinds import KINDS, Kind
 from .sampling import NotAsSeen, Sent, answer_of, judge, send, settle, state_of, sum_of_rows
 from .tray import COLLECTORS, GOING, GOOD, NEW, REFUSED, Waiting
@@ -107,6 +111,7 @@ def shown(
     """The page of a kind, with what came of a step; `text` is what couldn't be read, `typed` the fields of a row that
     wasn't taken."""
     waiting = desk().tray.rows(session().person, kind.name)
+    page_rows = shown_waiting(waiting)
     chosen = flask.request.args.get("mend", "") or flask.request.form.get("instead", "").replace(" ", ",")
     mended = [it for it in waiting if str(it.number) in chosen.split(",")]
     named: dict[str, Any] = {
@@ -116,13 +121,16 @@ def shown(
         "query": flask.request.args.get("query", ""),
         "cut": cut_of(kind),
         "step": SHOWN,
-        "waiting_rows": shown_waiting(waiting),
+        "waiting_rows": page_rows,
         "waiting_first": number_in("waiting"),
         "waiting_count": len(waiting),
         "good": sum(it.state == GOOD for it in waiting),
         "refused_numbers": ",".join(str(it.number) for it in waiting if it.state == REFUSED),
         "seen": state_of(waiting),
         "answer_of": answer_of,
+        "cells_shown": cells_shown,
+        "sentences": sentences_of(kind, page_rows),
+        "clock_faults": [[*window_faults([kind.word, *row.cells], desk().given.clock)] for row in page_rows],
         "mended": mended[0] if len(mended) == 1 else None,
         "cells": cells_of(kind, typed, mended),
         "instead": " ".join(str(it.number) for it in mended),
@@ -152,7 +160,10 @@ def listed(kind: Kind) -> Shown:
             return windows(office)
         query = flask.request.args.get("query", "")
         found = found_in(office, kind.name, query, cut_of(kind), number_in("from"), SHOWN)
-    return Shown(LISTINGS[kind.name].columns, found.total, found.first, rows_of(kind, found))
+    columns, rows = LISTINGS[kind.name].columns, rows_of(kind, found)
+    if has_bounds(kind):
+        rows = [bounds_shown(columns, row, desk().teller.in_percent) for row in rows]
+    return Shown(columns, found.total, found.first, rows)
 
 
 def rows_of(kind: Kind, found: Found) -> list[list[str]]:
@@ -172,6 +183,25 @@ def cut_of(kind: Kind) -> dict[str, str]:
     """The values to which the address cuts a list down, by their columns."""
     columns = LISTINGS[kind.name].cut_by if kind.name in LISTINGS else ()
     return {it: flask.request.args[it] for it in columns if flask.request.args.get(it)}
+
+
+def cells_shown(kind: Kind, row: Waiting) -> list[str]:
+    """The cells of a waiting row: those of its record, and as they were given if it has none or they weren't read."""
+    if not row.record or kind.name == "calendar" or row.why == NOT_READ:
+        return row.cells
+    if has_bounds(kind):
+        return bounds_shown(kind.columns, row.record[1:], desk().teller.in_percent)
+    return row.record[1:]
+
+
+def sentences_of(kind: Kind, rows: Sequence[Waiting]) -> list[Optional[Told]]:
+    """The sentences of waiting rows that were judged."""
+    if not rows:
+        return []
+    records = [row.record if row.why != NOT_READ else [] for row in rows]
+    with desk().copies_now() as copy, read_copy(copy.path) as office:
+        names = names_of(office, records, records)
+    return [sentence_of(each, names) if each else None for each in records]
 
 
 def shown_waiting(rows: Sequence[Waiting]) -> list[Waiting]:

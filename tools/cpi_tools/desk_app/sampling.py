@@ -15,13 +15,14 @@ from ..stored import StoredOffice, read_copy
 from ..others import Worded, own_line
 from ..terminal import Fault
 from ..told import told as _
+from .bounds import NOT_READ, bounds_read, has_bounds, why_not_read
 from .changes import replaced_since
 from .desk import Desk
 from .desk_log import ANSWERED, HIDDEN, LOOKED_UP, SENT, Entry, shown
 from .free_slots import FreeSlots
 from .freezes import sum_of
 from .judging import at_clock, judged
-from .sample_kinds import Kind
+from .sample_kinds import KINDS, Kind
 from .sessions import Session
 from .standing import what_stands
 from .told import NO_REPLY, NOT_SENT, told
@@ -45,6 +46,8 @@ def answer_of(row: Waiting) -> Worded:
     """What a page says next to a row."""
     if row.reply is not None:
         return told(row.record, row.reply).answer
+    if row.why == NOT_READ:
+        return why_not_read(row.cells, KINDS["items"])
     if row.why in WHY or not row.why:
         return WHY.get(row.why, Worded(""))
     return _("Not sent: {fault}", fault=own_line(row.why))
@@ -65,10 +68,17 @@ def records_of(tray: Tray, kind: Kind, rows: Sequence[Waiting], office: StoredOf
     """The records of rows: with the slots and keys that nobody gave, and with moments by the office's clock."""
     if kind.name == COLLECTORS:
         return [_with_key(tray, kind, it) for it in rows]
+    if has_bounds(kind):
+        return [_with_bounds(kind, it) for it in rows]
     cells = [[*it.cells] for it in rows]
     if kind.optional:
         fill_slots(kind, cells, office)
     return [Record(row, at_clock([kind.word, *own], clock)) for row, own in zip(rows, cells)]
+
+
+def _with_bounds(kind: Kind, row: Waiting) -> Record:
+    cells, why = bounds_read(kind, row.cells)
+    return Record(row, [kind.word, *cells], NOT_READ if why else "")
 
 
 def _with_key(tray: Tray, kind: Kind, row: Waiting) -> Record:

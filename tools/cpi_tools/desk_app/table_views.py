@@ -3,7 +3,6 @@ prices would change."""
 
 from __future__ import annotations
 
-import re
 import time
 from typing import Optional
 
@@ -11,26 +10,22 @@ import flask
 from werkzeug.wrappers import Response
 
 from .. import charts
-from ..desk.trying import Tried as Asked, differences, differing, what_if
-from ..desk.words import a_code, a_price
+from ..desk.trying import differences, differing, what_if
 from ..explain.lines import Explanation
-from ..explain.money import Money
 from ..explain.sources import Sources
 from ..explain.whole import explained
+from ..money import Money
 from ..sections import CODE, NUMBER, TEXT, Column, Section
-from ..stored import REASONS, read_copy
+from ..stored import read_copy
 from ..others import Worded, of_others
-from ..terminal import Fault, a_slot
+from ..terminal import Fault
 from ..told import told as _
-from ..told import whole
 from .asked import after, csv_file, desk, field, file_name, month_of, page, section_file, session, what_came
 from .faults import says
 from .trials import Tried
+from .what_if_texts import example, tried_of
 
 views = flask.Blueprint("table", __name__)
-
-EXAMPLE = "7/2=210\n8/1=missing\n01.1.1.2-01"
-"""What the field of prices to try has as long as it is empty."""
 
 LINES_SHOWN = 12
 """A part of an explanation with more lines is folded."""
@@ -95,7 +90,7 @@ def explain(month: str, code: str) -> Response:
     if found is None or not found.report.table:
         return flask.redirect(flask.url_for("table.show", month=month))
     with read_copy(found.copy) as office:
-        it: Explanation = explained(Sources(office, month_of(month), None, Money(100, "")), code)
+        it: Explanation = explained(Sources(office, month_of(month), None, desk().teller.money() or Money(1)), code)
     return page("explained.html", month=month, it=it, found=found, shown=LINES_SHOWN)
 
 
@@ -108,50 +103,30 @@ def what_if_page(month: str) -> Response:
 def shown_what_if(month: str, status: int = 200, /, **came: object) -> Response:
     """The form, with what came of it."""
     month_of(month)
+    money = desk().teller.money()
     empty: dict[str, object] = {"text": "", "fault": Worded(""), "result": None}
-    return page("what-if.html", status, month=month, example=EXAMPLE, **{**empty, **came})
+    named = {"example": example(money), "digits": digits_of(money)}
+    return page("what-if.html", status, month=month, **named, **{**empty, **came})
+
+
+def digits_of(money: Optional[Money]) -> str:
+    """How prices of the form are read: the decimals of an amount, or nothing for minor units."""
+    return str(money.digits) if money else ""
 
 
 @views.post("/month/<month>/what-if")
 def try_prices(month: str) -> Response:
     """What a handful of prices would change."""
-    number, text = month_of(month), field("text")
+    number, text, money = month_of(month), field("text"), desk().teller.money()
+    if flask.request.form.get("digits", digits_of(money)) != digits_of(money):
+        fault = _(
+            "The currency's digits were changed after your page was loaded: look at the prices, and try them again."
+        )
+        return shown_what_if(month, 409, text=text, fault=fault)
     try:
-        tried = tried_of(text)
+        tried = tried_of(text, money, desk().teller.speech.signs.get(",", ","))
         with desk().copies_now() as copy:
             result = differences(what_if(desk().cpi, copy.path, number, int(time.time()), tried))
     except Fault as fault:
         return shown_what_if(month, 400, text=text, fault=says(fault))
     return after("table.what_if_page", {"text": text, "result": result}, month=month)
-
-
-def tried_of(text: str) -> Asked:
-    """What a text asks to try: `7/2=210`, `7/2=missing`, a reason for which it is missing, or a code to carry, one a
-    line. Raises Fault."""
-    missing, prices, carry = list[tuple[int, int]](), list[tuple[tuple[int, int], int]](), list[str]()
-    for place, line in enumerate(text.split("\n"), 1):
-        word = re.sub(r"\s", "", line)
-        slot, value = (word.split("=", 1) + [""])[:2]
-        try:
-            if value in ("missing", *REASONS):
-                missing.append(a_slot(slot))
-            elif value:
-                prices.append(a_price(word))
-            elif word:
-                carry.append(a_code(word))
-        except Exception as fault:
-            places = {"price": of_others("7/2=210"), "missing": of_others("7/2=missing")}
-            raise Fault(
-                _(
-                    "Line {line}: {text} can't be tried. Wanted is a price like {price}, or {missing}, or a code like"
-                    " {code} to carry.",
-                    line=whole(place),
-                    text=of_others(line.strip()[:40]),
-                    code=of_others("01.1.1.1-01"),
-                    **places,
-                )
-            ) from fault
-    if not (missing or prices or carry):
-        places = {"price": of_others("7/2=210"), "missing": of_others("7/2=missing")}
-        raise Fault(_("Write what to try, one a line: a price like {price}, or {missing}.", **places))
-    return Asked(missing, REASONS[0], prices, carry)

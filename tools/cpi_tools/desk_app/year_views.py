@@ -11,7 +11,7 @@ sheet, the settings or all.
 from __future__ import annotations
 
 import time
-from collections.abc import Mapping
+from collections.abc import Mapping, Sequence
 from fractions import Fraction
 from typing import Any, Optional
 
@@ -35,6 +35,8 @@ from .faults import says
 from .freezes import sum_of
 from .office import MOST_BYTES, body_of
 from .pasted import pasted
+from .record_names import names_in, names_of
+from .record_sentences import sentence_of
 from .records_views import answered
 from .sample_views import SHOWN, number_in
 
@@ -128,7 +130,7 @@ def shown(
         "running": drafts.running,
         "checked": checked,
         "too_long": too_long(checked) if checked else NOTHING,
-        "lines": [line(it) for it in checked.records[:SHOWN]] if checked else [],
+        "lines": lines_said(checked.records) if checked else [],
         "sent": drafts.sent.get(draft.year, []),
         "typed": filled,
         "is_row": is_row,
@@ -179,6 +181,18 @@ def line(record: list[str]) -> Worded:
         year = of_others(record[1])
         return told_of("the plan of {year}, {count} row", "the plan of {year}, {count} rows", count, year=year)
     return of_others(line_of(hidden(record)))
+
+
+def lines_said(records: Sequence[list[str]]) -> list[tuple[Optional[Told], Worded]]:
+    """The first records of a draft, each as a sentence, if it is one, and as a line."""
+    listed = records[:SHOWN]
+    try:
+        with desk().copies_now() as copy, read_copy(copy.path) as office:
+            names = names_of(office, records, listed)
+    except Fault:
+        # (the office is away: what it calls things isn't known then)
+        names = names_in(records)
+    return [(sentence_of(it, names), line(it)) for it in listed]
 
 
 def too_long(checked: Checked) -> Worded:
@@ -311,7 +325,8 @@ def send(year: int) -> Response:
     except Fault as fault:
         return shown(draft, 503, _("Nothing was sent: {fault}", fault=says(fault)))
     rows = answered([hidden(it) for it in checked.records], replies)
-    left = [Left(line(of), it.answer) for it, of in zip(rows, checked.records) if not it.is_done]
+    names, pairs = names_in(checked.records), zip(rows, checked.records)
+    left = [Left(line(of), it.answer, sentence_of(of, names)) for it, of in pairs if not it.is_done]
     desk().drafts.sent[year] = left
     done = len(rows) - len(left)
     if left:

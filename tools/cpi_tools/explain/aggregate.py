@@ -12,7 +12,7 @@ from ..others import of_others
 from ..sections import Cell, Section, columns
 from ..stored import OBSERVED, Frozen, Series
 from ..terminal import link_month, month_before, slot_text
-from ..told import Code, Told, month_of, told
+from ..told import Code, Price, Ticks, Told, month_of, told
 from . import wording
 from .lines import WITHIN, Line, Part, summed
 from .sources import WHOLE_SCALE, Sources
@@ -23,8 +23,8 @@ def mark_text(quote: Optional[Frozen], has_ended: bool = False) -> Told:
     if quote is None:
         return told("no longer priced") if has_ended else told("nothing was sent")
     if quote.mark in OBSERVED:
-        # t: a mark and its price in minor units: price 210
-        return told("{mark} {price}", mark=mark_words(quote.mark), price=quote.value)
+        # t: a mark and its price: price 2.10
+        return told("{mark} {price}", mark=mark_words(quote.mark), price=Price(quote.value))
     # t: there is no price, and why: missing, stock
     return told("missing, {reason}", reason=mark_words(quote.mark))
 
@@ -73,8 +73,9 @@ def base_line(sources: Sources, series: Series) -> Line:
         sent = who_sent(sources, series, link, quote)
         # t: what a series prices, its mark in a month, and who sent it: RICE Rice, 1 kg; price in 2025-12 by collector 7
         says = told("{about}; {mark} in {month} {sent}", mark=mark_words(quote.mark), sent=sent, **places)
-        return Line(name, f"10000 * {quote.value}", ticks, says)
-    return Line(name, "", ticks, told("{about}; not observed in {month}: its carried price of that month", **places))
+        return Line(name, f"10000 * {quote.value}", ticks, says, amount=Ticks(ticks))
+    says = told("{about}; not observed in {month}: its carried price of that month", **places)
+    return Line(name, "", ticks, says, amount=Ticks(ticks))
 
 
 def quote_line(sources: Sources, series: Series) -> Line:
@@ -93,7 +94,8 @@ def quote_line(sources: Sources, series: Series) -> Line:
     by = who_sent(sources, series, sources.month, quote)
     if quote.mark in OBSERVED:
         # t: a mark, and who sent it: price, by collector 7, slot 2
-        return Line(name, "", quote.value, told("{mark}, {sent}", mark=mark_words(quote.mark), sent=by))
+        says = told("{mark}, {sent}", mark=mark_words(quote.mark), sent=by)
+        return Line(name, "", quote.value, says, amount=Price(quote.value))
     return Line(name, "", None, told("missing, {reason}, {sent}", reason=mark_words(quote.mark), sent=by))
 
 
@@ -109,7 +111,8 @@ def then_line(sources: Sources, series: Series) -> Line:
     if (over, under) != WHOLE_SCALE:
         # t: says is a text such as: its base; observed that month
         says = told("{says}; a minor unit counts as {ratio} ticks", says=says, ratio=Code(f"{over}/{under}"))
-    return Line(told("earlier carried price of {series}", series=Code(slot_text(series))), "", ticks, says)
+    name = told("earlier carried price of {series}", series=Code(slot_text(series)))
+    return Line(name, "", ticks, says, amount=Ticks(ticks))
 
 
 def observed_line(sources: Sources, series: Series) -> Line:
@@ -119,7 +122,8 @@ def observed_line(sources: Sources, series: Series) -> Line:
     says = told("matched") if is_matched else told("comparable; not observed in the month before, so not matched")
     row = sources.row("carried_2", f"{series[0]}, {series[1]}")
     expression = f"round({sources.own.frozen[series].value} * {over} / {under})"
-    return Line(carried_price_of(series), expression, sources.own.carried[series].ticks, says, row)
+    ticks = sources.own.carried[series].ticks
+    return Line(carried_price_of(series), expression, ticks, says, row, amount=Ticks(ticks))
 
 
 def carried_price_of(series: Series) -> Told:
@@ -135,7 +139,7 @@ def imputed_lines(sources: Sources, series: Series, up: int, down: int) -> Itera
     entered = told("imputed: an 'other' replacement enters without moving the index")
     says = entered if is_other else told("imputed by the movement")
     expression = f"round({sources.then(series)[0]} * {up} / {down})"
-    yield Line(carried_price_of(series), expression, it.ticks, says, row)
+    yield Line(carried_price_of(series), expression, it.ticks, says, row, amount=Ticks(it.ticks))
     if quote is not None and is_other:
         says = told("ticks that a minor unit of its price counts as from now on")
         scale = Fraction(it.knum, it.kden)
@@ -159,8 +163,8 @@ def movement(sources: Sources, code: str, sample: Sequence[Series]) -> tuple[int
         told("carried prices of the {count} matched series in {month}", count=count, month=month) for month in months
     ]
     lines = [
-        Line(told("moved to"), summed(now), up, what[0]),
-        Line(told("moved from"), summed(then), down, what[1]),
+        Line(told("moved to"), summed(now), up, what[0], amount=Ticks(up)),
+        Line(told("moved from"), summed(then), down, what[1], amount=Ticks(down)),
         Line(told("movement"), f"{up} / {down}", Fraction(up, down), told("what is imputed moves by this")),
     ]
     return up, down, lines
@@ -181,11 +185,12 @@ def unmatched_lines(sources: Sources, code: str, sample: Sequence[Series]) -> li
 def index_lines(sources: Sources, code: str, sample: Sequence[Series]) -> list[Line]:
     """The index of an aggregate, of its sums."""
     now, bases = [sources.own.carried[it].ticks for it in sample], [sources.base(it)[0] for it in sample]
-    expression = f"round({HUNDRED} * {sum(now)} / {sum(bases)})"
+    up, down = sum(now), sum(bases)
+    expression = f"round({HUNDRED} * {up} / {down})"
     row = sources.row("level_2", code)
     return [
-        Line(told("sum of carried prices"), summed(now), sum(now), told("of the sample")),
-        Line(told("sum of bases"), summed(bases), sum(bases), told("of the sample")),
+        Line(told("sum of carried prices"), summed(now), up, told("of the sample"), amount=Ticks(up)),
+        Line(told("sum of bases"), summed(bases), down, told("of the sample"), amount=Ticks(down)),
         Line(told("index"), expression, sources.own.levels[code].within, WITHIN, row, True),
     ]
 
@@ -255,7 +260,7 @@ def sample_glance(sources: Sources, code: str) -> Section:
         *("series", "priced by", "item", "outlet", "found", "#receipt", "#counted before", "#counts as", "#percent"),
         "how",
     )
-    note = told("Greatest changes first; what a series counts as is in ticks.")
+    note = told("Greatest changes first.")
     return Section("glance", told("The sample at a glance"), note, heads, rows, told("No series."))
 
 
@@ -272,8 +277,8 @@ def glance_row(sources: Sources, series: Series, now: int, then: int) -> list[Ce
         sources.outlets[holder.outlet],
         mark_text(quote, holder.has_ended(sources.month)),
         sent.receipt if sent and stands else None,
-        then,
-        now,
+        Ticks(then),
+        Ticks(now),
         decimal(100 * (now - then), then, 1),
         told("matched") if sources.is_matched(series) else how,
     ]

@@ -10,7 +10,7 @@ from ..others import of_others
 from ..sections import Cell, Section, columns
 from ..stored import Assignment, Carried, Frozen, Release, Series, StoredOffice
 from ..terminal import slot_text
-from ..told import Code, Told, month_of, row as row_of, told, told_of
+from ..told import Code, Price, Ticks, Told, month_of, row as row_of, told, told_of
 from .aggregate import mark_text
 from .sources import NotExplained
 
@@ -107,7 +107,7 @@ def handed_over(former: Assignment, it: Assignment, price: Optional[int]) -> Tol
         "Handed over from collector {former}, slot {former_slot} to collector {collector}, slot {slot} from {month} on, with"
         " the last price {price}.",
         **places,
-        price=price,
+        price=Price(price),
     )
 
 
@@ -133,4 +133,4 @@ def carried_cells(it: Optional[Carried]) -> list[Cell]:
     """Ticks, scale, and how they came."""
     if it is None:
         return [None, "", told("in no sample")]
-    return [it.ticks, f"{it.knum}/{it.kden}", told("imputed") if it.imputed else told("observed")]
+    return [Ticks(it.ticks), f"{it.knum}/{it.kden}", told("imputed") if it.imputed else told("observed")]

@@ -13,7 +13,7 @@ from typing import NamedTuple, Union
 
 from ..others import of_others
 from ..sections import Section
-from ..told import Code, Told, told
+from ..told import Code, Price, Ticks, Told, told
 from .expressions import value_of
 
 Value = Union[int, Fraction, None]
@@ -24,8 +24,8 @@ WITHIN = told("within the year; the link month is 100")
 
 class Line:
     """A figure: its name, the expression that gives it (none where it is given), and its value (None where there is
-    none); what it is in words, the row of the file that holds the value, whether it is what is published, and which
-    aggregate should be on the row's carry list and isn't."""
+    none); what it is in words, the row of the file that holds the value, whether it is what is published, which
+    aggregate should be on the row's carry list and isn't, and the amount of money that the value is, if it is one."""
 
     def __init__(
         self,
@@ -36,9 +36,10 @@ class Line:
         row: str = "",
         is_result: bool = False,
         uncarried: str = "",
+        amount: Union[Price, Ticks, None] = None,
     ):
         self.name, self.expression, self.value, self.says = name, expression, value, says
-        self.row, self.is_result, self.uncarried = row, is_result, uncarried
+        self.row, self.is_result, self.uncarried, self.amount = row, is_result, uncarried, amount
 
     @cached_property
     def is_true(self) -> bool:

@@ -5,6 +5,7 @@ from __future__ import annotations
 from functools import cached_property
 from typing import NamedTuple, Optional
 
+from ..money import TICKS, Money
 from ..stored import (
     COMPARABLE,
     OBSERVED,
@@ -21,7 +22,6 @@ from ..stored import (
 )
 from ..terminal import Fault, link_month, month_before
 from ..told import Told, month_of, row, told, whole
-from .money import TICKS, Money
 
 AGGREGATE = 5
 """The depth of an elementary aggregate."""

@@ -13,13 +13,13 @@ from typing import NamedTuple, Optional
 
 from ..copying import private_copy
 from ..folders import refuse_shared, written_folder
+from ..money import Money
 from ..report_language import ENGLISH, Teller, add_language, chosen_teller
 from ..sections import text_of
 from ..stored import read_copy
 from ..terminal import Fault, Progress, ToolWords, a_month, a_slot, at_least, because_of, counted, month_text, needs
 from .life import Life, life_of
 from .lines import Explanation
-from .money import Money
 from .sources import Sources
 from .whole import explained
 

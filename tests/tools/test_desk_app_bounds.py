@@ -1,0 +1,108 @@
+"""Bounds of items on the desk's pages: shown and typed in percent, and never read as anything else."""
+
+from __future__ import annotations
+
+from collections.abc import Iterator
+from pathlib import Path
+from typing import Optional
+
+import pytest
+
+from cpi_tools.copying import private_copy
+from cpi_tools.desk_app.bounds import bound_of, percent_of
+from cpi_tools.program import Cpi
+from cpi_tools.stored import read_copy
+
+from . import surveys
+from .desk_apps import ADA, Application, Person, applied, words_of
+
+TEA = {"item": "TEA", "text": "Tea, black", "unit": "100 g"}
+
+
+@pytest.fixture
+def application(cpi: Cpi, tmp_path: Path) -> Iterator[Application]:
+    with applied(cpi, surveys.small(cpi, tmp_path), tmp_path / "room") as it:
+        yield it
+
+
+@pytest.fixture
+def ada(application: Application) -> Person:
+    return application.person(ADA)
+
+
+def items(application: Application) -> dict[str, tuple[int, int]]:
+    with private_copy(application.file) as copy, read_copy(copy) as office:
+        return {it.code: (it.low, it.high) for it in office.items()}
+
+
+@pytest.mark.parametrize(
+    "text, column, thousandths",
+    [
+        ("-45 %", "low", 550),
+        ("\u221245\u202f%", "low", 550),
+        ("\u061c\u2212\u0664\u0665\u066b\u0665\u066a", "low", 545),
+        ("+90", "high", 1900),
+        ("90 %", "high", 1900),
+        ("+2,5%", "high", 1025),
+        ("0", "low", 1000),
+        ("0", "high", 1000),
+        ("-99.9 %", "low", 1),
+        ("+900 %", "high", 10_000),
+        ("550", "low", None),
+        ("45", "low", None),
+        ("45 %", "low", None),
+        ("1900", "high", None),
+        ("1.9", "high", None),
+        ("90", "high", None),
+        ("+1,500 %", "high", None),
+        ("+1 500 %", "high", None),
+        ("-100 %", "low", None),
+        ("+900.1 %", "high", None),
+        ("-0.25 %", "low", None),
+        ("+-5 %", "high", None),
+        ("", "low", None),
+        ("5%%", "high", None),
+        ("9" * 5000, "high", None),
+    ],
+)
+def test_a_text_is_a_bound_or_none(text: str, column: str, thousandths: Optional[int]) -> None:
+    bound = bound_of(text, column)
+    assert bound.thousandths == thousandths and (bound.why is None) == (thousandths is not None)
+
+
+def test_each_bound_is_written_as_it_is_read() -> None:
+    for least, most, column in ((1, 1000, "low"), (1000, 10_000, "high")):
+        for bound in range(least, most + 1):
+            assert bound_of(f"{percent_of(bound)}\u202f%", column).thousandths == bound
+
+
+def test_a_bound_that_is_typed_in_percent_goes_to_the_office(application: Application, ada: Person) -> None:
+    ada.fill("/sample/items", "/items/judge", **TEA, low="\u221245 %", high="+90 %")
+    assert "TEA Tea, black 100 g \u221245 % +90 %" in ada.words("/sample/items")
+    ada.fill("/sample/items", "/items/send")
+    assert items(application)["TEA"] == (550, 1900)
+    assert "TEA Tea, black 100 g \u221245 % +90 % 0" in ada.words("/sample/items")
+    file = ada.get("/sample/items.csv").text
+    assert ",550,1900," in file and "The file has bounds in thousandths" in ada.words("/sample/items")
+
+
+def test_a_text_that_is_no_bound_stays_as_it_was_typed_with_why(application: Application, ada: Person) -> None:
+    ada.fill("/sample/items", "/items/judge", **TEA, low="-45 %", high="1.9")
+    page = ada.get("/sample/items")
+    words = words_of(page.text)
+    assert "TEA Tea, black 100 g -45 % 1.9" in words and "1019" not in page.text and "Send 1 row" not in words
+    assert "1.9 ” isn't read as an upper bound. Wanted is a change in percent with its sign, from 0 % to" in words
+    number = application.desk.tray.rows(ADA, "items")[0].number
+    mended = ada.get(f"/sample/items?mend={number}").text
+    assert 'name="high" value="1.9"' in mended and 'name="low" value="-45 %"' in mended
+    ada.fill(f"/sample/items?mend={number}", "/items/judge", 1, **TEA, low="-45 %", high="+90 %")
+    assert "Send 1 row" in ada.words("/sample/items") and len(application.desk.tray.rows(ADA, "items")) == 1
+
+
+def test_pasted_rows_are_read_so_too_and_the_others_are_sent(application: Application, ada: Person) -> None:
+    ada.fill("/sample/items", "/items/judge", 1, pasted="TEA\tTea\t100 g\t-50 %\t+100 %\nSALT\tSalt\t1 kg\t500\t2000\n")
+    words = ada.words("/sample/items")
+    assert "Send 1 row" in words and "SALT Salt 1 kg 500 2000" in words and "500 ” isn't read as a lower bound" in words
+    ada.fill("/sample/items", "/items/send")
+    assert items(application)["TEA"] == (500, 2000) and "SALT" not in items(application)
+    assert "SALT Salt 1 kg 500 2000" in ada.words("/sample/items")
