@@ -87,7 +87,7 @@ SITE = "published"
 """The folder of the website."""
 
 CALENDAR = "calendar.json"
-"""The windows of the office's calendar, as they were when it started."""
+"""The windows of the office's calendar, which the desk's application writes again once it sends one."""
 
 DESK_SOCKET = "desk.sock"
 """Where the desk's application listens for the front, and for nobody else: it is in the folder of a trial."""

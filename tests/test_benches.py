@@ -94,6 +94,10 @@ FORMS: dict[str, list[str]] = {
         ),
     ],
     "follow": [ANY, ANY, *rows("none/folder/rsync", 5), r"folder: .* whole", r"rsync: .* whole"],
+    "looks": [
+        rf"{N} series, {N} quotes, a file of {N} MB",
+        rf"the histories of a page of 50: {N} s of processor",
+    ],
     "month": [rf"{ANY}the same", *rows("2026-01/2026-02", 3)],
     "order": [ANY, *rows("  1,000 items/  2,000 items/  2,000 outlets", 3)],
     "others": [ANY, *rows("     1/     2", 3)],

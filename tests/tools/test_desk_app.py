@@ -251,7 +251,11 @@ MORE_PAGES = (
 )
 
 
-def test_no_page_runs_a_script_or_is_kept(application: Application, ada: Person) -> None:
+OWN_SCRIPTS = {"/month/2026-02/looks": (["script-src 'self'"], ['<script src="/looks.js" type="module">'])}
+"""The pages that have a script of their own, with what their policy says of scripts, and their elements."""
+
+
+def test_no_page_runs_a_script_of_others_or_is_kept(application: Application, ada: Person) -> None:
     hostile = "outlet,13,<script>document.title='owned'</script>\n"
     offer = re.findall('name="offer" value="([^"]+)"', ada.sent("/records/judge", text=hostile).text)
     assert "1 of 1 done" in words_of(ada.sent("/records/send", offer=offer[0], left="").text)
@@ -260,8 +264,10 @@ def test_no_page_runs_a_script_or_is_kept(application: Application, ada: Person)
         answer = ada.get(path)
         assert answer.status_code == (404 if path == "/nowhere" else 200), path
         policy = answer.headers["Content-Security-Policy"]
-        assert policy.startswith("default-src 'none'; style-src 'self';") and "script-src" not in policy
-        assert answer.headers["Cache-Control"] == "no-store" and "<script" not in answer.text
+        scripts = re.findall("<script[^>]*>[^<]*", answer.text)
+        assert policy.startswith("default-src 'none'; style-src 'self';")
+        assert (re.findall("script-src[^;]*", policy), scripts) == OWN_SCRIPTS.get(path, ([], []))
+        assert answer.headers["Cache-Control"] == "no-store"
         assert "style=" not in answer.text and "<b>wheat" not in answer.text
     assert "&lt;b&gt;wheat&lt;/b&gt;" in ada.get("/month/2026-02/table").text
 

@@ -43,7 +43,7 @@ def with_site(application: Application, folder: Path, text: str = OFFICE) -> Pub
     desk = application.desk
     desk.given = desk.given._replace(site=Site(folder / "public", config))
     assert desk.given.site
-    desk.publisher = desk._publisher(desk.given.site)
+    desk.publisher, desk.deadlines = desk._publisher(desk.given.site), desk._deadlines(desk.given.site)
     return desk.publisher
 
 

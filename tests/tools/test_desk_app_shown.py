@@ -153,6 +153,7 @@ def test_another_s_freeze_isn_t_dropped(application: Application, ada: Person, b
 def test_a_look_of_another_price_isn_t_marked(application: Application, ada: Person, ben: Person) -> None:
     application.tried(ada, MONTH)
     seen, note = (ada.form(LOOKS, "/looks", at) for at in (0, 1))
+    many = ada.form(LOOKS, "/many")
     with peer_of(application.port) as peer:
         far = int(time.time()) + 86_400
         peer.sendall(message("POST /import", key=DESK_KEY, body=f"calendar,{MONTH},2000,{far},{far}\n".encode()))
@@ -163,6 +164,7 @@ def test_a_look_of_another_price_isn_t_marked(application: Application, ada: Per
     application.tried(ben, MONTH)
     late(ada.give(note, text="it is right"), BY_BEN, "it is right")
     late(ada.give(seen), BY_BEN)
+    late(ada.give(many, what="seen", checked="8-1-252"), BY_BEN)
     assert not application.desk.marks.seen_by_anybody(202602) and not application.desk.marks.notes_of(202602)
 
 
@@ -329,6 +331,7 @@ COVERED: dict[str, object] = {
     "freeze.confirm": test_another_freeze_isn_t_confirmed,
     "freeze.drop": test_another_s_freeze_isn_t_dropped,
     "looks.mark": test_a_look_of_another_price_isn_t_marked,
+    "looks.mark_many": test_a_look_of_another_price_isn_t_marked,
     "calendar.judge_year": test_a_window_that_somebody_set_isn_t_taken_back,
     "records.send": test_a_window_that_was_judged_before_another_isn_t_sent,
     "sample.send_rows": test_a_window_that_was_judged_before_another_isn_t_sent,

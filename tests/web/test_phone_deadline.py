@@ -6,11 +6,13 @@ import datetime
 import json
 import time
 from collections.abc import Iterator
+from pathlib import Path
 from typing import Union
 
 import pytest
 
-from .offices import ANNA, NOW, month_now
+from .desk_pages import Person, desk_pages
+from .offices import ANNA, DESK, NOW, month_now
 from .phone import Phone
 from .readable import faults_enlarged, faults_of_page
 from .stage import Stage
@@ -182,6 +184,80 @@ def test_without_a_line_the_deadline_is_still_there(phone: Phone, stage: Stage) 
     phone.open()
     phone.browser.wait_text("#line", "No line")
     assert phone.browser.text("#deadline") == f"The window closes on {told(stage)}, in 3 days."
+
+
+# ---- when the desk has set another window
+
+OFFICE = "[office]\nagency = EX\narea = XX\noffice = Office of the example\naddress = https://prices.example/index/\n"
+
+
+def test_a_window_that_the_desk_moves_is_on_the_phone_after_an_update(
+    phone: Phone, stage: Stage, tmp_path: Path
+) -> None:
+    config = tmp_path / "office.ini"
+    config.write_text(OFFICE, encoding="utf-8")
+    words = ("--site", str(stage.published), "--site-config", str(config))
+    with desk_pages(stage, tmp_path, "", *words) as pages:
+        phone.sign_in()
+        driver = phone.browser.driver
+        own = driver.current_window_handle
+        driver.switch_to.new_window("tab")
+        ada = Person(phone.browser, pages)
+        ada.sign_in("Ada")
+        closes = int(time.time()) + 5 * DAY + HOUR
+        ada.send(f"calendar,{NOW},1000,{closes},{closes}")
+        driver.close()
+        driver.switch_to.window(own)
+        phone.send()
+        phone.browser.wait_text("#deadline", f"The window closes on {told(stage)}, in 5 days.")
+    (row,) = [it for it in json.loads(stage.calendar.read_text())["months"] if it["month"] == NOW]
+    assert row["closes"] == closes
+
+
+def sets(stage: Stage, opens: float, closes: float) -> None:
+    """The desk sets the window of the month at the office, so many seconds from now; phones aren't told."""
+    now = int(time.time())
+    row = f"calendar,{NOW},{now + int(opens)},{now + int(closes)},{now + 90 * DAY}\n"
+    assert b"refused" not in stage.ask("POST", "/api/import", DESK, row).body
+
+
+def test_no_phone_says_closed_while_the_office_stores(phone: Phone, stage: Stage) -> None:
+    publish(stage, **{named(NOW): (-DAY * 5, -HOUR)})
+    phone.sign_in()
+    phone.browser.wait_text("#deadline", "The window closed on")
+    phone.enter(1, "3.21")
+    words = f"The office takes prices of {in_words(NOW)}. This phone doesn’t know yet until when."
+    phone.browser.wait_text("#deadline", words)
+    assert len(stage.wait_for_quotes(ANNA)) == 1
+    phone.open()
+    phone.browser.wait_text("#line", "All sent")
+    assert phone.browser.text("#deadline") == words
+    publish(stage, **{named(NOW): (-DAY * 5, 3 * DAY + HOUR)})
+    phone.send()
+    phone.browser.wait_text("#deadline", f"The window closes on {told(stage)}, in 3 days.")
+
+
+def test_a_window_that_has_closed_at_the_office_isnt_open_on_the_phone(phone: Phone, stage: Stage) -> None:
+    publish(stage, **{named(NOW): (-DAY * 5, 3 * DAY)})
+    phone.sign_in()
+    phone.enter(1, "3.21")
+    assert len(stage.wait_for_quotes(ANNA)) == 1
+    sets(stage, -9 * DAY, -DAY)
+    phone.enter(2, "4.00")
+    phone.browser.wait_text("#deadline", f"The office says that the window of {in_words(NOW)} has closed.")
+    # (what the office has gets its receipt at any moment, which says nothing of the window)
+    publish(stage, **{named(NOW): (-DAY * 9, -DAY + 1)})
+    phone.send()
+    phone.browser.wait_text("#deadline", "The window closed on")
+    phone.enter(1, "3.21")
+    phone.wait_told(1, "Receipt")
+    phone.browser.wait_text("#line", "")
+    assert "The window closed on" in phone.browser.text("#deadline")
+    sets(stage, DAY, 2 * DAY)
+    publish(stage, **{named(NOW): (-DAY * 9, DAY)})
+    phone.send()
+    phone.enter(3, "5.00")
+    phone.browser.wait_text("#deadline", f"The office says that the window of {in_words(NOW)} isn’t open yet.")
 
 
 # ---- which month is shown

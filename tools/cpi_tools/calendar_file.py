@@ -89,11 +89,20 @@ def write_calendar(file: Path, to: Path, since: Optional[int] = None, clock: Clo
     refuse_other_files(to)
     with private_copy(file) as copy, read_copy(copy) as office:
         windows = windows_since(office.calendar(), since, int(time.time()))
+    put_windows(to, windows, clock)
+    return windows
+
+
+def put_windows(to: Path, windows: Iterable[Window], clock: Clock = UTC) -> None:
+    """Writes some windows as a calendar, whole or not at all, with mode 0644, unless the file has them already. Raises
+    Fault, also if a file that is no calendar is at that place."""
+    refuse_other_files(to)
+    content = text_of(windows, clock).encode()
     try:
-        write_whole(to, text_of(windows, clock).encode(), 0o644)
+        if not to.exists() or to.read_bytes() != content:
+            write_whole(to, content, 0o644)
     except OSError as fault:
         raise Fault(because_of(fault)) from fault
-    return windows
 
 
 # ---- words

@@ -8,6 +8,7 @@ from __future__ import annotations
 
 import contextlib
 import hashlib
+import json
 import sqlite3
 from collections import defaultdict
 from collections.abc import Callable, Iterable, Iterator
@@ -374,14 +375,22 @@ class StoredOffice:
         text = "SELECT month, mark, value, receipt FROM quote_2 WHERE collector = ? AND slot = ?"
         return {month: (mark, value, receipt) for month, mark, value, receipt in self.ask(text, *slot)}
 
-    def quotes_of_series(self, series: Series) -> dict[int, tuple[str, int]]:
-        """Mark and price of each quote of a series, whoever had it, by month."""
+    def quotes_of_series(self, wanted: Iterable[Series]) -> dict[Series, dict[int, tuple[str, int]]]:
+        """By series mark and price of each of its quotes, whoever had it, by month; a series without one isn't there.
+
+        It is one query: assignments have no index of their series, so it reads all of them once, and of the quotes only
+        those that it returns (`CROSS JOIN` keeps SQLite from beginning with these).
+        """
         text = (
-            "SELECT q.month, q.mark, q.value FROM quote_2 AS q JOIN assignment_2 AS a"
-            " ON a.collector = q.collector AND a.slot = q.slot"
-            " WHERE a.series_collector = ? AND a.series_slot = ? ORDER BY q.month"
+            "SELECT a.series_collector, a.series_slot, q.month, q.mark, q.value FROM assignment_2 AS a"
+            " CROSS JOIN quote_2 AS q ON q.collector = a.collector AND q.slot = a.slot"
+            " WHERE (a.series_collector, a.series_slot) IN"
+            " (SELECT json_extract(value, '$[0]'), json_extract(value, '$[1]') FROM json_each(?)) ORDER BY q.month"
         )
-        return {month: (mark, value) for month, mark, value in self.ask(text, *series)}
+        quotes: dict[Series, dict[int, tuple[str, int]]] = defaultdict(dict)
+        for collector, slot, month, mark, value in self.ask(text, json.dumps([*wanted])):
+            quotes[collector, slot][month] = mark, value
+        return dict(quotes)
 
     def last_quotes(self, most: int, newer: int = 0) -> list[tuple[int, int, int, int]]:
         """Collector, slot, month and receipt of the quotes that came new last, the latest first, without a number of newer

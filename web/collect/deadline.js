@@ -1,9 +1,10 @@
-// When the window of a month opens and closes, as the desk has published it in calendar.json, and which month is open
-// by that. Moments are in seconds since 1970 UTC, as in the file; the page shows them by the office's clock if the file has
-// it, and by the phone's if that differs.
+// When the window of a month opens and closes, as the desk has published it in calendar.json, or as the office has answered
+// since, and which month is open by that. Moments are in seconds since 1970 UTC, as in the file; the page shows them by the
+// office's clock if the file has it, and by the phone's if that differs.
 import { find } from "../shared/dom.js";
 import { inWords, moved, timeBy, timeOf, thisMonth } from "../shared/months.js";
 import { form, t, tn } from "../shared/texts.js";
+import { windows } from "./heard.js";
 import { state } from "./state.js";
 
 const MINUTE = 60, HOUR = 3600, DAY = 86_400;
@@ -19,8 +20,8 @@ const seconds = () => Date.now() / 1000;
  */
 export function currentMonth() {
   const now = seconds(), first = (name) => (a, b) => a[name] - b[name];
-  const open = state.windows.filter(({ opens, closes }) => opens <= now && now < closes).sort(first("closes"));
-  const coming = state.windows.filter(({ opens }) => opens > now).sort(first("opens"));
+  const open = windows().filter(({ opens, closes }) => opens <= now && now < closes).sort(first("closes"));
+  const coming = windows().filter(({ opens }) => opens > now).sort(first("opens"));
   return (open[0] ?? coming[0])?.month ?? thisMonth();
 }
 
@@ -29,8 +30,8 @@ export function currentMonth() {
  * or more before this one.
  */
 export function isPast(month) {
-  const now = seconds(), isOpen = state.windows.some((window) => window.month === month && now < window.closes);
-  const isLastClosed = !state.windows.some((window) => window.month > month && window.closes <= now);
+  const now = seconds(), isOpen = windows().some((window) => window.month === month && now < window.closes);
+  const isLastClosed = !windows().some((window) => window.month > month && window.closes <= now);
   return !isOpen && (!isLastClosed || month < moved(thisMonth(), -2));
 }
 
@@ -39,7 +40,7 @@ export function isPast(month) {
  * it is there from the beginning, so that no row moves as one is saved.
  */
 export function showDeadline() {
-  const window = state.windows.find(({ month }) => month === state.month);
+  const window = windows().find(({ month }) => month === state.month);
   const count = state.entries.filter(({ month }) => month === state.month).length;
   const left = window ? window.closes - seconds() : SOON, isSoon = left < SOON && (left > 0 || count > 0);
   find("deadline").textContent = window ? wordsOf(window) : "";
@@ -49,6 +50,7 @@ export function showDeadline() {
 
 function wordsOf(window) {
   const now = seconds(), { month, opens, closes } = window;
+  if (window.said) return wordsOfOffice(window);
   if (now < opens) {
     const moment = momentOf(opens * 1000, window.opens_zone);
     const values = { month: inWords(month), moment, within: within(opens - now) };
@@ -59,6 +61,14 @@ function wordsOf(window) {
   // t: {moment} is such as 30 November, 18:00; {within} is such as in 2 days
   if (now < closes) return t("The window closes on {moment}, {within}.", { moment, within: within(closes - now) });
   return t("The window closed on {moment}.", { moment });
+}
+
+/** What the office's last answer said, if the published window is another one. */
+function wordsOfOffice({ said, month }) {
+  const values = { month: inWords(month) };
+  if (said === "open") return t("The office takes prices of {month}. This phone doesn’t know yet until when.", values);
+  if (said === "closed") return t("The office says that the window of {month} has closed.", values);
+  return t("The office says that the window of {month} isn’t open yet.", values);
 }
 
 /** A moment by the office's clock; if the phone's differs, by that too, and by that only if the office's isn't known. */

@@ -118,7 +118,7 @@ async function exchanged() {
     return null;
   }
   const collector = { key, who, signal: giving.signal };
-  const events = { settled: (answered) => settled(collector, answered), back: () => restored(collector) };
+  const events = { settled: (answered, isNews) => settled(collector, answered, isNews), back: () => restored(collector) };
   const refusal = await sendAll(collector, isWhole, events).catch((fault) => {
     isAll ||= isWhole && state.who === who;
     throw fault;
@@ -137,8 +137,8 @@ function waitAfter({ who }, refusal) {
   return refusal.refused === 11 ? LONGEST_WAIT : 0;
 }
 
-/** Takes what was answered, and shows it in its place. */
-async function settled(collector, answered) {
+/** Takes what was answered, and shows it in its place; the windows are asked for if the answers say otherwise. */
+async function settled(collector, answered, isNews) {
   const { who } = collector;
   if (state.who !== who) return;
   Object.assign(state, { line: "up", refusal: null });
@@ -146,7 +146,7 @@ async function settled(collector, answered) {
   const [list, entries] = await Promise.all([store.listOf(who, state.month), store.entries(who)]);
   if (state.who !== who) return;
   takeKept(list ?? null, entries);
-  if (list?.isDoubted && !wanted) wanted = "lists";
+  if ((list?.isDoubted || isNews) && !wanted) wanted = "lists";
   on.settled(answered);
   touch(answered.filter(([{ month }]) => month === state.month).map(([{ slot }]) => slot));
   if (answered.some(([{ had }, { receipt }]) => had && receipt)) await showSentAgain(collector);

@@ -3,6 +3,7 @@
 import { ask, NoAnswer } from "../shared/api.js";
 import { readWindows } from "../shared/windows.js";
 import { isPast } from "./deadline.js";
+import { takeHeard } from "./heard.js";
 import { forgetLists, keepList, listsOf } from "./kept-lists.js";
 import { areRows, greatest } from "./quotes.js";
 import { state, takeItems } from "./state.js";
@@ -24,6 +25,7 @@ export async function takeShared() {
   const [items, windows] = await Promise.all([store.shared("items"), store.shared("windows")]);
   takeItems(items?.content);
   state.windows = windows?.content ?? [];
+  await takeHeard();
 }
 
 /**

@@ -1,5 +1,6 @@
 // Sends the entries of the phone. One tab at a time does (line.js), so that a later mark is never overtaken.
 import { ask, NoAnswer } from "../shared/api.js";
+import { hear, receiptsBefore } from "./heard.js";
 import { keepList, keepMoved, settle } from "./kept-lists.js";
 import { areRows, hasMovedOn } from "./quotes.js";
 import * as store from "./store.js";
@@ -39,10 +40,11 @@ export function dueIn({ state, reply, tried, times = 0 }, now = Date.now()) {
 }
 
 /**
- * Sends what is due, and hands on the entries that were answered, [entry, reply] each (`on.settled`); the reply is empty
- * if the page asks the collector instead. With `isAll` what was refused for a while is due. Null once all of it was
- * answered; a refusal of all if the office took no more, and the rest waits; or throws NoAnswer. An entry that the office
- * stored before gets its receipt again. `on.back` is called if the office was restored from a copy.
+ * Sends what is due, and hands on the entries that were answered, [entry, reply] each, and whether the answers say something
+ * else of a window than the page knew (`on.settled`); a reply is empty if the page asks the collector instead. With `isAll`
+ * what was refused for a while is due. Null once all of it was answered; a refusal of all if the office took no more, and
+ * the rest waits; or throws NoAnswer. An entry that the office stored before gets its receipt again. `on.back` is called if
+ * the office was restored from a copy.
  */
 export async function sendAll(collector, isAll, on) {
   const isDue = (entry) => dueIn(entry, isAll ? Infinity : undefined) === 0;
@@ -54,12 +56,13 @@ export async function sendAll(collector, isAll, on) {
     const sent = due.slice(0, ROWS);
     if (sent.length === 0) return null;
     for (const { version } of sent) done.add(version);
+    const before = await receiptsBefore(collector, sent);
     const rows = await imported(collector, sent);
     if (!Array.isArray(rows)) return rows;
     const end = rows.findIndex((row) => !isOwn(row));
     const answered = sent.map((entry, n) => [entry, rows[n]]).slice(0, end < 0 ? ROWS : end);
     if (!(await settle(collector, answered))) return null; // (signed out meanwhile)
-    await on.settled(answered);
+    await on.settled(answered, await hear(answered, before));
     if (end >= 0) return rows[end];
   }
 }

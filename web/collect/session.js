@@ -5,6 +5,7 @@ import { t, tn } from "../shared/texts.js";
 import * as drafts from "./drafts.js";
 import * as entry from "./entry.js";
 import { noticeUntilRead } from "./head.js";
+import { takeHeard } from "./heard.js";
 import { nameIn, readKey, takeLink } from "./key.js";
 import * as line from "./line.js";
 import { choose, render, show } from "./list.js";
@@ -191,7 +192,10 @@ export function listen() {
     if (what === "key") {
       await followOthers();
     } else if (state.who) {
-      if (what === "answered") state.line = "up";
+      if (what === "answered") {
+        state.line = "up";
+        await takeHeard();
+      }
       await show();
     }
   });

@@ -3,12 +3,12 @@
 // VERSION is the hash of FILES, of the files of notes, and of the catalogues of all languages: tools/pages writes it. What
 // an office sets itself (SET) is kept too, and read anew behind each start, so that the next one has it; and so are the
 // catalogues of languages that this phone has spoken, and the files of notes if the office takes them: the page names these.
-const VERSION = "60ec0865cfe9ef62";
+const VERSION = "fbd1eb6fc1d350ce";
 const FILES = [
   "./", "app.js", "collect.css", "deadline.js", "drafts.js", "entry.js", "export.js", "form.js", "head.js",
-  "icon.svg", "kept-lists.js", "key.js", "languages.js", "line.js", "list.js", "lists.js", "look.js", "manifest.webmanifest",
-  "optional.js", "quotes.js", "refused.js", "restored.js", "search.js", "send.js", "session.js", "shown-month.js", "state.js",
-  "store.js", "tabs.js", "unsent.js", "wording.js",
+  "heard.js", "icon.svg", "kept-lists.js", "key.js", "languages.js", "line.js", "list.js", "lists.js", "look.js",
+  "manifest.webmanifest", "optional.js", "quotes.js", "refused.js", "restored.js", "search.js", "send.js", "session.js",
+  "shown-month.js", "state.js", "store.js", "tabs.js", "unsent.js", "wording.js",
   "../shared/api.js", "../shared/base.css", "../shared/csv.js", "../shared/dom.js", "../shared/money.js",
   "../shared/language.js", "../shared/languages.js", "../shared/months.js", "../shared/texts.js", "../shared/windows.js",
 ];

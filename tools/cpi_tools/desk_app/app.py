@@ -1,6 +1,7 @@
 """The application: its requests are let in, answered by the views, and sent out with the fields that keep a page safe.
 
-No page has a script, and the policy lets none run: what a person or a collector wrote is text, whatever it looks like.
+No page has a script, and the policy lets none run, but for the file of the prices to look at: what a person or a collector
+wrote is text, whatever it looks like.
 """
 
 from __future__ import annotations
@@ -65,7 +66,7 @@ VIEWS = (
 FREE = ("sign_in.show", "sign_in.enter", "style")
 """What is answered without a session, by the names of the views."""
 
-LOADED = ("style", "field_notes.photo")
+LOADED = ("style", "looks.script", "field_notes.photo")
 """What a page loads by itself, by the names of the views: no person does."""
 
 SETTINGS = "CPI_DESK_FRONT, --front"

@@ -13,6 +13,8 @@ from ..program import Cpi, Reply
 from ..report_language import Teller
 from ..speech import SPEAKS_ENGLISH, Speech
 from .copies import Copies, Copy
+from .deadlines import NAME as DEADLINES
+from .deadlines import Deadlines, may_set_windows
 from .desk_log import DeskLog
 from .drafts import Drafts
 from .field_notes import FieldNotes
@@ -95,6 +97,7 @@ class Desk:
         self.tray = Tray(given.room / "rows.json")
         self.drafts = Drafts(self.cpi, self.copies, given.room / "next-year")
         self.publisher = self._publisher(given.site) if given.site else None
+        self.deadlines = self._deadlines(given.site) if given.site else None
         self.answers = Kept[tuple[str, Mapping[str, object]]]()
         """What came of forms, with the views after them that say so."""
         self.offers = Kept[Offer]()
@@ -102,6 +105,12 @@ class Desk:
 
     def _publisher(self, site: Site) -> Publisher:
         return Publisher(site, self.given.file, self.cpi.path, self.given.room / "to-publish.json", self.log)
+
+    def _deadlines(self, site: Site) -> Deadlines:
+        """The file of the windows, which follows each copy that is taken of the office."""
+        deadlines = Deadlines(site.folder.with_name(DEADLINES), self.copies, self.given.clock)
+        self.watch.on_renewed = deadlines.follow
+        return deadlines
 
     def start(self) -> None:
         """Begins to follow the office, and to publish what is planned."""
@@ -115,6 +124,8 @@ class Desk:
             return self.sender.send(by.person, by.key, records)
         finally:
             self.watch.changed()
+            if self.deadlines and may_set_windows(records):
+                self.deadlines.renew()
 
     def _look_up(self, records: Sequence[Sequence[str]], since: int) -> list[Reply]:
         """What the office's file has of records, by a copy that is taken now."""

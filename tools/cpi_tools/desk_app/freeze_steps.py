@@ -9,7 +9,7 @@ from ..others import Worded
 from ..told import Figure, Told, moment_of, sentences, told_of, whole
 from ..told import told as _
 from .asked import desk, session
-from .looks_views import price_of
+from .looks_rows import price_of
 from .trials import Tried
 
 NOTHING = Worded("")

@@ -31,7 +31,7 @@ from .freeze_steps import NOTHING, steps_of
 from .freeze_texts import not_prepared, other_prepared, other_trial, said
 from .freezes import Prepared, prepared_of
 from .looks import Look
-from .looks_views import price_of
+from .looks_rows import price_of
 from .record_names import Names
 from .record_sentences import sentence_of
 from .sessions import is_same

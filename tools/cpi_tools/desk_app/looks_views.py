@@ -1,114 +1,172 @@
-"""The prices to look at, worst first: seen by a person, noted by the desk, and as a list for a collector."""
+"""The prices to look at as a table: filtered and sorted, seen by a person, noted by the desk, and as a list for a
+collector."""
 
 from __future__ import annotations
 
-from collections.abc import Mapping
-from typing import Any, NamedTuple
+from collections.abc import Mapping, Sequence
+from pathlib import Path
+from typing import Any, Optional
 
 import flask
-from markupsafe import Markup
 from werkzeug.wrappers import Response
 
 from ..others import Worded, isolated, of_others
-from ..stored import read_copy
 from ..terminal import Fault
-from ..told import Figure, Price as Amount, Told, month_of as month_words, told_of
+from ..told import Told, month_of as month_words, sentences, told_of
 from ..told import told as _
 from .asked import desk, field, month_of, page, session
 from .changes import changed_by
 from .faults import says
-from .field_notes import FieldNote
-from .field_of_month import by_slot
-from .lines import line_of
 from .looks import Look
-from .marks import NOTE, SEEN, UNSEEN, Mark, Price
+from .looks_chosen import ORDERS, REASONS, SHOWS, Chosen, chosen_of, key_of, part_of
+from .looks_rows import amount, percent_of, price_of, rows_of
+from .marks import NOTE, SEEN, UNSEEN, Price
 from .trials import Tried
 
 views = flask.Blueprint("looks", __name__)
 
-SHOWN = 50
-"""Prices of a page."""
+SCRIPT = Path(__file__).with_name("templates") / "looks.js"
+
+POLICY = (
+    "default-src 'none'; style-src 'self'; script-src 'self'; connect-src 'self'; img-src 'self' data:;"
+    " form-action 'self'; base-uri 'none'; frame-ancestors 'none'"
+)
+"""The policy of this page only, which has a script of its own; without it the page is whole."""
 
 NOTHING = Worded("")
 
 
-class Row(NamedTuple):
-    """A price to look at as a page shows it: with its history as a picture, the desk's notes, and those of the
-    field."""
-
-    look: Look
-    picture: Markup
-    notes: list[Mark]
-    is_seen: bool
-    field: list[FieldNote]
-
-
-def price_of(month: int, it: Look) -> Price:
-    """What marks are of."""
-    return Price(month, *it.slot, it.price)
+@views.get("/looks.js")
+def script() -> Response:
+    """The script of the page: keys, and marks without loading it anew."""
+    return flask.Response(SCRIPT.read_text(encoding="utf-8"), mimetype="text/javascript")
 
 
 @views.get("/month/<month>/looks")
 def show(month: str) -> Response:
-    """The prices that this person hasn't seen, or all of them."""
+    """The prices that the address asks for: without more those that this person hasn't seen."""
     return shown(month, flask.request.args)
 
 
 def shown(month: str, asked: Mapping[str, str], status: int = 200, /, **typed: object) -> Response:
-    """The same, with what came of a note; `asked` says which prices, and from which one on."""
-    number, found = month_of(month), desk().trials.latest(month_of(month))
-    named: dict[str, object] = {"refused": NOTHING, "of": None, "text": "", **typed}
+    """The same, with what came of a form; `asked` says which prices, and from which one on."""
+    number = month_of(month)
+    found, chosen = desk().trials.latest(number), chosen_of(asked)
+    named: dict[str, object] = {"refused": NOTHING, "of": None, "text": "", "checked": frozenset[str](), **typed}
     named.update(month=month, found=found, running=desk().trials.running, fault=desk().trials.fault(number))
-    if found is None:
-        return page(
-            "looks.html", status, rows=[], is_all=False, count=0, seen=0, first=0, step=SHOWN, collectors=[], **named
-        )
-    seen, is_all = desk().marks.seen_by(session().person, number), "all" in asked
-    chosen = [it for it in found.looks if is_all or price_of(number, it) not in seen]
-    start = asked.get("from", "0")
-    first = int(start) if start.isdecimal() and len(start) < 9 else 0
-    rows = rows_of(number, found, chosen[first : first + SHOWN])
-    collectors = sorted({it.slot[0] for it in found.looks})
-    counts = {"count": len(chosen), "seen": len(found.looks) - len(chosen), "first": first, "step": SHOWN}
-    return page("looks.html", status, rows=rows, is_all=is_all, collectors=collectors, **counts, **named)
+    named.update(chosen=chosen, rows=[], part=None, amount=amount, **choices())
+    if found:
+        seen = desk().marks.seen_by(session().person, number)
+        slots = {it.slot for it in found.looks if price_of(number, it) in seen}
+        part = part_of(found.looks, slots, chosen)
+        named.update(rows=rows_of(number, found, part.looks), part=part, seen=len(slots), **filters_of(found))
+    answer = page("looks.html", status, **named)
+    answer.headers["Content-Security-Policy"] = POLICY
+    return answer
 
 
-def rows_of(month: int, found: Tried, looks: list[Look]) -> list[Row]:
-    """Some prices with their histories."""
-    seen, notes = desk().marks.seen_by(session().person, month), desk().marks.notes_of(month)
-    rows, notes_of_field = list[Row](), by_slot(month)
-    with read_copy(found.copy) as office:
-        for it in looks:
-            price = price_of(month, it)
-            picture = line_of(office.quotes_of_series(it.series), month, desk().teller.say)
-            rows.append(Row(it, picture, notes.get(price, []), price in seen, notes_of_field.get(it.slot, [])))
-    return rows
+def choices() -> dict[str, object]:
+    """What a person chooses from: each list by its words of an address, with what it is called."""
+    say = desk().teller.say
+    reasons = [("", say(_("Any reason"))), *((name, say(text)) for name, text in REASONS.items())]
+    shows, orders = ([(name, say(text)) for name, text in each.items()] for each in (SHOWS, ORDERS))
+    return {"reasons_told": reasons, "shows_told": shows, "orders_told": orders}
+
+
+def filters_of(found: Tried) -> dict[str, object]:
+    """What the prices of a month can be filtered by: the divisions with their titles, and the collectors."""
+    titles = {it.code: it.title for it in found.report.divisions}
+    codes = sorted({it.code[:2] for it in found.looks})
+    divisions = [(code, titles.get(code, "")) for code in codes]
+    return {"divisions": divisions, "collectors": sorted({it.slot[0] for it in found.looks})}
+
+
+# ---- marks
 
 
 @views.post("/month/<month>/looks")
 def mark(month: str) -> Response:
     """Notes that a person has seen a price that the page showed, or hasn't, or what the desk notes of it."""
-    form, what, found = flask.request.form, field("what"), desk().trials.latest(month_of(month))
-    try:
-        price = Price(month_of(month), *(int(field(name)) for name in ("collector", "slot", "price")))
-    except ValueError:
-        flask.abort(400)
+    form, what, number = flask.request.form, field("what"), month_of(month)
+    price = shown_price(number, [field(name) for name in ("collector", "slot", "price")])
     if what not in (SEEN, UNSEEN, NOTE):
         flask.abort(400)
     text = " ".join(field("text").split()) if what == NOTE else ""
     typed = {"of": price[1:3], "text": text}
-    if found is None or price not in {price_of(price.month, it) for it in found.looks}:
-        by = (found.by, found.at) if found else ("", 0)
-        return shown(month, form, 409, refused=changed_by(*by), **typed)
+    if changed := changed_since(number, [price]):
+        return shown(month, form, 409, refused=changed, **typed)
     if what == NOTE and not text:
         refused = _("The note is empty, so nothing was noted: write what is known of the price.")
         return shown(month, form, 400, refused=refused, **typed)
+    beside = place_after(number, price, what, chosen_of(form))
     try:
         desk().marks.add(session().person, price, what, text)
     except Fault as fault:
         return shown(month, form, 503, refused=says(fault), **typed)
-    query: dict[str, Any] = {name: form[name] for name in ("from", "all") if form.get(name)}
-    return flask.redirect(flask.url_for("looks.show", month=month, **query), 303)
+    return back(month, chosen_of(form), beside)
+
+
+@views.post("/month/<month>/looks/many")
+def mark_many(month: str) -> Response:
+    """Notes that a person has seen the prices that were checked, or hasn't: all of them, or none."""
+    form, what, number = flask.request.form, field("what"), month_of(month)
+    if what not in (SEEN, UNSEEN):
+        flask.abort(400)
+    checked = form.getlist("checked")
+    prices = [shown_price(number, text.split("-")) for text in checked]
+    typed = {"checked": frozenset(checked)}
+    if not prices:
+        return shown(month, form, 400, refused=_("No price is checked, so nothing was marked: check some first."))
+    if changed := changed_since(number, prices):
+        return shown(month, form, 409, refused=changed, **typed)
+    try:
+        desk().marks.add_all(session().person, prices, what)
+    except Fault as fault:
+        return shown(month, form, 503, refused=says(fault), **typed)
+    return back(month, chosen_of(form), "")
+
+
+def shown_price(month: int, numbers: Sequence[str]) -> Price:
+    """The price of a row by its collector, slot and price as the form has them; other texts are no form of this page
+    (400)."""
+    if len(numbers) != 3 or not all(it.isascii() and it.isdigit() and len(it) < 19 for it in numbers):
+        flask.abort(400)
+    return Price(month, *map(int, numbers))
+
+
+def changed_since(month: int, prices: Sequence[Price]) -> Optional[Told]:
+    """That some of the prices aren't those of the month any more, and who had it tried since; None if they are."""
+    found = desk().trials.latest(month)
+    known = {price_of(month, it) for it in found.looks} if found else set()
+    gone = [it for it in prices if it not in known]
+    if not gone:
+        return None
+    by = (found.by, found.at) if found else ("", 0)
+    slots = ", ".join(f"{it.collector}/{it.slot}" for it in gone)
+    named = _("Not as your page showed it any more: {slots}.", slots=of_others(slots))
+    return sentences(changed_by(*by), named) if len(prices) > 1 else changed_by(*by)
+
+
+def place_after(month: int, price: Price, what: str, chosen: Chosen) -> str:
+    """The row at which a person goes on: the next one if this one is seen now, else the same."""
+    found = desk().trials.latest(month)
+    if what != SEEN or not found or chosen.only:
+        return f"{price.collector}-{price.slot}"
+    seen = desk().marks.seen_by(session().person, month)
+    slots = {it.slot for it in found.looks if price_of(month, it) in seen}
+    keys = [key_of(it) for it in part_of(found.looks, slots, chosen).looks]
+    own = f"{price.collector}-{price.slot}"
+    at = keys.index(own) if own in keys else -1
+    return next(iter([*keys[at + 1 : at + 2], *keys[max(at - 1, 0) : max(at, 0)], own]))
+
+
+def back(month: str, chosen: Chosen, place: str) -> Response:
+    """Leads back to the same prices, at a row."""
+    to: dict[str, Any] = {**chosen.query, **({"_anchor": f"look-{place}"} if place else {})}
+    return flask.redirect(flask.url_for("looks.show", month=month, **to), 303)
+
+
+# ---- a list for a collector
 
 
 @views.get("/month/<month>/looks/<int:collector>.txt")
@@ -149,10 +207,9 @@ def head_of(month: int, collector: int, count: int) -> Told:
 
 def prices_of(it: Look) -> Told:
     """The last price and this one."""
-    price = Amount(it.price)
     if it.last is None:
-        return _("no last price, now {price}", price=price)
+        return _("no last price, now {price}", price=amount(it.price))
+    places = {"last": amount(it.last), "price": amount(it.price)}
     if not it.percent:
-        return _("last price {last}, now {price}", last=Amount(it.last), price=price)
-    places = {"last": Amount(it.last), "price": price, "change": Figure(it.percent)}
-    return _("last price {last}, now {price}, {change} percent", **places)
+        return _("last price {last}, now {price}", **places)
+    return _("last price {last}, now {price}, {change} percent", change=percent_of(it.percent), **places)

@@ -10,6 +10,7 @@ import json
 import os
 import threading
 import time
+from collections.abc import Sequence
 from pathlib import Path
 from typing import NamedTuple
 
@@ -70,10 +71,17 @@ class Marks:
         if len(text) > MOST_LETTERS:
             places = {"most": whole(MOST_LETTERS), "count": whole(len(text))}
             raise Fault(_("A note has {most} letters at most, and this one has {count}.", **places))
-        made = Mark(int(time.time()), by, of, what, text)
+        self._add([Mark(int(time.time()), by, of, what, text)])
+
+    def add_all(self, by: str, prices: Sequence[Price], what: str) -> None:
+        """Notes that a person has seen some prices, or hasn't; it is on the disk afterwards. Raises Fault."""
+        now = int(time.time())
+        self._add([Mark(now, by, of, what, "") for of in prices])
+
+    def _add(self, made: Sequence[Mark]) -> None:
         with self._lock:
-            self._append(json.dumps(made).encode() + b"\n")
-            self._all.append(made)
+            self._append(b"".join(json.dumps(it).encode() + b"\n" for it in made))
+            self._all += made
 
     def _append(self, line: bytes) -> None:
         try:

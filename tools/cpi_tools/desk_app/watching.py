@@ -5,6 +5,7 @@ from __future__ import annotations
 import threading
 import time
 import traceback
+from collections.abc import Callable
 from typing import Optional
 
 from ..stored import read_copy
@@ -33,6 +34,8 @@ class Watch:
         self._asked_at = self._renewed_at = -float(IDLE)
         self._glances: dict[int, Glance] = {}
         self.fault, self.seconds = Worded(""), 0.0
+        self.on_renewed: Callable[[], None] = lambda: None
+        """Is called after each look at the office's file."""
         self._is_stale = False
         self._looking = threading.Lock()
         self._thread = threading.Thread(target=self._follow, daemon=True, name="watch")
@@ -86,6 +89,7 @@ class Watch:
                     self._glances[month] = found = glance_at(office, month, copy.at, self._observed.heard)
                     self._note(found)
             self.seconds = time.monotonic() - begun
+        self.on_renewed()
 
     def _renew_for_page(self) -> None:
         """Renews; if that fails, the pages after this one say that they may be old. Raises Fault."""

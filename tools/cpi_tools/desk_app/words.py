@@ -186,7 +186,7 @@ def add_serve(jobs: argparse._SubParsersAction[ToolWords]) -> None:
     )
     add("--phones", type=an_origin, metavar="URL", help="the front that collectors reach, for sheets with their keys")
     add_language(words, "the pages")
-    add("--site", type=Path, metavar="FOLDER", help="where the website is written, as cpi-tools publish does")
+    add("--site", type=Path, metavar="FOLDER", help="where the website is written, beside calendar.json for phones")
     add("--site-config", type=Path, metavar="FILE", help="who publishes, under which names")
     add("--sign", type=Path, metavar="KEY", help="sign the website's manifest with this key, by ssh-keygen")
     add(

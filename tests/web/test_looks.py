@@ -1,0 +1,128 @@
+"""The desk's prices to look at with a keyboard: keys go through the rows, marks and notes don't load the page anew, and a
+note that somebody is writing stays whatever else happens."""
+
+from __future__ import annotations
+
+import urllib.parse
+import urllib.request
+
+import pytest
+from selenium.webdriver.common.keys import Keys
+
+from .browser import Browser
+from .desk_pages import Person
+from .offices import ANNA, BENO, DESK
+from .readable import faults_at_sizes
+from .stage import Stage
+from .test_desk_app import FAR, MONTH, priced
+
+FOCUS = "const it = document.activeElement; return it.closest('tr')?.id + ' ' + it.tagName;"
+LOOKS = f"/month/{MONTH}/looks"
+
+
+@pytest.fixture
+def rows(stage: Stage, ada: Person, browser: Browser) -> list[str]:
+    """Three prices to look at on a page that is open, by their ids; what is kept on the page shows that it stays."""
+    for closes in (FAR, 5000):
+        row = f"calendar,{MONTH},4000,{closes},{max(closes, 6000)}\n"
+        assert b"refused" not in stage.ask("POST", "/api/import", DESK, row).body
+        if closes == FAR:
+            priced(stage, (ANNA, 1, 416), (ANNA, 2, 1430), (BENO, 1, 672))
+    ada.open(LOOKS)
+    ada.tried(MONTH)
+    browser.run("globalThis.stays = 'yes'")
+    found: list[str] = browser.run("return [...document.querySelectorAll('tr.look')].map((it) => it.id)")
+    assert len(found) == 3
+    return found
+
+
+def focus(browser: Browser) -> str:
+    """The row and the kind of the element with the focus."""
+    return str(browser.run(FOCUS))
+
+
+def stays(browser: Browser) -> bool:
+    """Whether the page is the one that was opened."""
+    return bool(browser.run("return globalThis.stays === 'yes'"))
+
+
+def test_keys_go_through_the_rows_and_mark_them(rows: list[str], ada: Person, browser: Browser) -> None:
+    for key, at in (("j", 0), ("j", 1), ("j", 2), ("j", 2), ("k", 1), ("k", 0), ("k", 0)):
+        ada.type(key)
+        assert focus(browser) == f"{rows[at]} TR", (key, at)
+    ada.type("s")
+    assert focus(browser) == f"{rows[1]} TR"
+    browser.wait_text("#counts", "2 to look at, 1 seen by you.")
+    browser.wait_text(f"#{rows[0]} form.mark", "Not seen after all")
+    ada.type("k", "s")
+    browser.wait_text("#counts", "3 to look at, 0 seen by you.")
+    assert focus(browser) == f"{rows[0]} TR" and stays(browser)
+    ada.type("s", "s", "s")
+    browser.wait_text("#said", "Nothing is left to look at.")
+    assert stays(browser) and browser.faults() == []
+    ada.open(LOOKS)
+    browser.wait_text("main", "Nothing is left to look at.")
+
+
+def test_a_note_that_is_being_written_stays(rows: list[str], ada: Person, browser: Browser, stage: Stage) -> None:
+    """Ben notes something of the same price meanwhile, and another row is marked: both are shown, and neither takes the
+    note away. A refusal doesn't, nor an application that is away."""
+    ada.type("j", "n")
+    assert focus(browser) == f"{rows[0]} INPUT"
+    ada.type("jks is typed")
+    field = f"#{rows[0]} input[name=text]"
+    ben_notes(ada, rows[0], "Ben called the shop")
+    browser.run("document.querySelector(arguments[0]).requestSubmit()", f"#{rows[1]} form.mark")
+    browser.wait_text("#counts", "2 to look at, 1 seen by you.")
+    assert focus(browser) == f"{rows[0]} INPUT" and browser.run(VALUE, field) == "jks is typed"
+    ada.pages.kill()
+    ada.type(Keys.ENTER)
+    browser.wait_text("#said", "No answer came, so it isn't known")
+    assert focus(browser) == f"{rows[0]} INPUT" and browser.run(VALUE, field) == "jks is typed" and stays(browser)
+
+
+VALUE = "return document.querySelector(arguments[0]).value"
+
+
+def test_a_note_goes_out_and_brings_those_of_others(rows: list[str], ada: Person, browser: Browser) -> None:
+    ben_notes(ada, rows[0], "Ben called the shop")
+    ada.type("j", "n", "It is right")
+    ada.type(Keys.ENTER)
+    browser.wait_text(f"#{rows[0]} .notes", "It is right")
+    assert "Ben called the shop" in browser.text(f"#{rows[0]} .notes")
+    assert browser.run(VALUE, f"#{rows[0]} input[name=text]") == "" and focus(browser) == f"{rows[0]} INPUT"
+    ada.type("again", Keys.ESCAPE)
+    assert focus(browser) == f"{rows[0]} TR" and stays(browser)
+
+
+def ben_notes(ada: Person, row: str, text: str) -> None:
+    """Somebody else notes something at another machine."""
+    client = urllib.request.build_opener(urllib.request.HTTPCookieProcessor())
+    url = ada.pages.url
+
+    def post(path: str, **form: str) -> None:
+        client.open(url + path, urllib.parse.urlencode(form).encode()).read()
+
+    post("/sign-in", name="Ben", key=DESK, to="/log")
+    page = client.open(f"{url}{LOOKS}").read().decode()
+    token = page.partition('name="token" value="')[2].partition('"')[0]
+    shown = page.partition(f'id="{row}"')[2].partition('name="checked" value="')[2].partition('"')[0]
+    collector, slot, price = shown.split("-")
+    post(LOOKS, token=token, collector=collector, slot=slot, price=price, what="note", text=text)
+
+
+def test_rows_that_are_checked_are_marked_at_once(rows: list[str], ada: Person, browser: Browser) -> None:
+    browser.click("#every input")
+    browser.click(f"#{rows[2]} input[name=checked]")
+    browser.click("#many button[value=seen]")
+    browser.wait_text("#counts", "1 to look at, 2 seen by you.")
+    assert [browser.text(f"#{row} form.mark") for row in rows] == ["Not seen after all", "Not seen after all", "Seen"]
+    assert stays(browser) and not browser.all("input[name=checked]:checked")
+    assert faults_at_sizes(browser, []) == []
+
+
+def test_without_a_script_the_next_row_is_shown(rows: list[str], ada: Person, browser: Browser) -> None:
+    browser.run("document.querySelector(arguments[0]).submit()", f"#{rows[0]} form.mark")
+    browser.wait(lambda: not stays(browser), "another page")
+    browser.wait_text("#counts", "2 to look at, 1 seen by you.")
+    assert browser.run("return location.hash") == f"#{rows[1]}"

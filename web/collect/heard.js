@@ -1,0 +1,72 @@
+// What the office's answers to entries say of the window of a month. They win over the published windows: the file of
+// these may be older than what the desk has set since.
+import { greatest } from "./quotes.js";
+import { state } from "./state.js";
+import * as store from "./store.js";
+
+/** The refusals of a month whose window isn't open yet, and of one whose window has closed. */
+const NOT_YET = 23, CLOSED = 24;
+
+/** The last moment of a Date in seconds (ECMA-262): nobody knows when such a window closes, or opens. */
+const UNKNOWN = 8_640_000_000_000;
+
+const seconds = () => Date.now() / 1000;
+const windowOf = (month) => state.windows.find((it) => it.month === month);
+
+/**
+ * The published windows, each as the office's last answer says if the file said otherwise at that moment: then `said` is
+ * "open", "closed" or "early". An answer counts until the file has another window of the month.
+ */
+export const windows = () => state.windows.map(corrected);
+
+function corrected(window) {
+  const answer = state.heard[window.month];
+  if (!answer || !isOf(answer, window) || agrees(answer, window)) return window;
+  const { said, at } = answer, opens = Math.min(window.opens, at);
+  if (said === "open") return { ...window, said, opens, closes: UNKNOWN };
+  return said === "closed" ? { ...window, said, opens, closes: at } : { ...window, said, opens: UNKNOWN, closes: UNKNOWN };
+}
+
+const isOf = (answer, { opens, closes }) => answer.opens === opens && answer.closes === closes;
+
+function agrees({ said, at }, { opens, closes }) {
+  if (said === "open") return opens <= at && at < closes;
+  return said === "closed" ? at >= closes : at < opens;
+}
+
+/** By month the greatest receipt that the phone knows before entries are sent; none of a month without a list. */
+export async function receiptsBefore({ who }, sent) {
+  const months = [...new Set(sent.map(({ month }) => month))];
+  const lists = await Promise.all(months.map((month) => store.listOf(who, month)));
+  return new Map(lists.flatMap((list, n) => (list ? [[months[n], greatest(list.quotes)]] : [])));
+}
+
+/**
+ * Takes what the answers to entries, [entry, reply] each, say of the windows; whether that is news, and not what the file
+ * says. A receipt that isn't new says nothing: what is stored already has it at any moment.
+ */
+export async function hear(answered, before) {
+  const known = state.heard;
+  let isNews = false;
+  for (const [{ month }, reply] of answered) {
+    const said = wordOf(reply, before.get(month)), window = windowOf(month);
+    if (!said || !window) continue;
+    const { [month]: last, ...others } = state.heard, { opens, closes } = window;
+    const answer = { said, at: seconds(), opens, closes };
+    isNews ||= !agrees(answer, window) && !(last?.said === said && isOf(last, window));
+    if (last || !agrees(answer, window)) state.heard = agrees(answer, window) ? others : { ...others, [month]: answer };
+  }
+  // (a phone that keeps nothing says so at the next entry)
+  if (state.heard !== known) await store.keepShared("heard", state.heard).catch(() => {});
+  return isNews;
+}
+
+/** Takes the answers that this phone has kept. */
+export async function takeHeard() {
+  state.heard = (await store.shared("heard"))?.content ?? {};
+}
+
+function wordOf({ receipt, refused }, last = Infinity) {
+  if (receipt > last) return "open";
+  return refused === CLOSED ? "closed" : refused === NOT_YET ? "early" : null;
+}
