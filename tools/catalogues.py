@@ -24,6 +24,7 @@ from babel.messages.plurals import PLURALS
 from babel.messages.pofile import read_po, write_po
 from babel.plural import to_gettext
 
+from cpi_tools.elided import OF
 from extractors import COMMENT, refused
 
 SOURCE = "en"
@@ -200,6 +201,12 @@ def places(text: str) -> set[str]:
     return {name or other for name, other in PLACE.findall(text)}
 
 
+def _parted(text: str, allowed: Collection[str]) -> set[str]:
+    """The places of a translation; `{of_month}` is the place `{month}` with the word of its language before it."""
+    found = places(text)
+    return {it if it in allowed else it.removeprefix(OF) for it in found}
+
+
 def faults(catalog: Catalog, source: Catalog) -> Iterator[str]:
     """What is wrong with a catalogue, each in a line: a text that is missing, one that is there for nothing or not sure,
     other places or tags than the source has, plural forms that aren't those of CLDR."""
@@ -235,8 +242,9 @@ def faults_of_text(message: Message, found: Optional[Message], count: int) -> It
     if len(wanted) > 1:
         needed -= COUNT  # (a form of one count may say it in words)
     tags = sorted(TAG.findall(wanted[-1]))
+    is_joined = not any(place.startswith("web/") for place, _ in message.locations)
     for form in forms:
-        if not needed <= places(form) <= allowed:
+        if not needed <= (_parted(form, allowed) if is_joined else places(form)) <= allowed:
             yield f"{told(message)}: its places are {sorted(allowed)}, and the translation has {sorted(places(form))}"
         if sorted(TAG.findall(form)) != tags:
             yield f"{told(message)}: its tags are {tags}, and the translation has {sorted(TAG.findall(form))}"

@@ -220,7 +220,13 @@ def printed_rows(known: Figures) -> Iterator[Row]:
                 monthly, annual = known.changes(code, month)
                 own = {"reference": known.hundred(code, line.base), "index": text(known.printed(code, month), 1)}
                 told = {"month_change": text(monthly, 1), "year_change": text(annual, 1)}
+                told["share_per_mille"] = text(per_mille(known, line, month), 6)
                 yield {"month": month, "code": code, "title": known.titles[code], **own, **told}
+
+
+def per_mille(known: Figures, line: Line, month: str) -> Fraction:
+    """The share of all weight of an item in a month."""
+    return Fraction(1000 * line.weight, known.lines[ALL][month].weight)
 
 
 def release_rows(known: Figures, tables: Path) -> Iterator[Row]:
@@ -286,14 +292,12 @@ def observations(known: Figures) -> Observations:
     """All figures as SDMX has them."""
     found: Observations = {}
     for code, lines in known.lines.items():
-        bases = known.bases(code)
-        periods = " ".join(known.hundred(code, base) for base in bases)
         for month in known.months:
             line, given = lines.get(month), known.given(month, code, ALL) if code != ALL else Given(None, None)
-            for measure, unit, kind, digits, value in figures_of(known, code, line, given):
+            for measure, unit, kind, digits, value in figures_of(known, code, month, given):
                 if value is not None:
                     status = "B" if line and line.is_break and unit == "IX" else "A"
-                    period = {"CPI": periods, "CPIC": " ".join(bases)}[measure] if unit == "IX" else ""
+                    period = period_of(known, code, line, measure) if line and unit == "IX" else ""
                     imputed = str(int(line.is_imputed)) if line else ""
                     key, number = ("M", measure, unit, item_id(code), kind, month), latest_of(month)
                     of = imputed, str(number), moment(month, number)
@@ -305,22 +309,29 @@ def observations(known: Figures) -> Observations:
                 shown = text(known.shown(code, base, mean), 6)
                 status = "B" if lines[f"{year}-01"].is_break else "A"
                 last = status, "", "", max(moment(it, latest_of(it)) for it in months_of(year))
-                found["A", "CPI", "IX", item_id(code), "N", year] = shown, periods, "6", *last
+                found["A", "CPI", "IX", item_id(code), "N", year] = shown, known.hundred(code, base), "6", *last
                 if changed is not None:
                     found["A", "CPI", "PC", item_id(code), "G1", year] = text(changed, 1), "", "1", *last
     return found
 
 
+def period_of(known: Figures, code: str, line: Line, measure: str) -> str:
+    """The period in which a level is 100."""
+    return known.hundred(code, line.base) if measure == "CPI" else line.base
+
+
 def figures_of(
-    known: Figures, code: str, line: Optional[Line], given: Given
+    known: Figures, code: str, month: str, given: Given
 ) -> Iterator[tuple[str, str, str, int, Optional[Fraction]]]:
     """Measure, unit, transformation, decimals and value of the figures of an item in a month."""
+    line = known.line(code, month)
     if line:
         yield "CPI", "IX", "N", 6, known.shown(code, line.base, line.level)
         yield "CPI", "PC", "G1", 1, line.monthly
         yield "CPI", "PC", "GY", 1, line.annual
         yield "CPIC", "IX", "N", 6, line.level
-        yield "CPIW", "PPM", "N", 0, Fraction(line.weight)
+        yield "CPIW", "WU", "N", 0, Fraction(line.weight)
+        yield "CPIS", "PM", "N", 6, per_mille(known, line, month)
     yield "CTR", "PP", "G1", 6, given.to_month
     yield "CTR", "PP", "GY", 6, given.to_year
 
@@ -337,6 +348,11 @@ def sdmx_faults(site: Path, known: Figures) -> Iterator[str]:
     yield from apart("cpi.sdmx.xml", observed(read_sdmx_ml(site / "data/cpi.sdmx.xml")), wanted)
     if sum(it[3] == "B" for it in wanted.values()) < 10:
         yield "there is no break"
+    divisions = [code for code in known.nodes if len(code) == 2 and code != ALL]
+    for month in known.months:
+        shares = [per_mille(known, line, month) for code in divisions if (line := known.line(code, month))]
+        if sum(shares) != 1000:
+            yield f"{month}: the divisions' shares add up to {sum(shares)}"
 
 
 # ---- cubes
@@ -355,11 +371,12 @@ def cells(known: Figures) -> Cells:
             found[code, "month_change", month] = line.monthly
             found[code, "year_change", month] = line.annual
             found[code, "weight", month] = Fraction(line.weight)
+            found[code, "share", month] = per_mille(known, line, month)
             found[code, "imputed", month] = Fraction(line.is_imputed)
         if code != ALL:
             for month in known.months:
                 found[code, "contribution", month] = known.given(month, code, ALL).to_year
-    digits = {"index": 6, "chained": 6, "contribution": 6}
+    digits = {"index": 6, "chained": 6, "contribution": 6, "share": 6}
     return {key: Decimal(text(it, digits.get(key[1], 1))) for key, it in found.items() if it is not None}
 
 
@@ -381,7 +398,7 @@ def cube_faults(site: Path, known: Figures) -> Iterator[str]:
 # ---- the workbook
 
 CHANGES = ("Monthly change", "Annual change")
-SHEETS = ("Index", *CHANGES, "Weights", "Contributions", "Chained level")
+SHEETS = ("Index", *CHANGES, "Weights", "Shares", "Contributions", "Chained level")
 
 AFTER_BREAK = 5
 """The style of a level after a break, with a line to its left."""
@@ -423,6 +440,8 @@ def sheet_value(known: Figures, figure: str, code: str, month: str, line: Option
         return text(known.changes(code, month)[CHANGES.index(figure)], 1)
     if figure == "Weights":
         return str(line.weight)
+    if figure == "Shares":
+        return text(per_mille(known, line, month), 6)
     return text(known.shown(code, line.base, line.level) if figure == "Index" else line.level, 6)
 
 

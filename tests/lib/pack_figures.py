@@ -217,10 +217,6 @@ class Figures:
         scale = self.scale(code, base)
         return 100 * level / scale if scale else level
 
-    def bases(self, code: str) -> list[str]:
-        """The Decembers in which an item is 100, one after the other."""
-        return list(dict.fromkeys(line.base for line in self.lines[code].values()))
-
     # ---- changes as they are shown
 
     def changes(self, code: str, month: str) -> tuple[Optional[Fraction], Optional[Fraction]]:

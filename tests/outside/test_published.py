@@ -64,6 +64,9 @@ def observations(latest: Latest) -> list[tuple[str, str, str, str, float]]:
     )
 
 
+COMPUTED = ("CTR", "CPIS")
+"""The measures whose figures no table has: contributions, and shares of all weight."""
+
 # ---- R
 
 RSDMX = """suppressMessages(library(rsdmx))
@@ -85,7 +88,8 @@ def by_r(program: str, text: str, path: Path) -> list[dict[str, str]]:
 def test_rsdmx_reads_each_figure(needed: Needed, pack: Path, latest: Latest) -> None:
     rows = by_r(needed("Rscript"), RSDMX, pack / "data/cpi.sdmx.xml")
     names = ("MEASURE", "TRANSFORMATION", "COICOP18", "TIME_PERIOD")
-    found = sorted((*(row[name] for name in names), float(row["OBS_VALUE"])) for row in rows if row["MEASURE"] != "CTR")
+    is_printed = (row for row in rows if row["MEASURE"] not in COMPUTED)
+    found = sorted((*(row[name] for name in names), float(row["OBS_VALUE"])) for row in is_printed)
     assert found == observations(latest)
     assert len(rows) > len(found)
 
@@ -122,7 +126,7 @@ def test_pandas_reads_the_files(needed: Needed, pack: Path, latest: Latest) -> N
     found = {(row.month, row.code): (row.weight, row.chained, row.title) for row in tidy.itertuples()}
     assert found == {key: (int(row[1]), float(row[3]), row[7]) for key, row in latest.items()}
     sdmx = pandas.read_csv(pack / "data/cpi.sdmx.csv")
-    rows = sdmx[sdmx.MEASURE != "CTR"][["MEASURE", "TRANSFORMATION", "COICOP18", "TIME_PERIOD", "OBS_VALUE"]]
+    rows = sdmx[~sdmx.MEASURE.isin(COMPUTED)][["MEASURE", "TRANSFORMATION", "COICOP18", "TIME_PERIOD", "OBS_VALUE"]]
     assert sorted(rows.itertuples(index=False, name=None)) == observations(latest)
     book = pandas.read_excel(pack / "data/cpi.xlsx", sheet_name="Index", dtype={"Code": str}, index_col="Code")
     for (month, code), row in latest.items():
@@ -236,8 +240,8 @@ def round_half_up(over: int, under: int) -> int:
 
 
 def money(minor: int) -> str:
-    """Minor units as the page writes them, with narrow spaces at thousands and the currency isolated."""
-    return f"{minor // 100:,}.{minor % 100:02} \u2068crowns\u2069".replace(",", "\u202f")
+    """Minor units as the page writes them, with narrow spaces at thousands."""
+    return f"{minor // 100:,}.{minor % 100:02} crowns".replace(",", "\u202f")
 
 
 def amount_in(opened: Browser, pack: Path, then: str, now: str, amount: str, code: str, decimals: int) -> object:

@@ -36,15 +36,22 @@ def rows_of(path: Path) -> list[dict[str, str]]:
         return list(csv.DictReader(file))
 
 
+def per_mille(weight: int, of_all: int) -> Decimal:
+    """A share of all weight with six decimals, halves upwards."""
+    return Decimal((2 * weight * 10**9 + of_all) // (2 * of_all)).scaleb(-6)
+
+
 @pytest.fixture(scope="module")
 def wanted(pack: Path) -> Cells:
     """All figures by the CSV files: items and special aggregates."""
     found: Cells = {}
     data = pack / "data"
+    of_all = {row["month"]: int(row["weight"]) for row in rows_of(data / "cpi.csv") if row["code"] == "00"}
     for row in rows_of(data / "cpi.csv") + rows_of(data / "aggregates.csv"):
         for name in ("chained", "month_change", "year_change", "weight", "imputed"):
             found[row["code"], name, row["month"]] = Decimal(row[name]) if row[name] else None
         found[row["code"], "index", row["month"]] = Decimal(row["chained"])
+        found[row["code"], "share", row["month"]] = per_mille(int(row["weight"]), of_all[row["month"]])
     for row in rows_of(data / "rereferenced.csv"):
         found[row["code"], "index", row["month"]] = Decimal(row["rereferenced"])
     for row in rows_of(data / "contributions.csv") + rows_of(data / "aggregate-contributions.csv"):

@@ -13,15 +13,15 @@ from typing import Any, Optional
 import pytest
 
 from . import surveys
-from cpi_tools.others import Worded, cited, closed, isolated, others
+from cpi_tools.others import Worded, apart, cited, closed, isolated, others
 from cpi_tools.pack.config import Config
 from cpi_tools.pack.public import from_file
 from cpi_tools.program import Cpi, record
 from cpi_tools.publish import publish
 from .ran import run
 
-MARK = "\u00a7"
-"""Each text of others in these offices begins with it, and nothing of ours has it."""
+MARK = "\u05d0"
+"""Each text of others in these offices begins with it, a letter that is read from right to left, and nothing of ours has it."""
 
 PLACES = {"item": (4, 5), "outlet": (4,)}
 """Where the texts of a record are."""
@@ -70,6 +70,24 @@ def test_what_a_message_cites_turns_none_of_its_words() -> None:
         '<bdi>"<bdi>1 l\u202e</bdi>" &amp; "<bdi>&lt;b&gt;\u2067\u2069</bdi>" are one</bdi>'
     )
     assert cited("1 kg") == "<bdi>1 kg</bdi>" and cited(Worded("{}, row 5", "a.csv")) == "<bdi>a.csv</bdi>, row 5"
+
+
+@pytest.mark.parametrize(
+    ("text", "direction", "is_apart"),
+    [
+        ("Consumer price index (2024)", "ltr", False),
+        ("Consumer price index", "rtl", True),
+        ("\u0627\u0644\u0623\u0633\u0639\u0627\u0631 2024", "rtl", False),
+        ("\u0627\u0644\u0623\u0633\u0639\u0627\u0631", "ltr", True),
+        ("1 l\u202e", "ltr", True),
+        ("2024", "rtl", False),
+        ("2024", "ltr", False),
+        ("", "rtl", False),
+    ],
+)
+def test_only_what_turns_has_signs_that_nobody_sees(text: str, direction: str, is_apart: bool) -> None:
+    assert apart(text, direction) == (isolated(text) if is_apart else text)
+    assert apart(Worded("it's {}", text), direction) == f"it's {apart(text, direction)}"
 
 
 # ---- pages

@@ -49,7 +49,7 @@ def test_a_break_is_more_than_provisional(published: list[Published], tmp_path: 
         for row in rows
         if row["TIME_PERIOD"] == "2027-01" and row["TRANSFORMATION"] == "N"
     }
-    assert found == {"CPI": "B", "CPIC": "B", "CPIW": "P"}
+    assert found == {"CPI": "B", "CPIC": "B", "CPIW": "P", "CPIS": "P"}
     # (a year whose December can still be revised)
     years = {
         (it["TIME_PERIOD"], it["OBS_STATUS"])

@@ -35,6 +35,7 @@ from cpi_tools.pack.sdmx import KNOWN_IDS
 from cpi_tools.pack.tables import Series
 from cpi_tools.program import Cpi
 from cpi_tools.publish import CannotPublish, check, publish
+from lib.pack_forms import px_cells, read_json_stat, read_sdmx_ml
 from lib.places import ROOT
 from lib.served import free_port
 from .loads import served
@@ -176,6 +177,30 @@ def wanted_observations(printed: Rows) -> list[Wanted]:
     )
 
 
+def wanted_shares(printed: Rows) -> dict[tuple[str, str], str]:
+    """By month and code the share of all weight, per mille, with six decimals."""
+    rows = latest(printed)
+    found = {of: Fraction(1000 * int(row[1]), int(rows[of[0], "00"][1])) for of, row in rows.items()}
+    for month in {month for month, _ in rows}:
+        divisions = [share for (its_month, code), share in found.items() if its_month == month and len(code) == 2]
+        assert sum(divisions) == 2000, "divisions, and all items"
+    return {of: f"{Decimal(int(share * 10**6 + Fraction(1, 2))).scaleb(-6):.6f}" for of, share in found.items()}
+
+
+def test_shares_are_in_each_form(pack: Path, printed: Rows) -> None:
+    wanted, sheet = wanted_shares(printed), openpyxl.load_workbook(pack / "data/cpi.xlsx")["Shares"]
+    rows = rows_of(pack / "data/printed.csv")
+    assert {(row["month"], row["code"]): row["share_per_mille"] for row in rows} == wanted
+    px = px_cells(pack / "data/cpi.px")
+    assert {(month, code): cell for (code, figure, month), cell in px.items() if figure == "share"} == wanted
+    data, places = read_json_stat(pack / "data/cpi.jsonstat.json")
+    cells = {(month, code): data["value"][at] for (code, figure, month), at in places.items() if figure == "share"}
+    assert {of: f"{value:.6f}" for of, value in cells.items() if value is not None} == wanted
+    head, *lines = sheet.iter_rows(values_only=True)
+    in_sheet = {(month, line[0]): it for line in lines for month, it in zip(head[2:], line[2:]) if it is not None}
+    assert {of: f"{Decimal(str(it)):.6f}" for of, it in in_sheet.items()} == wanted
+
+
 def levels_of(pack: Path) -> list[dict[str, str]]:
     """The rows of cpi.csv with the level that is 100 in the office's own reference period, empty if there is none."""
     moved = {(it["month"], it["code"]): it["rereferenced"] for it in rows_of(pack / "data/rereferenced.csv")}
@@ -210,7 +235,10 @@ def test_sdmx_has_each_figure_once(
     found = sorted(read(pack / "data" / name))
     own = {(it.month, it.item): it.value for it in found if it[:2] == ("CPI", "N")}
     assert own == {(row["month"], id_of(row["code"])): row["rereferenced"] or row["chained"] for row in levels_of(pack)}
-    assert [it for it in found if it.measure != "CTR" and it[:2] != ("CPI", "N")] == wanted_observations(printed)
+    others = [it for it in found if it.measure not in ("CTR", "CPIS") and it[:2] != ("CPI", "N")]
+    assert others == wanted_observations(printed)
+    shares = {(it.month, it.item): it.value for it in found if it.measure == "CPIS"}
+    assert shares == {(month, id_of(code)): share for (month, code), share in wanted_shares(printed).items()}
     given = {
         (row["month"], id_of(row["code"]), kind): row[column]
         for row in rows_of(pack / "data/contributions.csv")
@@ -223,7 +251,7 @@ def test_sdmx_has_each_figure_once(
 def test_the_head_of_sdmx_csv(pack: Path) -> None:
     first, second = (pack / "data/cpi.sdmx.csv").read_text(encoding="utf-8").splitlines()[:2]
     assert first.startswith("STRUCTURE,STRUCTURE_ID,ACTION,FREQ,REF_AREA,MEASURE,UNIT_MEASURE,COICOP18,TRANSFORMATION,")
-    flow = r"dataflow,NSO:DF_CPI\(2026\.1\.[0-9]+\),I,M,XX,CPI,IX,_T,N,2025-01,"
+    flow = r"dataflow,NSO:DF_CPI\(1\.0\.0\),I,M,XX,CPI,IX,_T,N,2025-01,"
     assert re.match(flow, second)
 
 
@@ -271,29 +299,24 @@ def artefacts(folder: Path) -> dict[str, tuple[str, bytes]]:
     return found
 
 
-def numbers_of(version: str) -> list[int]:
-    return [int(it) for it in version.split(".")]
-
-
 def test_a_version_follows_the_content(published: list[Published], pack: Path, tmp_path: Path) -> None:
-    """A registry keeps what it has in a version, and takes other content only in another one. Telephones come in
+    """A registry keeps what it has in a version, and takes other content only in a later one. Telephones come in
     January 2026; a month between changes nothing, and neither do pears that are back in 2027."""
     found = {}
     for name, until in (("2025-02", 3), ("2025-12", 13), ("2026-03", 16), ("2027-02", 29)):
-        publish(published[:until], CONFIG, tmp_path / name, None, quiet)
-        found[name] = artefacts(tmp_path / name)
+        publish(published[:until], CONFIG, tmp_path / "public", None, quiet)
+        found[name] = artefacts(tmp_path / "public")
         assert len(found[name]) == 8
-    assert found["2025-02"] == found["2025-12"]
-    assert found["2026-03"] == found["2027-02"] == artefacts(pack)
-    for name in ("CL_COICOP18", "DSD_CPI", "DF_CPI"):
-        before, after = (numbers_of(found[each][name][0]) for each in ("2025-12", "2026-03"))
-        assert before[:2] == [2025, 1] and after[:2] == [2026, 1]
-    for name in ("CL_MEASURE", "CL_UNIT_MEASURE", "CS_CPI"):
-        assert found["2025-12"][name] == found["2026-03"][name] and found["2026-03"][name][0].startswith("1.0.")
+    assert found["2025-02"] == found["2025-12"] and {it for it, _ in found["2025-02"].values()} == {"1.0.0"}
+    assert found["2026-03"] == found["2027-02"] and artefacts(pack)["DF_CPI"][0] == "1.0.0"
+    changed = {name for name in found["2026-03"] if found["2026-03"][name] != found["2025-12"][name]}
+    assert changed == {"CL_COICOP18", "DSD_CPI", "DF_CPI"}
+    assert {found["2026-03"][name][0] for name in changed} == {"1.0.1"}
     # what the configuration changes has another version as well
-    publish(published[:3], CONFIG._replace(ids={"CPI": "IDX"}), tmp_path / "ids", None, quiet)
-    own = artefacts(tmp_path / "ids")
-    assert {name for name in own if own[name][0] != found["2025-02"][name][0]} == {"CL_MEASURE", "DSD_CPI", "DF_CPI"}
+    publish(published[:29], CONFIG._replace(ids={"CPI": "IDX"}), tmp_path / "public", None, quiet)
+    own = artefacts(tmp_path / "public")
+    last = {name: it for name, (it, _) in own.items() if it != found["2027-02"][name][0]}
+    assert last == {"CL_MEASURE": "1.0.1", "DSD_CPI": "1.0.2", "DF_CPI": "1.0.2"}
 
 
 def test_a_code_has_the_one_above_it(pack: Path, printed: Rows) -> None:
@@ -349,22 +372,31 @@ def test_sdmx_has_annual_averages(pack: Path) -> None:
     assert told == found
 
 
-def test_a_series_has_the_base_of_its_item(pack: Path, tmp_path: Path) -> None:
-    """The reference period of the office, or December before the item came; of one that left and is back both."""
+def test_a_level_has_one_base_period(pack: Path, tmp_path: Path) -> None:
+    """The reference period of the office, or December before the item came; levels of one that is back have another."""
     publish([*two_years(), tea_again()], CONFIG._replace(reference="2026"), tmp_path / "again", None, quiet)
-    first = {"CPI", "N"}
-    for folder, wanted in (
-        (pack, {"_T": "2025", "CP07": "2025", "CP08": "2025-12", "CP01112": "2025", "CP0116": "2025 2026-12"}),
-        (tmp_path / "again", {"_T": "2026", "CP01": "2026", "CP02": "2026 2027-12", "CP03": "2026-12"}),
+    for folder, wanted, later in (
+        (
+            pack,
+            {"_T": "2025", "CP07": "2025", "CP08": "2025-12", "CP01112": "2025", "CP0116": "2025"},
+            {"CP0116": "2026-12"},
+        ),
+        (tmp_path / "again", {"_T": "2026", "CP01": "2026", "CP02": "2026", "CP03": "2026-12"}, {"CP02": "2027-12"}),
     ):
         rows = rows_of(folder / "data/cpi.sdmx.csv")
-        found = {it["COICOP18"]: it["BASE_PER"] for it in rows if {it["MEASURE"], it["TRANSFORMATION"]} == first}
-        assert wanted.items() <= found.items()
+        levels = [it for it in rows if (it["MEASURE"], it["TRANSFORMATION"], it["FREQ"]) == ("CPI", "N", "M")]
+        first = {it["COICOP18"]: it["BASE_PER"] for it in reversed(levels)}
+        last = {it["COICOP18"]: it["BASE_PER"] for it in levels}
+        assert wanted.items() <= first.items()
+        assert {code: last[code] for code in last if last[code] != first[code] and len(code) < 7} == later
         assert {it["BASE_PER"] for it in rows if it["UNIT_MEASURE"] != "IX"} == {""}
-        levels = [it for it in ElementTree.parse(folder / "data/cpi.sdmx.xml").iter("Series") if it.get("BASE_PER")]
-        assert {it.get("COICOP18"): it.get("BASE_PER") for it in levels if it.get("MEASURE") == "CPI"} == found
-        chained = {it.get("COICOP18"): it.get("BASE_PER") for it in levels if it.get("MEASURE") == "CPIC"}
-        assert chained.keys() == found.keys() and chained["_T"] in ("2024-12", "2025-12")
+        names = ("FREQ", "MEASURE", "COICOP18", "TIME_PERIOD", "BASE_PER")
+        in_xml = {tuple(it[name] for name in names) for it in read_sdmx_ml(folder / "data/cpi.sdmx.xml")
+                  if "BASE_PER" in it}  # fmt: skip
+        assert in_xml == {tuple(it[name] for name in names) for it in rows if it["BASE_PER"]}
+        assert all(re.fullmatch("[0-9]{4}(-[0-9]{2})?", it[-1]) for it in in_xml)
+        chained = {it[2]: it[-1] for it in sorted(in_xml) if it[1] == "CPIC"}
+        assert chained.keys() == first.keys() and chained["_T"] in ("2024-12", "2025-12")
     rows = rows_of(tmp_path / "again/data/rereferenced.csv")
     # tea is 108 / 105.25 of its mean of 2026 in its December, and not linked to it when it comes again
     assert {it["month"]: it["rereferenced"] for it in rows if it["code"] == "02"}["2026-12"] == "102.612827"
@@ -427,7 +459,7 @@ SHEETS = {"Chained level": 3, "Monthly change": 4, "Annual change": 5, "Weights"
 
 def test_the_workbook_has_each_figure_as_a_number(pack: Path, printed: Rows) -> None:
     book = openpyxl.load_workbook(pack / "data/cpi.xlsx")
-    figures = ["Index", "Monthly change", "Annual change", "Weights", "Contributions", "Chained level"]
+    figures = ["Index", "Monthly change", "Annual change", "Weights", "Shares", "Contributions", "Chained level"]
     assert book.sheetnames == ["Read me", *figures, "Reference periods"]
     wanted_levels = {(it["month"], it["code"]): it["rereferenced"] or it["chained"] for it in levels_of(pack)}
     assert figures_of(book["Index"]) == {key: Decimal(it) for key, it in wanted_levels.items()}

@@ -74,9 +74,11 @@ def test_the_first_language_is_as_without_others(site: Path, published: list[Pub
         r'<link rel="alternate" hreflang=[^\n]*\n|<nav class="languages"[^>]*>\n<ul>\n(?:<li>[^\n]*\n)*</ul>\n</nav>\n|"inLanguage":"en",'
     )
     forms = {
-        name for name in alone if re.search(r"(\.sdmx\.(csv|xml)|structure\.xml|\.px|\.jsonstat\.json)$", name.name)
+        name
+        for name in alone
+        if re.search(r"(\.sdmx\.(csv|xml)|structure\.xml|artefacts\.json|\.px|\.jsonstat\.json)$", name.name)
     }
-    assert len(forms) == 5
+    assert len(forms) == 6
     for name in sorted(alone - forms - {Path("SHA256SUMS"), Path("sitemap.xml")}):
         here, there = (site / name).read_bytes(), (tmp_path / "alone" / name).read_bytes()
         if name.suffix == ".html":
@@ -200,6 +202,7 @@ OURS = re.compile(r"<(bdi|code|pre|script|style)\b.*?</\1>|\u2068.*?\u2069|&[a-z
 OF_ALL = re.compile(
     r"[\w.-]*\.(?:csv|xlsx|xml|json|px|ics|html|zip|png)\b|\b(?:SDMX|CSV|ML|SVG|SHA|UTC|StructureSpecificData)\b|[0-9a-f]{16,}"
 )
+HEADS = re.compile(r"<title>.*?</title>|<meta [^>]*>|<option.*?</option>", re.S)
 COLUMNS = re.compile(r'<th scope="row">[a-z_, ]+</th>')
 
 
@@ -209,10 +212,14 @@ def test_no_word_is_left_in_english(tmp_path: Path, monkeypatch: pytest.MonkeyPa
     write_catalogue("el", tmp_path / "po")
     monkeypatch.setattr(languages, "PO", tmp_path / "po")
     config = CONFIG._replace(address="", speaks=OfficeLanguages(("el",)), specials=())
-    publish(two_years()[:14], config, tmp_path / "public", None, lambda _: None)
+    tables = two_years()[:14]
+    publish(tables, config, tmp_path / "public", None, lambda _: None)
+    titles = {row[7] for it in tables for row in csv.reader(it.table.decode().splitlines())}
+    named = "|".join(re.escape(html.escape(it)) for it in sorted({config.title, config.office, *titles}, key=len)[::-1])
     left = dict[str, str]()
     for path in sorted((tmp_path / "public").rglob("*.html")):
-        text = COLUMNS.sub("", OURS.sub(" ", path.read_text(encoding="utf-8")))
+        text = HEADS.sub(lambda it: re.sub(named, " ", it[0], flags=re.I), path.read_text(encoding="utf-8"))
+        text = COLUMNS.sub("", OURS.sub(" ", text))
         said = re.findall(r'(?:aria-label|title|alt|data-fault)="([^"]*)"', text)
         words = OF_ALL.sub(" ", " ".join([re.sub(r"<[^>]*>", " ", text), *said]))
         left.update({word: path.name for word in re.findall(r"[A-Za-z]{2,}", words)})

@@ -26,14 +26,26 @@ from cpi_tools.folders import files_of
 from cpi_tools.languages import PO
 from cpi_tools.pack import tidy, years
 from cpi_tools.pack.aggregated import series_of
+from cpi_tools.pack.artefact_versions import Versions
 from cpi_tools.pack.before import Before
 from cpi_tools.pack.config import BadConfig, Config, read_config
-from cpi_tools.pack.figures import GIVEN_MONTH, GIVEN_YEAR, LEVEL, MONTH_CHANGE, PRINTED, YEAR_CHANGE, Figure, Known
+from cpi_tools.pack.figures import (
+    GIVEN_MONTH,
+    GIVEN_YEAR,
+    LEVEL,
+    MONTH_CHANGE,
+    PRINTED,
+    SHARE,
+    YEAR_CHANGE,
+    Figure,
+    Known,
+)
 from cpi_tools.pack.manifest import differences
 from cpi_tools.pack.measures import average
 from cpi_tools.pack.public import Listed, Published
 from cpi_tools.pack.shown import Shown
 from cpi_tools.pack.specials import Special
+from cpi_tools.pack.structure import structure_of
 from cpi_tools.pack.tables import Series, Table
 from cpi_tools.pack.tidy import Lines
 from cpi_tools.publish import check, publish
@@ -55,10 +67,17 @@ def written(published: list[Published], config: Config, out: Path) -> Path:
 
 
 def anew(published: list[Published], config: Config, out: Path, manifest: Path) -> Path:
-    """The pack of the same tables from nothing, whose manifest follows the same one."""
+    """The pack of the same tables from nothing, whose manifest and versions follow the same ones."""
     out.parent.mkdir(exist_ok=True)
     publish(published, config, out, manifest if manifest.exists() else None, quiet)
     return out
+
+
+def keep(pack: Path, to: Path) -> None:
+    """Keeps the manifest of a pack, and beside it the versions of its structure."""
+    (to.parent / "data").mkdir(exist_ok=True)
+    for name, path in (("manifest.json", to), ("data/artefacts.json", to.parent / "data/artefacts.json")):
+        path.write_bytes((pack / name).read_bytes())
 
 
 def inodes(pack: Path, names: list[str]) -> list[int]:
@@ -138,6 +157,9 @@ def test_an_archive_has_each_form_and_the_structure_that_it_refers_to(pack: Path
     assert names >= forms
     version = rows[0]["STRUCTURE_ID"].partition("(")[2].rstrip(")")
     assert f'id="DF_CPI" agencyID="NSO" version="{version}"' in structure
+    # a series lies in one dataflow: the structure is that of today, which has the telephones
+    assert rows[0]["STRUCTURE_ID"] == rows_of((pack / "data/cpi.sdmx.csv").read_bytes())[0]["STRUCTURE_ID"]
+    assert 'id="CP08"' in structure
     months = cube["dimension"]["month"]["category"]["index"]
     assert (months[0], months[-1], cube["size"][2]) == ("2025-01", "2025-12", 12)
     # telephones come in 2026
@@ -206,7 +228,7 @@ def test_the_next_packs_are_the_packs_from_nothing(published: list[Published], t
     ]
     for number, (some, config, taken) in enumerate(runs):
         if out.exists():
-            kept.write_bytes((out / "manifest.json").read_bytes())
+            keep(out, kept)
         earlier = {name: (out / name).stat().st_ino for name in (files_of(out) if out.exists() else ())}
         written(some, config, out)
         first = anew(some, config, tmp_path / f"first{number}" / "public", kept)
@@ -236,7 +258,7 @@ def test_the_lines_of_earlier_years_are_those_of_the_pack_before(
 ) -> None:
     tables = sorted(published)
     out, kept = written(tables[:-1], CONFIG, tmp_path / "public"), tmp_path / "kept.json"
-    kept.write_bytes((out / "manifest.json").read_bytes())
+    keep(out, kept)
     damage(out / "node/07.2.2.1-01.csv")
     made = lines_written(monkeypatch)
     written(tables, CONFIG, out)
@@ -255,7 +277,7 @@ def test_lines_of_months_that_were_provisional_are_written_anew(
     made = lines_written(monkeypatch)
     months_made = []
     for number in range(first + 1, len(tables) + 1):
-        kept.write_bytes((out / "manifest.json").read_bytes())
+        keep(out, kept)
         made.clear()
         written(tables[:number], config, out)
         months_made.append({*made["01.1.1.1-01"]})
@@ -269,7 +291,7 @@ def test_lines_of_months_that_were_provisional_are_written_anew(
 # ---- the lines of the files of data
 
 
-KINDS = (GIVEN_MONTH, GIVEN_YEAR, PRINTED, MONTH_CHANGE, YEAR_CHANGE, LEVEL)
+KINDS = (GIVEN_MONTH, GIVEN_YEAR, PRINTED, MONTH_CHANGE, YEAR_CHANGE, LEVEL, SHARE)
 """The figures that files of `data` have in lines of months."""
 
 OF_MONTHS = ["cpi.csv", "contributions.csv", "printed.csv", "twelve-month-rates.csv", "rereferenced.csv"]
@@ -307,7 +329,7 @@ def test_the_files_of_data_get_the_lines_of_the_new_month(
     written(tables[:first], CONFIG, out)
     made = asked(monkeypatch)
     for number in range(first + 1, len(tables) + 1):
-        kept.write_bytes((out / "manifest.json").read_bytes())
+        keep(out, kept)
         made.clear()
         written(tables[:number], CONFIG, out)
         month = tables[number - 1].listed.month
@@ -323,7 +345,7 @@ def test_a_new_full_year_is_added_to_the_averages(
     """With December a year has an average; the lines of the years before stay."""
     tables = [it for it in sorted(published) if it.listed.month <= "2026-12"]
     out, kept = written(tables[:-1], CONFIG, tmp_path / "public"), tmp_path / "kept.json"
-    kept.write_bytes((out / "manifest.json").read_bytes())
+    keep(out, kept)
     computed = set[int]()
 
     def counted(series: Series, code: str, year: int) -> Optional[Ratio]:
@@ -343,7 +365,7 @@ def test_a_file_that_isnt_as_it_was_written_gets_all_its_lines(
     made = asked(monkeypatch)
     for number, name in enumerate([*OF_MONTHS, "averages.csv"]):
         out = written(tables[:-1], CONFIG, tmp_path / f"public{number}")
-        kept.write_bytes((out / "manifest.json").read_bytes())
+        keep(out, kept)
         damage(out / "data" / name)
         made.clear()
         written(tables, CONFIG, out)
@@ -364,7 +386,7 @@ def test_what_lines_are_made_of_makes_them_anew(
 ) -> None:
     tables, config = sorted(published), CONFIG
     out, kept = written(tables[:-1], CONFIG, tmp_path / "public"), tmp_path / "kept.json"
-    kept.write_bytes((out / "manifest.json").read_bytes())
+    keep(out, kept)
     if change == "a title":
         tables = [*tables[:-1], retitled(tables[-1])]
     elif change == "a revision":
@@ -401,7 +423,7 @@ def test_a_formula_in_a_line_that_is_kept_is_told(
 def test_odd_notes_of_what_was_made_keep_nothing(published: list[Published], tmp_path: Path) -> None:
     tables = sorted(published)
     out, kept = written(tables[:-1], CONFIG, tmp_path / "public"), tmp_path / "kept.json"
-    kept.write_bytes((out / "manifest.json").read_bytes())
+    keep(out, kept)
     made, sums = out / "data/years/made.json", (out / "SHA256SUMS").read_text(encoding="utf-8")
     months = next(name for name in json.loads(made.read_bytes()) if "/" in name)
     assert months == "2027-01/2027-04"
@@ -426,7 +448,8 @@ def kept_of(tables: list[Published], out: Path) -> Iterator[str]:
     """Up to which month the files of a pack are of use for some tables."""
     series = series_of(tables, CONFIG.specials)
     span = years.Span(years.first_of(series, CONFIG.years), series.every[-1])
-    found = years.Archives(series, Shown(series, CONFIG.reference), CONFIG, Before(out), span).kept.to
+    structure = structure_of(series, CONFIG, Versions())
+    found = years.Archives(series, Shown(series, CONFIG.reference), CONFIG, structure, Before(out), span).kept.to
     yield from [found] if found else []
 
 
@@ -447,7 +470,7 @@ def test_a_title_with_an_end_of_line_hides_no_line(published: list[Published], t
     tables = sorted(Published(it.listed, it.table.replace(b'"Rice, packed"', title)) for it in published)
     assert title in tables[-1].table
     out, kept = written(tables[:-1], CONFIG, tmp_path / "public"), tmp_path / "kept.json"
-    kept.write_bytes((out / "manifest.json").read_bytes())
+    keep(out, kept)
     written(tables, CONFIG, out)
     assert [*differences(out, anew(tables, CONFIG, tmp_path / "first" / "public", kept))] == []
 

@@ -34,7 +34,8 @@ LEFT = (
     + r"""
 const plain = /[\w.-]*\.(csv|xlsx|xml|json|px|ics|html|zip)\b|\b(SVG|PNG|CSV|SDMX|ML|SHA|UTC|StructureSpecificData|CORE)\b/g; // (CORE is the code of an item)
 const addressed = /https?:\/\/\S+|[\w-]+=\S+|[0-9a-f]{64}/g;
-const isEnglish = (text) => /[A-Za-z]{2,}/.test(text.replace(addressed, "").replace(plain, "").replace(/\u2068.*?\u2069/gs, ""));
+const others = /Title of [\w.-]+, a long one with commas|Office of prices and other things|Consumer price index|All items without food, energy and administered prices|crowns/gi;
+const isEnglish = (text) => /[A-Za-z]{2,}/.test(text.replace(others, "").replace(addressed, "").replace(plain, "").replace(/\u2068.*?\u2069/gs, ""));
 const ours = "bdi, code, pre, script, style, noscript, .code, .hash, .formula, .languages, sup, b, option";
 const found = [];
 const walker = document.createTreeWalker(document, NodeFilter.SHOW_TEXT);

@@ -7,11 +7,13 @@ costs nothing when a page is written; only one with plural forms is chosen then.
 from __future__ import annotations
 
 import re
+from collections.abc import Mapping
 from typing import Optional
 
 from jinja2 import nodes
 from jinja2.ext import InternationalizationExtension
 
+from .elided import OF
 from .languages import Language
 
 PLACE = re.compile(r"%\(([a-z_]+)\)s")
@@ -42,6 +44,13 @@ class Inlined(InternationalizationExtension):
         text = language.gettext(source) if context is None else language.pgettext(context, source)
         parts = PLACE.split(text) if vars_referenced else [text]
         return nodes.Output([
-            variables[part] if at % 2 else nodes.TemplateData(part.replace("%%", "%") if vars_referenced else part)
+            _placed(variables, part) if at % 2 else nodes.TemplateData(part.replace("%%", "%") if vars_referenced else part)
             for at, part in enumerate(parts)
         ])  # fmt: skip
+
+
+def _placed(variables: Mapping[str, nodes.Expr], name: str) -> nodes.Expr:
+    """What is in a place of a text; with the word before it, if the language joins the two."""
+    if name in variables:
+        return variables[name]
+    return nodes.Filter(variables[name.removeprefix(OF)], "of", [], [], None, None)

@@ -10,10 +10,13 @@ from __future__ import annotations
 
 import functools
 import re
-from collections.abc import Sequence
+import unicodedata
+from collections.abc import Mapping, Sequence
 from html import escape
 from string import Formatter
 from typing import Optional
+
+from .elided import Places
 
 OPENS, CLOSES = "\u2068", "\u2069"
 """FIRST STRONG ISOLATE and POP DIRECTIONAL ISOLATE."""
@@ -25,6 +28,12 @@ PARAGRAPHS = re.compile("[\n\r\x1c-\x1e\x85\u2029]")
 """What begins a paragraph, and so ends each isolate."""
 
 ISOLATES = re.compile("[\u2066-\u2069]")
+
+TURNING: Mapping[str, frozenset[str]] = {
+    "ltr": frozenset(("R", "AL", "AN", "LRE", "RLE", "LRO", "RLO", "PDF", "LRI", "RLI", "FSI", "PDI", "B")),
+    "rtl": frozenset(("L", "LRE", "RLE", "LRO", "RLO", "PDF", "LRI", "RLI", "FSI", "PDI", "B")),
+}
+"""By the direction of a page the kinds of characters (Unicode's Bidi_Class) in a text that could turn the words next to it."""
 
 QUOTE = '"'
 QUOTED = re.compile(f"{QUOTE}([^{QUOTE}]*){QUOTE}")
@@ -77,10 +86,10 @@ class OwnLine(Worded):
 def worded(form: str, **places: object) -> Worded:
     """A sentence of ours with what belongs in its named places, `{title}` or `{month}`. A text of others is handed in
     as Worded; anything else is ours, such as a figure."""
-    parts, texts = list[str](), list[str]()
+    parts, texts, named = list[str](), list[str](), Places(places)
     for literal, name in parsed(form):
         parts.append(_literal(literal))
-        value = "" if name is None else places[name]
+        value = "" if name is None else named[name]
         parts.append("{}" if isinstance(value, Worded) else _literal(str(value)))
         texts += [value] if isinstance(value, Worded) else []
     return Worded("".join(parts), *texts)
@@ -132,3 +141,13 @@ def isolated(text: object) -> str:
     if isinstance(text, Worded):
         return text.form.format(*map(isolated, text.texts))
     return f"{OPENS}{closed(str(text))}{CLOSES}"
+
+
+def apart(text: object, direction: str) -> str:
+    """The same in words of a direction, `ltr` or `rtl`, without isolates if the text turns nothing: so what people copy has no
+    characters that nobody sees."""
+    if isinstance(text, Worded):
+        return text.form.format(*(apart(it, direction) for it in text.texts))
+    plain = str(text)
+    turns = not TURNING[direction].isdisjoint(map(unicodedata.bidirectional, plain))
+    return isolated(plain) if turns else plain

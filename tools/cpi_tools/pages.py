@@ -7,6 +7,7 @@ their folder, which is searched first.
 from __future__ import annotations
 
 from collections.abc import Callable, Mapping, MutableMapping
+from functools import partial
 from pathlib import Path
 from typing import Any, Optional
 
@@ -14,9 +15,10 @@ import jinja2
 from markupsafe import Markup
 
 from . import exact
+from .elided import of
 from .inlined import Inlined
 from .languages import ENGLISH, Language
-from .others import isolated, others
+from .others import apart, isolated, others
 from .terminal import Fault, because_of, month_name
 from .whole_files import in_place_of
 
@@ -43,6 +45,7 @@ FILTERS: Mapping[str, Callable[..., Any]] = {
     "month_name": month_name,
     "others": others,
     "isolated": isolated,
+    "of": of,
 }
 """What a template of any tool can write figures, and texts of others, with."""
 
@@ -78,6 +81,7 @@ def environment(own: Optional[Path] = None, language: Language = ENGLISH) -> jin
     made.policies["ext.i18n.trimmed"] = True
     made.globals["language"] = language
     made.filters.update(FILTERS)
+    made.filters["apart"] = partial(apart, direction=language.dir)
     made.globals["style"] = style
     return made
 

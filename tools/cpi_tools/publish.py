@@ -17,6 +17,9 @@ from .card_drawing import NOT_DRAWN, cards_after, cards_like
 from .csv_files import add_safe_csv, compared_only
 from .folders import behind_link, refuse_shared, written_folder
 from .pack.aggregated import series_of
+from .pack.announced import Earlier as EarlierMoments
+from .pack.announced import announced_after, announced_in, write_announced
+from .pack.artefact_versions import Versions, versions_after
 from .pack.before import Before
 from .pack.cards import NO_CARDS, Cards, has_cards
 from .pack.config import Config, read_config
@@ -47,6 +50,7 @@ from .pack.signature import Sign, Signature, is_signed, unsigned
 from .pack.specials import Sets
 from .pack.shown import Shown
 from .pack.stays import Earlier, changed_pages
+from .pack.structure import structure_of
 from .pack.tables import Series
 from .pack.tidy import write_whole
 from .pack.years import Archives, Span, earlier_years, first_of
@@ -64,12 +68,15 @@ class CannotPublish(Fault):
 
 
 class Pack(NamedTuple):
-    """What a pack is made of: its tables, who publishes, the SHA-256 of the manifest before, if there is one, what signs a
-    manifest and what draws cards, if anything does, and the special aggregates that the pack before has."""
+    """What a pack is made of: its tables, who publishes, and of the pack before, if there is one, the SHA-256 of its manifest,
+    the versions of artefacts of SDMX, and the moments that were announced; what signs a manifest and what draws cards, if
+    anything does, and the special aggregates that the pack before has."""
 
     series: Series
     config: Config
     previous: Optional[str]
+    versions: Versions
+    moments: EarlierMoments
     sign: Sign = unsigned
     cards: Cards = NO_CARDS
     sets: KeptSets = NO_SETS
@@ -83,14 +90,17 @@ def write_pack(pack: Pack, folder: Path, now: Now, before: Before) -> None:
     # (here, since the packages of its pages needn't be there for the other tools)
     from .pack.sites import Shared, write_sites
 
-    series, config = pack.series, pack.config
+    series = pack.series
+    announced = announced_after(pack.moments, pack.config.planned, series)
+    config = pack.config._replace(announced=announced)
     signature = _write_manifest(pack, folder)
     now("what each month is computed from")
     shown, data = Shown(series, config.reference, config.rates, config.provisional), folder / "data"
     sums = _write_tables(series, data / "tables", before)
     span = Span(first_of(series, config.years), series.every[-1])
     years = earlier_years(series, span.first)
-    archives = Archives(series, shown, config, before, span)
+    structure = structure_of(series, config, pack.versions)
+    archives = Archives(series, shown, config, structure, before, span)
     contributions = Contributions(series, archives.unexplained)
     if years:
         archives.write(years, data, now)
@@ -99,7 +109,9 @@ def write_pack(pack: Pack, folder: Path, now: Now, before: Before) -> None:
     write_whole(series, shown, data, kept, set_lines(series, reasons, pack.sets))
     write_reasons(reasons, data)
     recent = known_of(series.part(*span), archives.unexplained, shown)
-    write_part(recent, config, data, now, kept)
+    pack.versions.write(data)
+    write_announced(announced, data)
+    write_part(recent, structure, config, data, now, kept)
     known = Known(series, contributions, shown, recent)
     files = NewFiles(folder)
     items = ItemFiles(known, Notes(shown, config.provisional), before, archives.same_to, files)
@@ -165,7 +177,9 @@ def publish(
         if key is None and is_signed(out):
             raise CannotPublish(f"{out} is signed, and the new pack wouldn't be: --sign names the key")
         cards = cards_after(out) if config.address else NO_CARDS
-        pack = Pack(series, config, previous_of(last, series), signed_by(key, config.agency), cards, sets)
+        packs = [*([before.parent] if before else []), *([out] if standing else [])]
+        chain = previous_of(last, series), versions_after(packs), announced_in(packs)
+        pack = Pack(series, config, *chain, signed_by(key, config.agency), cards, sets)
         write_pack(pack, new, now, Before(behind_link(out) if standing else None))
         if earlier:
             _tell_changes(changed_pages(earlier, new, series), tell)
@@ -189,7 +203,7 @@ def _refuse_changes(before: Manifest, series: Series) -> None:
 def check(published: Iterable[Published], config: Config, out: Path, before: Optional[Path], now: Now) -> list[str]:
     """A line for each file of a pack that isn't what is written now.
 
-    Which manifest was before it is taken from the pack itself, or is `before`. A signature can't be made anew without
+    Which manifest was before it is taken from the pack itself, or is `before`; versions are those of the pack. A signature can't be made anew without
     the key: that of the pack is taken, and has to hold for the manifest that is written now.
     """
     series = series_of(published, config.specials)
@@ -199,9 +213,9 @@ def check(published: Iterable[Published], config: Config, out: Path, before: Opt
             new = room / "pack"
             new.mkdir()
             with compared_only():
-                write_pack(
-                    Pack(series, config, previous, kept(out), cards_like(out), kept_sets(out)), new, now, Before()
-                )
+                chain = previous, versions_after([out]), announced_in([out])
+                pack = Pack(series, config, *chain, kept(out), cards_like(out), kept_sets(out))
+                write_pack(pack, new, now, Before())
             now(f"comparing with {out}")
             return list(differences(out, new))
     except OSError as fault:

@@ -9,6 +9,7 @@ from __future__ import annotations
 from collections.abc import Sequence
 from datetime import datetime
 
+from .elided import Places
 from .languages import ENGLISH, SOURCE, Language, language_of
 from .terminal import month_name
 
@@ -28,7 +29,7 @@ class Speech:
     def t(self, text: str, **places: object) -> str:
         """A text of a catalogue, with its places filled."""
         found = self.language.gettext(text)
-        return found.format(**places) if places else found
+        return found.format_map(Places(places)) if places else found
 
     def tc(self, context: str, text: str) -> str:
         """A text that catalogues have by its context, since other places of it are translated otherwise."""
@@ -36,7 +37,8 @@ class Speech:
 
     def tn(self, one: str, many: str, count: int, **places: object) -> str:
         """The form of a text for a count, which fills the place `{count}`."""
-        return self.language.ngettext(one, many, count).format(count=self.whole(count), **places)
+        form = self.language.ngettext(one, many, count)
+        return form.format_map(Places({"count": self.whole(count), **places}))
 
     def listed(self, texts: Sequence[str]) -> str:
         """At least one text: `a`, `a and b`, or `a, b and c`."""
@@ -57,6 +59,10 @@ class Speech:
 
     def figure(self, text: str) -> str:
         """A figure."""
+        return text
+
+    def numbered(self, text: str) -> str:
+        """A text of a catalogue, whose numbers have the digits of the pages."""
         return text
 
     def whole(self, number: int) -> str:

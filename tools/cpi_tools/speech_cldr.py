@@ -30,6 +30,13 @@ ARABIC: Mapping[str, str] = {
 
 NUMBER = re.compile(r"[#0,.]+")
 
+WRITTEN = re.compile(
+    r"<[^>]*>|\{[a-z_]+\}|%\([a-z_]+\)s"
+    r"|(?<![A-Za-z0-9.,:/#&;_-])(?<![A-Za-z] )[0-9]+(?:[.,][0-9]+)*(?![A-Za-z0-9_/-]|[.:][A-Za-z0-9])"
+)
+"""What is passed by in a text of a catalogue, tags and places, and a number in it: none within a name such as SHA-256, or
+behind one, as in COICOP 2018."""
+
 
 class Cldr(Speech):
     """A language by its locale, with a system of digits."""
@@ -46,6 +53,12 @@ class Cldr(Speech):
         self._digits, self._figures = str.maketrans(own), str.maketrans(self._signs)
         before, after = NUMBER.split(locale.percent_formats[None].pattern, maxsplit=1)
         self._percent = [part.replace("%", signs["percentSign"]) for part in (before, after)]
+        if digits != LATIN:
+            self.language = language._replace(
+                gettext=lambda text: self.numbered(language.gettext(text)),
+                ngettext=lambda one, many, count: self.numbered(language.ngettext(one, many, count)),
+                pgettext=lambda context, text: self.numbered(language.pgettext(context, text)),
+            )
 
     def listed(self, texts: Sequence[str]) -> str:
         return str(format_list(texts, locale=self._locale))
@@ -60,6 +73,12 @@ class Cldr(Speech):
     @property
     def signs(self) -> dict[str, str]:
         return {sign: text for sign, text in self._signs.items() if sign != text}
+
+    @functools.lru_cache(maxsize=4000)
+    def numbered(self, text: str) -> str:
+        if self.digits == LATIN:
+            return text
+        return WRITTEN.sub(lambda it: self.figure(it[0]) if it[0][0].isdigit() else it[0], text)
 
     def whole(self, number: int) -> str:
         return self.figure(f"{number:,}")

@@ -1,16 +1,13 @@
-"""The artefacts of SDMX that an office maintains: its code lists, and the version of each artefact.
+"""The artefacts of SDMX that an office maintains: its code lists, its concepts, its data structure and its dataflow.
 
-A version follows the content, so the same content always has the same version, and other content has another one. It
-has three numbers. Of what depends on the tables the first two are year and month of the table that changed it last,
-so that a later list has a greater version; of all else they are 1 and 0. The third is a checksum of the content.
-Nothing is final: items come and titles change, and SDMX lets a final artefact never change.
+`artefact_versions` gives each its version. Nothing is final: items come and titles change, and SDMX lets a final artefact
+never change.
 
 Frequency, area and status are lists that agencies share: they are referred to by their own agency and version.
 """
 
 from __future__ import annotations
 
-import hashlib
 import re
 from collections.abc import Mapping
 from typing import NamedTuple
@@ -56,37 +53,18 @@ class Code(NamedTuple):
 
 
 class CodeList(NamedTuple):
-    """A code list of the office: its title in English, its version, its codes, and by their ids what these are called in
-    further languages."""
+    """A code list of the office: its title in English, its codes, by their ids what these are called in further languages,
+    and its version."""
 
     title: str
-    version: str
     codes: list[Code]
     names: Mapping[str, Names] = {}
-
-
-def version_of(content: object, month: str = "") -> str:
-    """The version of some content; `month` is that of the table that changed it last."""
-    checksum = int(hashlib.sha256(repr(content).encode()).hexdigest()[:8], 16) % 10**6
-    return f"{int(month[:4])}.{int(month[5:])}.{checksum}" if month else f"1.0.{checksum}"
+    version: str = ""
 
 
 def item_id(code: str) -> str:
     """The id of a node; a special aggregate has its own."""
     return "_T" if code == ALL_ITEMS else "CP" + code.replace(".", "") if code[:1].isdigit() else code
-
-
-def changed_last(series: Series) -> str:
-    """The month of the table that last brought a code, or another title of one."""
-    titles: dict[str, str] = {}
-    last, earlier = series.every[0], None
-    for month in series.every:
-        named = series.latest[month].rows.named
-        if named is not earlier and any(titles.get(code) != title for code, title in zip(named.codes, named.titles)):
-            last = month
-            titles.update(zip(named.codes, named.titles))
-        earlier = named
-    return last
 
 
 def items(series: Series, config: Config, title: str) -> CodeList:
@@ -98,13 +76,21 @@ def items(series: Series, config: Config, title: str) -> CodeList:
     codes += [Code(name, it.title, config.language) for name, it in series.specials.items()]
     ids = {item_id(code): code for code in series.every_title} | {name: name for name in series.specials}
     names = {id: titles_of(config, code) for id, code in ids.items()} if config.speaks.languages else {}
-    content = (title, codes, named(config, title), names) if config.speaks.languages else (title, codes)
-    return CodeList(title, version_of(content, changed_last(series)), codes, names)
+    return CodeList(title, codes, names)
 
 
 def fixed(config: Config, title: str, codes: Mapping[str, str]) -> CodeList:
     """A list that doesn't depend on the tables, with the office's own ids."""
     own = [Code(config.id(code), name, "en") for code, name in codes.items()]
     names = {config.id(code): named(config, name) for code, name in codes.items()} if config.speaks.languages else {}
-    content = (title, own, named(config, title), names) if config.speaks.languages else (title, own)
-    return CodeList(title, version_of(content), own, names)
+    return CodeList(title, own, names)
+
+
+class Structure(NamedTuple):
+    """What an office maintains: its code lists by concept, and the versions of its concepts, its definition of the data
+    structure and its dataflow."""
+
+    lists: dict[str, CodeList]
+    concepts: Reference
+    definition: Reference
+    flow: Reference

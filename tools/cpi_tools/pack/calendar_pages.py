@@ -12,6 +12,7 @@ from pathlib import Path
 from typing import NamedTuple
 
 from ..speech import SPEAKS_ENGLISH, Speech
+from .announced import Announced
 from .config import Config
 from .planned import Planned
 from .release_names import name_of, page_of_release
@@ -28,13 +29,15 @@ LINE_BYTES = 75
 
 
 class Event(NamedTuple):
-    """A release of the calendar: its month and revision, its moment in seconds since 1970 UTC, and what is known of it once
-    it is out."""
+    """A release of the calendar: its month and revision, its moment in seconds since 1970 UTC, what is known of it once it is
+    out, and if it moved, how often, and when that was said."""
 
     month: str
     revision: int
     moment: int
     says: str = ""
+    moves: int = 0
+    said: int = 0
 
     @property
     def address(self) -> str:
@@ -51,12 +54,21 @@ def coming(series: Series, planned: Sequence[Planned]) -> list[Planned]:
     return [it for it in planned if (it.month, it.revision) not in there and it.moment > series.moment]
 
 
+def moved(series: Series, config: Config) -> list[Announced]:
+    """The releases that come at another moment than was announced, or came in the last months, the last said first."""
+    first, out = before(series.months[-1], EVENT_MONTHS - 1), {(it.month, it.revision) for it in series.vintages}
+    ahead = {(it.month, it.revision) for it in coming(series, config.planned)}
+    found = (it for it in config.announced if it.moves and (it.of in ahead or (it.of in out and it.month >= first)))
+    return sorted(found, key=lambda it: (it.said, it.of), reverse=True)
+
+
 class CalendarOf:
     """What pages say of announced releases."""
 
     def __init__(self, series: Series, config: Config):
         self.coming = coming(series, config.planned)
         self.clock = config.clock
+        self.moved = moved(series, config)
 
     def year_of(self, moment: int) -> str:
         """The year of a moment by the office's clock."""
@@ -86,7 +98,12 @@ def write_ics(
     first = before(series.months[-1], EVENT_MONTHS - 1)
     tables = [(it.table, it.headline) for it in releases if it.table.month >= first]
     events = [Event(it.month, it.revision, it.moment, says) for it, says in tables]
-    events += [Event(*it) for it in coming(series, config.planned)]
+    events += [Event(it.month, it.revision, it.moment) for it in coming(series, config.planned)]
+    known = {it.of: it for it in config.announced if it.moves}
+    for at, it in enumerate(events):
+        change = known.get((it.month, it.revision))
+        if change:
+            events[at] = it._replace(moves=change.moves, said=change.said)
     lines = (line for it in _lines(series, config, events, speech) for line in _folded(it))
     to.write_bytes(b"".join(line + b"\r\n" for line in lines))
 
@@ -103,7 +120,9 @@ def _lines(series: Series, config: Config, events: Sequence[Event], speech: Spee
     for it in events:
         yield "BEGIN:VEVENT"
         yield f"UID:{name_of(it.month, it.revision)}.{config.area}.{config.agency}@cpi"
-        yield f"DTSTAMP:{_stamp(series.moment)}"
+        yield f"DTSTAMP:{_stamp(it.said if it.moves else series.moment)}"
+        if it.moves:
+            yield f"SEQUENCE:{it.moves}"
         yield f"DTSTART:{_stamp(it.moment)}"
         yield f"SUMMARY:{_text(speech.row([config.title, release_text(speech, it.month, it.revision)]))}"
         if it.says:

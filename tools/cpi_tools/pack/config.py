@@ -10,6 +10,7 @@ from typing import NamedTuple, Optional
 
 from ..speech import LATIN
 from ..terminal import Fault, because_of
+from .announced import Announced
 from .clocks import UTC, Clock, NoZone, clock_of
 from .dated import Dated, dated_of, value_in
 from .office_languages import BadLanguages, OfficeLanguages, Own, read_languages
@@ -73,8 +74,8 @@ class Config(NamedTuple):
     those of the calculator's amounts, `without` has the forms that aren't written, `language` is that of titles, `ids`
     are the office's own ids of SDMX by those that are used else, `specials` its special aggregates, `provisional` is how
     many of the last months it may still revise (0 to MOST_PROVISIONAL), `years` how many years are in the files of
-    the folder `data` (None: as many as don't make them large), and `speaks` are the languages of the pages
-    (without one they are English).
+    the folder `data` (None: as many as don't make them large), `speaks` are the languages of the pages
+    (without one they are English), and `announced` are the releases that the pack before announced, and these do.
     """
 
     agency: str
@@ -102,6 +103,7 @@ class Config(NamedTuple):
     all_provisional: tuple[Dated, ...] = ()
     reasons: tuple[Reason, ...] = ()
     speaks: OfficeLanguages = OfficeLanguages()
+    announced: tuple[Announced, ...] = ()
 
     def reference_in(self, month: str) -> str:
         """The reference period of the release of a month."""

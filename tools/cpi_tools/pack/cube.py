@@ -50,9 +50,8 @@ CHAINED = Measure("chained", CHAINED_NAME, POINTS, 6, figures.CHAINED, 1)
 OTHERS = (
     Measure("month_change", marked("Change on the month before"), PERCENT, 1, figures.MONTH_CHANGE, 1),
     Measure("year_change", marked("Change on the year before"), PERCENT, 1, figures.YEAR_CHANGE, 1),
-    Measure(
-        "weight", marked("Weight in use"), marked("parts per million, unless prices moved them"), 0, figures.WEIGHT, 0
-    ),
+    Measure("weight", marked("Weight in use"), marked("units of weight, as in use"), 0, figures.WEIGHT, 0),
+    Measure("share", marked("Share of all weight, per mille"), marked("per mille"), 6, figures.SHARE, 2),
     Measure(
         "contribution",
         marked("Contribution to the annual change of all items"),

@@ -1,7 +1,7 @@
 """The feed of releases (Atom, RFC 4287): who reads it learns of each release, and of revisions.
 
 An entry is a release with its moment. Later tables change nothing of it, so a reader never shows it as new again; if the
-office says later why it revised a month, the entry has the moment of that.
+office says later why it revised a month, the entry has the moment of that. A release that moved is an entry of its own.
 """
 
 from __future__ import annotations
@@ -11,9 +11,13 @@ from pathlib import Path
 from xml.sax.saxutils import escape, quoteattr
 
 from ..speech import SPEAKS_ENGLISH, Speech
+from .announced import Announced
+from .calendar_pages import PAGE, moved
 from .config import Config
 from .notes import provisional_then
+from .release_names import name_of
 from .releases import Release
+from .spoken import release_text
 from .tables import Series, iso
 
 FEED = "feed.xml"
@@ -40,14 +44,39 @@ def _lines(config: Config, series: Series, releases: Sequence[Release], speech: 
     yield f"<author><name>{_text(config.office)}</name></author>"
     yield f'<link rel="self" type="application/atom+xml" href={quoteattr(config.address + FEED)}/>'
     yield f'<link rel="alternate" type="text/html" href={quoteattr(config.address)}/>'
-    for it in releases:
-        yield from _entry(config, it, speech)
+    entries = [(it.table.moment, [*_entry(config, it, speech)]) for it in releases]
+    entries += [(it.said, [*_move(config, series, it, speech)]) for it in moved(series, config)]
+    for _, entry in sorted(entries, key=lambda it: it[0], reverse=True)[:MOST_ENTRIES]:
+        yield from entry
     yield "</feed>"
+
+
+def _move(config: Config, series: Series, it: Announced, speech: Speech) -> Iterator[str]:
+    """The entry of a release that came, or comes, at another moment than was announced."""
+    release, clock = release_text(speech, it.month, it.revision), config.clock
+    places = {"release": release, "before": clock.day(it.before or 0, speech), "moment": clock.day(it.moment, speech)}
+    if it.moment > series.moment:
+        says = speech.t("{release} was announced for {before}, and comes on {moment}.", **places)
+    else:
+        says = speech.t("{release} was announced for {before}, and was published on {moment}.", **places)
+    if it.reason:
+        why = speech.t("The office says why: {reason}", reason=it.reason)
+        says = f"{says} {why}"
+    address = f"{config.address}{PAGE}#{name_of(it.month, it.revision)}-moved-{it.moves}"
+    yield f"<entry><id>{address}</id>"
+    title = speech.t("Moved: {release}", release=release)
+    yield f"<title>{_text(title)}</title>"
+    yield f"<published>{iso(it.said)}</published><updated>{iso(it.said)}</updated>"
+    yield f'<link rel="alternate" type="text/html" href={quoteattr(address)}/>'
+    yield f"<summary>{_text(says)}</summary></entry>"
 
 
 def _entry(config: Config, release: Release, speech: Speech) -> Iterator[str]:
     table, address = release.table, config.address + release.page
-    title = speech.t("{month}: {headline}", month=release.text, headline=release.headline)
+    # (the headline names the month, and not which revision it is)
+    title = release.headline
+    if table.revision > 1:
+        title = speech.t("{month}: {headline}", month=release.text, headline=release.headline)
     yield f"<entry><id>{address}</id>"
     yield f"<title>{_text(title)}</title>"
     yield f"<published>{iso(table.moment)}</published><updated>{iso(release.last_said)}</updated>"

@@ -169,6 +169,12 @@ def _millionths(value: Optional[Parts]) -> Optional[int]:
     return None if value is None else scaled(*value, 6)
 
 
+def _shares(known: Known, month: str) -> Iterable[Optional[int]]:
+    whole = known.series.row(month, ALL_ITEMS)
+    of_all = whole.weight if whole else 0
+    return (scaled(1000 * it, of_all, 6) if it and of_all else None for it in known.values(month, "weight"))
+
+
 LEVEL = Figure("level", 6, _levels)
 """The level with the office's own reference period, if it has one."""
 
@@ -184,6 +190,9 @@ YEAR_CHANGE = Figure("year change", 1, _changes("year_change", True))
 
 WEIGHT = Figure("weight", 0, lambda known, month: known.values(month, "weight"))
 """The weight in use."""
+
+SHARE = Figure("share", 6, _shares)
+"""The weight in use as a part of that of all items, per mille."""
 
 IMPUTED = Figure("imputed", 0, lambda known, month: known.values(month, "is_imputed"))
 """1 if a price at or below the node was imputed, else 0."""

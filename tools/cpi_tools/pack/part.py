@@ -8,6 +8,7 @@ from __future__ import annotations
 from collections.abc import Callable, Iterable
 from pathlib import Path
 
+from .artefacts import Structure
 from .config import SDMX_FORMS, Config
 from .cube_files import write_cubes
 from .figures import Known
@@ -30,15 +31,17 @@ def known_of(part: Series, unexplained: Iterable[tuple[str, bool]], shown: Shown
     return Known(part, Contributions(part, unexplained), shown.part(part))
 
 
-def write_part(known: Known, config: Config, folder: Path, now: Now, kept: KeptLines = NOTHING_KEPT) -> None:
-    """Writes the files of some months into a folder."""
+def write_part(
+    known: Known, structure: Structure, config: Config, folder: Path, now: Now, kept: KeptLines = NOTHING_KEPT
+) -> None:
+    """Writes the files of some months into a folder; the structure of SDMX is that of all months."""
     now("CSV files")
     write_months(known, folder, kept)
     write_specials(known.series, known.contributions, folder)
     if any(map(config.has, SDMX_FORMS)):
         now("SDMX files")
-        write_data(known, config, folder)
-        write_structure(known.series, config, folder / "structure.sdmx.xml")
+        write_data(known, structure, config, folder)
+        write_structure(structure, known.series, config, folder / "structure.sdmx.xml")
     now("JSON-stat and PX")
     write_cubes(known, config, folder)
     now("the workbook")

@@ -17,7 +17,11 @@ def write_words(speech: Speech, folder: Path) -> None:
     tag = speech.language.tag
     if tag == SOURCE:
         return
-    texts, plural = words_of(tag.replace("-", "_"), SCRIPTS)
+    found, plural = words_of(tag.replace("-", "_"), SCRIPTS)
+    texts = {
+        source: speech.numbered(it) if isinstance(it, str) else [speech.numbered(form) for form in it]
+        for source, it in found.items()
+    }
     data = {"tag": tag, "digits": speech.digits, "signs": speech.signs, "plural": plural, "texts": texts}
     text = json.dumps(data, ensure_ascii=False, separators=(",", ":"))
     (folder / "assets" / "words.js").write_text(f"globalThis.WORDS = {text};\n", encoding="utf-8")

@@ -9,7 +9,8 @@ character of an id, so `00` is `_T`, `01.1.1.1` is `CP01111` and `01.1.1.1-01` i
 | `CPI` | `N` | `IX` | level, with the office's own reference period or 100 in the first December |
 | `CPIC` | `N` | `IX` | chained level, 100 in the first December, if the office has a reference period of its own |
 | `CPI` | `G1`, `GY` | `PC` | change on the month before, on the year before |
-| `CPIW` | `N` | `PPM` | weight in use |
+| `CPIW` | `N` | `WU` | weight in use |
+| `CPIS` | `N` | `PM` | share of all weight |
 | `CTR` | `G1`, `GY` | `PP` | contribution to these changes of all items |
 
 FREQ is `M`, and `A` for annual averages of `CPI` (`N`) and their changes on the year before (`G1`).
@@ -22,6 +23,7 @@ at or below the node was imputed is an attribute of its own, IMPUTED_PRICES.
 
 from __future__ import annotations
 
+import bisect
 import contextlib
 import functools
 from collections.abc import Iterator, Mapping, Sequence
@@ -31,21 +33,20 @@ from typing import NamedTuple, Optional, TextIO, Union
 from ..csv_files import line_of
 from ..speech import marked
 from . import figures
-from .artefacts import SHARED, CodeList, Reference, fixed, item_id, items, version_of
+from .artefacts import SHARED, Structure, item_id
 from .config import Config, KnownIds
 from .figures import Figure, Known
 from .measures import average_change, full_years
 from .markup import attributes_of
 from .tables import Series, iso, link_of
 from .tidy import written
-from .tongues import named, title_of_index
 
 FLOW, DEFINITION, SCHEME = "DF_CPI", "DSD_CPI", "CS_CPI"
 
 DIMENSIONS = ("FREQ", "REF_AREA", "MEASURE", "UNIT_MEASURE", "COICOP18", "TRANSFORMATION")
 TIME, VALUE = "TIME_PERIOD", "OBS_VALUE"
-SERIES_ATTRIBUTES = ("BASE_PER", "DECIMALS")
-OBS_ATTRIBUTES = ("OBS_STATUS", "IMPUTED_PRICES", "REVISION", "EMBARGO_TIME")
+SERIES_ATTRIBUTES = ("DECIMALS",)
+OBS_ATTRIBUTES = ("BASE_PER", "OBS_STATUS", "IMPUTED_PRICES", "REVISION", "EMBARGO_TIME")
 NEEDED = ("OBS_STATUS", "DECIMALS")
 
 LISTS: Mapping[str, tuple[str, Mapping[str, str]]] = {
@@ -55,6 +56,7 @@ LISTS: Mapping[str, tuple[str, Mapping[str, str]]] = {
             "CPI": marked("Consumer price index"),
             "CPIC": marked("Consumer price index, December before the item came = 100"),
             "CPIW": marked("Weight in the consumer price index"),
+            "CPIS": marked("Share of all weight, per mille"),
             "CTR": marked("Contribution to the change of all items"),
         },
     ),
@@ -63,7 +65,8 @@ LISTS: Mapping[str, tuple[str, Mapping[str, str]]] = {
         {
             "IX": marked("Index"),
             "PC": marked("Percent"),
-            "PPM": marked("Parts per million, as in use"),
+            "WU": marked("Units of weight, as in use"),
+            "PM": marked("Per mille"),
             "PP": marked("Percentage points"),
         },
     ),
@@ -130,42 +133,11 @@ MEASURES = (
     Measure("CPI", "G1", "PC", 1, figures.MONTH_CHANGE),
     Measure("CPI", "GY", "PC", 1, figures.YEAR_CHANGE),
     Measure("CPIC", "N", "IX", 6, figures.CHAINED),
-    Measure("CPIW", "N", "PPM", 0, figures.WEIGHT),
+    Measure("CPIW", "N", "WU", 0, figures.WEIGHT),
+    Measure("CPIS", "N", "PM", 6, figures.SHARE),
     Measure("CTR", "G1", "PP", 6, figures.GIVEN_MONTH),
     Measure("CTR", "GY", "PP", 6, figures.GIVEN_YEAR),
 )
-
-
-class Structure(NamedTuple):
-    """What an office maintains: its code lists by concept, and the versions of its concepts, its definition of the data
-    structure and its dataflow."""
-
-    lists: dict[str, CodeList]
-    concepts: Reference
-    definition: Reference
-    flow: Reference
-
-
-def structure_of(series: Series, config: Config) -> Structure:
-    """The artefacts of some tables. A version follows what an artefact refers to, too."""
-    lists = {name: fixed(config, title, codes) for name, (title, codes) in LISTS.items()}
-    lists["COICOP18"] = items(series, config, CONCEPTS["COICOP18"])
-    month = ".".join(lists["COICOP18"].version.split(".")[:2]).replace(".", "-")
-    ids = {name: config.id(name) for name in CONCEPTS}
-    spoken = [named(config, title) for title in CONCEPTS.values()] if config.speaks.languages else []
-    concepts = version_of((CONCEPTS, ids, spoken) if spoken else (CONCEPTS, ids))
-    content: list[object] = [
-        {name: it.version for name, it in lists.items()},
-        concepts,
-        ids,
-        dict(config.ids),
-        config.title,
-    ]
-    content += [title_of_index(config)] if spoken else []
-    definition, flow = (version_of([name, *content], month) for name in (DEFINITION, FLOW))
-    versions = {SCHEME: concepts, DEFINITION: definition, FLOW: flow}
-    own = (Reference(config.agency, config.id(name), version) for name, version in versions.items())
-    return Structure(lists, *own)
 
 
 Attributes = tuple[str, ...]
@@ -191,37 +163,48 @@ class Months:
         tables = [known.series.latest[month] for month in known.series.months]
         provisional = known.shown.provisional
         usual = ["P" if it.month in provisional else "A" for it in tables]
-        of = [
+        # (by whether it is after a break, then by month: the status, the revision and its moment)
+        self._tables = [
             [(config.id(id), str(it.revision), iso(it.moment)) for id, it in zip(ids, tables)]
             for ids in (usual, ["B"] * len(tables))
         ]
-        # (by whether it is after a break, then by month, then by whether a price was imputed)
-        self._attributes = [
-            [{it: (status, it, revision, moment) for it in ("", "0", "1")} for status, revision, moment in found]
-            for found in of
-        ]
+        self._based = functools.lru_cache(maxsize=None)(self._attributes)
         self._said: dict[str, list[Attributes]] = {}
+
+    def _attributes(self, base: str) -> list[list[dict[str, Attributes]]]:
+        """The attributes of figures with a base period, or without one: by whether they come after a break, then by month,
+        then by whether a price was imputed."""
+        return [
+            [{it: (base, status, it, revision, moment) for it in ("", "0", "1")} for status, revision, moment in found]
+            for found in self._tables
+        ]
 
     def observations(self, it: Measure, code: str) -> list[Observation]:
         """The figures of a node."""
         known, months = self._known, self._known.series.months
         assert it.figure
-        breaks = known.series.marks(code) if it.unit == "IX" else ()
-        said = self._broken(code, breaks) if breaks else self._usual(code)
+        said = self._of_levels(code, _bases(it, known, code)) if it.unit == "IX" else self._usual(code)
         found = zip(months, known.texts(it.figure, code), said)
         return [observation for observation in found if observation[1]]
 
     def _usual(self, code: str) -> list[Attributes]:
-        """The attributes of a node's figures, which are those of each measure."""
+        """The attributes of a node's figures that are no levels, which are those of each measure."""
         found = self._said.get(code)
         if found is None:
-            found = self._said[code] = self._broken(code, ())
+            months, imputed = self._based("")[False], self._known.texts(figures.IMPUTED, code)
+            found = self._said[code] = [month[it] for month, it in zip(months, imputed)]
         return found
 
-    def _broken(self, code: str, breaks: Sequence[str]) -> list[Attributes]:
-        """The same of levels, some of which come after a break."""
-        months, imputed = self._known.series.months, self._known.texts(figures.IMPUTED, code)
-        return [self._attributes[month in breaks][at][imputed[at]] for at, month in enumerate(months)]
+    def _of_levels(self, code: str, bases: Sequence[tuple[str, str]]) -> list[Attributes]:
+        """The same of levels, some of which come after a break; `bases` are the first month of each base period, and the
+        period."""
+        months, breaks = self._known.series.months, self._known.series.marks(code)
+        starts, periods = [month for month, _ in bases], [period for _, period in bases]
+        found = []
+        for at, (month, imputed) in enumerate(zip(months, self._known.texts(figures.IMPUTED, code))):
+            base = periods[max(0, bisect.bisect_right(starts, month) - 1)]
+            found.append(self._based(base)[month in breaks][at][imputed])
+        return found
 
 
 def observed(known: Known, config: Config) -> Iterator[Observed]:
@@ -235,7 +218,7 @@ def observed(known: Known, config: Config) -> Iterator[Observed]:
             found = months.observations(it, code)
             if found:
                 key = (config.id("M"), config.area, *ids[:2], item_id(code), ids[2])
-                yield Observed(key, (_bases(it, known, code), str(it.decimals)), found)
+                yield Observed(key, (str(it.decimals),), found)
     yield from _annual(known, config)
 
 
@@ -269,12 +252,11 @@ def _annual(known: Known, config: Config) -> Iterator[Observed]:
                 value = average_change(series, code, each.year) if it is rates else shown.average(code, each.year)
                 if value is not None:
                     status = _status_of_year(each, marks, shown.provisional)
-                    value_text = written(value, it.decimals)
-                    found.append((f"{each.year:04}", value_text, (config.id(status), "", "", iso(each.moment))))
+                    value_text, base = written(value, it.decimals), "" if it is rates else _base_of(known, each, code)
+                    found.append((f"{each.year:04}", value_text, (base, config.id(status), "", "", iso(each.moment))))
             if found:
                 key = (config.id("A"), config.area, *ids[:2], item_id(code), ids[2])
-                bases = "" if it is rates else " ".join(hundred for _, hundred in shown.hundreds(code))
-                yield Observed(key, (bases, str(it.decimals)), found)
+                yield Observed(key, (str(it.decimals),), found)
 
 
 def _status_of_year(year: Year, marks: Sequence[str], provisional: frozenset[str]) -> str:
@@ -284,16 +266,20 @@ def _status_of_year(year: Year, marks: Sequence[str], provisional: frozenset[str
     return "A" if year.months.isdisjoint(provisional) else "P"
 
 
-def _bases(it: Measure, known: Known, code: str) -> str:
-    """The periods in which a series of levels is 100: of a node that left and is back two, one after the other."""
-    if it.figure is figures.LEVEL:
-        return " ".join(hundred for _, hundred in known.shown.hundreds(code))
-    return " ".join(map(link_of, known.series.starts(code))) if it.figure is figures.CHAINED else ""
+def _base_of(known: Known, year: Year, code: str) -> str:
+    """The period in which the average of a year is 100."""
+    return known.shown.hundred(f"{year.year:04}-01", code)
 
 
-def write_data(known: Known, config: Config, folder: Path) -> None:
+def _bases(it: Measure, known: Known, code: str) -> list[tuple[str, str]]:
+    """The periods in which levels are 100, each with its first month: of a node that left and is back there are two."""
+    if it.figure is figures.CHAINED:
+        return [(month, link_of(month)) for month in known.series.starts(code)]
+    return known.shown.hundreds(code)
+
+
+def write_data(known: Known, structure: Structure, config: Config, folder: Path) -> None:
     """Writes the observations in each form that the pack has, as `cpi.sdmx.csv` and `cpi.sdmx.xml`."""
-    structure = structure_of(known.series, config)
     with contextlib.ExitStack() as files:
         forms: list[Union[CsvForm, XmlForm]] = []
         if config.has("sdmx-csv"):

@@ -18,7 +18,7 @@ from typing import Optional
 from markupsafe import Markup
 
 from ..exact import ALL_ITEMS, HUNDRED, decimal, depth_of, rounded
-from ..others import isolated, others
+from ..others import apart, isolated, others
 from ..pages import TEMPLATES, environment, write_page
 from ..speech import Speech
 from .bar_pictures import Change
@@ -487,8 +487,12 @@ class Site:
             [self.clause_months.index(max(before(month), self.clause_months[0])), self.speech.period(hundred), hundred]
             for month, hundred in self.shown.hundreds(code)
         ]
-        named = {"title": isolated(self.series.title(code)), "isSet": code in self.series.specials}
+        named = {"title": self._apart(self.series.title(code)), "isSet": code in self.series.specials}
         return {**named, "levels": millionths, "tenths": tenths, "hundreds": hundreds}
+
+    def _apart(self, text: str) -> str:
+        """A text of others for the script of the calculator."""
+        return apart(text, self.speech.language.dir)
 
     def _earlier(self) -> list[dict[str, object]]:
         """The earlier revisions of months, for the addresses of results that were computed from them: by item, the level
@@ -518,15 +522,15 @@ class Site:
         series, months = self.series, self.clause_months
         tables = [series.latest[month] for month in months]
         data = {
-            "currency": isolated(self.config.currency) if self.config.currency else "",
+            "currency": self._apart(self.config.currency),
             "digits": self.config.minor_digits,
             "months": months,
             "names": [self.speech.month(month) for month in months],
             "revisions": [table.revision for table in tables],
             "published": [*map(self._published, tables)],
             "sums": [table.sha256 for table in tables],
-            "office": isolated(self.config.office),
-            "title": isolated(self.config.title),
+            "office": self._apart(self.config.office),
+            "title": self._apart(self.config.title),
             "earlier": self._earlier(),
             "items": {code: self._item(code) for code in self._clause_items()},
         }

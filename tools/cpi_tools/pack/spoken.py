@@ -32,7 +32,8 @@ SECTIONS: Mapping[str, str] = {
 FILES: Mapping[str, str] = {
     "cpi.xlsx": marked("Workbook: index, changes, weights, contributions"),
     "printed.csv": marked(
-        "The figures of the pages: the index with one decimal, its reference period, and its changes"
+        "The figures of the pages: the index with one decimal, its reference period, its changes, and the share of all"
+        " weight"
     ),
     "cpi.csv": marked("All figures: a row for each month and item, the latest revision of each month"),
     "vintages.csv": marked("What revisions changed: the figures before and after, with the columns of cpi.csv"),

@@ -2,29 +2,29 @@
 
 from __future__ import annotations
 
-from collections.abc import Iterator
 from pathlib import Path
 
 from ..speech import marked
-from .artefacts import SHARED, Reference, shared
+from .artefact_versions import Versions
+from .artefacts import SHARED, Reference, Structure, fixed, items, shared
 from .config import Config
 from .markup import attributes_of, text_of
 from .sdmx import (
     CONCEPTS,
     DEFINITION,
     DIMENSIONS,
+    FLOW,
     LISTS,
     NEEDED,
     OBS_ATTRIBUTES,
     PROLOGUE,
     SCHEMAS,
+    SCHEME,
     SERIES_ATTRIBUTES,
     SPACES,
     TIME,
     VALUE,
-    Structure,
     message_header,
-    structure_of,
 )
 from .tables import Series
 from .tongues import Names, named, title_of_index
@@ -39,15 +39,44 @@ CHANGES = {"isFinal": "false"}
 """Nothing that an agency maintains here is final."""
 
 
-def write_structure(series: Series, config: Config, path: Path) -> None:
+FORMS = {
+    TIME: "ObservationalTimePeriod",
+    VALUE: "Decimal",
+    "BASE_PER": "ObservationalTimePeriod",
+    "DECIMALS": "Integer",
+    "REVISION": "Integer",
+    "EMBARGO_TIME": "DateTime",
+}
+"""What is written for the concepts without a code list."""
+
+
+def structure_of(series: Series, config: Config, versions: Versions) -> Structure:
+    """The artefacts of some tables, with their versions. The version of an artefact follows those of what it refers to,
+    too."""
+    lists = {name: fixed(config, title, codes) for name, (title, codes) in LISTS.items()}
+    lists["COICOP18"] = items(series, config, CONCEPTS["COICOP18"])
+    references = [Reference(config.agency, config.id(name), "") for name in (SCHEME, DEFINITION, FLOW)]
+    own = Structure(lists, *references)
+    for name, it in lists.items():
+        version = versions.give("Codelist", f"CL_{config.id(name)}", _code_list(own, config, name))
+        lists[name] = it._replace(version=version)
+    own = own._replace(concepts=_versioned(versions, "ConceptScheme", own.concepts, _concepts(own, config)))
+    own = own._replace(definition=_versioned(versions, "DataStructure", own.definition, _definition(own, config)))
+    return own._replace(flow=_versioned(versions, "Dataflow", own.flow, _dataflow(own, config)))
+
+
+def _versioned(versions: Versions, kind: str, reference: Reference, content: str) -> Reference:
+    return reference._replace(version=versions.give(kind, reference.id, content))
+
+
+def write_structure(own: Structure, series: Series, config: Config, path: Path) -> None:
     """Writes the message."""
-    own = structure_of(series, config)
     parts = [
         f'{PROLOGUE}<message:Structure {SPACES} xmlns:str="{SCHEMAS}structure">\n',
         message_header(series, config, DEFINITION),
         "<message:Structures>\n",
         element("str:Dataflows", _dataflow(own, config)),
-        element("str:Codelists", "".join(_code_lists(own, config))),
+        element("str:Codelists", "".join(_code_list(own, config, name) for name in own.lists)),
         element("str:Concepts", _concepts(own, config)),
         element("str:DataStructures", _definition(own, config)),
         "</message:Structures>\n</message:Structure>\n",
@@ -88,22 +117,22 @@ def _list_of(own: Structure, config: Config, name: str) -> Reference:
     return Reference(config.agency, f"CL_{config.id(name)}", own.lists[name].version)
 
 
-def _code_lists(own: Structure, config: Config) -> Iterator[str]:
-    for name, (title, _, codes, names) in own.lists.items():
-        body = "".join(
-            _named(
-                "str:Code",
-                code.name,
-                element("str:Parent", element("Ref", id=code.parent)) if code.parent else "",
-                code.language,
-                names.get(code.id, ()),
-                id=code.id,
-            )
-            for code in codes
+def _code_list(own: Structure, config: Config, name: str) -> str:
+    """The code list of a concept, which the office has."""
+    it = own.lists[name]
+    body = "".join(
+        _named(
+            "str:Code",
+            code.name,
+            element("str:Parent", element("Ref", id=code.parent)) if code.parent else "",
+            code.language,
+            it.names.get(code.id, ()),
+            id=code.id,
         )
-        yield _named(
-            "str:Codelist", title, body, others=named(config, title), **_kept(_list_of(own, config, name)), **CHANGES
-        )
+        for code in it.codes
+    )
+    kept = _kept(_list_of(own, config, name))
+    return _named("str:Codelist", it.title, body, others=named(config, it.title), **kept, **CHANGES)
 
 
 def _concepts(own: Structure, config: Config) -> str:
@@ -125,10 +154,7 @@ def _identity(own: Structure, config: Config, name: str) -> str:
         kept = _kept(_list_of(own, config, name))
         reference = element("Ref", **kept, package="codelist", **{"class": "Codelist"})
         return identity + element("str:LocalRepresentation", element("str:Enumeration", reference))
-    if name == TIME:
-        form = element("str:TextFormat", textType="ObservationalTimePeriod")
-        return identity + element("str:LocalRepresentation", form)
-    return identity
+    return identity + element("str:LocalRepresentation", element("str:TextFormat", textType=FORMS[name]))
 
 
 def _definition(own: Structure, config: Config) -> str:

@@ -9,7 +9,7 @@ from typing import Optional
 
 from .. import csv_files
 from ..exact import ALL_ITEMS, Ratio, decimal, depth_of, parent_of, tenths
-from .figures import GIVEN_MONTH, GIVEN_YEAR, LEVEL, MONTH_CHANGE, PRINTED, YEAR_CHANGE, Known
+from .figures import GIVEN_MONTH, GIVEN_YEAR, LEVEL, MONTH_CHANGE, PRINTED, SHARE, YEAR_CHANGE, Known
 from .kept_lines import NOTHING_KEPT, KeptLines
 from .measures import Contribution, average, average_change, full_years, twelve_month_rate
 from .rows import NO_CHANGE, Rows
@@ -27,7 +27,7 @@ NO_LINES: Mapping[str, Sequence[str]] = {}
 PROVISIONAL = "provisional"
 """The last column of printed.csv if the office has months that it may still revise: 1 in these."""
 
-PRINTED_HEAD = ("month", "code", "title", "reference", "index", "month_change", "year_change")
+PRINTED_HEAD = ("month", "code", "title", "reference", "index", "month_change", "year_change", "share_per_mille")
 AVERAGE_HEAD = ("code", "title", "year", "average", "change", "reference", "chained_average")
 
 
@@ -219,14 +219,14 @@ def _contribution_lines(known: Known, months: Sequence[str]) -> Iterator[str]:
 
 
 def _printed_lines(known: Known, months: Sequence[str]) -> Iterator[str]:
-    """The figures of the pages: the index with one decimal, and the changes in percent."""
+    """The figures of the pages: the index with one decimal, the changes in percent, and the share of all weight."""
     titles, provisional = csv_files.Cells(), known.shown.provisional
     for month in months:
         end = f",{int(month in provisional)}" if provisional else ""
-        columns = (known.texts_of_month(figure, month) for figure in (PRINTED, MONTH_CHANGE, YEAR_CHANGE))
-        for (code, title), index, *changes in zip(known.titles.items(), *columns):
+        columns = (known.texts_of_month(figure, month) for figure in (PRINTED, MONTH_CHANGE, YEAR_CHANGE, SHARE))
+        for (code, title), index, *others in zip(known.titles.items(), *columns):
             if index:
-                yield f"{month},{code},{titles[title]},{known.shown.hundred(month, code)},{index},{','.join(changes)}{end}\n"
+                yield f"{month},{code},{titles[title]},{known.shown.hundred(month, code)},{index},{','.join(others)}{end}\n"
 
 
 def _average_lines(shown: Shown, kept: KeptLines) -> Iterator[str]:

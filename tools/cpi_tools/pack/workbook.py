@@ -39,6 +39,7 @@ SHEETS = (
     Sheet("Monthly change", ONE_DECIMAL, figures.MONTH_CHANGE),
     Sheet("Annual change", ONE_DECIMAL, figures.YEAR_CHANGE),
     Sheet("Weights", WHOLE, figures.WEIGHT),
+    Sheet("Shares", TWO_DECIMALS, figures.SHARE),
     Sheet("Contributions", TWO_DECIMALS, figures.GIVEN_YEAR),
 )
 CHAINED = Sheet("Chained level", ONE_DECIMAL, figures.CHAINED)
@@ -134,7 +135,8 @@ def _read_me(known: Known, config: Config) -> Iterator[str]:
             "Chained level",
             f"{series.base} = 100; of an item that came later, December before" if config.reference else "",
         ),
-        ("Weights", "As in use in the month's year; parts per million, unless prices moved them"),
+        ("Weights", "As in use in the month's year; where prices moved them, they don't add up to a million"),
+        ("Shares", "Share of all weight, per mille; six decimals are stored"),
         ("Contributions", "To the annual change of all items, in percentage points; six decimals are stored"),
         ("Provisional", _provisional(known)),
         ("Licence", config.licence),

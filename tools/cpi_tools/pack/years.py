@@ -1,7 +1,8 @@
 """The years of a pack: which are in the files of the folder `data`, and the archive of each earlier one.
 
 An office of thirty years has millions of figures, of which a month brings one in 360. So the files of `data` have the
-latest years, and each earlier year has an archive `data/years/2019.zip`, which is made as if no later table were there.
+latest years, and each earlier year has an archive `data/years/2019.zip`, which is made as if no later table were there;
+but its SDMX refers to the structure of today, since a series lies in one dataflow.
 As long as all that it is made of stays as it was, the archive of the pack before is taken, and so are the lines of the
 months in the files of `data`. `data/years/made.json` has a sum of that for each year and for those months, so the result
 is the same bytes whether a pack was there or not.
@@ -25,9 +26,10 @@ from typing import NamedTuple, Optional
 from ..csv_files import is_safe
 from ..folders import files_of
 from ..languages import PO, names_by
+from .artefacts import Structure
 from .before import Before
 from .clocks import UTC
-from .config import Config
+from .config import SDMX_FORMS, Config
 from .part import Now, known_of, write_part
 from .shown import Shown
 from .tables import Series, Unexplained
@@ -77,8 +79,9 @@ class Kept(NamedTuple):
 class Archives:
     """Writes the archives of some years, or takes those of the pack before."""
 
-    def __init__(self, series: Series, shown: Shown, config: Config, before: Before, span: Span):
-        """`span` are the months of the files of `data`."""
+    def __init__(self, series: Series, shown: Shown, config: Config, structure: Structure, before: Before, span: Span):
+        """`structure` is that of all months, and `span` are the months of the files of `data`."""
+        self._structure = structure
         self._series, self._shown, self._config, self._before, self._span = series, shown, config, before, span
         self.kept = next(self._all_kept(), Kept())
         """What the files of `data` in the pack before have of the same."""
@@ -108,7 +111,7 @@ class Archives:
         for year in years:
             span = Span(f"{year}-01", f"{year}-12")
             provisional = sorted(month for month in self._shown.provisional if span.first <= month <= span.last)
-            its_sum = self.made_of(span, self.unexplained)
+            its_sum = f"{self.made_of(span, self.unexplained)} {self._referred}"
             # (a month that is final from now on has another status)
             made[year] = its_sum = f"{its_sum} {' '.join(provisional)}" if provisional else its_sum
             name, is_same = f"data/{YEARS}/{year}.zip", self._before.made.get(year) == its_sum
@@ -117,6 +120,11 @@ class Archives:
                 self._write(span, folder / YEARS / f"{year}.zip", lambda what: now(f"{year}: {what}"))
         made["/".join(self._span)] = [self.made_of(self._span, self.unexplained), sorted(self.unexplained)]
         (folder / YEARS / MADE).write_text(json.dumps(made, indent=1) + "\n", encoding="utf-8")
+
+    @property
+    def _referred(self) -> str:
+        """The version of the dataflow, which follows all that it refers to; nothing if there is no SDMX."""
+        return self._structure.flow.version if any(map(self._config.has, SDMX_FORMS)) else ""
 
     def _all_kept(self) -> Iterator[Kept]:
         """What the pack before has of the months of `data`, if they begin with the same one, up to its last month."""
@@ -139,7 +147,7 @@ class Archives:
         own = self._config
         # (which has no part in these files: what only pages say, releases to come, and what earlier releases had)
         config = own._replace(
-            without=frozenset(), years=None, address="", clock=UTC, planned=(), reasons=(), references=(), all_rates=(),
+            without=frozenset(), years=None, address="", clock=UTC, planned=(), announced=(), reasons=(), references=(), all_rates=(),
             all_provisional=(),
         )  # fmt: skip
         content = (
@@ -165,7 +173,7 @@ class Archives:
     def _write(self, span: Span, to: Path, now: Now) -> None:
         known = known_of(self._series.part(*span), self.unexplained, self._shown)
         with tempfile.TemporaryDirectory(prefix=".", dir=to.parent) as folder:
-            write_part(known, self._config, Path(folder), now)
+            write_part(known, self._structure, self._config, Path(folder), now)
             now("the archive")
             with zipfile.ZipFile(to, "w") as archive:
                 for name in files_of(Path(folder)):

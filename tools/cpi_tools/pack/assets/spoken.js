@@ -16,8 +16,15 @@ const MOMENTS = new Intl.DateTimeFormat(LOCALE, { dateStyle: "long", timeStyle: 
 /** The first digits of the systems that people type with: Arabic ones, Persian ones, Devanagari, and wide ones. */
 const ZEROS = [0x660, 0x6f0, 0x966, 0xff10];
 
+/** `d'octobre 2025`, or `de mars 2025`: what a French text has in a place such as `{of_month}`. */
+const joined = (text) => (/^[aeiouyhàâéèêëîïôöùûü]/i.test(text) ? `d\u2019${text}` : `de ${text}`);
+
+/** What is in a place of a text, with the word before it if the language joins the two. */
+const placed = (values, name) =>
+  values[name] ?? (name.startsWith("of_") && name.slice(3) in values ? joined(String(values[name.slice(3)])) : undefined);
+
 /** A text with its places filled. */
-const filled = (text, values) => text.replace(/\{([a-z_]+)\}/g, (place, name) => String(values[name] ?? place));
+const filled = (text, values) => text.replace(/\{([a-z_]+)\}/g, (place, name) => String(placed(values, name) ?? place));
 
 /** A text in the language; `values` are put into its places. */
 const t = (text, values = {}) => filled(SPOKEN.texts[text] ?? text, values);

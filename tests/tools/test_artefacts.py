@@ -1,0 +1,172 @@
+"""Versions of the artefacts of SDMX: the next pack's are those of the pack before, or follow them, and none ever falls."""
+
+from __future__ import annotations
+
+import json
+import re
+import shutil
+from pathlib import Path
+from xml.etree import ElementTree
+
+import pytest
+
+from cpi_tools.pack.artefact_versions import Artefact, BadArtefacts, Versions, versions_after
+from cpi_tools.pack.config import Config
+from cpi_tools.pack.public import Published
+from cpi_tools.pack.specials import Special
+from cpi_tools.publish import check, publish
+
+CONFIG = Config("NSO", "XX", "Office of prices")
+STRUCTURE = "{http://www.sdmx.org/resources/sdmxml/schemas/v2_1/structure}"
+KINDS = ("Dataflow", "Codelist", "ConceptScheme", "DataStructure")
+
+
+def quiet(_: str) -> None:
+    pass
+
+
+def written(published: list[Published], config: Config, out: Path) -> Path:
+    publish(published, config, out, None, quiet)
+    return out
+
+
+def versions_of(pack: Path) -> dict[tuple[str, str], tuple[int, ...]]:
+    """The versions of a structure message by class and id, as numbers."""
+    root = ElementTree.parse(pack / "data/structure.sdmx.xml")
+    each = [(kind, it) for kind in KINDS for it in root.iter(STRUCTURE + kind)]
+    return {(kind, it.get("id", "")): numbers(it.get("version", "")) for kind, it in each}
+
+
+def numbers(version: str) -> tuple[int, ...]:
+    return tuple(map(int, version.split(".")))
+
+
+def rows_of(pack: Path) -> dict[tuple[str, str], str]:
+    found = json.loads((pack / "data/artefacts.json").read_bytes())["artefacts"]
+    return {(it["class"], it["id"]): it["version"] for it in found}
+
+
+ITEMS, FLOW = ("Codelist", "CL_COICOP18"), ("Dataflow", "DF_CPI")
+
+
+def test_ten_sets_one_after_the_other_are_ten_versions_that_rise(published: list[Published], tmp_path: Path) -> None:
+    sets, found = list[Special](), []
+    for number in range(11):
+        out = written(published[:3], CONFIG._replace(specials=tuple(sets)), tmp_path / "public")
+        found.append(versions_of(out))
+        assert rows_of(out) == {key: ".".join(map(str, it)) for key, it in found[-1].items()}
+        sets.append(Special(f"SET{number}", f"Set {number}", ("00",)))
+    for name in (ITEMS, FLOW, ("DataStructure", "DSD_CPI")):
+        assert [it[name] for it in found] == [(1, 0, number) for number in range(11)]
+    assert {it["Codelist", "CL_MEASURE"] for it in found} == {(1, 0, 0)}
+
+
+def test_the_same_again_has_the_same_versions_and_bytes(published: list[Published], tmp_path: Path) -> None:
+    out = written(published[:13], CONFIG, tmp_path / "public")
+    written(published[:15], CONFIG, out)
+    sums = (out / "SHA256SUMS").read_bytes()
+    written(published[:15], CONFIG, out)
+    assert (out / "SHA256SUMS").read_bytes() == sums and versions_of(out)[ITEMS] == (1, 0, 1)
+    assert check(published[:15], CONFIG, out, None, quiet) == []
+
+
+def test_what_is_taken_out_and_back_goes_on(published: list[Published], tmp_path: Path) -> None:
+    """An id that the office renames, and takes back, has versions that a registry took already."""
+    out = written(published[:3], CONFIG, tmp_path / "public")
+    written(published[:3], CONFIG._replace(title="Prices"), out)
+    written(published[:3], CONFIG._replace(ids={"DF_CPI": "PRICES"}), out)
+    assert FLOW not in versions_of(out) and versions_of(out)["Dataflow", "PRICES"] == (1, 0, 0)
+    written(published[:3], CONFIG, out)
+    assert versions_of(out)[FLOW] == (1, 0, 2)
+
+
+def test_artefacts_of_two_classes_share_an_id(published: list[Published], tmp_path: Path) -> None:
+    one = CONFIG._replace(ids={"DF_CPI": "CPI", "DSD_CPI": "CPI", "CS_CPI": "CPI"})
+    out = written(published[:3], one, tmp_path / "public")
+    written(published[:3], one._replace(title="Prices"), out)
+    found = versions_of(out)
+    assert [found[kind, "CPI"] for kind in KINDS if kind != "Codelist"] == [(1, 0, 1), (1, 0, 0), (1, 0, 1)]
+
+
+def test_a_version_is_compared_by_its_numbers() -> None:
+    rows = [Artefact("Codelist", "CL", version, "0" * 64) for version in ("1.0.9", "1.0.10", "1.0.2")]
+    assert Versions(rows).give("Codelist", "CL", "other") == "1.0.11"
+    assert Versions([], "2026.1.999").give("Codelist", "CL", "other") == "2026.1.1000"
+
+
+# ---- packs without rows, and with rows that are damaged
+
+
+def test_versions_that_begin_anew_begin_above_those_of_the_structure(
+    published: list[Published], tmp_path: Path
+) -> None:
+    """A pack of an earlier version of the tool, whose versions had checksums."""
+    old, out = written(published[:3], CONFIG, tmp_path / "old"), tmp_path / "public"
+    (old / "data/artefacts.json").unlink()
+    path = old / "data/structure.sdmx.xml"
+    text = path.read_text(encoding="utf-8")
+    path.write_text(re.sub(r'agencyID="NSO" version="1\.0\.0"', 'agencyID="NSO" version="2026.1.915085"', text))
+    publish(published[:3], CONFIG, out, old / "manifest.json", quiet)
+    assert {*versions_of(out).values()} == {(2026, 1, 915086)}
+    # a pack that is replaced says the same
+    shutil.rmtree(out)
+    assert {*versions_of(written(published[:3], CONFIG, old)).values()} == {(2026, 1, 915086)}
+
+
+def test_of_two_packs_before_the_greater_version_counts(published: list[Published], tmp_path: Path) -> None:
+    one, other = (written(published[:3], CONFIG, tmp_path / name) for name in ("one", "other"))
+    for title in ("Prices", "Index", "Prices"):
+        written(published[:3], CONFIG._replace(title=title), one)
+    publish(published[:3], CONFIG, other, one / "manifest.json", quiet)
+    assert versions_of(other)[FLOW] == (1, 0, 4)
+
+
+ROW = {"class": "Codelist", "id": "CL", "version": "1.0.1", "sum": "0" * 64}
+
+
+@pytest.mark.parametrize(
+    "text",
+    [
+        "", "[]", "{}", "nothing", "[" * 100_000, '{"artefacts": []}', '{"artefacts": [[]]}',
+        *(json.dumps({"artefacts": [{**ROW, name: value}]})
+          for name, value in [("version", "1.x"), ("version", 1), ("version", ""), ("sum", "0"), ("id", ""), ("class", 3)]),
+    ],
+)  # fmt: skip
+def test_a_damaged_file_is_refused_with_its_remedy(tmp_path: Path, text: str) -> None:
+    out = tmp_path / "public"
+    (out / "data").mkdir(parents=True)
+    (out / "data/artefacts.json").write_text(text, encoding="utf-8")
+    with pytest.raises(BadArtefacts) as caught:
+        versions_after([out])
+    line = str(caught.value)
+    assert line.startswith(f"{out}/data/artefacts.json isn't what cpi-tools publish wrote") and "\n" not in line
+    assert "take it from a copy of the pack; or remove it" in line
+
+
+def test_a_pack_with_a_damaged_file_stays_as_it_is(published: list[Published], tmp_path: Path) -> None:
+    out = written(published[:3], CONFIG, tmp_path / "public")
+    (out / "data/artefacts.json").write_text("{", encoding="utf-8")
+    before = {path: path.read_bytes() for path in out.rglob("*") if path.is_file()}
+    with pytest.raises(BadArtefacts):
+        written(published[:4], CONFIG, out)
+    assert {path: path.read_bytes() for path in out.rglob("*") if path.is_file()} == before
+    (out / "data/artefacts.json").unlink()
+    assert {*versions_of(written(published[:4], CONFIG, out)).values()} == {(1, 0, 1)}
+
+
+# ---- what an observation has
+
+
+def test_the_structure_says_what_each_value_is(published: list[Published], tmp_path: Path) -> None:
+    out = written(published[:3], CONFIG, tmp_path / "public")
+    root, found = ElementTree.parse(out / "data/structure.sdmx.xml"), {}
+    for it in [it for kind in ("Attribute", "PrimaryMeasure", "TimeDimension") for it in root.iter(STRUCTURE + kind)]:
+        form = it.find(f"{STRUCTURE}LocalRepresentation/{STRUCTURE}TextFormat")
+        if form is not None:
+            found[it.get("id")] = form.get("textType")
+    assert found == {
+        "OBS_VALUE": "Decimal", "DECIMALS": "Integer", "REVISION": "Integer", "EMBARGO_TIME": "DateTime",
+        "BASE_PER": "ObservationalTimePeriod", "TIME_PERIOD": "ObservationalTimePeriod",
+    }  # fmt: skip
+    hangs = {it.get("id"): [ref.get("id") for ref in it.iter("Ref")][-1] for it in root.iter(STRUCTURE + "Attribute")}
+    assert hangs["BASE_PER"] == "OBS_VALUE" and hangs["DECIMALS"] == "TRANSFORMATION"

@@ -1,0 +1,56 @@
+"""Numbers within texts of a catalogue have the digits of the pages: `= 100` of an Arabic page with Arabic digits."""
+
+from __future__ import annotations
+
+import json
+import re
+from pathlib import Path
+from typing import Optional
+
+import pytest
+
+from cpi_tools.pack.config import Config
+from cpi_tools.pack.office_languages import OfficeLanguages
+from cpi_tools.pack.public import Published
+from cpi_tools.publish import publish
+from cpi_tools.speech import SPEAKS_ENGLISH, speech_of
+
+ARABIC = speech_of("ar", "arab")
+
+
+@pytest.mark.parametrize(
+    ("text", "wanted"),
+    [
+        ("{period} = 100.", "{period} = \u0661\u0660\u0660."),
+        ("%(period)s = 100", "%(period)s = \u0661\u0660\u0660"),
+        ("0.01", "\u0660\u066b\u0660\u0661"),
+        ('<a href="x-r1.html" title="2 b">10</a>', '<a href="x-r1.html" title="2 b">\u0661\u0660</a>'),
+        ("SHA-256, UTF-8, COICOP 2018, SDMX-ML 2.1, 2019.zip, SVG 1.1", None),
+    ],
+)
+def test_a_number_has_the_digits_and_a_name_stays(text: str, wanted: Optional[str]) -> None:
+    assert ARABIC.numbered(text) == (text if wanted is None else wanted)
+    assert speech_of("ar").numbered(text) == SPEAKS_ENGLISH.numbered(text) == text
+
+
+@pytest.fixture(scope="module")
+def site(published: list[Published], tmp_path_factory: pytest.TempPathFactory) -> Path:
+    config = Config("NSO", "XX", "Office", speaks=OfficeLanguages(("ar",), "arab", {}), reference="2025")
+    out = tmp_path_factory.mktemp("digits") / "public"
+    publish(published, config, out, None, lambda _: None)
+    return out
+
+
+@pytest.mark.parametrize(
+    "page", ["index.html", "nodes.html", "node/00.html", "revisions.html", "how-to-read.html", "contract.html"]
+)
+def test_no_hundred_of_a_page_has_other_digits(site: Path, page: str) -> None:
+    text = re.sub(r"<(script|style|code)\b.*?</\1>|<[^>]*>", " ", (site / page).read_text(encoding="utf-8"), flags=re.S)
+    assert page in ("nodes.html", "contract.html") or "= \u0661\u0660\u0660" in text
+    assert not re.search(r"= *100\b|\b10 ", text)
+
+
+def test_scripts_have_them_too(site: Path) -> None:
+    words = json.loads((site / "assets/words.js").read_text(encoding="utf-8").partition("=")[2].rstrip(";\n"))
+    texts = [it for it in words["texts"].values() if isinstance(it, str)]
+    assert any("= \u0661\u0660\u0660" in it for it in texts) and not any("= 100" in it for it in texts)
