@@ -251,8 +251,11 @@ MORE_PAGES = (
 )
 
 
-OWN_SCRIPTS = {"/month/2026-02/looks": (["script-src 'self'"], ['<script src="/looks.js" type="module">'])}
-"""The pages that have a script of their own, with what their policy says of scripts, and their elements."""
+SCRIPT = '<script src="/forms.js" type="module">'
+"""The script of every page: a file of the application."""
+
+OWN_SCRIPTS = {"/month/2026-02/looks": ['<script src="/looks.js" type="module">']}
+"""The pages that have another script of their own, with its element."""
 
 
 def test_no_page_runs_a_script_of_others_or_is_kept(application: Application, ada: Person) -> None:
@@ -265,11 +268,13 @@ def test_no_page_runs_a_script_of_others_or_is_kept(application: Application, ad
         assert answer.status_code == (404 if path == "/nowhere" else 200), path
         policy = answer.headers["Content-Security-Policy"]
         scripts = re.findall("<script[^>]*>[^<]*", answer.text)
-        assert policy.startswith("default-src 'none'; style-src 'self';")
-        assert (re.findall("script-src[^;]*", policy), scripts) == OWN_SCRIPTS.get(path, ([], []))
+        assert policy.startswith("default-src 'none'; style-src 'self'; script-src 'self'; ") and "unsafe" not in policy
+        assert sorted(scripts) == sorted([SCRIPT, *OWN_SCRIPTS.get(path, [])])
         assert answer.headers["Cache-Control"] == "no-store"
         assert "style=" not in answer.text and "<b>wheat" not in answer.text
     assert "&lt;b&gt;wheat&lt;/b&gt;" in ada.get("/month/2026-02/table").text
+    script = application.person().get("/forms.js")
+    assert script.mimetype == "text/javascript" and script.headers["Cache-Control"] == "private, max-age=600"
 
 
 # ---- the month at a glance

@@ -21,7 +21,7 @@ from .loads import DESK_KEY
 from .page_forms import PageForm, forms_of
 from .surveys import key_of
 from .test_desk_app_month import MONTH, SIGNED, WHY, frozen_months
-from .test_desk_app_publish import frozen as published_at, with_site
+from .test_desk_app_publish import OFFICE, frozen as published_at, with_site
 
 CEM = "Cem"
 FREEZE, LOOKS, NOTES = (f"/month/{MONTH}/{it}" for it in ("freeze", "looks", "field-notes"))
@@ -317,6 +317,20 @@ def test_a_note_that_somebody_removed_is_told(application: Application, ada: Per
     late(ada.give(form), BY_BEN)
 
 
+# ---- the reason of a revision
+
+
+def test_a_reason_that_somebody_wrote_stays(application: Application, ada: Person, ben: Person, tmp_path: Path) -> None:
+    (tmp_path / "revisions.csv").write_text("month,revision,reason,added\n", encoding="utf-8")
+    with_site(application, tmp_path, f"{OFFICE}revisions = revisions.csv\n")
+    sends(ben, f"calendar,2026-01,1000,2000,{int(time.time()) + 86_400}\n")
+    form = ada.form("/month/2026-01/reason", "/reason")
+    assert ben.fill("/month/2026-01/reason", "/reason", **{"reason-en": "Rice was wrong."}).status_code == 303
+    late(ada.give(form, **{"reason-en": "Flour was wrong."}), BY_BEN, "Rice was wrong.", "Flour was wrong.")
+    assert [it.texts for it in application.desk.reasons.all()] == [{"en": "Rice was wrong."}]
+    refused_in_words(ada, ada.form("/month/2026-01/reason", "/reason"))
+
+
 # ---- every form
 
 
@@ -342,6 +356,7 @@ COVERED: dict[str, object] = {
     "year.out": test_a_row_of_a_draft_that_somebody_changed_stays,
     "year.drop": test_a_weight_that_somebody_put_stays,
     "year.send": test_a_plan_that_was_judged_before_another_isn_t_sent,
+    "reason.keep": test_a_reason_that_somebody_wrote_stays,
     "publish.now": test_what_is_to_be_published_is_what_the_page_showed,
     "publish.plan": test_what_is_to_be_published_is_what_the_page_showed,
     "field_notes.remove": test_a_note_that_somebody_removed_is_told,
@@ -398,9 +413,9 @@ def shown_forms(application: Application, ada: Person) -> dict[str, list[PageFor
     return found
 
 
-HIDDEN_HERE = {"sign_in.enter", "log.settle", "held.drop", "freeze.prepare", "publish.plan"}
+HIDDEN_HERE = {"sign_in.enter", "log.settle", "held.drop", "freeze.prepare", "publish.plan", "reason.keep"}
 """Forms that these pages don't show: before a session, without a reply, of an ended session, once a freeze is prepared,
-without a table that is to come."""
+without a table that is to come, and a month that is reopened."""
 
 
 def test_each_form_has_a_test_of_a_change_in_between(application: Application, ada: Person) -> None:

@@ -142,6 +142,16 @@ def test_a_reason_waits_for_its_revision(published: list[Published], tmp_path: P
     assert files and not [it for it in files if b"Under-embargo" in it.read_bytes()]
 
 
+def test_a_reason_whose_time_is_to_come_waits_for_its_revision(published: list[Published], tmp_path: Path) -> None:
+    """Nothing that is out says which revision comes next, so the time alone does."""
+    latest = max(it.listed.moment for it in published)
+    with pytest.raises(BadReasons, match="which is neither out nor announced"):
+        publish(published, with_reasons(Reason(REVISED, 3, "Later", latest)), tmp_path / "p", None, quiet)
+    publish(published, with_reasons(Reason(REVISED, 3, "Later-on", latest + 1)), tmp_path / "p", None, quiet)
+    files = [it for it in (tmp_path / "p").rglob("*") if it.is_file()]
+    assert files and not [it for it in files if b"Later-on" in it.read_bytes()]
+
+
 # ---- in the languages of the pages
 
 BILINGUAL = OfficeLanguages(("en", "fr"))

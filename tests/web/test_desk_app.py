@@ -166,6 +166,25 @@ def test_a_reply_that_is_lost_is_looked_up(stage: Stage, ada: Person, browser: B
     kept.close()
 
 
+def test_a_button_that_is_pressed_twice_sends_once(stage: Stage, ada: Person, browser: Browser) -> None:
+    """The page says so meanwhile, and its button can't be pressed again."""
+    ada.sign_in("Ada")
+    ada.judge("outlet,79,Twice")
+    twice = """const form = document.querySelector("form[action$='/records/send']"), button = form.querySelector("button");
+        const sent = [];
+        form.addEventListener("submit", (event) => sent.push(event));
+        button.click();
+        button.click();
+        const says = form.nextElementSibling.textContent;
+        return [sent.map((event) => event.defaultPrevented), button.getAttribute("aria-disabled"), says]"""
+    (prevented, disabled, says) = browser.run(twice)
+    assert disabled == "true" and says.startswith("This is being carried out.")
+    assert len(prevented) == 2
+    browser.wait_text("main", "1 of 1 done.")
+    log = ada.pages.folder / "room" / "desk.log"
+    assert log.read_bytes().count(b"Twice") == 1
+
+
 def posted(browser: Browser, port: int, selector: str) -> None:
     """Sends a form of the page as the browser would, and waits for an answer or the end. (A browser that is driven says
     nothing until the page after it is there.)"""

@@ -1,11 +1,12 @@
 """The application: its requests are let in, answered by the views, and sent out with the fields that keep a page safe.
 
-No page has a script, and the policy lets none run, but for the file of the prices to look at: what a person or a collector
-wrote is text, whatever it looks like.
+A page has scripts that are files of the application, and the policy lets no other run: what a person or a collector wrote is
+text, whatever it looks like. Each page can be used without them.
 """
 
 from __future__ import annotations
 
+import time
 from pathlib import Path
 from typing import Optional
 
@@ -26,6 +27,7 @@ from . import (
     looks_views,
     month_views,
     publish_views,
+    reason_views,
     records_views,
     sample_views,
     sign_in_views,
@@ -39,6 +41,8 @@ from .form_bounds import MOST_BYTES, fault_of_form, told_of_too_large
 from .held_forms import form_of_request
 from .reached import Reached
 from .refreshing import is_answer, is_by_itself, loads_itself, without_itself
+from .long_forms import long_forms, with_names
+from .sent_twice import NO_ANSWER, Answer, NoAnswerYet, name_of_form
 from .sessions import Session
 from .site_config import prices_are
 from .sign_in_views import COOKIE
@@ -52,6 +56,7 @@ VIEWS = (
     looks_views,
     table_views,
     freeze_views,
+    reason_views,
     calendar_views,
     sample_views,
     key_views,
@@ -63,10 +68,10 @@ VIEWS = (
 )
 """The modules of the pages."""
 
-FREE = ("sign_in.show", "sign_in.enter", "style")
+FREE = ("sign_in.show", "sign_in.enter", "style", "script")
 """What is answered without a session, by the names of the views."""
 
-LOADED = ("style", "looks.script", "field_notes.photo")
+LOADED = ("style", "script", "looks.script", "field_notes.photo")
 """What a page loads by itself, by the names of the views: no person does."""
 
 SETTINGS = "CPI_DESK_FRONT, --front"
@@ -81,11 +86,12 @@ BY_STATUS = {404: NO_PAGE, 405: NO_PAGE, 500: OWN_ERROR}
 """What is said to a request that isn't carried out."""
 
 NOT_DONE, NOT_SHOWN = _("Not done"), _("This page can't be shown")
+NO_ANSWER_YET = _("No answer yet")
 HEADINGS = {404: _("Page not found"), 405: _("Nothing to show here"), 500: _("An error of the application")}
 """How the page is headed that answers a form which wasn't carried out, and one that a browser only asked for."""
 
 POLICY = (
-    "default-src 'none'; style-src 'self'; img-src 'self' data:; form-action 'self'; base-uri 'none';"
+    "default-src 'none'; style-src 'self'; script-src 'self'; img-src 'self' data:; form-action 'self'; base-uri 'none';"
     " frame-ancestors 'none'"
 )
 FIELDS = {
@@ -117,22 +123,27 @@ def make_app(desk: Desk, reached: Reached) -> flask.Flask:
 
     def page(template: str, status: int = 200, /, **named: object) -> Response:
         found: Optional[Session] = flask.g.get("session")
-        given = {
+        given: dict[str, object] = {
             "here": "",
             "session": found,
             "style_at": flask.url_for("style"),
             "script_root": flask.request.script_root,
             "desk": desk,
             "waiting": desk.log.open_entries(),
+            "long_forms": long_forms(desk.durations) if found else [],
         }
-        return flask.Response(templates.get_template(template).render({**given, **named}), status)
+        text = templates.get_template(template).render({**given, **named})
+        return flask.Response(with_names(text, found) if found else text, status)
 
     app.extensions["desk"], app.extensions["page"], app.extensions["reached"] = desk, page, reached
     app.before_request(_let_in)
     app.after_request(_with_fields)
+    app.after_request(_answered)
+    app.teardown_request(_over)
     app.register_error_handler(Fault, _fault)
     app.register_error_handler(HTTPException, _http_fault)
     app.add_url_rule("/style.css", "style", _style)
+    app.add_url_rule("/forms.js", "script", _script)
     for views in VIEWS:
         app.register_blueprint(views.views)
     if desk.field:
@@ -172,7 +183,35 @@ def _let_in() -> Optional[Response]:
     if request.method == "POST" and not session.has_token(request.form.get("token", "")):
         return held_views.shown(form_of_request(), 403)
     desk.held.drop(request.form.get("held", ""))
-    return None
+    return _again(desk, cookie or "") if request.method == "POST" else None
+
+
+def _again(desk: Desk, cookie: str) -> Optional[Response]:
+    """The answer to a form that was sent twice; None if it is the first one, which is carried out."""
+    name = name_of_form(cookie)
+    try:
+        answer = desk.once.begin(name) if name else None
+    except NoAnswerYet:
+        return _refused(409, NO_ANSWER, NO_ANSWER_YET)
+    if answer is None:
+        flask.g.form, flask.g.begun = name, time.monotonic()
+    return answer.response() if answer else None
+
+
+def _answered(answer: Response) -> Response:
+    """Keeps the answer to a form for a second one, and how long it took."""
+    desk: Desk = flask.current_app.extensions["desk"]
+    if begun := flask.g.get("begun"):
+        desk.durations.keep(flask.request.endpoint or "", time.monotonic() - begun)
+    if name := flask.g.pop("form", None):
+        desk.once.end(name, Answer(answer.status_code, [*answer.headers.items()], answer.get_data()))
+    return answer
+
+
+def _over(_fault: Optional[BaseException]) -> None:
+    """A form that ended without an answer is being carried out no more."""
+    if name := flask.g.pop("form", None):
+        flask.current_app.extensions["desk"].once.end(name, None)
 
 
 def _held(desk: Desk) -> Response:
@@ -196,11 +235,11 @@ def _not_here(host: str, reached: Reached) -> Told:
     return sentences(first, _("Behind a front it needs its address there ({names}).", names=of_others(SETTINGS)))
 
 
-def _refused(status: int, told: object) -> Response:
+def _refused(status: int, told: object, heading: Optional[Told] = None) -> Response:
     is_form = flask.request.method == "POST" and flask.g.get("session") is not None and status in AGAIN
     form = form_of_request() if is_form else None
     page = flask.current_app.extensions["page"]
-    answer: Response = page("refused.html", status, told=told, heading=_heading(status), form=form)
+    answer: Response = page("refused.html", status, told=told, heading=heading or _heading(status), form=form)
     return answer
 
 
@@ -236,6 +275,12 @@ def _not_so(fault: HTTPException) -> Told:
 def _with_fields(answer: Response) -> Response:
     for name, value in FIELDS.items():
         answer.headers.setdefault(name, value)
+    return answer
+
+
+def _script() -> Response:
+    answer = flask.Response((TEMPLATES / "forms.js").read_text(encoding="utf-8"), mimetype="text/javascript")
+    answer.headers["Cache-Control"] = "private, max-age=600"
     return answer
 
 

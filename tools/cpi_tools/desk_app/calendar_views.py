@@ -18,6 +18,7 @@ from ..told import told as _
 from .asked import desk, page, session
 from .changes import NOTHING_DONE, last_sent
 from .faults import says
+from .reason_views import still_asked
 from .sample_kinds import KINDS
 from .sampling import judge
 from .standing import CALENDAR, what_stands
@@ -55,7 +56,8 @@ def show() -> Response:
         rows.append(Row(month_text(it.month), *it[1:], state))
     year = time.gmtime(now).tm_year
     years = sorted({*(int(it.month[:4]) for it in rows), year, year + 1})
-    return page("calendar.html", rows=rows, years=years, zone=desk().given.clock.name or "UTC")
+    zone = desk().given.clock.name or "UTC"
+    return page("calendar.html", rows=rows, years=years, zone=zone, asked=still_asked())
 
 
 # ---- a year

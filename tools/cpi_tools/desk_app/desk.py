@@ -17,6 +17,7 @@ from .deadlines import NAME as DEADLINES
 from .deadlines import Deadlines, may_set_windows
 from .desk_log import DeskLog
 from .drafts import Drafts
+from .durations import Durations
 from .field_notes import FieldNotes
 from .freezes import PreparedFreeze
 from .held_forms import HeldForms
@@ -27,9 +28,11 @@ from .offers import Offer
 from .office import Office
 from .photographs import Turns
 from .publishing import Publisher, Site
+from .revision_reasons import RevisionReasons
 from .seals import Seal
 from .second_key import SecondKey
 from .sending import Sender
+from .sent_twice import Once
 from .sessions import Session, Sessions
 from .site_config import SiteConfig
 from .standing import looked_up
@@ -83,11 +86,14 @@ class Desk:
         self.watch = Watch(self.copies, Observed(given.room))
         self.sessions = Sessions(self.office.is_desk, given.idle, seal=Seal(given.room / "session-key"))
         self.held = HeldForms()
+        self.once, self.durations = Once(), Durations()
+        """Forms that are sent twice, and how long forms took, by their views."""
         self.sender = Sender(self.office, self.log, self._look_up)
         self.tables = TablesKept(given.room / "tables")
         self.trials = Trials(self.cpi, self.copies, self.tables, given.copies, given.left_out)
         self.marks = Marks(given.room / "looks.jsonl")
         self.prepared = PreparedFreeze(given.room / "prepared-freeze.json")
+        self.reasons = RevisionReasons(given.room / "revision-reasons.json", self.log)
         self.freezing = threading.Lock()
         """Whoever holds it is the only one who prepares, drops or confirms a freeze."""
         self.second_key = SecondKey(given.second_key) if given.second_key else None
@@ -104,7 +110,9 @@ class Desk:
         """Records that were judged on a copy and not sent."""
 
     def _publisher(self, site: Site) -> Publisher:
-        return Publisher(site, self.given.file, self.cpi.path, self.given.room / "to-publish.json", self.log)
+        made = Publisher(site, self.given.file, self.cpi.path, self.given.room / "to-publish.json", self.log)
+        made.before = lambda: self.reasons.settle(made)
+        return made
 
     def _deadlines(self, site: Site) -> Deadlines:
         """The file of the windows, which follows each copy that is taken of the office."""

@@ -23,11 +23,12 @@ from ..sent import Bundle, Problem, body_of
 from ..stored import read_copy
 from ..take_in import taken_in
 from ..terminal import Fault, because_of
-from ..told import Told
+from ..told import Told, sentences
 from ..told import told as _
 from .copies import Copies
 from .standing import what_stands
 from .draft_sheets import Draft
+from .durations import Durations
 from .faults import met, of_system, says
 
 UTC = "UTC0"
@@ -63,11 +64,12 @@ class Left(NamedTuple):
 
 
 class Running(NamedTuple):
-    """What is being done for a year, and since when."""
+    """What is being done for a year, since when, and how long that took the last time."""
 
     year: int
     what: Told
     begun: int
+    about: Told = sentences()
 
 
 class Drafts:
@@ -78,6 +80,7 @@ class Drafts:
         self._lock, self.changing = threading.Lock(), threading.Lock()
         """Whoever holds the second one is the only one who changes a draft."""
         self._checked: dict[int, Checked] = {}
+        self._durations = Durations()
         self.sent: dict[int, list[Left]] = {}
         """What the office answered to records of a year's draft that it didn't carry out, since the last change."""
         self.running: Optional[Running] = None
@@ -123,13 +126,18 @@ class Drafts:
         with self._lock:
             if self.running:
                 return False
-            self.running, self.fault = Running(year, what, int(time.time())), Worded("")
+            self.running, self.fault = self._running(year, what), Worded("")
         threading.Thread(target=self._run, args=(year, job), daemon=True, name="draft").start()
         return True
 
+    def _running(self, year: int, what: Told) -> Running:
+        return Running(year, what, int(time.time()), self._durations.about(str(what)))
+
     def _run(self, year: int, job: Callable[[int], None]) -> None:
         try:
-            job(year)
+            what = str(self.running.what) if self.running else ""
+            with self._durations.measured(what):
+                job(year)
         except Fault as fault:
             self.fault = says(fault)
         except OSError as fault:

@@ -10,6 +10,7 @@ from ..others import Worded, of_others, own_line
 from ..pack.config import BadConfig
 from ..pack.manifest import NotAManifest
 from ..pack.office_languages import BadLanguages
+from ..pack.reasons import BadReasons
 from ..program import CpiFailed
 from ..stored import NotAnOffice
 from ..terminal import because_of
@@ -68,7 +69,7 @@ def _of_tools(fault: Exception, line: Worded) -> Told:
             " the person who keeps this machine: {line}",
             line=line,
         )
-    if isinstance(fault, (BadConfig, BadLanguages, NotAManifest)):
+    if isinstance(fault, (BadConfig, BadLanguages, BadReasons, NotAManifest)):
         return _(
             "A file of the website can't be read. Mend what this line names, then load the page anew: {line}", line=line
         )

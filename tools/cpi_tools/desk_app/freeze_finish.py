@@ -41,10 +41,13 @@ def what_differs(prepared: Prepared) -> Worded:
 
 
 def finish(prepared: Prepared) -> None:
-    """Keeps the receipt of a freeze that was carried out, and forgets what was prepared. Raises Fault if the log can't be
-    written: then the next page of the month tries it again."""
+    """Keeps the receipt of a freeze that was carried out, lets the reason of a revision go out, and forgets what was
+    prepared. Raises Fault if the log can't be written: then the next page of the month tries it again."""
     if frozen_receipts.kept(desk().log, prepared.month, prepared.revision) is None:
         frozen_receipts.keep(desk().log, frozen_receipts.receipt_of(prepared, frozen_table(prepared)))
+    if prepared.reasons:
+        of = (prepared.month, prepared.revision, prepared.publishes)
+        desk().reasons.go_out(*of, prepared.reasons, prepared.confirmed_by)
     desk().prepared.drop()
 
 

@@ -52,4 +52,5 @@ def said(prepared: Prepared) -> str:
     carried = "; ".join(f"{code} carried: {why}" for code, why in zip(prepared.carry, prepared.why))
     open_because = UNSEEN.format(because=prepared.because) if prepared.because else ""
     what = f"{' '.join(prepared.record)}, revision {prepared.revision}; table {prepared.table}"
-    return f"{what}{f'; {carried}' if carried else ''}{open_because}"
+    why = "".join(f"; revised, {tag}: {text}" for tag, text in prepared.reasons.items())
+    return f"{what}{f'; {carried}' if carried else ''}{why}{open_because}"

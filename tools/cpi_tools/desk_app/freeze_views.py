@@ -1,24 +1,26 @@
 """The freeze of a month, as a checklist: one person prepares it, another one reads and confirms it, then it is sent, and a
 receipt says what was frozen.
 
-The forms of `/month/MONTH/freeze/` are `prepare` (`trial`, the sum of the trial that the page showed, and `why-CODE` of each
-aggregate on the carry list), `drop` (`prepared`, the sum of the freeze that the page showed) and `confirm` (both sums; `seen`,
-that of the prices that nobody had seen; `because` if it asks for a reason; `second-key` if there is one).
+The forms of `/month/MONTH/freeze/` are `prepare` (`trial`, the sum of the trial that the page showed, `why-CODE` of each
+aggregate on the carry list, and `reason`, that of the reason of a revision), `drop` (`prepared`, the sum of the freeze that the page showed) and `confirm` (both sums; `seen`,
+that of the prices that nobody had seen; `because` if it asks for a reason; `reasons-file`, that of the website's file, of
+a revision with a reason; `second-key` if there is one).
 """
 
 from __future__ import annotations
 
 import time
 from collections.abc import Mapping
-from typing import Optional
+from typing import Optional, Union
 
 import flask
 from werkzeug.wrappers import Response
 
 from ..desk.trying import rows_of
+from ..languages import in_themselves
 from ..others import Worded, of_others
 from ..terminal import Fault
-from ..told import moment_of, whole
+from ..told import Told, moment_of, whole
 from ..told import month_of as month_words
 from ..told import told as _
 from . import frozen_receipts
@@ -32,8 +34,11 @@ from .freeze_texts import not_prepared, other_prepared, other_trial, said
 from .freezes import Prepared, prepared_of
 from .looks import Look
 from .looks_rows import price_of
+from .reason_freezes import reason_refused, reasons_read
+from .reason_views import asked_of, not_written
 from .record_names import Names
 from .record_sentences import sentence_of
+from .revision_reasons import EMPTY
 from .sessions import is_same
 from .signed import Signed, signed_of
 from .told import told
@@ -68,6 +73,9 @@ def shown(
         "prepared_says": sentence_of(waits.record, Names(titles=titles_of(waits))) if waits else None,
         "is_own": is_own(waits),
         "signed": signed(waits, trial),
+        "asked": asked_of(trial.state) if trial else None,
+        "reasons": reasons_read(waits),
+        "not_written": not_written(),
         "has_second_key": bool(desk().second_key),
         "running": desk().trials.running,
         "trial_fault": desk().trials.fault(number),
@@ -147,7 +155,11 @@ def prepared_now(month: str) -> Response:
         text = _("The window is open until {moment}: prepare it then.", moment=moment_of(window.closes))
         return shown(month, 409, text, form)
     try:
+        revised = reason_shown(trial)
+        if isinstance(revised, Told):
+            return shown(month, 409, revised, form)
         made = prepared_of(session().person, trial.closed, window.publishes, reasons(trial))
+        made = made._replace(reasons=revised)
         desk().log.append(session().person, SAID, text=f"{PREPARED}{said(made)}")
         desk().prepared.keep(made)
     except Fault as fault:
@@ -159,6 +171,21 @@ def reasons(trial: Tried) -> list[str]:
     """Why each aggregate on the carry list is carried, by the form; without a field it is no form of this page."""
     names = [f"why-{named.code}" for named in trial.closed.named] if trial.closed else []
     return [field(name)[:MOST_LETTERS] for name in names]
+
+
+def reason_shown(trial: Tried) -> Union[Told, Mapping[str, str]]:
+    """Why the month is revised, by the languages, if the form showed what waits; else who changed it. Raises Fault if it
+    has to be said first."""
+    asked = asked_of(trial.state)
+    if asked is None:
+        return {}
+    if field("reason") != asked.was:
+        return changed_by(asked.reason.by, asked.reason.at) if asked.reason else changed_by("", 0)
+    if asked.reason:
+        return asked.reason.texts
+    if not asked.fault:
+        raise Fault(EMPTY)
+    return {}
 
 
 @views.post("/month/<month>/freeze/drop")
@@ -218,6 +245,11 @@ def confirmed_now(month: str) -> Response:
         return shown(month, 403, refused, form)
     if differs := what_differs(prepared):
         return shown(month, 409, differs, form)
+    try:
+        if prepared.reasons and (other := reason_refused(prepared, field("reasons-file"))):
+            return shown(month, 409, other, form)
+    except Fault as fault:
+        return shown(month, 503, _("Nothing was sent: {fault}", fault=says(fault)), form)
     return sent(month, prepared._replace(because=because))
 
 
@@ -267,4 +299,5 @@ def receipt(month: str, revision: int) -> Response:
     kept = frozen_receipts.kept(desk().log, month_of(month), revision)
     if kept is None:
         flask.abort(404)
-    return page("receipt.html", month=month, kept=kept, receipt=kept.receipt, publisher=desk().publisher)
+    named = {"publisher": desk().publisher, "languages": in_themselves(), "not_written": not_written()}
+    return page("receipt.html", month=month, kept=kept, receipt=kept.receipt, **named)

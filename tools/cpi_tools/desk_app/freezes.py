@@ -9,7 +9,7 @@ from __future__ import annotations
 import hashlib
 import json
 import time
-from collections.abc import Sequence
+from collections.abc import Mapping, Sequence
 from pathlib import Path
 from typing import NamedTuple, Optional
 
@@ -23,8 +23,8 @@ from .faults import not_as_written
 class Prepared(NamedTuple):
     """A freeze that waits for a second person: who prepared it and when, its month and revision, the carry list, why
     each of its aggregates is carried, the SHA-256 of the table that it would make, when that is published (seconds since
-    1970 UTC), and the table itself. Once somebody confirmed it, who and when, and why it was frozen with prices that
-    nobody had seen."""
+    1970 UTC), why the month is revised in each language by its tag, and the table itself. Once somebody confirmed it, who
+    and when, and why it was frozen with prices that nobody had seen."""
 
     by: str
     at: int
@@ -34,6 +34,7 @@ class Prepared(NamedTuple):
     why: list[str]
     table: str
     publishes: int = 0
+    reasons: Mapping[str, str] = {}
     text: str = ""
     confirmed_by: str = ""
     confirmed_at: int = 0

@@ -3,6 +3,7 @@ the desk's log, so its page is there as long as the log is."""
 
 from __future__ import annotations
 
+from collections.abc import Mapping
 from typing import NamedTuple, Optional
 
 from ..desk.report import changes
@@ -35,8 +36,8 @@ class Figures(NamedTuple):
 
 class Receipt(NamedTuple):
     """What was frozen. Moments are in seconds since 1970 UTC; `table` is the SHA-256 of the bytes of the table that the
-    office has, `prepared` that of the one which was confirmed; `because` is why prices were left that nobody had seen.
-    """
+    office has, `prepared` that of the one which was confirmed; `because` is why prices were left that nobody had seen,
+    and `reasons` why the month was revised, in each language by its tag."""
 
     month: int
     revision: int
@@ -51,6 +52,7 @@ class Receipt(NamedTuple):
     prepared: str
     publishes: int
     figures: list[Figures]
+    reasons: Mapping[str, str] = {}
 
     @property
     def section(self) -> Section:
@@ -88,6 +90,7 @@ def receipt_of(prepared: Prepared, table: bytes) -> Receipt:
         prepared=prepared.table,
         publishes=prepared.publishes,
         figures=figures_of(table),
+        reasons=prepared.reasons,
     )
 
 

@@ -19,7 +19,7 @@ from .sessions import LONGEST_SESSION
 MOST, MOST_BYTES_OF_ALL = 50, 2 * MOST_BYTES
 """So many forms are kept at once, and so many bytes."""
 
-NOT_KEPT = ("token", "second-key", "held")
+NOT_KEPT = ("token", "second-key", "held", "once")
 """Fields that are a session's own, or secret."""
 
 NOT_LISTED = frozenset(

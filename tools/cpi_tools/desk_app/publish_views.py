@@ -23,6 +23,7 @@ from .desk_log import NOT_PLANNED, PLANNED, WRITTEN
 from .faults import says
 from .freezes import sum_of
 from .publishing import Planned, Publisher, Release
+from .reason_views import not_written
 
 views = flask.Blueprint("publish", __name__)
 
@@ -53,6 +54,7 @@ def shown(status: int = 200, fault: Worded = NOTHING) -> Response:
         "published": [it for it in releases if it.is_published],
         "address": address,
         "written_at": publisher.written_at(),
+        "not_written": not_written(),
     }
     return page("publish.html", status, fault=fault, **named)
 

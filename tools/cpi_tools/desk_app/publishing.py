@@ -14,7 +14,7 @@ import subprocess
 import sys
 import threading
 import time
-from collections.abc import Sequence
+from collections.abc import Callable, Sequence
 from pathlib import Path
 from typing import NamedTuple, Optional
 
@@ -25,10 +25,11 @@ from ..pack.release_names import page_of_release
 from ..pack.sdmx import KNOWN_IDS
 from ..stored import StoredOffice
 from ..terminal import Fault, because_of, month_text, time_text
-from ..told import Told
+from ..told import Told, sentences
 from ..told import told as _
 from ..whole_files import write_whole
 from .desk_log import SAID, DeskLog
+from .durations import Durations
 from .freezes import sum_of
 from .faults import met, not_as_written, of_system, says
 
@@ -40,6 +41,8 @@ AGAIN_AFTER = 300
 
 BEGINS = f"cpi-tools {'publish'}: "
 """How a line of the tool begins."""
+
+WRITING = "writing"
 
 READABLE = 0o022
 """The mask of a process whose files everybody may read."""
@@ -65,10 +68,11 @@ class Planned(NamedTuple):
 
 
 class Running(NamedTuple):
-    """A process that writes the website: for whom, and since when."""
+    """A process that writes the website: for whom, since when, and how long the last one took."""
 
     by: str
     begun: int
+    about: Told = sentences()
 
 
 class Release(NamedTuple):
@@ -105,7 +109,10 @@ class Publisher:
         self._process: Optional[subprocess.Popen[str]] = None
         self._thread = threading.Thread(target=self._follow, daemon=True, name="publisher")
         self.running: Optional[Running] = None
+        self.before: Callable[[], object] = lambda: None
+        """What is done before the website is written; if it fails, the website is written all the same."""
         self.fault, self.told, self.left = Worded(""), Worded(""), Worded("")
+        self._durations = Durations()
         self._failed_at, self._logged = 0.0, Worded("")
 
     # ---- what there is
@@ -182,14 +189,17 @@ class Publisher:
         with self._lock:
             if self.running:
                 return False
-            self.running = Running(by, int(time.time()))
+            self.running = Running(by, int(time.time()), self._durations.about(WRITING))
         threading.Thread(target=self._run, args=(by,), daemon=True, name="publishing").start()
         return True
 
     def _run(self, by: str) -> None:
         try:
+            with contextlib.suppress(Fault):
+                self.before()
             at = int(time.time())
-            told, errors = self._written(at)
+            with self._durations.measured(WRITING):
+                told, errors = self._written(at)
             self.told = own_line(" ".join([told, *errors.splitlines()]))
             self.fault = self.left = self._logged = Worded("")
             self._keep_written(by, at, told)

@@ -21,6 +21,7 @@ from .given_files import PLAN, given
 from .judging import judge as judge_on_copy
 from .judging import clock_warnings, lines_of, records_of
 from .offers import Offer
+from .reason_views import still_asked
 from .record_names import names_in, names_of
 from .record_sentences import sentence_of
 from .standing import what_stands
@@ -147,7 +148,9 @@ def send() -> Response:
 def sent() -> Response:
     """What became of records that were sent; what isn't kept any more is in the log."""
     came = what_came()
-    return page("records-sent.html", **came) if came else flask.redirect(flask.url_for("log.show"))
+    if not came:
+        return flask.redirect(flask.url_for("log.show"))
+    return page("records-sent.html", asked=still_asked(), **came)
 
 
 def answered(records: Sequence[Sequence[str]], replies: Sequence[Optional[Reply]]) -> list[Told]:

@@ -35,10 +35,12 @@ from .bounds import NOT_READ, bounds_shown, has_bounds
 from .clock_faults import window_faults
 from .faults import says
 from .pasted import pasted
+from .reason_views import still_asked
 from .record_names import names_of
 from .record_sentences import sentence_of
 from .sample_kinds import KINDS, Kind
 from .sampling import NotAsSeen, Sent, answer_of, judge, send, settle, state_of, sum_of_rows
+from .standing import CALENDAR
 from .tray import COLLECTORS, GOING, GOOD, NEW, REFUSED, Waiting
 
 views = flask.Blueprint("sample", __name__)
@@ -139,6 +141,7 @@ def shown(
         "all_shown": sum_of_rows([it for it in waiting if it.state != GOING]),
         "text": text or (text_of(kind, mended) if len(mended) > 1 else ""),
         "zone": desk().given.clock.name or "UTC",
+        "asked": still_asked() if kind.name == CALENDAR else None,
         "phones": desk().given.phones,
         "languages": in_themselves() if kind.name == COLLECTORS else {},
     }

@@ -67,6 +67,7 @@ def enter() -> Response:
             flask.current_app.logger.warning("desk: a wrong key from %s", shown(address))
         status = 403 if isinstance(fault, NotSignedIn) else 503
         return page("sign-in.html", status, to=to, name=name, told=says(fault))
+    desk().watch.person_came()
     answer = flask.redirect(place_after(to), 303)
     is_secure = flask.current_app.extensions["reached"].is_secure(flask.request.host)
     path = flask.request.script_root or "/"

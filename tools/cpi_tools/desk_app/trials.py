@@ -19,9 +19,11 @@ from ..program import Cpi
 from ..stored import read_copy
 from ..others import Worded
 from ..terminal import Fault
+from ..told import Told, sentences
 from ..told import told as _
 from ..trial import State
 from .copies import Copies
+from .durations import Durations
 from .faults import met, says
 from .freezes import sum_of
 from .looks import Look, looks_of
@@ -29,6 +31,8 @@ from .tables_kept import TablesKept
 
 SMALL = 3
 """Fewer series or outlets are few."""
+
+TRIAL = "trial"
 
 KEPT = 2
 """So many months stay at hand."""
@@ -59,12 +63,13 @@ class Tried(NamedTuple):
 
 
 class Running(NamedTuple):
-    """A trial that runs: its month, since when, what is being done, and who asked for it."""
+    """A trial that runs: its month, since when, what is being done, who asked for it, and how long the last one took."""
 
     month: int
     begun: int
     what: str
     by: str = ""
+    about: Told = sentences()
 
 
 class Trials:
@@ -73,7 +78,7 @@ class Trials:
 
     def __init__(self, cpi: Cpi, copies: Copies, tables: TablesKept, room: Path, left_out: int):
         self._cpi, self._copies, self._tables, self._room = cpi, copies, tables, room
-        self._left_out = left_out
+        self._left_out, self._durations = left_out, Durations()
         self._lock = threading.Lock()
         self._found: dict[int, tuple[Tried, tempfile.TemporaryDirectory[str]]] = {}
         self._faults: dict[int, Worded] = {}
@@ -93,7 +98,7 @@ class Trials:
         with self._lock:
             if self.running:
                 return False
-            self.running = Running(month, int(time.time()), _("copying the office"), by)
+            self.running = Running(month, int(time.time()), _("copying the office"), by, self._durations.about(TRIAL))
         threading.Thread(target=self._run, args=(month,), daemon=True, name="trial").start()
         return True
 
@@ -103,7 +108,8 @@ class Trials:
 
     def _run(self, month: int) -> None:
         try:
-            self.run(month)
+            with self._durations.measured(TRIAL):
+                self.run(month)
         except Fault as fault:
             self._faults[month] = says(fault)
         except Exception as fault:

@@ -36,7 +36,7 @@ class Watch:
         self.fault, self.seconds = Worded(""), 0.0
         self.on_renewed: Callable[[], None] = lambda: None
         """Is called after each look at the office's file."""
-        self._is_stale = False
+        self._is_stale, self._is_of_now = False, True
         self._looking = threading.Lock()
         self._thread = threading.Thread(target=self._follow, daemon=True, name="watch")
 
@@ -51,6 +51,10 @@ class Watch:
         if self._thread.is_alive():
             self._thread.join()
 
+    def person_came(self) -> None:
+        """Somebody signed in: the next page is of now, or says why it can't be."""
+        self._is_of_now = False
+
     def changed(self) -> None:
         """Something was sent to the office, so the next page waits for a copy that has it."""
         self._is_stale = True
@@ -59,8 +63,11 @@ class Watch:
         """A month at a glance, by the latest copy; the one that the desk works at if none is named. Raises Fault."""
         self._asked_at = time.monotonic()
         if self._is_stale:
-            self._is_stale = False
+            self._is_stale, self._is_of_now = False, True
             self._renew_for_page()
+        elif not self._is_of_now:
+            self._is_of_now = True
+            self._try()
         elif self._asked_at - self._renewed_at > self._every:
             self._wake.set()
         with self._looking, self._copies.latest() as copy, read_copy(copy.path) as office:

@@ -145,11 +145,13 @@ def _test_order(number: int, found: Sequence[Reason]) -> None:
 
 
 def given_reasons(reasons: Iterable[Reason], series: Series, planned: Iterable[Planned]) -> Reasons:
-    """The reasons of published revisions. One of a revision that is announced isn't told before that is out. Raises
-    BadReasons if there is no such revision, or a reason was given before it."""
+    """The reasons of published revisions. One of a revision that is announced isn't told before that is out, nor one whose
+    time is later than all tables that are out: its revision is still to come. Raises BadReasons if there is no such
+    revision, or a reason was given before it."""
     reasons = [*reasons]
     tables = {(it.month, it.revision): it for it in series.vintages} | _definitions(reasons, series)
     announced = {(it.month, it.revision) for it in planned}
+    latest = max(table.moment for table in series.vintages)
     found: Reasons = {}
     for it in reasons:
         table = tables.get(it[:2])
@@ -160,7 +162,7 @@ def given_reasons(reasons: Iterable[Reason], series: Series, planned: Iterable[P
                     f"a reason of {it.month}, revision {it.revision}, was added before the revision was out"
                 )
             found.setdefault(it[:2], []).append(GivenReason(table, it.text, moment, it.texts))
-        elif it[:2] not in announced:
+        elif it[:2] not in announced and (it.added is None or it.added <= latest or ID.fullmatch(it.month)):
             raise BadReasons(f"a reason names {it.month}, revision {it.revision}, which is neither out nor announced")
     return found
 

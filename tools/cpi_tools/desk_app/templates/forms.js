@@ -1,0 +1,43 @@
+// As a form is sent, its buttons can't be pressed once more, and a line below them says how long it takes. Without this
+// file the application knows a form that is sent twice.
+
+const lines = document.getElementById("long-forms");
+
+/** What is said of a form: its own line of the page's list, or the last one, which is of any form. */
+function textFor(form) {
+  const path = new URL(form.action).pathname;
+  const items = [...lines.children];
+  const own = items.find((item) => item.dataset.address === path) ?? items[items.length - 1];
+  return own.textContent;
+}
+
+function sent(event) {
+  const form = event.target;
+  if (form.method !== "post") return;
+  if (form.dataset.sent) {
+    event.preventDefault();
+    return;
+  }
+  form.dataset.sent = "yes";
+  for (const button of form.querySelectorAll("button")) button.setAttribute("aria-disabled", "true");
+  const line = document.createElement("p");
+  line.className = "told waits";
+  line.setAttribute("role", "status");
+  form.after(line);
+  line.textContent = textFor(form);
+}
+
+/** A page that comes back from the browser's memory can send its forms again. */
+function shown(event) {
+  if (!event.persisted) return;
+  for (const line of document.querySelectorAll("p.waits")) line.remove();
+  for (const form of document.querySelectorAll("form[data-sent]")) {
+    delete form.dataset.sent;
+    for (const button of form.querySelectorAll("button")) button.removeAttribute("aria-disabled");
+  }
+}
+
+if (lines) {
+  document.addEventListener("submit", sent);
+  window.addEventListener("pageshow", shown);
+}
