@@ -119,6 +119,21 @@ def test_functions_constants_and_macros_have_names_and_lines(low: Crate) -> None
     ]
 
 
+@pytest.mark.parametrize(
+    ("block", "name"),
+    [
+        ("impl<B: Book> Sight for B {", "sight::AnySight::see"),
+        ("impl<A, B: Book> Sight for B {", "sight::AnySight::see"),
+        ("impl<B: Book> Sight for Shown<B> {", "sight::ShownSight::see"),
+        ("impl<B: Book> Shown<B> {", "sight::Shown::see"),
+        ("impl Sight for B {", "sight::BSight::see"),
+    ],
+)
+def test_a_method_is_named_by_the_type_and_the_trait_of_its_block(block: str, name: str) -> None:
+    text = f"{block}\n    fn see(&self) {{}}\n}}\n"
+    assert [it.name for it in list_items("src/sight.rt", text, {})] == [name]
+
+
 def test_a_header_ends_where_the_body_begins(low: Crate) -> None:
     headers = {it.word(): len(it.header()) for it in low.items if it.kind == "fn"}
     assert headers == {"len": 3, "is_full": 1, "forget": 1, "clone": 1, "count": 5, "count_both": 1}

@@ -16,7 +16,11 @@ PARTS = ("src", "specs", "proofs")
 PUBLIC = r"(?:pub(?:\([a-z]+\))? )?"
 ITEM = re.compile(rf"(\s*){PUBLIC}(?:const |unsafe )*(fn|const|static|macro_rules!) (\w+)")
 TYPE = re.compile(rf"^{PUBLIC}(?:struct|enum) (\w+)", re.M)
-BLOCK = re.compile(rf"{PUBLIC}(?:impl|trait)\b(?:<.*?>)?(?= )(?: (?P<trait>[\w:]+)(?:<.*>)? for)? (?P<type>\w+)")
+BLOCK = re.compile(
+    rf"{PUBLIC}(?:impl|trait)\b(?:<(?P<generics>.*?)>)?(?= )(?: (?P<trait>[\w:]+)(?:<.*>)? for)? (?P<type>\w+)"
+)
+ANY = "Any"
+"""How the prover calls the type of a block that is of every type with some trait: `impl<B: Book> Sight for B`."""
 
 
 class Item(NamedTuple):
@@ -101,7 +105,9 @@ def name_owner(block: re.Match[str], module: str, homes: Mapping[str, str]) -> s
     """The name below which the methods of a block stand, such as `rows::Rows`, or `rows::RowsClone` for a trait's."""
     trait = (block["trait"] or "").rpartition("::")[2]
     home = module if trait else homes.get(block["type"], module)
-    return "::".join(filter(None, (home, block["type"][:1].upper() + block["type"][1:] + trait)))
+    is_of_any = trait and re.search(rf"(?:^|, ){block['type']}\b", block["generics"] or "")
+    name = ANY if is_of_any else block["type"][:1].upper() + block["type"][1:]
+    return "::".join(filter(None, (home, name + trait)))
 
 
 def find_end(kind: str, lines: Sequence[str], begin: int, left: str) -> int:
