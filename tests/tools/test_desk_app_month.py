@@ -47,7 +47,7 @@ def test_the_provisional_table_is_the_one_that_is_published(cpi: Cpi, tried: App
     assert cpi.replay(frozen, db=copy) == [{"done": True}]
     assert provisional == cpi.table(copy, MONTH, "csv", 9000)
     words = ada.words(f"/month/{MONTH}/table")
-    assert "all items would be at 105.7: 1.5 percent on the month before" in words
+    assert "all items would be at 105.7 (December 2025 = 100): 1.5 percent on the month before" in words
     assert ada.get(f"/month/{MONTH}/table/imputed.csv").text.startswith("division,title,")
 
 

@@ -45,7 +45,7 @@ def test_the_second_person_reads_what_is_signed(prepared: Application) -> None:
     0.6 of the weight: 60 * 2.5277 / 104.1818 = 1.456 percentage points. Flour is as it was."""
     words = prepared.person(BEN).words(PAGE)
     assert "Nothing changed since it was prepared." in words
-    assert "all items would be at 105.7: 1.5 percent on the month before" in words
+    assert "all items would be at 105.7 (December 2025 = 100): 1.5 percent on the month before" in words
     assert "All items and divisions" in words and "01 Food and drink" in words
     largest, movers = (words.partition(title)[2] for title in ("The largest contributions", "What changed most"))
     assert "01.1.1.1-01 Rice, packed 106.16 2.4 1.456" in largest.partition("What changed")[0]
@@ -94,7 +94,7 @@ def test_a_freeze_ends_on_a_receipt_that_stays(cpi: Cpi, prepared: Application, 
     (at,) = [number for number, line in enumerate(logged, 1) if b'"what":"frozen"' in line]
     for says in (
         "February 2026 is frozen, revision 1.",
-        "All items are at 105.7: 1.5 percent on the month before",
+        "All items are at 105.7 (December 2025 = 100): 1.5 percent on the month before",
         "Prepared Ada , ",
         "Confirmed Ben , ",
         "Is published 1 January 1970, 02:23 CET (01:23 UTC)",

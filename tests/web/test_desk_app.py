@@ -60,7 +60,7 @@ def test_a_month_is_closed_by_two_people_with_a_keyboard(stage: Stage, ada: Pers
     browser.wait_text("main", "Nothing is left to look at.")
     ada.open(f"/month/{MONTH}/freeze")
     ada.press("form[action$='/prepare'] button")
-    browser.wait_text("#prepared", f"freeze,{MONTH}")
+    browser.wait_text("#prepared", "The record itself")
     assert not browser.all("form[action$='/confirm']")
     ada.pages.kill()
     ada.pages.start()
@@ -75,7 +75,7 @@ def test_a_month_is_closed_by_two_people_with_a_keyboard(stage: Stage, ada: Pers
     table = stage.ask("GET", f"/api/table/{MONTH}/csv").body.decode().splitlines()
     assert table[0].startswith("00,1000000,125.571859,")
     ada.open("/log")
-    browser.wait_text("main", f"freeze,{MONTH}")
+    browser.wait_text("main", "is frozen")
     assert browser.faults() == []
 
 

@@ -137,7 +137,7 @@ def test_a_december_is_closed_by_the_steps_of_the_guide(
         for page, says in steps():
             follower.follow(page, says)
         person.open("/log")
-        browser.wait_text("main", f"freeze,{MONTH},")
+        browser.wait_text("main", "is frozen, with")
         assert "confirmed: " in browser.text("main") and browser.faults() == []
         table = stage.ask("GET", f"/api/table/{MONTH}/csv")
         assert table.status == 200 and table.body == published.read_bytes()

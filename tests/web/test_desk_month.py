@@ -129,7 +129,7 @@ class Desk:
         self.at.open(f"/month/{month}/freeze")
         self.at.tried(month)
         self.at.press("form[action$='/prepare'] button")
-        self.browser.wait_text("#prepared", f"freeze,{month}")
+        self.browser.wait_text("#prepared", "The record itself")
         assert not self.browser.all("form[action$='/confirm']")
 
     def to_confirm(self, month: str, name: str) -> None:

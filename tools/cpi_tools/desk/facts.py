@@ -19,6 +19,7 @@ from ..stored import COMPARABLE, OBSERVED, Assignment, Carried, Frozen, Item, Pl
 from ..terminal import link_month, month_before, month_text, slot_text
 from ..told import told
 from ..trial import Frozen as FrozenMonth
+from .levels import Levels
 
 NO_PLACE = "-"
 """Stands for the code of an item that the plan doesn't place."""
@@ -41,8 +42,11 @@ class Ratio(NamedTuple):
 class Facts:
     """A month as the copy of an office has it."""
 
-    def __init__(self, office: StoredOffice, month: int, frozen: Optional[FrozenMonth]):
-        self.office, self.month = office, month
+    def __init__(
+        self, office: StoredOffice, month: int, frozen: Optional[FrozenMonth], levels: Optional[Levels] = None
+    ):
+        """`levels` name the period of levels, if the caller has them."""
+        self.office, self.month, self.levels = office, month, levels
         self.assignments = office.assignments()
         self.slots = sorted(it for it in self.assignments if it.first_month <= month <= it.last_month)
         self.quotes = office.quotes(month)

@@ -6,9 +6,9 @@ from typing import Optional
 
 from ..exact import ALL_ITEMS, Ratio, decimal, depth_of, points, tenths
 from ..others import of_others
-from ..sections import Cell, Section, columns
-from ..terminal import month_before, month_text
-from ..told import told
+from ..sections import NUMBER, Cell, Column, Section, columns
+from ..terminal import link_month, month_before, month_text
+from ..told import month_name_of, told
 from .facts import Facts
 
 HEADS = columns(
@@ -17,8 +17,23 @@ HEADS = columns(
 )
 
 
+def heads_of(facts: Facts) -> tuple[Column, ...]:
+    """The headings of the table; those of levels name their period, if it is known."""
+    if facts.levels is None:
+        return HEADS
+    found = [*HEADS]
+    link = month_name_of(link_month(facts.month))
+    found[INDEX] = Column(told("index, {december} = 100", december=link), NUMBER)
+    found[BEFORE : LEVEL + 1] = [Column(facts.levels.name_before, NUMBER), Column(facts.levels.name, NUMBER)]
+    chained = [Column(facts.levels.chained_name, NUMBER)] if facts.levels.has_reference else []
+    return (*found[:-1], *chained, found[-1])
+
+
 # t: one letter that marks an imputed row
 IMPUTED = told("i")
+
+INDEX, BEFORE, LEVEL = 3, 4, 5
+"""Cells of a row: the index, the level of the month before, and that of the month."""
 
 
 def added(ratio: Optional[Ratio]) -> str:
@@ -40,11 +55,21 @@ def row_of(facts: Facts, code: str) -> Optional[list[Cell]]:
     given = facts.contributions.of(month_text(facts.month), code, ALL_ITEMS)
     if now is None:
         title = told("{title} (left the plan)", title=of_others(facts.tables.titles[code]))
-        return [code, title, *[""] * 7, added(given.to_year), ""] if given.to_year else None
-    levels = [points(then.chained, 2) if then else "", points(now.chained, 2)]
+        empty = [""] * (1 if facts.levels is None or not facts.levels.has_reference else 2)
+        return [code, title, *[""] * 7, added(given.to_year), *empty] if given.to_year else None
+    levels, chained = levels_of_row(facts, code, then.chained if then else None, now.chained)
     figures = [points(now.within, 2), *levels, tenths(now.month_change), tenths(now.year_change)]
     adds = [added(given.to_month), added(given.to_year)]
-    return [code, now.title, now.weight, *figures, *adds, IMPUTED if now.is_imputed else ""]
+    return [code, now.title, now.weight, *figures, *adds, *chained, IMPUTED if now.is_imputed else ""]
+
+
+def levels_of_row(facts: Facts, code: str, then: Optional[int], now: int) -> tuple[list[str], list[str]]:
+    """The levels of a node in the month before and in the month, and the chained one if those are of another period."""
+    chained = [points(then, 2) if then is not None else "", points(now, 2)]
+    if facts.levels is None or not facts.levels.has_reference:
+        return chained, []
+    before = facts.levels.of(code, month_text(month_before(facts.month)), 2) if then is not None else ""
+    return [before, facts.levels.of(code, digits=2)], chained[1:]
 
 
 def table(facts: Facts) -> Section:
@@ -55,7 +80,9 @@ def table(facts: Facts) -> Section:
         file="provisional.csv",
     )
     rows = [row for row in found if row]
-    return Section("table", told("The whole table"), note, HEADS, rows, told("The month has no table."), False, 4000)
+    return Section(
+        "table", told("The whole table"), note, heads_of(facts), rows, told("The month has no table."), False, 4000
+    )
 
 
 def top(whole: Section) -> Section:
@@ -63,4 +90,4 @@ def top(whole: Section) -> Section:
     rows = [row for row in whole.rows if depth_of(str(row[0])) <= 1]
     note = told("What one adds is in percentage points of the change of all items.")
     title = told("All items and divisions, beside the month before")
-    return Section("top", title, note, HEADS, rows, whole.empty)
+    return Section("top", title, note, whole.columns, rows, whole.empty)

@@ -7,7 +7,7 @@ from pathlib import Path
 from typing import NamedTuple, Optional
 
 from ..copying import private_copy
-from ..exact import decimal, depth_of, points, tenths, with_sign
+from ..exact import ALL_ITEMS, decimal, depth_of, points, tenths, with_sign
 from ..others import of_others
 from ..program import Cpi
 from ..sections import Section, text_of
@@ -17,6 +17,7 @@ from ..trial import Frozen, Refused, State, as_frozen, freeze_on_copy, state_of
 from . import aggregates, influence, provisional, response, sparse, unusual
 from .early import Early, early_tables
 from .facts import Facts
+from .levels import Levels
 from .refused import refused_words
 
 PERCENT = "\u202f%"
@@ -68,6 +69,7 @@ class Report(NamedTuple):
     divisions: list[Division]
     sections: list[Section]
     table: bytes
+    levels: Optional[Levels] = None
 
 
 # ---- the month on a copy
@@ -178,6 +180,7 @@ def gathered(
         divisions(facts),
         sections,
         table,
+        facts.levels,
     )
 
 
@@ -213,13 +216,14 @@ def lead(facts: Facts, is_frozen: bool) -> Optional[Told]:
     if top is None:
         return None
     month, annual = (Figure(tenths(it).replace("-", "\u2212")) for it in (top.month_change, top.year_change))
-    named = {"level": Figure(points(top.chained, 1)), "month": month}
+    level = facts.levels.figure(top.chained, ALL_ITEMS) if facts.levels else Figure(points(top.chained, 1))
+    named: dict[str, str] = {"level": level, "month": month}
     most = [it for it in sorted(divisions(facts), key=lambda it: -abs(it.points))[:2] if it.points]
     first = changes(is_frozen, {**named, "annual": annual} if annual else named)
     return sentences(first, of_most(most)) if most else first
 
 
-def changes(is_frozen: bool, named: Mapping[str, Figure]) -> Told:
+def changes(is_frozen: bool, named: Mapping[str, str]) -> Told:
     """The level of all items and its changes; `annual` is named if there is one."""
     if is_frozen and "annual" in named:
         return told(
@@ -272,6 +276,11 @@ def index_cards(facts: Facts) -> list[Card]:
     year = f"{with_sign(tenths(top.year_change))}{PERCENT}" if top.year_change is not None else "\u2013"
     month = f"{with_sign(tenths(top.month_change))}{PERCENT}"
     level = told("level {level}", level=Figure(points(top.chained, 2)))
+    if facts.levels:
+        level = told("level {level}", level=facts.levels.figure(top.chained, ALL_ITEMS, 2))
+    if facts.levels and facts.levels.has_reference:
+        chained = Figure(points(top.chained, 2))
+        level = told("{level}; {name}: {chained}", level=level, name=facts.levels.chained_name, chained=chained)
     # t: the change of all items on the month before: under a figure, short
     on_month = told("all items on the month")
     # t: the change of all items on the year before: under a figure, short

@@ -90,7 +90,9 @@ class Desk:
         """Forms that are sent twice, and how long forms took, by their views."""
         self.sender = Sender(self.office, self.log, self._look_up)
         self.tables = TablesKept(given.room / "tables")
-        self.trials = Trials(self.cpi, self.copies, self.tables, given.copies, given.left_out)
+        self.trials = Trials(
+            self.cpi, self.copies, self.tables, given.copies, given.left_out, self.site_config.reference_in
+        )
         self.marks = Marks(given.room / "looks.jsonl")
         self.prepared = PreparedFreeze(given.room / "prepared-freeze.json")
         self.reasons = RevisionReasons(given.room / "revision-reasons.json", self.log)

@@ -5,12 +5,14 @@ from __future__ import annotations
 
 import contextlib
 import time
+from typing import Optional
 
 from ..copying import private_copy
 from ..desk.closing import close
+from ..desk.levels import Levels, levels_now
 from ..others import Worded
 from ..stored import read_copy
-from ..terminal import Fault
+from ..terminal import Fault, month_text
 from ..told import told as _
 from ..trial import as_frozen, state_of
 from . import frozen_receipts
@@ -44,18 +46,21 @@ def finish(prepared: Prepared) -> None:
     """Keeps the receipt of a freeze that was carried out, lets the reason of a revision go out, and forgets what was
     prepared. Raises Fault if the log can't be written: then the next page of the month tries it again."""
     if frozen_receipts.kept(desk().log, prepared.month, prepared.revision) is None:
-        frozen_receipts.keep(desk().log, frozen_receipts.receipt_of(prepared, frozen_table(prepared)))
+        frozen_receipts.keep(desk().log, frozen_receipts.receipt_of(prepared, *frozen_table(prepared)))
     if prepared.reasons:
         of = (prepared.month, prepared.revision, prepared.publishes)
         desk().reasons.go_out(*of, prepared.reasons, prepared.confirmed_by)
     desk().prepared.drop()
 
 
-def frozen_table(prepared: Prepared) -> bytes:
-    """The table that the office has of a freeze; if no copy can be read now, the one that was confirmed."""
+def frozen_table(prepared: Prepared) -> tuple[bytes, Optional[Levels]]:
+    """The table that the office has of a freeze, with its levels; if no copy can be read now, the one that was
+    confirmed."""
     with contextlib.suppress(Fault), desk().copies_now() as copy:
         with read_copy(copy.path) as office:
             state = state_of(office, prepared.month)
         with private_copy(copy.path) as own:
-            return as_frozen(desk().cpi, own, state, tuple(prepared.carry)).table
-    return prepared.text.encode()
+            table = as_frozen(desk().cpi, own, state, tuple(prepared.carry)).table
+        reference = desk().site_config.reference_in(month_text(prepared.month))
+        return table, levels_now(desk().cpi, copy.path, prepared.month, table, reference)
+    return prepared.text.encode(), None

@@ -6,38 +6,41 @@ from __future__ import annotations
 from collections.abc import Mapping
 from typing import NamedTuple, Optional
 
+from ..desk.levels import Levels, chained_name, level_name, with_period
 from ..desk.report import changes
 from ..desk.trying import rows_of
 from ..exact import ALL_ITEMS, depth_of, points
 from ..others import of_others
-from ..sections import Section, columns
+from ..sections import CODE, NUMBER, TEXT, Cell, Column, Section
 from ..terminal import month_text
 from ..told import Figure, Told
 from ..told import told as _
 from .desk_log import FROZEN, FROZEN_STEP, DeskLog, Entry
 from .freezes import Prepared, table_sum
 
-HEADS = columns("=code", "title", "#level", "#month %", "#year %")
-
 LEVEL, MONTH_CHANGE, YEAR_CHANGE = 3, 4, 5
 """Cells of a row of a table: the chained index, and both changes in percent."""
 
 
 class Figures(NamedTuple):
-    """A node of the table: its code and title, its level in points with one decimal, its changes in percent; one that it
-    hasn't is empty."""
+    """A node of the table: its code and title, its level in points with one decimal, its changes in percent, and its
+    chained level if the level is of another period; what it hasn't is empty."""
 
     code: str
     title: str
     level: str
     month: str
     year: str
+    chained: str = ""
 
 
 class Receipt(NamedTuple):
     """What was frozen. Moments are in seconds since 1970 UTC; `table` is the SHA-256 of the bytes of the table that the
     office has, `prepared` that of the one which was confirmed; `because` is why prices were left that nobody had seen,
-    and `reasons` why the month was revised, in each language by its tag."""
+    and `reasons` why the month was revised, in each language by its tag. `period` is the reference period of the levels,
+    `first` the December in which chained levels are 100, a later one for some nodes if `is_later`; in receipts of before
+    none of these is there.
+    """
 
     month: int
     revision: int
@@ -53,12 +56,20 @@ class Receipt(NamedTuple):
     publishes: int
     figures: list[Figures]
     reasons: Mapping[str, str] = {}
+    period: str = ""
+    first: str = ""
+    is_later: bool = False
 
     @property
     def section(self) -> Section:
         """All items and the divisions, as a table of the page."""
-        rows = [[row.code, of_others(row.title), row.level, row.month, row.year] for row in self.figures]
-        return Section("figures", _("All items and divisions"), "", HEADS, rows)
+        chained = chained_name(self.first, self.is_later) if self.first else _("level")
+        names = [level_name(self.period) if self.period else chained, _("month %"), _("year %")]
+        names += [chained] if self.period else []
+        ends = Column(_("code"), CODE), Column(_("title"), TEXT)
+        heads = (*ends, *(Column(name, NUMBER) for name in names))
+        rows: list[list[Cell]] = [[each.code, of_others(each.title), *each[2:][: len(names)]] for each in self.figures]
+        return Section("figures", _("All items and divisions"), "", heads, rows)
 
     @property
     def lead(self) -> Optional[Told]:
@@ -66,16 +77,21 @@ class Receipt(NamedTuple):
         top = next((row for row in self.figures if row.code == ALL_ITEMS), None)
         if top is None:
             return None
-        named = {"level": Figure(top.level), "month": _signed(top.month)}
-        return changes(True, {**named, "annual": _signed(top.year)} if top.year else named)
+        level, period = (top.level, self.period) if top.level else (top.chained, "")
+        of = period or self.first
+        named: dict[str, str] = {"level": with_period(level, of) if of else Figure(level), "month": _signed(top.month)}
+        if top.year:
+            named["annual"] = _signed(top.year)
+        return changes(True, named)
 
 
 def _signed(change: str) -> Figure:
     return Figure(change.replace("-", "\u2212"))
 
 
-def receipt_of(prepared: Prepared, table: bytes) -> Receipt:
-    """The receipt of a freeze that was confirmed and carried out, with the table that the office has of it."""
+def receipt_of(prepared: Prepared, table: bytes, levels: Optional[Levels] = None) -> Receipt:
+    """The receipt of a freeze that was confirmed and carried out, with the table that the office has of it, and its
+    levels if they are known."""
     return Receipt(
         month=prepared.month,
         revision=prepared.revision,
@@ -89,18 +105,23 @@ def receipt_of(prepared: Prepared, table: bytes) -> Receipt:
         table=table_sum(table),
         prepared=prepared.table,
         publishes=prepared.publishes,
-        figures=figures_of(table),
+        figures=figures_of(table, levels),
+        period=levels.reference if levels else "",
+        first=levels.first if levels else "",
+        is_later=bool(levels and levels.is_later),
         reasons=prepared.reasons,
     )
 
 
-def figures_of(table: bytes) -> list[Figures]:
+def figures_of(table: bytes, levels: Optional[Levels]) -> list[Figures]:
     """All items and the divisions of a table."""
-    rows = [(code, row) for code, row in rows_of(table).items() if depth_of(code) <= 1]
-    return [
-        Figures(code, row[-1], points(int(row[LEVEL].replace(".", "")), 1), row[MONTH_CHANGE], row[YEAR_CHANGE])
-        for code, row in rows
-    ]
+    found = list[Figures]()
+    for code, row in rows_of(table).items():
+        if depth_of(code) <= 1:
+            chained = points(int(row[LEVEL].replace(".", "")), 1)
+            own = [levels.of(code), chained] if levels and levels.has_reference else [chained, ""]
+            found.append(Figures(code, row[-1], own[0], row[MONTH_CHANGE], row[YEAR_CHANGE], own[1]))
+    return found
 
 
 class Kept(NamedTuple):

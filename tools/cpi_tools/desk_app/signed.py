@@ -7,14 +7,14 @@ from collections.abc import Sequence
 from typing import NamedTuple, Optional
 
 from ..desk.report import Card
-from ..desk.trying import differing
 from ..exact import decimal, depth_of
 from ..others import of_others
-from ..sections import Cell, Section, columns
+from ..sections import NUMBER, Cell, Column, Section, columns
 from ..told import Told, moment_of, row, sentences
 from ..told import told as _
 from .freezes import Prepared, sum_of, table_sum
 from .looks import Look
+from .tables_beside import beside
 from .trials import Tried
 
 MOST = 5
@@ -26,12 +26,14 @@ AGGREGATE = 5
 CODE, TITLE, LEVEL, MONTH_CHANGE, ADDS = 0, 1, 5, 6, 8
 """Cells of a row of the whole table of a report."""
 
-HEADS = columns("=code", "title", "#level", "#month %", "#adds, month")
+
+def heads_of(trial: Tried) -> tuple[Column, ...]:
+    """The headings of contributions and movers, with the period of levels."""
+    level = Column(trial.report.levels.name if trial.report.levels else _("level"), NUMBER)
+    return (*columns("=code", "title"), level, *columns("#month %", "#adds, month"))
+
+
 LOOKS = columns("=slot", "item", "outlet", "#change %", "#moves all items, about", "why")
-DIFFERENT = columns(
-    *("=code", "#prepared: index", "#prepared: month %", "#prepared: year %"),
-    *("#now: index", "#now: month %", "#now: year %", "title"),
-)
 
 
 class Signed(NamedTuple):
@@ -52,7 +54,7 @@ def signed_of(prepared: Prepared, trial: Tried, open_looks: Sequence[Look], reas
     parts = {section.key: section for section in trial.report.sections}
     rows = [each for each in parts["table"].rows if depth_of(str(each[CODE])) == AGGREGATE] if "table" in parts else []
     sections = [parts["top"]] if "top" in parts else []
-    sections += [largest(rows), movers(rows), open_section(open_looks)]
+    sections += [largest(rows, heads_of(trial)), movers(rows, heads_of(trial)), open_section(open_looks)]
     sections += [since(prepared, trial)] if has_other_table(prepared, trial) else []
     weighty = [each for each in open_looks if abs(each.weight) > reason_above]
     shown = [[*each.slot, each.price] for each in weighty]
@@ -78,15 +80,15 @@ def changed(prepared: Prepared, trial: Tried) -> Optional[Told]:
     return sentences(*says, _("Drop it, and prepare it again.")) if says else None
 
 
-def largest(rows: Sequence[Sequence[Cell]]) -> Section:
+def largest(rows: Sequence[Sequence[Cell]], heads: tuple[Column, ...]) -> Section:
     """The aggregates that add most to the month's change of all items."""
     note = _("In percentage points of the change of all items.")
-    return Section("largest", _("The largest contributions"), note, HEADS, _first(rows, ADDS))
+    return Section("largest", _("The largest contributions"), note, heads, _first(rows, ADDS))
 
 
-def movers(rows: Sequence[Sequence[Cell]]) -> Section:
+def movers(rows: Sequence[Sequence[Cell]], heads: tuple[Column, ...]) -> Section:
     """The aggregates that changed most on the month."""
-    return Section("movers", _("What changed most"), "", HEADS, _first(rows, MONTH_CHANGE))
+    return Section("movers", _("What changed most"), "", heads, _first(rows, MONTH_CHANGE))
 
 
 def _first(rows: Sequence[Sequence[Cell]], by: int) -> list[list[Cell]]:
@@ -114,5 +116,7 @@ def points_of(look: Look) -> str:
 
 def since(prepared: Prepared, trial: Tried) -> Section:
     """The nodes whose figures differ from those that were prepared."""
-    rows = differing(prepared.text.encode(), trial.report.table)
-    return Section("since-prepared", _("What changed since it was prepared"), "", DIFFERENT, rows)
+    tables = prepared.text.encode(), trial.report.table
+    # t: the heading of a column: a figure of the table that was prepared
+    heads = (lambda name: _("prepared: {head}", head=name)), (lambda name: _("now: {head}", head=name))
+    return beside("since-prepared", _("What changed since it was prepared"), tables, heads, trial.report.levels)

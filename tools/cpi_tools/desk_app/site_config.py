@@ -38,6 +38,11 @@ class SiteConfig:
             return None
         return self._read[1]
 
+    def reference_in(self, month: str) -> str:
+        """The period in which the website's levels of a month's release are 100; nothing if the configuration has none."""
+        config = self.now()
+        return config.reference_in(month) if config else ""
+
     def money(self) -> Optional[Money]:
         """The office's currency; None if the configuration names none."""
         config = self.now()

@@ -4,28 +4,36 @@ prices would change."""
 from __future__ import annotations
 
 import time
+from pathlib import Path
 from typing import Optional
 
 import flask
 from werkzeug.wrappers import Response
 
 from .. import charts
-from ..desk.trying import differences, differing, what_if
-from ..explain.lines import Explanation
+from ..desk.levels import Levels, levels_now
+from ..desk.trying import Beside, what_if
+from ..explain.lines import Explanation, Figure
 from ..explain.sources import Sources
 from ..explain.whole import explained
 from ..money import Money
-from ..sections import CODE, NUMBER, TEXT, Column, Section
+from ..sections import Section
 from ..stored import read_copy
 from ..others import Worded, of_others
-from ..terminal import Fault
+from ..terminal import Fault, month_text
+from ..told import Figure as FigureText
+from ..told import placed
 from ..told import told as _
 from .asked import after, csv_file, desk, field, file_name, month_of, page, section_file, session, what_came
 from .faults import says
+from .tables_beside import beside
 from .trials import Tried
 from .what_if_texts import example, tried_of
 
 views = flask.Blueprint("table", __name__)
+
+LEVEL_DIGITS = 6
+"""Decimals of a level on the page that explains it."""
 
 LINES_SHOWN = 12
 """A part of an explanation with more lines is folded."""
@@ -59,14 +67,11 @@ def since_before(month: int, found: Tried) -> Optional[Section]:
     earlier = desk().tables.before(month, found.at)
     if earlier is None or not found.report.table:
         return None
-    day = of_others(earlier.day)
-    # t: the heading of a column: of an earlier day, such as 2026-02-17
-    then = [_("{day}: index", day=day), _("{day}: month %", day=day), _("{day}: year %", day=day)]
-    now = [_("now: index"), _("now: month %"), _("now: year %")]
-    heads = (Column(_("code"), CODE), *(Column(it, NUMBER) for it in [*then, *now]), Column(_("title"), TEXT))
-    rows = differing(earlier.table, found.report.table)
-    title = _("What changed since {day}", day=day)
-    return Section("since", title, "", heads, rows, _("Nothing: the tables are the same."))
+    day, tables = of_others(earlier.day), (earlier.table, found.report.table)
+    # t: the heading of a column: a figure of an earlier day, such as 2026-02-17
+    heads = (lambda name: _("{day}: {head}", day=day, head=name)), (lambda name: _("now: {head}", head=name))
+    title, empty = _("What changed since {day}", day=day), _("Nothing: the tables are the same.")
+    return beside("since", title, tables, heads, found.report.levels, empty)
 
 
 @views.get("/month/<month>/table/<key>.csv")
@@ -90,8 +95,27 @@ def explain(month: str, code: str) -> Response:
     if found is None or not found.report.table:
         return flask.redirect(flask.url_for("table.show", month=month))
     with read_copy(found.copy) as office:
-        it: Explanation = explained(Sources(office, month_of(month), None, desk().teller.money() or Money(1)), code)
+        it = explained(Sources(office, month_of(month), None, desk().teller.money() or Money(1)), code)
+    it = with_levels(it, found.report.levels)
     return page("explained.html", month=month, it=it, found=found, shown=LINES_SHOWN)
+
+
+def with_levels(it: Explanation, levels: Optional[Levels]) -> Explanation:
+    """An explanation whose levels are named by their periods, that of the website first."""
+    if levels is None:
+        return it
+    chained = [Figure(levels.chained_name, figure.text) for figure in it.figures[:1]]
+    level = levels.of(it.code, digits=LEVEL_DIGITS)
+    if not level:
+        sentence = _("The level in these sentences is the {name}.", name=levels.chained_name)
+        return it._replace(figures=[*chained, *it.figures[1:]], sentences=[*it.sentences, sentence])
+    sentence = _(
+        "The level in these sentences is the {name}; it is a {level}.",
+        name=levels.chained_name,
+        level=_("{name}: {level}", name=levels.name, level=FigureText(levels.of(it.code))),
+    )
+    own = Figure(levels.name, FigureText(level))
+    return it._replace(figures=[own, *chained, *it.figures[1:]], sentences=[*it.sentences, sentence])
 
 
 @views.get("/month/<month>/what-if")
@@ -126,7 +150,16 @@ def try_prices(month: str) -> Response:
     try:
         tried = tried_of(text, money, desk().teller.speech.signs.get(",", ","))
         with desk().copies_now() as copy:
-            result = differences(what_if(desk().cpi, copy.path, number, int(time.time()), tried))
+            result = what_differs(copy.path, number, what_if(desk().cpi, copy.path, number, int(time.time()), tried))
     except Fault as fault:
         return shown_what_if(month, 400, text=text, fault=says(fault))
     return after("table.what_if_page", {"text": text, "result": result}, month=month)
+
+
+def what_differs(office_copy: Path, month: int, found: Beside) -> Section:
+    """The nodes of both tables that differ, each by its own levels."""
+    tables, reference = (found.as_is.table, found.tried.table), desk().site_config.reference_in(month_text(month))
+    levels = levels_now(desk().cpi, office_copy, month, tables[1], reference)
+    # t: the heading of a column: a figure as it would be
+    heads = placed, (lambda name: _("what if: {head}", head=name))
+    return beside("what-if", _("Nodes that differ"), tables, heads, levels)

@@ -7,21 +7,23 @@ from __future__ import annotations
 import tempfile
 import threading
 import time
+from collections.abc import Callable
 from pathlib import Path
 from typing import NamedTuple, Optional
 
 from ..copying import right_copy
 from ..desk.closing import Closed, closed_of
 from ..desk.facts import Facts
+from ..desk.levels import Levels, levels_now
 from ..desk.report import Asked, Report, report_with, tried_on
 from ..desk.unusual import PERCENT_OF_WIDTH
 from ..program import Cpi
 from ..stored import read_copy
 from ..others import Worded
-from ..terminal import Fault
+from ..terminal import Fault, month_text
 from ..told import Told, sentences
 from ..told import told as _
-from ..trial import State
+from ..trial import Frozen, State
 from .copies import Copies
 from .durations import Durations
 from .faults import met, says
@@ -76,9 +78,19 @@ class Trials:
     """The trials of an application; their copies lie in folders of `room`, and each leaves so many quotes out in
     turn."""
 
-    def __init__(self, cpi: Cpi, copies: Copies, tables: TablesKept, room: Path, left_out: int):
+    def __init__(
+        self,
+        cpi: Cpi,
+        copies: Copies,
+        tables: TablesKept,
+        room: Path,
+        left_out: int,
+        reference_in: Callable[[str], str],
+    ):
+        """`reference_in` gives the website's reference period in the release of a month."""
         self._cpi, self._copies, self._tables, self._room = cpi, copies, tables, room
-        self._left_out, self._durations = left_out, Durations()
+        self._left_out, self._reference_in = left_out, reference_in
+        self._durations = Durations()
         self._lock = threading.Lock()
         self._found: dict[int, tuple[Tried, tempfile.TemporaryDirectory[str]]] = {}
         self._faults: dict[int, Worded] = {}
@@ -145,7 +157,7 @@ class Trials:
         asked = Asked(month, at, self._left_out, PERCENT_OF_WIDTH, SMALL)
         tried = tried_on(self._cpi, office_copy, copy, asked, self._now)
         with read_copy(copy) as office:
-            facts = Facts(office, month, tried.frozen)
+            facts = Facts(office, month, tried.frozen, self._levels(copy, month, tried.frozen))
             report = report_with(self._cpi, office_copy, tried, facts, asked, self._now)
             self._now(_("looking at prices"))
             looks = looks_of(facts, PERCENT_OF_WIDTH)
@@ -154,6 +166,12 @@ class Trials:
             closed = closed_of(facts, closes, tried.frozen, tried.early) if is_to_freeze and tried.frozen else None
         by = self.running.by if self.running else ""
         return Tried(at, copy, tried.state, report, looks, closed, by)
+
+    def _levels(self, copy: Path, month: int, frozen: Optional[Frozen]) -> Optional[Levels]:
+        if frozen is None or not frozen.table:
+            return None
+        self._now(_("reading the tables"))
+        return levels_now(self._cpi, copy, month, frozen.table, self._reference_in(month_text(month)))
 
     def close(self) -> None:
         """Removes what is at hand."""
