@@ -170,3 +170,26 @@ def test_the_structure_says_what_each_value_is(published: list[Published], tmp_p
     }  # fmt: skip
     hangs = {it.get("id"): [ref.get("id") for ref in it.iter("Ref")][-1] for it in root.iter(STRUCTURE + "Attribute")}
     assert hangs["BASE_PER"] == "OBS_VALUE" and hangs["DECIMALS"] == "TRANSFORMATION"
+
+
+# ---- whom to ask
+
+
+@pytest.mark.parametrize(
+    ("contact", "element"),
+    [("cpi@example.org", "message:Email"), ("https://example.org/cpi", "message:URI"), ("+1 234 5678", "message:Telephone"),
+     ("Room 7 & 8", "common:Name")],
+)  # fmt: skip
+def test_each_form_says_whom_to_ask(published: list[Published], tmp_path: Path, contact: str, element: str) -> None:
+    config = CONFIG._replace(contact=contact, licence="CC BY 4.0", address="https://prices.example/")
+    out = written(published[:2], config._replace(without=frozenset({"pictures"})), tmp_path / "public")
+    spaces = {prefix: f"http://www.sdmx.org/resources/sdmxml/schemas/v2_1/{prefix}" for prefix in ("message", "common")}
+    for name in ("structure.sdmx.xml", "cpi.sdmx.xml"):
+        root = ElementTree.parse(out / "data" / name)
+        found = root.find(f"message:Header/message:Sender/message:Contact/{element}", spaces)
+        assert found is not None and found.text == contact
+    terms = json.loads((out / "data/cpi.jsonstat.json").read_bytes())["extension"]
+    assert (terms["contact"], terms["licence"]) == (contact, "CC BY 4.0")
+    page = (out / "data.html").read_text(encoding="utf-8")
+    told = json.loads(re.findall('<script type="application/ld.json">(.*?)</script>', page, re.S)[0])
+    assert told["creator"]["contactPoint"] == {"@type": "ContactPoint", "description": contact}

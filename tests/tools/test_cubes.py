@@ -11,9 +11,11 @@ from typing import Optional
 import pytest
 
 from cpi_tools.pack.config import Config
+from cpi_tools.pack.office_languages import OfficeLanguages, Own
+from cpi_tools.pack.planned import Planned
 from cpi_tools.pack.public import Listed, Published
 from cpi_tools.publish import publish
-from lib.pack_forms import read_json_stat, read_px
+from lib.pack_forms import order_of_px, read_json_stat, read_px
 from .test_specials import config
 
 CONFIG_OF_SETS = config
@@ -113,7 +115,8 @@ def test_px_has_each_figure(pack: Path, wanted: Cells) -> None:
     codes = [head[f'CODES("{name}")'] for name in (*stub, *heading)]
     values = [head[f'VALUES("{name}")'] for name in (*stub, *heading)]
     assert [len(it) for it in codes] == [len({*it}) for it in values] == [len(it) for it in values]
-    assert head['TIMEVAL("Month")'] == ["TLIST(M1)", *codes[2]] and codes[2][0] == "2025M01"
+    assert head['TIMEVAL("Month")'] == ["TLIST(M1)", *(it.replace("M", "") for it in codes[2])]
+    assert codes[2][0] == "2025M01"
     keys = [*itertools.product(*codes)]
     assert len(keys) == len(cells)
     found = {
@@ -138,6 +141,32 @@ def test_what_px_says_of_its_cells(pack: Path, breaks: set[tuple[str, str]]) -> 
     assert 'CELLNOTE("01.1.6 Fruit","Index","January 2027")' in noted
     assert head['PRECISION("Figure","Index")'] == ["1"] and 'PRECISION("Figure","Weight in use")' not in head
     assert head['UNITS("Change on the year before")'] == ["percent"]
+
+
+def test_px_says_what_pxweb_must_not_add_up(pack: Path) -> None:
+    head, _ = read_px(pack / "data/cpi.px")
+    assert head["AGGREGALLOWED"] == ["NO"] and head['ELIMINATION("Item")'] == ["00 All items"]
+    assert head["OFFICIAL-STATISTICS"] == ["YES"] and head["COPYRIGHT"] == ["YES"] and "NEXT-UPDATE" not in head
+    assert head['BASEPERIOD("Index")'] == ["2025"]
+    chained = next(it for it in head['VALUES("Figure")'] if it.startswith("Chained"))
+    assert head[f'BASEPERIOD("{chained}")'] == ["2024-12"] and not any(it.startswith("CONTACT") for it in head)
+    assert 'BASEPERIOD("Weight in use")' not in head
+
+
+def test_px_has_its_keywords_in_the_order_of_the_format(published: list[Published], tmp_path: Path) -> None:
+    """In each language, with a contact and a release to come."""
+    speaks = OfficeLanguages(("en", "fr"), "latn", {"fr": Own({"contact": "Téléphone 1"})})
+    own = Config("NSO", "XX", "Office", contact="Telephone 1", licence="CC0 1.0", speaks=speaks)
+    own = own._replace(planned=(Planned("2027-06", 1, 1_801_125_000),))
+    publish(published, own, tmp_path / "public", None, lambda _: None)
+    head, _ = read_px(tmp_path / "public/data/cpi.px")
+    order = order_of_px(head)
+    for tag in ("", "[fr]"):
+        places = [place for its_tag, place in order if its_tag == tag]
+        assert places == sorted(places) and len({*places}) > 15, tag
+    assert head["NEXT-UPDATE"] == ["20270128 08:30"] and head["COPYRIGHT"] == ["NO"]
+    assert head['CONTACT("Index")'] == ["Telephone 1"] and head['CONTACT[fr]("Indice")'] == ["Téléphone 1"]
+    assert head['ELIMINATION[fr]("Poste")'] == ["00 All items"]
 
 
 def test_texts_that_px_cannot_have(tmp_path: Path) -> None:

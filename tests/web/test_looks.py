@@ -90,6 +90,7 @@ def test_a_note_goes_out_and_brings_those_of_others(rows: list[str], ada: Person
     ada.type(Keys.ENTER)
     browser.wait_text(f"#{rows[0]} .notes", "It is right")
     assert "Ben called the shop" in browser.text(f"#{rows[0]} .notes")
+    browser.wait_text("#said", "Somebody else has noted something of this price meanwhile")
     assert browser.run(VALUE, f"#{rows[0]} input[name=text]") == "" and focus(browser) == f"{rows[0]} INPUT"
     ada.type("again", Keys.ESCAPE)
     assert focus(browser) == f"{rows[0]} TR" and stays(browser)
@@ -126,3 +127,14 @@ def test_without_a_script_the_next_row_is_shown(rows: list[str], ada: Person, br
     browser.wait(lambda: not stays(browser), "another page")
     browser.wait_text("#counts", "2 to look at, 1 seen by you.")
     assert browser.run("return location.hash") == f"#{rows[1]}"
+
+
+def test_a_mark_of_an_ended_session_comes_back_after_signing_in(rows: list[str], ada: Person, browser: Browser) -> None:
+    ada.pages.kill()
+    ada.pages.start()
+    ada.type("j", "n", "It is right", Keys.ENTER)
+    browser.wait_text(".told.bad", "What you filled in is kept: sign in")
+    ada.reach("#name")
+    ada.type("Ada", Keys.TAB, DESK)
+    ada.press("#key")
+    browser.wait_text("main", "It is right")

@@ -15,6 +15,7 @@ from markupsafe import Markup
 
 from ..speech import SPEAKS_ENGLISH, Speech
 from .config import Config
+from .cube import measures_of
 from .releases import Release
 from .tables import Series, iso
 from .versions import ALONE, Version
@@ -33,6 +34,7 @@ TYPES = {
     "xlsx": "application/vnd.openxmlformats-officedocument.spreadsheetml.sheet",
     "sdmx.csv": "application/vnd.sdmx.data+csv;version=2.0.0",
     "sdmx.xml": "application/vnd.sdmx.structurespecificdata+xml;version=2.1",
+    "json": "application/json",
     "jsonstat.json": "application/json",
     "px": "text/plain",
 }
@@ -96,7 +98,9 @@ def dataset(
                 first=series.months[0],
                 last=series.months[-1],
             ),
-            **({"inLanguage": version.tag} if version.tag else {}),
+            "inLanguage": version.tag or speech.language.tag,
+            "identifier": f"{config.agency}:{config.id('DF_CPI')}",
+            "variableMeasured": [speech.t(it.name) for it in measures_of(config)],
             "url": address_of(config, "data.html", version),
             "dateModified": iso(series.moment),
             "temporalCoverage": f"{series.months[0]}/{series.months[-1]}",
@@ -115,7 +119,8 @@ def release_dataset(config: Config, release: Release, size: int, version: Versio
                 "{title}, {month}, revision {number}", title=config.title, month=table.month, number=table.revision
             ),
             "description": f"{release.headline}.",
-            **({"inLanguage": version.tag} if version.tag else {}),
+            "inLanguage": version.tag or release.shown.speech.language.tag,
+            "identifier": f"{config.agency}:{config.id('DF_CPI')}:{release.name}",
             "url": address_of(config, release.page, version),
             "datePublished": iso(table.moment),
             "version": str(table.revision),
@@ -128,7 +133,9 @@ def release_dataset(config: Config, release: Release, size: int, version: Versio
 
 def _published_by(config: Config) -> dict[str, object]:
     """What both have."""
-    office = {"@type": "GovernmentOrganization", "name": config.office}
+    office: dict[str, object] = {"@type": "GovernmentOrganization", "name": config.office}
+    if config.contact:
+        office["contactPoint"] = {"@type": "ContactPoint", "description": config.contact}
     found: dict[str, object] = {"@context": "https://schema.org/", "@type": "Dataset", "creator": office}
     found["isAccessibleForFree"] = True
     found["spatialCoverage"] = config.country or config.area

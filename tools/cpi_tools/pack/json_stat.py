@@ -59,8 +59,17 @@ def _about(known: Known, config: Config) -> dict[str, Any]:
         "id": ["item", "measure", "month"],
         "size": [len(series.all_titles), len(measures), len(series.months)],
         "role": {"time": ["month"], "metric": ["measure"]},
-        "extension": {"status": _statuses_in(known, own), **({"languages": others} if others else {})},
+        "extension": {
+            "status": _statuses_in(known, own),
+            **_terms(own.config),
+            **({"languages": others} if others else {}),
+        },
     }
+
+
+def _terms(config: Config) -> dict[str, str]:
+    """Whom to ask, and the licence, as far as the office says so."""
+    return {name: text for name, text in (("contact", config.contact), ("licence", config.licence)) if text}
 
 
 def _statuses_in(known: Known, tongue: Tongue) -> dict[str, Any]:
@@ -80,7 +89,7 @@ def _in_language(known: Known, tongue: Tongue) -> dict[str, Any]:
         "source": tongue.config.office,
         "note": general_notes(known, tongue.config, tongue.speech),
         "dimension": dimensions,
-        "extension": {"status": _statuses_in(known, tongue)},
+        "extension": {"status": _statuses_in(known, tongue), **_terms(tongue.config)},
     }
 
 

@@ -26,6 +26,7 @@ from __future__ import annotations
 import bisect
 import contextlib
 import functools
+import re
 from collections.abc import Iterator, Mapping, Sequence
 from pathlib import Path
 from typing import NamedTuple, Optional, TextIO, Union
@@ -37,7 +38,7 @@ from .artefacts import SHARED, Structure, item_id
 from .config import Config, KnownIds
 from .figures import Figure, Known
 from .measures import average_change, full_years
-from .markup import attributes_of
+from .markup import attributes_of, text_of
 from .tables import Series, iso, link_of
 from .tidy import written
 
@@ -388,8 +389,34 @@ def message_header(series: Series, config: Config, name: str, structure: str = "
     return (
         f"<message:Header>\n<message:ID>{config.id(name)}_{series.months[-1]}</message:ID>\n"
         f"<message:Test>false</message:Test>\n<message:Prepared>{iso(series.moment)}</message:Prepared>\n"
-        f"<message:Sender{attributes_of({'id': config.agency.replace('.', '_')})}/>\n{structure}</message:Header>\n"
+        f"{_sender(config)}\n{structure}</message:Header>\n"
     )
+
+
+def _sender(config: Config) -> str:
+    """Who sends a message, and how it is reached."""
+    head = f"<message:Sender{attributes_of({'id': config.agency.replace('.', '_')})}"
+    if not config.contact:
+        return f"{head}/>"
+    name = f'<common:Name xml:lang="{config.language}">{text_of(config.office)}</common:Name>'
+    return f"{head}>\n{name}\n<message:Contact>\n{_way(config)}\n</message:Contact>\n</message:Sender>"
+
+
+def _way(config: Config) -> str:
+    """A contact by its kind: an address of mail, of a page, a telephone, or else a name."""
+    text = text_of(config.contact)
+    for form, name in CONTACTS:
+        if form.fullmatch(config.contact):
+            return f"<message:{name}>{text}</message:{name}>"
+    return f'<common:Name xml:lang="{config.language}">{text}</common:Name>'
+
+
+CONTACTS = (
+    (re.compile(r"[^@\s]+@[^@\s]+"), "Email"),
+    (re.compile(r"https?://\S+"), "URI"),
+    (re.compile(r"\+?[0-9][0-9 ()/.-]{3,}"), "Telephone"),
+)
+"""What a contact is by its form, and the element that SDMX has for it."""
 
 
 def _data_head(own: Structure, series: Series, config: Config) -> str:

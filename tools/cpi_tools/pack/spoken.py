@@ -49,10 +49,12 @@ FILES: Mapping[str, str] = {
     "twelve-month-rates.csv": marked("The mean of twelve months against that of the twelve before, in percent"),
     "rereferenced.csv": marked("Levels with another reference period, {period} = 100"),
     "releases.csv": marked("Month, revision, moment and SHA-256 of each publication"),
+    "announced.json": marked("The announced releases, and which of them moved"),
     REASONS: marked("Why the office revised months, in its own words"),
     "cpi.sdmx.csv": "SDMX-CSV 2.0",
     "cpi.sdmx.xml": "SDMX-ML 2.1, StructureSpecificData",
     "structure.sdmx.xml": marked("SDMX-ML 2.1: the code lists and the definition of the data structure"),
+    "artefacts.json": marked("The versions of these structures, now and in earlier packs"),
     "cpi.jsonstat.json": marked("JSON-stat 2.0: a cube of items, figures and months"),
     "cpi.px": marked("PX (PC-Axis, PxWeb): the same cube"),
 }

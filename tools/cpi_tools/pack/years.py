@@ -173,7 +173,8 @@ class Archives:
     def _write(self, span: Span, to: Path, now: Now) -> None:
         known = known_of(self._series.part(*span), self.unexplained, self._shown)
         with tempfile.TemporaryDirectory(prefix=".", dir=to.parent) as folder:
-            write_part(known, self._structure, self._config, Path(folder), now)
+            # (no further table changes a year, so none is announced in its files)
+            write_part(known, self._structure, self._config._replace(planned=()), Path(folder), now)
             now("the archive")
             with zipfile.ZipFile(to, "w") as archive:
                 for name in files_of(Path(folder)):

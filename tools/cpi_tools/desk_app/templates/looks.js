@@ -15,6 +15,7 @@ const isWriting = () => fields().some((it) => it.value !== "" || it === document
 
 let current = document.querySelector("tr.look:target");
 let asked = 0; // requests so far: an answer to an earlier one has older counts
+let isLeaving = false; // a form goes out as without this script
 
 // ---- rows
 
@@ -59,25 +60,24 @@ function showSeen(row, isSeen) {
 async function sent(form, more, row) {
   const body = new URLSearchParams(/** @type {any} */ (new FormData(form))), number = asked += 1;
   for (const [name, text] of Object.entries(more)) body.set(name, text);
-  let page, isDone, hasEnded;
+  let page, answer;
   try {
-    const answer = await fetch(form.action, { method: "POST", body });
+    answer = await fetch(form.action, { method: "POST", body });
     page = new DOMParser().parseFromString(await answer.text(), "text/html");
-    isDone = answer.ok && page.getElementById("counts") !== null;
-    hasEnded = !isDone && (answer.redirected || answer.status === 403);
   } catch {
     say(said.dataset.away, row);
     return null;
   }
-  if (hasEnded) {
+  if (answer.status === 403 || new URL(answer.url).pathname.endsWith("/sign-in")) {
     leave(form, more);
     return null;
   }
-  if (!isDone) {
+  if (!answer.ok || !answer.redirected) {
     say(page.querySelector("#refused, .told.bad")?.textContent.trim() ?? said.dataset.away, row);
     return null;
   }
-  if (number === asked) showCounts(page.getElementById("counts"));
+  const fresh = page.getElementById("counts");
+  if (fresh && number === asked) showCounts(fresh);
   return page;
 }
 
@@ -92,6 +92,7 @@ function leave(form, more) {
   for (const [name, value] of Object.entries(more)) {
     if (name !== "only") form.append(Object.assign(document.createElement("input"), { type: "hidden", name, value }));
   }
+  isLeaving = true;
   form.submit();
 }
 
@@ -106,7 +107,9 @@ async function mark(form) {
   busy.delete(form);
   const fresh = page?.getElementById(row.id);
   if (!fresh) return;
-  row.querySelector(".notes").replaceChildren(...fresh.querySelector(".notes").childNodes);
+  const notes = row.querySelector(".notes"), known = notes.childElementCount + (field ? 1 : 0);
+  notes.replaceChildren(...fresh.querySelector(".notes").childNodes);
+  if (notes.childElementCount > known) say(said.dataset.others, row);
   showSeen(row, fresh.hasAttribute("data-seen"));
   if (field && field.value === text) field.value = ""; // (what was typed meanwhile stays)
 }
@@ -193,7 +196,7 @@ every.addEventListener("change", (event) => {
   for (const box of boxes()) box.checked = event.target.checked;
 });
 addEventListener("beforeunload", (event) => {
-  if (fields().some((it) => it.value !== it.defaultValue)) event.preventDefault();
+  if (!isLeaving && fields().some((it) => it.value !== "")) event.preventDefault();
 });
 
 every.hidden = document.getElementById("keys").hidden = false;
