@@ -13,6 +13,7 @@ from typing import Any, Optional
 from cpi_tools.desk_app.app import make_app
 from cpi_tools.desk_app.desk import Desk, Given
 from cpi_tools.desk_app.reached import Reached
+from cpi_tools.desk_app.sent_twice import Once
 from cpi_tools.pack.clocks import clock_of
 from cpi_tools.program import Cpi
 from cpi_tools.speech import SPEAKS_ENGLISH, Speech
@@ -101,6 +102,8 @@ class Application:
             url, self.file, self.room, str(self.cpi.path), 1800, CLOCK, copies, 8, self.field_months, speech=self.speech
         )
         desk = Desk(given)
+        # (tests send a form again at once to see that it is refused)
+        desk.once = Once(known_for=0.0)
         self.app = make_app(desk, Reached(LISTEN, None))
         return desk
 

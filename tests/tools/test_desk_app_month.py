@@ -81,7 +81,7 @@ def test_what_a_handful_of_prices_would_change(ada: Person) -> None:
     """Rice 220 and 252 over 200 and 240 is 1.07272727..; with flour unchanged at 84/80: 0.6 * 107.272727 + 0.4 *
     105."""
     words = words_of(ada.sent(f"/month/{MONTH}/what-if", text="7/1=220\n").text)
-    assert "00 105.698455 1.5 106.363636 2.1" in words and "01.1.1.1-01 106.164091 2.4 107.272727 3.5" in words
+    assert "00 105.698455 +1.5 106.363636 +2.1" in words and "01.1.1.1-01 106.164091 +2.4 107.272727 +3.5" in words
     refused = ada.post(f"/month/{MONTH}/what-if", text="7/1=220\n7/x=1\n")
     assert refused.status_code == 400 and "Line 2: 7/x=1 can't be tried. Wanted is a price like 7/2=210" in words_of(
         refused.text

@@ -48,11 +48,11 @@ def test_the_second_person_reads_what_is_signed(prepared: Application) -> None:
     assert "all items would be at 105.7 (December 2025 = 100): 1.5 percent on the month before" in words
     assert "All items and divisions" in words and "01 Food and drink" in words
     largest, movers = (words.partition(title)[2] for title in ("The largest contributions", "What changed most"))
-    assert "01.1.1.1-01 Rice, packed 106.16 2.4 1.456" in largest.partition("What changed")[0]
-    assert "01.1.1.1-01 Rice, packed 106.16 2.4 1.456" in movers and "Flour" not in movers.partition("Prices to")[0]
+    assert "01.1.1.1-01 Rice, packed 106.16 +2.4 +1.456" in largest.partition("What changed")[0]
+    assert "01.1.1.1-01 Rice, packed 106.16 +2.4 +1.456" in movers and "Flour" not in movers.partition("Prices to")[0]
     looks = words.partition("Prices to look at that nobody has seen")[2]
     assert (
-        "8/1 Rice , 1 kg Market hall 2.4 1.517 the only price" in looks
+        "8/1 Rice , 1 kg Market hall +2.4 +1.517 the only price" in looks
         and "the only price that is compared in its aggregate" in looks
     )
     assert f"{CODE}: the shop is closed for a week" in words
@@ -102,7 +102,7 @@ def test_a_freeze_ends_on_a_receipt_that_stays(cpi: Cpi, prepared: Application, 
         f"Carried: {CODE} the shop is closed for a week",
         f"SHA-256 of the table {total}",
         f"SHA-256 of line {at} of the log {hashlib.sha256(logged[at - 1]).hexdigest()}",
-        "00 All items 105.7 1.5",
+        "00 All items 105.7 +1.5",
         "What to do next",
     ):
         assert says in words, says

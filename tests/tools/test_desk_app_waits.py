@@ -53,7 +53,7 @@ def test_what_was_carried_out_is_known_for_a_moment_and_what_was_refused_isn_t()
     once = Once(PATIENCE, clock)
     assert once.begin("a") is None
     once.end("a", DONE)
-    clock.now += KNOWN_FOR
+    clock.now += KNOWN_FOR / 2
     assert once.begin("a") == DONE
     clock.now += KNOWN_FOR / 2
     assert once.begin("a") is None
@@ -106,6 +106,7 @@ def doubled(person: Person, form: PageForm, **fields: str) -> list[Any]:
 def test_records_that_are_sent_twice_are_sent_once(application: Application, ada: Person) -> None:
     judged = ada.follow(ada.fill("/records", "/records/judge", text="outlet,14,Quay"))
     form = next(it for it in forms_of(judged.text) if it.action == "/records/send")
+    application.desk.once = Once()
     first, second = doubled(ada, form)
     assert (first.status_code, second.status_code) == (303, 303)
     assert first.headers["Location"] == second.headers["Location"]
@@ -113,6 +114,7 @@ def test_records_that_are_sent_twice_are_sent_once(application: Application, ada
 
 
 def test_another_form_of_the_page_or_another_text_is_no_second_one(application: Application, ada: Person) -> None:
+    application.desk.once = Once()
     form = ada.form("/records", "/records/judge")
     for text in ("outlet,14,Quay", "outlet,15,Pier"):
         assert text in words_of(ada.follow(ada.give(form, text=text)).text)

@@ -13,7 +13,7 @@ from .languages import SOURCE, a_language, known
 from .money import TICKS, Money
 from .others import CLOSES, LEFT_TO_RIGHT, Worded, worded
 from .pack.clocks import UTC, Clock, clock_of
-from .speech import DIGITS, LATIN, SPEAKS_ENGLISH, Speech, speech_of
+from .speech import DIGITS, LATIN, MINUS, SPEAKS_ENGLISH, Speech, speech_of
 from .terminal import Fault
 from .told import Code, Figure, Moment, Month, MonthName, Price, Ticks, Told
 
@@ -113,6 +113,7 @@ class Teller:
         text = str(value) if isinstance(value, int) else value
         if not isinstance(text, str) or not FIGURE.fullmatch(text):
             return value
+        text = text.replace("-", MINUS)
         if text.endswith("%") and self.speech.language.tag != SOURCE:
             return self.in_percent(text.rstrip("% \u202f"))
         return self.code(self.speech.figure(text))

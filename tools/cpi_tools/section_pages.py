@@ -2,12 +2,13 @@
 
 from __future__ import annotations
 
+from functools import partial
 from pathlib import Path
 
 import jinja2
 from markupsafe import Markup
 
-from . import pages
+from . import page_columns, pages
 from .report_language import ENGLISH, Teller
 
 
@@ -21,4 +22,5 @@ def environment(own: Path, teller: Teller = ENGLISH) -> jinja2.Environment:
     made = pages.environment(own, teller.speech.language)
     made.globals["style"] = style
     made.filters.update(teller.filters)
+    made.filters.update(head=page_columns.head, cell_figure=partial(page_columns.cell_figure, teller))
     return made

@@ -13,6 +13,9 @@ from .elided import Places
 from .languages import ENGLISH, SOURCE, Language, language_of
 from .terminal import month_name
 
+MINUS = "\u2212"
+"""The sign of mathematics, which a page has in the place of a hyphen."""
+
 LATIN = "latn"
 DIGITS = (LATIN, "arab", "deva")
 """The systems of digits that an office can choose, by their names in Unicode."""

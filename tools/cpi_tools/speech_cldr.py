@@ -14,10 +14,7 @@ from markupsafe import Markup, escape
 
 from .languages import Language
 from .others import CLOSES, LEFT_TO_RIGHT
-from .speech import LATIN, Speech
-
-MINUS = "\u2212"
-"""What a page has for the hyphen that CLDR writes as a sign."""
+from .speech import LATIN, MINUS, Speech
 
 ZEROS: Mapping[str, str] = {"latn": "0", "arab": "\u0660", "deva": "\u0966"}
 """The first digit of each system."""

@@ -12,6 +12,7 @@ from ..told import Told, sentences, told_of
 from ..told import told as _
 from .asked import desk, month_of, page, section_file
 from .glance import Glance, months_of
+from .response_chart import chart_of
 from ..stored import read_copy
 
 views = flask.Blueprint("month", __name__)
@@ -41,6 +42,7 @@ def glance(month: str) -> Response:
         "is_still": is_still,
         "refresh": REFRESH,
         "now": now,
+        "chart": chart_of(desk().watch.seen(), found.state.month),
     }
     return page("glance.html", month=found.month, left=time_left(found, now), expected=expected, **named)
 

@@ -64,10 +64,11 @@ class _Form:
 
 
 class Once:
-    """The forms that are being carried out, and those that were some seconds ago. `clock` is in seconds."""
+    """The forms that are being carried out, and those that were some seconds ago. `waits`, `known_for` and `clock` are in
+    seconds."""
 
-    def __init__(self, waits: float = WAITS, clock: Callable[[], float] = time.monotonic):
-        self._waits, self._clock, self._lock = waits, clock, threading.Lock()
+    def __init__(self, waits: float = WAITS, clock: Callable[[], float] = time.monotonic, known_for: float = KNOWN_FOR):
+        self._waits, self._clock, self._known_for, self._lock = waits, clock, known_for, threading.Lock()
         self._forms: dict[str, _Form] = {}
         self._waiting = 0
 
@@ -105,7 +106,7 @@ class Once:
 
     def _forget(self) -> None:
         now = self._clock()
-        old = [name for name, it in self._forms.items() if it.is_over.is_set() and now - it.ended > KNOWN_FOR]
+        old = [name for name, it in self._forms.items() if it.is_over.is_set() and now - it.ended >= self._known_for]
         for name in old:
             del self._forms[name]
 

@@ -5,7 +5,7 @@ from __future__ import annotations
 import threading
 import time
 import traceback
-from collections.abc import Callable
+from collections.abc import Callable, Sequence
 from typing import Optional
 
 from ..stored import read_copy
@@ -83,6 +83,10 @@ class Watch:
         """How far earlier months were as long after their windows opened as a month is now."""
         window = found.state.window
         return self._observed.expected(window.month, min(found.at, window.closes) - window.opens)
+
+    def seen(self) -> Sequence[Seen]:
+        """How far months were, as the application saw it while it ran."""
+        return self._observed.rows
 
     def renew(self) -> None:
         """Takes a copy if the office's file changed, and notes what is new in it. Raises Fault."""
