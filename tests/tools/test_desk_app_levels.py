@@ -12,6 +12,8 @@ import pytest
 from cpi_tools.command_line import main
 from cpi_tools.copying import private_copy
 from cpi_tools.desk.levels import chained_name, levels_of, other_tables
+from cpi_tools.desk_app.freezes import Prepared, table_sum
+from cpi_tools.desk_app.frozen_receipts import receipt_of
 from cpi_tools.desk_app.tables_beside import beside
 from cpi_tools.program import LAST_MOMENT, Cpi
 from cpi_tools.stored import read_copy
@@ -126,3 +128,18 @@ def test_each_of_two_tables_has_its_own_levels(cpi: Cpi, office: Path) -> None:
     )
     one, other = (float(str(cell)) for cell in (row[1], row[4]))
     assert 0 < one - other < 1
+
+
+def test_a_receipt_keeps_the_level_with_its_period(cpi: Cpi, office: Path) -> None:
+    table = dict(all_tables(cpi, office))[MONTH]
+    levels = levels_of(other_tables(cpi, office, 202701), MONTH, table, "2026")
+    prepared = Prepared(ADA, 1, 202701, 1, [], [], table_sum(table), text=table.decode())
+    receipt = receipt_of(prepared, table, levels)
+    assert receipt.lead and receipt.lead.startswith(f"All items are at {levels.of('00')} (2026 = 100): ")
+    heads = [str(column.name) for column in receipt.section.columns]
+    assert heads[2:] == ["level, 2026 = 100", "month %", "year %", "chained level, December 2025 = 100"]
+    row = receipt.section.rows[0]
+    assert row[0] == "00" and row[2] == levels.of("00") and row[5] == levels.chained("00")
+    plain = receipt_of(prepared, table)
+    assert plain.lead and plain.lead.startswith(f"All items are at {levels.chained('00')}: ")
+    assert [str(column.name) for column in plain.section.columns][2:] == ["level", "month %", "year %"]

@@ -80,7 +80,7 @@ def test_a_price_is_tried_as_the_page_shows_it(ada: Person) -> None:
     page = f"/month/{MONTH}/what-if"
     assert 'placeholder="7/2=2.10\n8/1=missing' in ada.get(page).text
     words = words_of(ada.follow(ada.fill(page, "what-if", text="7/1=2.20\n")).text)
-    assert "00 105.698455 1.5 106.363636 2.1" in words
+    assert "00 105.698455 +1.5 106.363636 +2.1" in words
 
 
 def test_what_isn_t_a_price_stays_as_it_was_typed(ada: Person) -> None:

@@ -188,6 +188,18 @@ def test_without_a_file_the_page_says_where_to_write_it(
     assert "is frozen, revision 2." in words_of(signed(application.person(BEN)).text)
 
 
+def test_a_file_that_can_t_be_replaced_stops_no_freeze(
+    application: Application, ada: Person, moment: int, reasons: Path, monkeypatch: pytest.MonkeyPatch
+) -> None:
+    """As under /etc, which the service only reads: the page says so, and the month can be frozen."""
+    reopens(ada, moment)
+    monkeypatch.setattr("cpi_tools.desk_app.reason_file.os.access", lambda path, mode: False)
+    assert f"may not write in {reasons.parent} . Write the reason into revisions.csv by hand" in ada.words("/calendar")
+    assert prepares(application, ada).status_code == 303
+    assert "is frozen, revision 2." in words_of(signed(application.person(BEN)).text)
+    assert reasons.read_text() == HEAD
+
+
 # ---- the website's file
 
 

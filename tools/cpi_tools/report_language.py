@@ -24,6 +24,9 @@ English, and the clock."""
 KINDS = (Code, Figure, Moment, Month, MonthName, Price, Ticks)
 """What a place or a cell holds besides texts."""
 
+MINUS = "\u2212"
+"""The sign of mathematics, which a page has before what is below zero."""
+
 FIGURE = re.compile(r"[+\u2212-]?[0-9][0-9,]*(\.[0-9]+)?([ \u202f]?%)?")
 
 
@@ -116,7 +119,7 @@ class Teller:
         text = text.replace("-", MINUS)
         if text.endswith("%") and self.speech.language.tag != SOURCE:
             return self.in_percent(text.rstrip("% \u202f"))
-        return self.code(self.speech.figure(text))
+        return self.code(self.speech.figure(text.replace("-", MINUS)))
 
     def price(self, value: int) -> object:
         """A price in minor units, or `Ticks`, as an amount with the currency's digits, `31,116.00`; as it is, if the

@@ -3,6 +3,7 @@
 from __future__ import annotations
 
 import io
+from collections.abc import Sequence
 from typing import NamedTuple, Optional
 
 import flask
@@ -15,7 +16,7 @@ from ..told import Told, moment_of
 from ..told import told as _
 from .asked import csv_file, desk, page, session
 from .desk_log import ANSWERED, CUT_OFF, FROZEN, LOOKED_UP, NOT_SENT, SAID, SENT, Entry
-from .record_names import names_in
+from .record_names import NO_NAMES, Names, names_in
 from .record_sentences import sentence_of
 from .told import told
 
@@ -31,14 +32,21 @@ SHOWN = 100
 
 
 class Line(NamedTuple):
-    """A line of the log as it is read: its number and moment, who, the record or the step, and what came of it."""
+    """A line of the log as it is read: its number and moment, who, the record or the step, what came of it, and the fields
+    of a record with the names that those sent with it give."""
 
     number: int
     at: int
     by: str
     said: Worded
     answer: str
-    says: Optional[Told] = None
+    fields: Sequence[str] = ()
+    names: Names = NO_NAMES
+
+    @property
+    def says(self) -> Optional[Told]:
+        """The record as a sentence, if it is one."""
+        return sentence_of(self.fields, self.names)
 
     @property
     def is_step(self) -> bool:
@@ -64,9 +72,7 @@ def lines_of(entries: list[Entry]) -> list[Line]:
                     answer = _("not sent: {line}", line=own_line(end.text))
                 else:
                     answer = told(fields, end.replies[place] if end else None).answer
-                found.append(
-                    Line(it.number, it.at, it.by, of_others(line_of(fields)), answer, sentence_of(fields, names))
-                )
+                found.append(Line(it.number, it.at, it.by, of_others(line_of(fields)), answer, fields, names))
         elif it.what not in (ANSWERED, LOOKED_UP, NOT_SENT):
             # (the file has it in English)
             found.append(Line(it.number, it.at, it.by, own_line(it.text), STEPS.get(it.what, it.what)))

@@ -10,6 +10,7 @@ import configparser
 import csv
 import hashlib
 import io
+import os
 from collections.abc import Mapping, Sequence
 from datetime import datetime, timezone
 from pathlib import Path
@@ -78,6 +79,21 @@ def reason_file(site: Site) -> ReasonFile:
         return ReasonFile(path, path.read_bytes(), config.speaks.languages or (SOURCE,), config.clock)
     except (OSError, configparser.Error, UnicodeDecodeError) as fault:
         raise Fault(because_of(fault) if isinstance(fault, OSError) else str(fault)) from fault
+
+
+def writable_file(site: Site) -> ReasonFile:
+    """The same, if the application may replace the file. Raises Fault."""
+    file = reason_file(site)
+    if not os.access(file.path.parent, os.W_OK | os.X_OK):
+        places = {"folder": of_others(str(file.path.parent)), "file": of_others(file.path.name)}
+        raise Fault(
+            _(
+                "The desk can't keep the reason: the application may not write in {folder}. Write the reason into {file} by"
+                " hand, or give the application's user the right to do it.",
+                **places,
+            )
+        )
+    return file
 
 
 class Row(NamedTuple):

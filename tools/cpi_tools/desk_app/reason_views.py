@@ -24,7 +24,7 @@ from ..trial import State, state_of
 from .asked import desk, field, month_of, page, session
 from .changes import NOTHING_DONE, changed_by
 from .faults import says
-from .reason_file import NO_SITE, ReasonFile, reason_file
+from .reason_file import NO_SITE, ReasonFile, writable_file
 from .revision_reasons import Reason, in_one_line
 
 views = flask.Blueprint("reason", __name__)
@@ -56,11 +56,12 @@ class Asked(NamedTuple):
 
 
 def file_here() -> ReasonFile:
-    """The file of reasons of the website. Raises Fault, which says why there is none and what to do."""
+    """The file of reasons of the website, which can be replaced. Raises Fault, which says why there is none and what to
+    do."""
     publisher = desk().publisher
     if publisher is None:
         raise Fault(NO_SITE)
-    return reason_file(publisher.site)
+    return writable_file(publisher.site)
 
 
 def asked_of(state: State) -> Optional[Asked]:

@@ -59,6 +59,7 @@ function showSeen(row, isSeen) {
 /** Sends a form; the page that answers if it was carried out, else null, and why not is said. */
 async function sent(form, more, row) {
   const body = new URLSearchParams(/** @type {any} */ (new FormData(form))), number = asked += 1;
+  body.delete("once"); // (each press is a form of its own: the page isn't loaded anew between two)
   for (const [name, text] of Object.entries(more)) body.set(name, text);
   let page, answer;
   try {
