@@ -553,7 +553,6 @@ def test_an_edit_that_must_not_compile_is_refused_by_its_code_and_then_kept(
         (UNKNOWN.replace("src/lib", "src/two"), 1, "the compiler doesn't answer [unknown-method]"),
         ("fn low::one: proved\nonly=1 proved=1\n", 0, "the compiler reads it: "),
         (SEEN, 1, "the compiler reads it: note: src/lib.rt:4:5: "),
-        (UNKNOWN, 2, "the compiler reads it: "),
     ],
 )
 def test_an_edit_that_compiles_or_has_another_error_is_not_refused(
@@ -563,6 +562,16 @@ def test_an_edit_that_compiles_or_has_another_error_is_not_refused(
     ran = uncompiled.run(kit=stand_in.folder)
     assert (ran.status, ran.out[-1]) == (1, "0 passed, 1 failed")
     assert find_verdict(ran, "low/three").startswith(f"NOT REFUSED: {why}")
+
+
+@pytest.mark.parametrize("status", [2, 3, 101])
+def test_an_edit_that_must_not_compile_is_not_tried_by_a_run_without_a_verdict(
+    uncompiled: Clone, stand_in: StandIn, status: int
+) -> None:
+    stand_in.write(write_ending(UNKNOWN, status))
+    ran = uncompiled.run(kit=stand_in.folder)
+    assert (ran.status, ran.out[-1]) == (1, "0 passed, 1 failed")
+    assert find_verdict(ran, "low/three").startswith(f"NOT TRIED: its check ended with status {status}: ")
 
 
 def test_an_edit_that_must_not_compile_shares_no_run(uncompiled: Clone, stand_in: StandIn) -> None:

@@ -84,7 +84,7 @@ class Trial:
         report = self.prover.check_functions(self.crate, [edit], edit.names())
         if text := find_uncompiled(edit, report):
             return Verdict(REFUSED, text)
-        if report.status < 0:
+        if report.status not in (0, 1):
             return Verdict(NOT_TRIED, f"its check ended with status {report.status}: {report.find_last()}")
         return Verdict(NOT_REFUSED, find_compiled(edit, report))
 

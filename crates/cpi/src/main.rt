@@ -55,8 +55,14 @@ fn replay_stdin_in_memory(rt: &HostRuntime, zone: &str) -> Result<u8, RunFault> 
 
 // Answers the records of standard input in the office of the file at a path.
 fn replay_stdin_at_path(rt: &HostRuntime, zone: &str, path: &str) -> Result<u8, RunFault> {
-    let file = &mut FileAt { path };
-    replay_in_cabinet(rt, zone, file, &mut rt.reader(), &mut io::writer(rt))?;
+    let file = &mut FileAt { rt, path };
+    replay_in_cabinet(
+        rt.alloc(),
+        zone,
+        file,
+        &mut rt.reader(),
+        &mut io::writer(rt),
+    )?;
     Ok(0)
 }
 
@@ -89,9 +95,9 @@ fn run_serve_of(
     zone: &str,
 ) -> Result<u8, RunFault> {
     let key = key_text(rt, key)?;
-    let file = &mut FileAt { path };
+    let file = &mut FileAt { rt, path };
     let address = LocalPort { rt, number: port };
-    run_serve(rt, file, &address, &key, limit, zone)?;
+    run_serve(rt.alloc(), rt, file, &address, &key, limit, zone)?;
     Ok(0)
 }
 
@@ -108,8 +114,14 @@ fn run_table_of(
     if is_missing(rt, path) {
         return Err(RunFault::NoTable);
     }
-    let file = &mut FileAt { path };
-    table_in_cabinet(rt, file, asked, &mut io::writer(rt), &mut rt.stderr())
+    let file = &mut FileAt { rt, path };
+    table_in_cabinet(
+        rt.alloc(),
+        file,
+        asked,
+        &mut io::writer(rt),
+        &mut rt.stderr(),
+    )
 }
 
 // Hands files, streams and a port to the run of the job, and answers the exit status.

@@ -23,7 +23,7 @@ pub trait Cabinet {
 
     /// Gives the files, and how to open them. It gives no files that can't be used any more. The error says why it
     /// gives none.
-    fn take(&mut self, rt: &HostRuntime) -> Result<(Files<Self::Medium>, Options), OpenFault>
+    fn take(&mut self) -> Result<(Files<Self::Medium>, Options), OpenFault>
         ensures given { IfOk result (λ it. gives self.old it.0 self.new) }
         ensures refused { IfErr result (λ fault. refuses self.old fault self.new) }
         ensures log { IfOk result (λ it. IsTrue (Self.Medium.Disk.is_usable it.0.log)) }

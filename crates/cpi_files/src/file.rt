@@ -59,9 +59,10 @@ fn make_private(rt: &HostRuntime, path: &str) {
 }
 
 /// The file at a path and its log, `PATH-wal`. They are closed when they are put back, and may be taken many times.
-/// Nothing is supposed of their contents.
+/// Nothing is supposed of their contents. A job reaches the machine's files only through this type.
 #[derive(Drop)]
 pub struct FileAt<'a> {
+    pub rt: &'a HostRuntime,
     pub path: &'a str,
 }
 
@@ -74,7 +75,8 @@ impl Cabinet for FileAt<'_> {
 
     ghost keeps = { λ _ _ _. ⊤ };
 
-    fn take(&mut self, rt: &HostRuntime) -> Result<(Files<FileFrom<Unknown>>, Options), OpenFault> {
+    fn take(&mut self) -> Result<(Files<FileFrom<Unknown>>, Options), OpenFault> {
+        let rt = self.rt;
         if !is_path(self.path) || has_only_log(rt, self.path) {
             return Err(OpenFault::Store);
         }

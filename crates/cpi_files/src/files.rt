@@ -8,6 +8,7 @@ use crate::over::job_over;
 use cpi_sql::OpenFault;
 use sqlite::{Connection, FileStore, Files, Options};
 use sqlite_disk::Disk;
+use std::alloc::Global;
 use std::io::{Read, Write};
 
 // Copies the log into the database file, closes the connection and gives the files back. The error is `Store`.
@@ -23,7 +24,7 @@ fn close<D: Disk + Drop>(conn: Connection<FileStore<D>>) -> (Result<(), OpenFaul
 // Does the job in the office that the connection holds, closes the connection and gives its files back. The error is
 // that of an office that couldn't be opened.
 fn job_in_store<D: Disk + Drop, J: BookJob, R: Read, W: Write, E: Write>(
-    rt: &HostRuntime,
+    alloc: Global,
     conn: Connection<FileStore<D>>,
     job: &mut J,
     reader: &mut R,
@@ -40,7 +41,7 @@ fn job_in_store<D: Disk + Drop, J: BookJob, R: Read, W: Write, E: Write>(
     ensures untouched { IfErr result.0 (λ _. (reader.new ≡ reader.old)
         × (out.new ≡ out.old) × (err.new ≡ err.old)) }
 {
-    match job_over(rt, conn, job, reader, out, err) {
+    match job_over(alloc, conn, job, reader, out, err) {
         Ok((conn, told)) => {
             let (closed, files) = close(conn);
             (Ok((told, closed)), files)
@@ -57,7 +58,7 @@ fn job_in_store<D: Disk + Drop, J: BookJob, R: Read, W: Write, E: Write>(
 /// If the files hold no office, the job doesn't begin, they stay as they were, and the error says why. The job's answer
 /// comes with that of the close, before which each answered command is kept.
 pub fn job_in_files<D: Disk + Drop, J: BookJob, R: Read, W: Write, E: Write>(
-    rt: &HostRuntime,
+    alloc: Global,
     files: Files<D>,
     options: Options,
     job: &mut J,
@@ -76,8 +77,8 @@ pub fn job_in_files<D: Disk + Drop, J: BookJob, R: Read, W: Write, E: Write>(
     ensures untouched { IfErr result.0 (λ _. (reader.new ≡ reader.old)
         × (out.new ≡ out.old) × (err.new ≡ err.old)) }
 {
-    match Connection::open_files(rt.alloc(), files, options) {
-        Ok(conn) => job_in_store(rt, conn, job, reader, out, err),
+    match Connection::open_files(alloc, files, options) {
+        Ok(conn) => job_in_store(alloc, conn, job, reader, out, err),
         Err((_, rest)) => (Err(OpenFault::Store), rest.into_files()),
     }
 }

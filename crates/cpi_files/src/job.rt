@@ -2,6 +2,7 @@
 ghost use Rattle.cpi_files.specs.Job.{Deed};
 
 use cpi_store::Book;
+use std::alloc::Global;
 use std::io::{Read, Write};
 
 /// A job over the book of an office. It may read an input, and write an output and the lines of faults.
@@ -15,7 +16,7 @@ pub trait BookJob {
     /// Does the job, and hands the book back, also after an error.
     fn run<B: Book, R: Read, W: Write, E: Write>(
         &mut self,
-        rt: &HostRuntime,
+        alloc: Global,
         book: B,
         reader: &mut R,
         out: &mut W,

@@ -7,12 +7,13 @@ ghost use Rattle.cpi_files.specs.Over.{IsDoneOver};
 use crate::job::BookJob;
 use cpi_sql::{SqlBook, Unopened};
 use sqlite::{Alter, Connection};
+use std::alloc::Global;
 use std::io::{Read, Write};
 
 /// Does the job in the office that the connection holds, and gives the connection back with the job's report. If the
 /// connection holds no office, the job doesn't begin, and the error has the connection as it was.
 pub fn job_over<S: Alter + Drop, J: BookJob, R: Read, W: Write, E: Write>(
-    rt: &HostRuntime,
+    alloc: Global,
     conn: Connection<S>,
     job: &mut J,
     reader: &mut R,
@@ -26,9 +27,9 @@ pub fn job_over<S: Alter + Drop, J: BookJob, R: Read, W: Write, E: Write>(
     ensures untouched { IfErr result (λ _. (reader.new ≡ reader.old)
         × (out.new ≡ out.old) × (err.new ≡ err.old)) }
 {
-    match SqlBook::new(rt.alloc(), conn) {
+    match SqlBook::new(alloc, conn) {
         Ok(book) => {
-            let (book, told) = job.run(rt, book, reader, out, err);
+            let (book, told) = job.run(alloc, book, reader, out, err);
             Ok((book.into_connection(), told))
         }
         Err(unopened) => Err(unopened),

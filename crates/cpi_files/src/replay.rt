@@ -10,6 +10,7 @@ use cpi_app::{RunFault, replay_over_book};
 use cpi_codes::{Zone, zone_of};
 use cpi_store::Book;
 use cpi_wire::WireFault;
+use std::alloc::Global;
 use std::io::{Read, Write, sink};
 
 // The replay of an input as a job over a book. It adds the clock, by which civil times are read.
@@ -27,13 +28,13 @@ impl BookJob for ReplayByClock {
 
     fn run<B: Book, R: Read, W: Write, E: Write>(
         &mut self,
-        rt: &HostRuntime,
+        alloc: Global,
         book: B,
         reader: &mut R,
         out: &mut W,
         _err: &mut E,
     ) -> (B, Result<(), WireFault>) {
-        replay_over_book(rt.alloc(), &self.clock, book, reader, out)
+        replay_over_book(alloc, &self.clock, book, reader, out)
     }
 }
 
@@ -42,7 +43,7 @@ impl BookJob for ReplayByClock {
 /// is no rule of a clock as POSIX writes it, no file is taken, and the error is `BadZone`. If the files hold no office,
 /// nothing is read, nothing is written, and they stay as they were. An error of the input goes before one of the close.
 pub fn replay_in_cabinet<C: Cabinet, R: Read, W: Write>(
-    rt: &HostRuntime,
+    alloc: Global,
     zone: &str,
     cabinet: &mut C,
     reader: &mut R,
@@ -57,7 +58,7 @@ pub fn replay_in_cabinet<C: Cabinet, R: Read, W: Write>(
         return Err(RunFault::BadZone);
     };
     let mut job = ReplayByClock { clock };
-    let (outcome, closed) = job_in_cabinet(rt, cabinet, &mut job, reader, writer, &mut sink())?;
+    let (outcome, closed) = job_in_cabinet(alloc, cabinet, &mut job, reader, writer, &mut sink())?;
     outcome?;
     Ok(closed?)
 }

@@ -10,6 +10,7 @@ use crate::job::BookJob;
 use crate::taken::job_in_cabinet;
 use cpi_app::{Address, Desk, RunFault, desk_of, serve_book};
 use cpi_store::Book;
+use std::alloc::Global;
 use std::io::{Read, Write, empty, sink};
 
 // The rest of serving: the listener, and how many connections are left to serve.
@@ -21,7 +22,8 @@ struct Rest<L> {
 
 // Serving up to `limit` connections at an address. It has a listener once an office was opened.
 #[derive(Drop)]
-struct Serve<'a, A: Address> {
+struct Serve<'a, R: Eprint, A: Address> {
+    rt: &'a R,
     desk: &'a Desk,
     address: &'a A,
     listener: Option<A::Open>,
@@ -39,29 +41,29 @@ fn listener_at<A: Address>(address: &A, listener: Option<A::Open>) -> Result<A::
     }
 }
 
-impl<A: Address> BookJob for Serve<'_, A> {
+impl<R: Eprint, A: Address> BookJob for Serve<'_, R, A> {
     ghost use Rattle.cpi_files.specs.Serve.{Serves};
 
     type Told = Result<Rest<A::Open>, RunFault>;
 
     ghost does = { λ job. Serves A.Open.meets (A.opens job.address.now) job.desk.now job.listener job.limit };
 
-    fn run<B: Book, R: Read, W: Write, E: Write>(
+    fn run<B: Book, I: Read, W: Write, E: Write>(
         &mut self,
-        rt: &HostRuntime,
+        alloc: Global,
         book: B,
-        _reader: &mut R,
+        _reader: &mut I,
         _out: &mut W,
         _err: &mut E,
     ) -> (B, Result<Rest<A::Open>, RunFault>) {
         if self.listener.is_some() {
-            let _ = eprintln!(rt; "cpi: the file is open again");
+            let _ = eprintln!(self.rt; "cpi: the file is open again");
         }
         let mut listener = match listener_at(self.address, self.listener.take()) {
             Ok(listener) => listener,
             Err(fault) => return (book, Err(fault)),
         };
-        let (book, served) = serve_book(rt.alloc(), rt, &mut listener, self.limit, self.desk, book);
+        let (book, served) = serve_book(alloc, self.rt, &mut listener, self.limit, self.desk, book);
         match served {
             Ok(left) => (book, Ok(Rest { listener, left })),
             Err(_) => (book, Err(RunFault::NoClock)),
@@ -71,17 +73,17 @@ impl<A: Address> BookJob for Serve<'_, A> {
 
 // Serves over the office of the cabinet's files until no connection is left or one of them shook the book, and closes
 // them. If none is left, a close that failed is the error.
-fn serve_in_cabinet<C: Cabinet, A: Address>(
-    rt: &HostRuntime,
+fn serve_in_cabinet<R: Eprint, C: Cabinet, A: Address>(
+    alloc: Global,
     cabinet: &mut C,
-    job: Serve<'_, A>,
+    job: Serve<'_, R, A>,
 ) -> Result<Rest<A::Open>, RunFault>
     ensures { EndsWithBook C.Cabinet C.Medium.Disk A.Open.meets (A.opens job.entry.address.now)
         job.entry.desk.now job.entry.listener job.entry.limit cabinet.old cabinet.new result }
 {
     let mut job = job;
     let (outcome, closed) = job_in_cabinet(
-        rt,
+        alloc,
         cabinet,
         &mut job,
         &mut empty(),
@@ -98,8 +100,9 @@ fn serve_in_cabinet<C: Cabinet, A: Address>(
 
 // Serves over the office of the cabinet's files with the desk. If a connection shook the book and others are left, the
 // files are opened again.
-fn serve_at_desk<C: Cabinet, A: Address>(
-    rt: &HostRuntime,
+fn serve_at_desk<R: Eprint, C: Cabinet, A: Address>(
+    alloc: Global,
+    rt: &R,
     cabinet: &mut C,
     address: &A,
     desk: &Desk,
@@ -109,21 +112,23 @@ fn serve_at_desk<C: Cabinet, A: Address>(
         cabinet.old cabinet.new result }
 {
     let job = Serve {
+        rt,
         desk,
         address,
         listener: None,
         limit,
     };
-    let mut rest = serve_in_cabinet(rt, cabinet, job)?;
+    let mut rest = serve_in_cabinet(alloc, cabinet, job)?;
     while rest.left > 0 {
         let Rest { listener, left } = rest;
         let job = Serve {
+            rt,
             desk,
             address,
             listener: Some(listener),
             limit: left,
         };
-        rest = serve_in_cabinet(rt, cabinet, job)?;
+        rest = serve_in_cabinet(alloc, cabinet, job)?;
     }
     let _ = eprintln!(rt; "cpi: served as many connections as --limit says");
     Ok(())
@@ -134,8 +139,9 @@ fn serve_at_desk<C: Cabinet, A: Address>(
 /// and the listener stays. The errors are those of the zone, of the key, of the database and of the address, in this
 /// order, and then those of the run. Standard error gets a line when the book was shaken, when the files are open
 /// again, and when the limit has come.
-pub fn run_serve<C: Cabinet, A: Address>(
-    rt: &HostRuntime,
+pub fn run_serve<R: Eprint, C: Cabinet, A: Address>(
+    alloc: Global,
+    rt: &R,
     cabinet: &mut C,
     address: &A,
     key: &str,
@@ -148,5 +154,5 @@ pub fn run_serve<C: Cabinet, A: Address>(
     ensures bad_key { IsErrOf result RunFault.BadKey ↔ HasNoKey zone.now key.now }
 {
     let desk = desk_of(zone, key)?;
-    serve_at_desk(rt, cabinet, address, &desk, limit)
+    serve_at_desk(alloc, rt, cabinet, address, &desk, limit)
 }

@@ -8,6 +8,7 @@ use crate::job::BookJob;
 use crate::taken::job_in_cabinet;
 use cpi_app::{AskedTable, RunFault, print_table};
 use cpi_store::Book;
+use std::alloc::Global;
 use std::io::{Read, Write, empty};
 
 // The print of a table as a job over a book.
@@ -26,14 +27,14 @@ impl BookJob for Print {
 
     fn run<B: Book, R: Read, W: Write, E: Write>(
         &mut self,
-        rt: &HostRuntime,
+        alloc: Global,
         book: B,
         _reader: &mut R,
         out: &mut W,
         err: &mut E,
     ) -> (B, u8) {
         let mut book = book;
-        let status = print_table(rt.alloc(), &mut book, self.asked, out, err);
+        let status = print_table(alloc, &mut book, self.asked, out, err);
         (book, status)
     }
 }
@@ -42,7 +43,7 @@ impl BookJob for Print {
 /// was, so nothing is lost if their log can't be copied. If the files hold no office, nothing is written, they stay as
 /// they were, and the error says why.
 pub fn table_in_cabinet<C: Cabinet, W: Write, E: Write>(
-    rt: &HostRuntime,
+    alloc: Global,
     cabinet: &mut C,
     asked: AskedTable,
     out: &mut W,
@@ -54,6 +55,6 @@ pub fn table_in_cabinet<C: Cabinet, W: Write, E: Write>(
     ensures untouched { IfErr result (λ _. (out.new ≡ out.old) × (err.new ≡ err.old)) }
 {
     let mut job = Print { asked };
-    let (status, _) = job_in_cabinet(rt, cabinet, &mut job, &mut empty(), out, err)?;
+    let (status, _) = job_in_cabinet(alloc, cabinet, &mut job, &mut empty(), out, err)?;
     Ok(status)
 }

@@ -6,12 +6,13 @@ use crate::cabinet::Cabinet;
 use crate::files::job_in_files;
 use crate::job::BookJob;
 use cpi_sql::OpenFault;
+use std::alloc::Global;
 use std::io::{Read, Write};
 
 /// Takes the files from the cabinet, does the job in their office as `job_in_files` does, and puts them back. If the
 /// cabinet gives no files, the job doesn't begin, and the error says why.
 pub fn job_in_cabinet<C: Cabinet, J: BookJob, R: Read, W: Write, E: Write>(
-    rt: &HostRuntime,
+    alloc: Global,
     cabinet: &mut C,
     job: &mut J,
     reader: &mut R,
@@ -24,8 +25,8 @@ pub fn job_in_cabinet<C: Cabinet, J: BookJob, R: Read, W: Write, E: Write>(
     ensures untouched { IfErr result (λ _. (reader.new ≡ reader.old)
         × (out.new ≡ out.old) × (err.new ≡ err.old)) }
 {
-    let (files, options) = cabinet.take(rt)?;
-    let (outcome, files) = job_in_files(rt, files, options, job, reader, out, err);
+    let (files, options) = cabinet.take()?;
+    let (outcome, files) = job_in_files(alloc, files, options, job, reader, out, err);
     cabinet.put_back(files);
     outcome
 }
