@@ -16,7 +16,7 @@ from typing import NamedTuple
 
 from edits.sources import Crate, Item
 
-MADE = re.compile(r"(?<![\w:])(?:AllocError|StoreFault)\b(?!\s*[>,{:])|\bCause \{|\bUnavailable\b")
+MADE = re.compile(r"(?<![\w:])(?:AllocError|StoreFault)\b(?!\s*[>,{:])|(?:^|\W)Cause \{|\bUnavailable\b")
 """A fault, a cause or the refusal 90 within a body: not the name of a type in a signature."""
 
 TOKEN = re.compile(r"\b(?:Present|Bearer) \{")

@@ -242,7 +242,7 @@ def lists(site: Path, all_of_them: list[Then]) -> Wanted:
     told = [[entry.findtext(f"{ATOM}{name}") for name in ("id", "title", "summary", "published", "updated")]
             for entry in feed.findall(f"{ATOM}entry")]  # fmt: skip
     yield "feed.xml", told, [
-        [f"{ADDRESS}release/{it.name}.html", f"{it.called}: {it.headline}",
+        [f"{ADDRESS}release/{it.name}.html", it.headline if it.revision == 1 else f"{it.called}: {it.headline}",
          " ".join([f"{it.headline}.", *(f"Why the office revised this month: {why}" for why in it.reasons)]),
          *[moment(it.month, it.revision)] * 2]
         for it in last

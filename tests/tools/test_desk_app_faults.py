@@ -152,8 +152,6 @@ def test_what_cannot_be_tried_is_told(ada: Person, text: str) -> None:
     answer = ada.post(f"/month/{MONTH}/what-if", text=text)
     if text == "99/1=missing":
         assert told(answer, 400, "Nobody has the slot 99/1: write a collector and a slot") == []
-    elif text == "8/1=0":
-        assert told(answer, 400, "Line 1: ", "can't be tried. A price is from 1 to") == []
     else:
         assert told(answer, 400, "Line 1: ", "can't be tried. Wanted is a price like") == []
     assert text in answer.text.partition("<textarea")[2]

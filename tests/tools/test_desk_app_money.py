@@ -89,7 +89,7 @@ def test_what_isn_t_a_price_stays_as_it_was_typed(ada: Person) -> None:
         ("7/1=220.5.5", "Line 1: 7/1=220.5.5 can't be tried. Wanted is a price like 7/2=2.10"),
         ("7/1=2.2051", "Line 1: 7/1=2.2051 can't be tried. A price is from 0.01 to 1000000.00 ."),
         ("7/1=1000000.01", "Line 1: 7/1=1000000.01 can't be tried. A price is from 0.01 to 1000000.00 ."),
-        ("7/1=0", "Line 1: 7/1=0 can't be tried. A price is from 0.01"),
+        ("7/1=0", "Line 1: 7/1=0 can't be tried. Wanted is"),
         ("7/1=2 20", "Line 1: 7/1=2 20 can't be tried. Wanted is"),
         ("\n7/1=2.20\n7/1=missing", "Lines 2 and 3 are both of the slot 7/1: leave one of them."),
     ):

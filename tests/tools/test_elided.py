@@ -27,7 +27,9 @@ import catalogues  # noqa: E402
 FRENCH = speech_of("fr")
 MONTHS = [FRENCH.month(f"2026-{month:02}") for month in range(1, 13)]
 PLACE = re.compile(r"\{(\w+)\}|%\((\w+)\)s")
-OF_MONTHS = frozenset({"month", "first", "last", "period", "base", "table", "before", "span", "since", "from", "to", "release"})
+OF_MONTHS = frozenset(
+    {"month", "first", "last", "period", "base", "table", "before", "span", "since", "from", "to", "release"}
+)
 """The places that can hold a month."""
 
 UNJOINED = re.compile(r"\b(de|que|jusque|du mois de) [aeiouh]", re.IGNORECASE)

@@ -155,7 +155,7 @@ def test_px_has_titles_and_notes_in_each_language(site: Path) -> None:
     plain = {name for name in head if "[" not in name}
     assert texts == {re.sub(r"\(.*", "", name) for name in plain} - {
         *("CHARSET", "AXIS-VERSION", "CODEPAGE", "LANGUAGE", "LANGUAGES", "CREATION-DATE", "DECIMALS", "SHOWDECIMALS"),
-        *("MATRIX", "SUBJECT-CODE"),
+        *("MATRIX", "AGGREGALLOWED", "SUBJECT-CODE", "OFFICIAL-STATISTICS"),
     }
     assert len([name for name in head if "[fr]" in name]) == len([name for name in head if "[ar]" in name])
 

@@ -58,7 +58,7 @@ def test_keys_go_through_the_rows_and_mark_them(rows: list[str], ada: Person, br
     browser.wait_text("#counts", "3 to look at, 0 seen by you.")
     assert focus(browser) == f"{rows[0]} TR" and stays(browser)
     ada.type("s", "s", "s")
-    browser.wait_text("#said", "Nothing is left to look at.")
+    browser.wait_text("#message", "Nothing is left to look at.")
     assert stays(browser) and browser.faults() == []
     ada.open(LOOKS)
     browser.wait_text("main", "Nothing is left to look at.")
@@ -77,7 +77,7 @@ def test_a_note_that_is_being_written_stays(rows: list[str], ada: Person, browse
     assert focus(browser) == f"{rows[0]} INPUT" and browser.run(VALUE, field) == "jks is typed"
     ada.pages.kill()
     ada.type(Keys.ENTER)
-    browser.wait_text("#said", "No answer came, so it isn't known")
+    browser.wait_text("#message", "No answer came, so it isn't known")
     assert focus(browser) == f"{rows[0]} INPUT" and browser.run(VALUE, field) == "jks is typed" and stays(browser)
 
 
@@ -90,7 +90,7 @@ def test_a_note_goes_out_and_brings_those_of_others(rows: list[str], ada: Person
     ada.type(Keys.ENTER)
     browser.wait_text(f"#{rows[0]} .notes", "It is right")
     assert "Ben called the shop" in browser.text(f"#{rows[0]} .notes")
-    browser.wait_text("#said", "Somebody else has noted something of this price meanwhile")
+    browser.wait_text("#message", "Somebody else has noted something of this price meanwhile")
     assert browser.run(VALUE, f"#{rows[0]} input[name=text]") == "" and focus(browser) == f"{rows[0]} INPUT"
     ada.type("again", Keys.ESCAPE)
     assert focus(browser) == f"{rows[0]} TR" and stays(browser)
@@ -113,9 +113,8 @@ def ben_notes(ada: Person, row: str, text: str) -> None:
 
 
 def test_rows_that_are_checked_are_marked_at_once(rows: list[str], ada: Person, browser: Browser) -> None:
-    browser.click("#every input")
-    browser.click(f"#{rows[2]} input[name=checked]")
-    browser.click("#many button[value=seen]")
+    for selector in ("#every input", f"#{rows[2]} input[name=checked]", "#many button[value=seen]"):
+        browser.run("document.querySelector(arguments[0]).click()", selector)
     browser.wait_text("#counts", "1 to look at, 2 seen by you.")
     assert [browser.text(f"#{row} form.mark") for row in rows] == ["Not seen after all", "Not seen after all", "Seen"]
     assert stays(browser) and not browser.all("input[name=checked]:checked")

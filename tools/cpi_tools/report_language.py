@@ -24,9 +24,6 @@ English, and the clock."""
 KINDS = (Code, Figure, Moment, Month, MonthName, Price, Ticks)
 """What a place or a cell holds besides texts."""
 
-MINUS = "\u2212"
-"""The sign of mathematics, which a page has before what is below zero."""
-
 FIGURE = re.compile(r"[+\u2212-]?[0-9][0-9,]*(\.[0-9]+)?([ \u202f]?%)?")
 
 

@@ -4,7 +4,7 @@
 import { find } from "../shared/dom.js";
 import { inWords, moved, timeBy, timeOf, thisMonth } from "../shared/months.js";
 import { form, t, tn } from "../shared/texts.js";
-import { windows } from "./heard.js";
+import { windows } from "./answers.js";
 import { state } from "./state.js";
 
 const MINUTE = 60, HOUR = 3600, DAY = 86_400;
@@ -50,7 +50,7 @@ export function showDeadline() {
 
 function wordsOf(window) {
   const now = seconds(), { month, opens, closes } = window;
-  if (window.said) return wordsOfOffice(window);
+  if (window.word) return wordsOfOffice(window);
   if (now < opens) {
     const moment = momentOf(opens * 1000, window.opens_zone);
     const values = { month: inWords(month), moment, within: within(opens - now) };
@@ -64,10 +64,10 @@ function wordsOf(window) {
 }
 
 /** What the office's last answer said, if the published window is another one. */
-function wordsOfOffice({ said, month }) {
+function wordsOfOffice({ word, month }) {
   const values = { month: inWords(month) };
-  if (said === "open") return t("The office takes prices of {month}. This phone doesn’t know yet until when.", values);
-  if (said === "closed") return t("The office says that the window of {month} has closed.", values);
+  if (word === "open") return t("The office takes prices of {month}. This phone doesn’t know yet until when.", values);
+  if (word === "closed") return t("The office says that the window of {month} has closed.", values);
   return t("The office says that the window of {month} isn’t open yet.", values);
 }
 

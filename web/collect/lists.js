@@ -2,8 +2,8 @@
 // windows. A save needs none of them: its receipt is enough.
 import { ask, NoAnswer } from "../shared/api.js";
 import { readWindows } from "../shared/windows.js";
+import { takeAnswers } from "./answers.js";
 import { isPast } from "./deadline.js";
-import { takeHeard } from "./heard.js";
 import { forgetLists, keepList, listsOf } from "./kept-lists.js";
 import { areRows, greatest } from "./quotes.js";
 import { state, takeItems } from "./state.js";
@@ -25,7 +25,7 @@ export async function takeShared() {
   const [items, windows] = await Promise.all([store.shared("items"), store.shared("windows")]);
   takeItems(items?.content);
   state.windows = windows?.content ?? [];
-  await takeHeard();
+  await takeAnswers();
 }
 
 /**

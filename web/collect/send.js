@@ -1,6 +1,6 @@
 // Sends the entries of the phone. One tab at a time does (line.js), so that a later mark is never overtaken.
 import { ask, NoAnswer } from "../shared/api.js";
-import { hear, receiptsBefore } from "./heard.js";
+import { hear, receiptsBefore } from "./answers.js";
 import { keepList, keepMoved, settle } from "./kept-lists.js";
 import { areRows, hasMovedOn } from "./quotes.js";
 import * as store from "./store.js";

@@ -2,10 +2,10 @@
 import { ask, NoAnswer } from "../shared/api.js";
 import { find } from "../shared/dom.js";
 import { t, tn } from "../shared/texts.js";
+import { takeAnswers } from "./answers.js";
 import * as drafts from "./drafts.js";
 import * as entry from "./entry.js";
 import { noticeUntilRead } from "./head.js";
-import { takeHeard } from "./heard.js";
 import { nameIn, readKey, takeLink } from "./key.js";
 import * as line from "./line.js";
 import { choose, render, show } from "./list.js";
@@ -194,7 +194,7 @@ export function listen() {
     } else if (state.who) {
       if (what === "answered") {
         state.line = "up";
-        await takeHeard();
+        await takeAnswers();
       }
       await show();
     }

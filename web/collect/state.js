@@ -13,7 +13,7 @@ export const state = {
   ...signedOut(),
   tolerance: new Map(), // [low, high] in thousandths, by item
   windows: [], // { month, opens, closes, and zones } as the desk has published them, by month
-  heard: {}, // by month what the office's last answer said of its window, if the file says otherwise
+  answers: {}, // by month what the office's last answer says of its window, if the file says otherwise
 };
 
 /** Takes the tolerances of a list of items, if there is one. */

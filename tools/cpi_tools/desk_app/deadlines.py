@@ -27,8 +27,8 @@ def may_set_windows(records: Sequence[Sequence[str]]) -> bool:
 
 
 class Deadlines:
-    """The file of the windows, and `fault`: why it isn't as the office's calendar, or nothing. Nothing here raises Fault:
-    what was sent to the office stays sent."""
+    """The file of the windows, and `fault`: why it isn't as the office's calendar, or nothing. Nothing here raises
+    Fault: what was sent to the office stays sent."""
 
     def __init__(self, file: Path, copies: Copies, clock: Clock):
         self.file, self.fault = file, Worded("")

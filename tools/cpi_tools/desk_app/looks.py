@@ -33,8 +33,8 @@ ASK_ELSE = told("The price changed far more than the others of its kind: is it t
 
 
 class Other(NamedTuple):
-    """A price of the same item elsewhere: its outlet, the price in minor units, and its change in percent as a text, which
-    is empty if it can't be compared."""
+    """A price of the same item elsewhere: its outlet, the price in minor units, and its change in percent as a text,
+    which is empty if it can't be compared."""
 
     outlet: str
     price: int
@@ -43,9 +43,9 @@ class Other(NamedTuple):
 
 class Look(NamedTuple):
     """A price to look at: who has it, its series, its aggregate, what it is and where, the last price and this one in
-    minor units, the change in percent as a text (empty if it can't be compared), why, what to ask, by how many millionths
-    of a point all items would move without it, by the estimate; the change of its aggregate on the month before in percent
-    as a text, and the prices of the same item elsewhere, by outlet."""
+    minor units, the change in percent as a text (empty if it can't be compared), why, what to ask, by how many
+    millionths of a point all items would move without it, by the estimate; the change of its aggregate on the month
+    before in percent as a text, and the prices of the same item elsewhere, by outlet."""
 
     slot: tuple[int, int]
     series: Series

@@ -1,7 +1,7 @@
 """Which of the prices to look at a page shows: by what they are filtered, in which order, and from which one on.
 
-A page begins after a price, not at a number: the prices that were shown before may have been marked meanwhile, and so be
-among those shown no more.
+A page begins after a price, not at a number: the prices that were shown before may have been marked meanwhile, and so
+be among those shown no more.
 """
 
 from __future__ import annotations
@@ -88,8 +88,8 @@ class Chosen(NamedTuple):
 
 
 class Part(NamedTuple):
-    """The prices of a page, how many there are by its filters, and the words of an address for those before and after it,
-    which are None if there are none."""
+    """The prices of a page, how many there are by its filters, and the words of an address for those before and after
+    it, which are None if there are none."""
 
     looks: list[Look]
     number: int

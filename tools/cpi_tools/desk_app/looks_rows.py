@@ -1,4 +1,4 @@
-"""The rows of the prices to look at: each with its history as a picture, and with what the desk and the field have noted."""
+"""The rows of the prices to look at: each with its history as a picture, and with the notes of the desk and the field."""
 
 from __future__ import annotations
 
@@ -20,8 +20,8 @@ from .trials import Tried
 
 
 class Row(NamedTuple):
-    """A price to look at as a page shows it: with its history as a picture, the desk's notes, whether its person has seen
-    it, and the notes of the field."""
+    """A price to look at as a page shows it: with its history as a picture, the desk's notes, whether its person has
+    seen it, and the notes of the field."""
 
     look: Look
     picture: Markup

@@ -111,7 +111,7 @@ def minor_of(line: Line, money: Optional[Money], group_sign: str) -> int:
                 **places,
             )
         )
-    if not amounts:
+    if not amounts or amounts == {0}:
         not_tried(line, money)
     price = amounts.pop() * minor
     if price.denominator != 1 or not 1 <= price <= MOST_PRICE:

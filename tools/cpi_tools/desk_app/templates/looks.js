@@ -2,7 +2,7 @@
 // this script each button is a form, which leads back to the next row. The desk alone makes rows: what a row has after a
 // mark is taken from the page that answers.
 const table = document.querySelector("table.looks"), many = document.getElementById("many");
-const said = document.getElementById("said"), counts = document.getElementById("counts");
+const message = document.getElementById("message"), counts = document.getElementById("counts");
 const every = document.getElementById("every");
 
 /** Milliseconds from one look at a trial that runs to the next. */
@@ -14,7 +14,7 @@ const boxes = () => [...table.querySelectorAll("input[name=checked]")];
 const isWriting = () => fields().some((it) => it.value !== "" || it === document.activeElement);
 
 let current = document.querySelector("tr.look:target");
-let asked = 0; // requests so far: an answer to an earlier one has older counts
+let requests = 0; // so far: an answer to an earlier one has older counts
 let isLeaving = false; // a form goes out as without this script
 
 // ---- rows
@@ -40,8 +40,8 @@ function rowBy(step) {
 /** Says something below the filters, of a row if there is one; the text of others in it is the page's. */
 function say(text, row = null) {
   const name = row?.querySelector("th b")?.textContent;
-  said.textContent = name && text ? `${name}: ${text}` : text;
-  said.className = text ? "told" : "";
+  message.textContent = name && text ? `${name}: ${text}` : text;
+  message.className = text ? "told" : "";
 }
 
 /** Shows a row as seen or not, as the form of its button says from now on. */
@@ -58,7 +58,7 @@ function showSeen(row, isSeen) {
 
 /** Sends a form; the page that answers if it was carried out, else null, and why not is said. */
 async function sent(form, more, row) {
-  const body = new URLSearchParams(/** @type {any} */ (new FormData(form))), number = asked += 1;
+  const body = new URLSearchParams(/** @type {any} */ (new FormData(form))), number = requests += 1;
   body.delete("once"); // (each press is a form of its own: the page isn't loaded anew between two)
   for (const [name, text] of Object.entries(more)) body.set(name, text);
   let page, answer;
@@ -66,7 +66,7 @@ async function sent(form, more, row) {
     answer = await fetch(form.action, { method: "POST", body });
     page = new DOMParser().parseFromString(await answer.text(), "text/html");
   } catch {
-    say(said.dataset.away, row);
+    say(message.dataset.away, row);
     return null;
   }
   if (answer.status === 403 || new URL(answer.url).pathname.endsWith("/sign-in")) {
@@ -74,18 +74,18 @@ async function sent(form, more, row) {
     return null;
   }
   if (!answer.ok || !answer.redirected) {
-    say(page.querySelector("#refused, .told.bad")?.textContent.trim() ?? said.dataset.away, row);
+    say(page.querySelector("#refused, .told.bad")?.textContent.trim() ?? message.dataset.away, row);
     return null;
   }
   const fresh = page.getElementById("counts");
-  if (fresh && number === asked) showCounts(fresh);
+  if (fresh && number === requests) showCounts(fresh);
   return page;
 }
 
 /** Shows the counts of an answer; that nothing is left is said. */
 function showCounts(fresh) {
   counts.textContent = fresh.textContent;
-  say(fresh.dataset.count === "0" ? said.dataset.none : "");
+  say(fresh.dataset.count === "0" ? message.dataset.none : "");
 }
 
 /** Sends a form as without a script, since the session has ended: the desk keeps it until somebody has signed in. */
@@ -110,7 +110,7 @@ async function mark(form) {
   if (!fresh) return;
   const notes = row.querySelector(".notes"), known = notes.childElementCount + (field ? 1 : 0);
   notes.replaceChildren(...fresh.querySelector(".notes").childNodes);
-  if (notes.childElementCount > known) say(said.dataset.others, row);
+  if (notes.childElementCount > known) say(message.dataset.others, row);
   showSeen(row, fresh.hasAttribute("data-seen"));
   if (field && field.value === text) field.value = ""; // (what was typed meanwhile stays)
 }
@@ -138,10 +138,10 @@ async function watch() {
   address.searchParams.set("itself", "1");
   const page = await fetch(address).then((answer) => answer.text(), () => null)
     .then((text) => text && new DOMParser().parseFromString(text, "text/html"));
-  const fresh = page?.getElementById("said");
+  const fresh = page?.getElementById("message");
   if (page && !fresh) return;
   if (!page || fresh.dataset.running) setTimeout(watch, LOOKS_EVERY);
-  else if (isWriting() || boxes().some((it) => it.checked)) say(said.dataset.new);
+  else if (isWriting() || boxes().some((it) => it.checked)) say(message.dataset.new);
   else location.reload();
 }
 
@@ -202,4 +202,4 @@ addEventListener("beforeunload", (event) => {
 
 every.hidden = document.getElementById("keys").hidden = false;
 if (current) go(current);
-if (said.dataset.running) setTimeout(watch, LOOKS_EVERY);
+if (message.dataset.running) setTimeout(watch, LOOKS_EVERY);

@@ -14,24 +14,24 @@ const seconds = () => Date.now() / 1000;
 const windowOf = (month) => state.windows.find((it) => it.month === month);
 
 /**
- * The published windows, each as the office's last answer says if the file said otherwise at that moment: then `said` is
- * "open", "closed" or "early". An answer counts until the file has another window of the month.
+ * The published windows, each as the office's last answer says if the file said otherwise at that moment: then its
+ * `word` is "open", "closed" or "early". An answer counts until the file has another window of the month.
  */
 export const windows = () => state.windows.map(corrected);
 
 function corrected(window) {
-  const answer = state.heard[window.month];
+  const answer = state.answers[window.month];
   if (!answer || !isOf(answer, window) || agrees(answer, window)) return window;
-  const { said, at } = answer, opens = Math.min(window.opens, at);
-  if (said === "open") return { ...window, said, opens, closes: UNKNOWN };
-  return said === "closed" ? { ...window, said, opens, closes: at } : { ...window, said, opens: UNKNOWN, closes: UNKNOWN };
+  const { word, at } = answer, opens = Math.min(window.opens, at);
+  if (word === "open") return { ...window, word, opens, closes: UNKNOWN };
+  return word === "closed" ? { ...window, word, opens, closes: at } : { ...window, word, opens: UNKNOWN, closes: UNKNOWN };
 }
 
 const isOf = (answer, { opens, closes }) => answer.opens === opens && answer.closes === closes;
 
-function agrees({ said, at }, { opens, closes }) {
-  if (said === "open") return opens <= at && at < closes;
-  return said === "closed" ? at >= closes : at < opens;
+function agrees({ word, at }, { opens, closes }) {
+  if (word === "open") return opens <= at && at < closes;
+  return word === "closed" ? at >= closes : at < opens;
 }
 
 /** By month the greatest receipt that the phone knows before entries are sent; none of a month without a list. */
@@ -46,24 +46,24 @@ export async function receiptsBefore({ who }, sent) {
  * says. A receipt that isn't new says nothing: what is stored already has it at any moment.
  */
 export async function hear(answered, before) {
-  const known = state.heard;
+  const known = state.answers;
   let isNews = false;
   for (const [{ month }, reply] of answered) {
-    const said = wordOf(reply, before.get(month)), window = windowOf(month);
-    if (!said || !window) continue;
-    const { [month]: last, ...others } = state.heard, { opens, closes } = window;
-    const answer = { said, at: seconds(), opens, closes };
-    isNews ||= !agrees(answer, window) && !(last?.said === said && isOf(last, window));
-    if (last || !agrees(answer, window)) state.heard = agrees(answer, window) ? others : { ...others, [month]: answer };
+    const word = wordOf(reply, before.get(month)), window = windowOf(month);
+    if (!word || !window) continue;
+    const { [month]: last, ...others } = state.answers, { opens, closes } = window;
+    const answer = { word, at: seconds(), opens, closes };
+    isNews ||= !agrees(answer, window) && !(last?.word === word && isOf(last, window));
+    if (last || !agrees(answer, window)) state.answers = agrees(answer, window) ? others : { ...others, [month]: answer };
   }
   // (a phone that keeps nothing says so at the next entry)
-  if (state.heard !== known) await store.keepShared("heard", state.heard).catch(() => {});
+  if (state.answers !== known) await store.keepShared("answers", state.answers).catch(() => {});
   return isNews;
 }
 
 /** Takes the answers that this phone has kept. */
-export async function takeHeard() {
-  state.heard = (await store.shared("heard"))?.content ?? {};
+export async function takeAnswers() {
+  state.answers = (await store.shared("answers"))?.content ?? {};
 }
 
 function wordOf({ receipt, refused }, last = Infinity) {
