@@ -19,6 +19,7 @@ from cpi_tools.pack.public import from_file
 from cpi_tools.program import Cpi, record
 from cpi_tools.publish import publish
 from .ran import run
+from .test_measures import two_years
 
 MARK = "\u05d0"
 """Each text of others in these offices begins with it, a letter that is read from right to left, and nothing of ours has it."""
@@ -167,6 +168,26 @@ def test_on_the_pages_of_a_website(cpi: Cpi, office: Path, tmp_path: Path) -> No
     levels = json.loads((out / "assets/levels.js").read_text(encoding="utf-8").partition("=")[2].rstrip(";\n"))
     assert levels["currency"] == f"\u2068{MARK}currency\u2069"
     assert levels["items"]["00"]["title"] == f"\u2068{MARK}All items\u2069"
+
+
+def test_what_people_copy_has_no_signs_that_nobody_sees(tmp_path: Path) -> None:
+    """Names of pages, what they say to other programs, the calculator's texts, the feed, the calendar, and data."""
+    out = tmp_path / "public"
+    config = Config("NSO", "XX", "Office of prices", currency="crowns", address="https://prices.example/")
+    publish(two_years()[:14], config, out, None, lambda _: None)
+    hidden = re.compile("[\u2066-\u2069\u200e\u200f]")
+    heads = re.compile(r"<title>.*?</title>|<meta [^>]*>|<script type=.application/ld.json.>.*?</script>", re.S)
+    for page in out.rglob("*.html"):
+        for head in heads.findall(page.read_text(encoding="utf-8")):
+            assert not hidden.search(head), (page, head)
+    names = [
+        "assets/levels.js",
+        "feed.xml",
+        "calendar.ics",
+        *(f"data/{it.name}" for it in (out / "data").glob("*.csv")),
+    ]
+    for name in names:
+        assert not hidden.search((out / name).read_text(encoding="utf-8").replace("\\u2068", "\u2068")), name
 
 
 def test_on_the_pages_of_the_desk(cpi: Cpi, office: Path, tmp_path: Path) -> None:

@@ -134,7 +134,7 @@ def test_a_changed_title_a_new_set_a_next_month_and_a_revision_are_taken(
     published: list[Published], tmp_path: Path
 ) -> None:
     """Table by table, each over the pack before, as the office published them; nothing is refused, and the last pack has
-    the bytes of one that is made from nothing, but for what names the manifest before."""
+    the bytes of one that is made from nothing, but for what names the manifest before and the versions before."""
     out = tmp_path / "public"
     order = sorted(published, key=lambda it: (it.listed.moment, it.listed.month))
     for count in (16, 17, len(order)):
@@ -143,7 +143,8 @@ def test_a_changed_title_a_new_set_a_next_month_and_a_revision_are_taken(
     put(published, out, config)
     put(published, tmp_path / "new", config)
     one, other = content(out), content(tmp_path / "new")
-    assert {name for name in one if one[name] != other.get(name)} <= {"manifest.json", "SHA256SUMS"}
+    chained = {"manifest.json", "SHA256SUMS", "data/artefacts.json"}
+    assert {name for name in one if one[name] != other.get(name)} <= chained
 
 
 # ---- a definition with its month

@@ -203,7 +203,8 @@ def _refuse_changes(before: Manifest, series: Series) -> None:
 def check(published: Iterable[Published], config: Config, out: Path, before: Optional[Path], now: Now) -> list[str]:
     """A line for each file of a pack that isn't what is written now.
 
-    Which manifest was before it is taken from the pack itself, or is `before`; versions are those of the pack. A signature can't be made anew without
+    Which manifest was before it is taken from the pack itself, or is `before`; versions
+    are those of the pack. A signature can't be made anew without
     the key: that of the pack is taken, and has to hold for the manifest that is written now.
     """
     series = series_of(published, config.specials)

@@ -86,8 +86,8 @@ def write_announced(found: Iterable[Announced], folder: Path) -> None:
 
 
 def announced_in(packs: Iterable[Path]) -> Earlier:
-    """Those of some packs, of which a later one counts; of a pack of an earlier version, which has no such file, the moments
-    of its calendar. Raises BadAnnounced."""
+    """Those of some packs, of which a later one counts; of a pack of an earlier version, which has no such file, the
+    moments of its calendar. Raises BadAnnounced."""
     found: dict[tuple[str, int], Announced] = {}
     for pack in packs:
         path = pack / "data" / NAME

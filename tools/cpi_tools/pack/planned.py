@@ -1,8 +1,8 @@
 """The moments of the releases that an office announces, from a file like `calendar.csv`.
 
 Its columns are those of the office's calendar: `month`, `opens`, `closes` and `publishes`; only the first and the last
-are read. It may have two more: `reason` says why a release moved, and `moved` what was announced before, if no earlier pack
-knows it. A moment is a civil time like `2026-01-28T09:30` of the office's clock, or in seconds since 1970 UTC, as in the
+are read. It may have two more: `reason` says why a release moved, and `moved` what was announced before, if no earlier
+pack knows it. A moment is a civil time like `2026-01-28T09:30` of the office's clock, or in seconds since 1970 UTC, as in the
 records of the desk. The first row of a month is its first release, a further one its next revision.
 """
 
