@@ -80,7 +80,8 @@ class Follower:
         for button in re.findall(r"\*([^*]+)\*", says):
             if button == "Prepare the freeze":
                 self.give_reasons("input[name^='why-']")
-            if button == "Confirm, and freeze the month":
+            if button == "Confirm, and freeze the month" and self.browser.all("#because"):
+                # (it is asked only of prices that move all items by much; --left-out 0 measures none)
                 self.give_reasons("#because")
             self.go("main button, header button", button)
             if button == "Try it now":

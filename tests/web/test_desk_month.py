@@ -11,6 +11,7 @@ from pathlib import Path
 
 import pytest
 from selenium.common.exceptions import WebDriverException
+from selenium.webdriver.common.keys import Keys
 
 from cpi_tools.desk_app.desk_log import SENT, DeskLog
 from lib.offices import RICE_AND_FLOUR
@@ -274,11 +275,11 @@ def looked_at(desk: Desk) -> None:
     desk.at.tried(JANUARY)
     desk.browser.wait_text("main", "Flour, wheat")
     desk.at.reach("input[name=text]")
-    desk.at.type("ask Anna: 4.90?")
-    desk.at.press("input[name=text]")
+    desk.at.type("ask Anna: 4.90?", Keys.ENTER)
     desk.browser.wait_text(".desk-note", "ask Anna: 4.90?")
-    while desk.browser.all(".look form button"):
-        desk.at.press(".look form button")
+    desk.at.type(Keys.ESCAPE)
+    for _ in desk.browser.all("tr.look"):
+        desk.at.type("s")
     desk.browser.wait_text("main", "Nothing is left to look at.")
 
 
