@@ -212,7 +212,7 @@ def outside_of_python(module: str, others: Iterable[str] = ()) -> list[str]:
 
 
 NO_TEXT = re.compile(
-    r"^default-src |^<(?:svg|meta) |^\"/?><path |^record or step$|isn't as it was written|^refused by |^not carried out; it would be |^; $|^no reply$|^not sent$"
+    r"^default-src |^<(?:svg|meta|input) |^\"/?><path |^record or step$|isn't as it was written|^refused by |^not carried out; it would be |^; $|^no reply$|^not sent$"
     r"|^\s*(?:CREATE|DELETE|INSERT|PRAGMA|SELECT) |^ (?:AND|FROM|ORDER) | NOT NULL$"
 )
 """What is no text of a page: a field of HTTP, markup, SQL, a heading of a file, why the application doesn't start, a

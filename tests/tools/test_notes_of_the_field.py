@@ -353,8 +353,8 @@ def test_the_desk_removes_one_for_good(anna: Phone, ada: Person, tmp_path: Path)
     assert b"A face" not in (tmp_path / "room/field-notes.db").read_bytes()
 
 
-OWN_SCRIPT = '<script src="/looks.js" type="module"></script>'
-"""The script of the prices to look at."""
+OWN_SCRIPTS = re.compile('<script src="/(?:forms|looks).js" type="module"></script>')
+"""The scripts of pages: files of the application."""
 
 
 def test_hostile_texts_are_text(application: Application, ada: Person) -> None:
@@ -368,7 +368,7 @@ def test_hostile_texts_are_text(application: Application, ada: Person) -> None:
         assert "note" in beno.send(1, 3, **said).json
     application.tried(ada, MONTH)
     for path in ("field-notes", "looks"):
-        page = ada.get(f"/month/{MONTH}/{path}").text.replace(OWN_SCRIPT, "")
+        page = OWN_SCRIPTS.sub("", ada.get(f"/month/{MONTH}/{path}").text)
         assert page.count("figure class") == len(HOSTILE), path
         assert "<script" not in page and "<img src=x" not in page and "<svg/" not in page and "onfocus='" not in page
         assert html.escape(HOSTILE[0]) in page and "49" not in page.partition("{{ 7")[2][:40]

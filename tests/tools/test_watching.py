@@ -46,6 +46,8 @@ def test_an_error_of_ours_is_told_and_the_watch_goes_on(
     def errs() -> NoReturn:
         raise RuntimeError("what nobody thought of")
 
+    # (the first page after signing in takes a copy of its own)
+    assert OLD not in all_of(ada)
     with monkeypatch.context() as patch:
         patch.setattr(application.desk.copies, "renew", errs)
         application.desk.watch._try()

@@ -13,6 +13,7 @@ from typing import NamedTuple
 
 from ..speech import SPEAKS_ENGLISH, Speech
 from .announced import Announced
+from .coming import coming
 from .config import Config
 from .planned import Planned
 from .release_names import name_of, page_of_release
@@ -45,13 +46,6 @@ class Event(NamedTuple):
         calendar, which leads to the release later."""
         name = name_of(self.month, self.revision)
         return page_of_release(self.month, self.revision) if self.says else f"{PAGE}#{name}"
-
-
-def coming(series: Series, planned: Sequence[Planned]) -> list[Planned]:
-    """The announced releases that aren't out, by their moments. One whose moment passed before a later table came out
-    isn't announced any more."""
-    there = {(table.month, table.revision) for table in series.vintages}
-    return [it for it in planned if (it.month, it.revision) not in there and it.moment > series.moment]
 
 
 def moved(series: Series, config: Config) -> list[Announced]:
