@@ -1,18 +1,32 @@
 """Who may do anything to the machine: the runtime of the host is named in three files, and in no other but tests.
 
 Whoever holds it may print, make or remove any file and open sockets, and no contract says that it doesn't. A function
-without it can only do what it is handed: memory, a reader, a writer, files that a cabinet gave.
+without it can only do what it is handed: memory, a reader, a writer, files that a cabinet gave. So no other file names
+its type by either name, or the place of a file, which lends it; and only one asks for a part of what it can do.
 """
 
 from __future__ import annotations
 
 import re
+from collections.abc import Mapping
 
 import pytest
 
 from lib.places import ROOT
 
-RUNTIME = re.compile(r"\bHostRuntime\b")
+COMMENT = re.compile(r"//.*")
+USE = re.compile(r"^\s*(?:pub(?:\([a-z]+\))? )?use [^;]*;", re.M)
+
+RUNTIME = re.compile(r"\b(?:HostRuntime|LibcRuntime|FileAt)\b")
+"""The type of the runtime, by both of its names, and the place of a file, by which one has it too."""
+
+BOUND = re.compile(
+    r"(?:\b[A-Z]\w*: (?:[^;{}()]*\+\s*)?|\bimpl )"
+    r"(?:Runtime|Files|Net|Env|Input|Print|RandomSource|Threads|Wait|Abort)\b"
+)
+"""A type that can do some of what the runtime can. (`Eprint` isn't one: it only prints to standard error.)"""
+
+RENAMED = re.compile(r"\b(?:HostRuntime|LibcRuntime|FileAt) as\b|\btype\s+\w+\s*=\s*&?(?:HostRuntime|LibcRuntime)\b")
 
 HOLDERS = {
     "cpi/src/main.rt": "hands streams, memory, the clock and the place of a file on",
@@ -21,22 +35,89 @@ HOLDERS = {
 }
 """The files that name the runtime, and what each does with it."""
 
+ASKERS = {"cpi_app/src/port.rt": "listens, and says so"}
+"""The files that ask for a part of what the runtime can do."""
 
-def find_holders(texts: dict[str, str]) -> set[str]:
+
+def read_sources() -> dict[str, str]:
+    """The sources of the program by their paths below crates/."""
+    paths = (ROOT / "crates").glob("*/src/**/*.rt")
+    texts = {str(path.relative_to(ROOT / "crates")): path.read_text(encoding="utf-8") for path in paths}
+    return {name: text for name, text in texts.items() if not name.startswith("cpi_tests/")}
+
+
+def find_holders(texts: Mapping[str, str]) -> set[str]:
     """Those of some sources, by their names, whose code names the runtime."""
-    code = {name: re.sub(r"//.*", "", text) for name, text in texts.items()}
-    return {name for name, text in code.items() if RUNTIME.search(text)}
+    return find_in_code(texts, RUNTIME)
+
+
+def find_askers(texts: Mapping[str, str]) -> set[str]:
+    """Those whose code asks for a part of what the runtime can do."""
+    return find_in_code(texts, BOUND)
+
+
+def find_renamed(texts: Mapping[str, str]) -> set[str]:
+    """Those that give the runtime another name."""
+    return {name for name, text in texts.items() if RENAMED.search(COMMENT.sub("", text))}
+
+
+def find_in_code(texts: Mapping[str, str], pattern: re.Pattern[str]) -> set[str]:
+    """Those in which a pattern is found, but for comments and what is only brought in by `use`."""
+    code = {name: USE.sub("", COMMENT.sub("", text)) for name, text in texts.items()}
+    return {name for name, text in code.items() if pattern.search(text)}
 
 
 def test_only_these_files_name_the_runtime_of_the_host() -> None:
-    sources = (ROOT / "crates").glob("*/src/**/*.rt")
-    texts = {str(path.relative_to(ROOT / "crates")): path.read_text(encoding="utf-8") for path in sources}
-    assert {name for name in find_holders(texts) if not name.startswith("cpi_tests/")} == set(HOLDERS)
+    assert find_holders(read_sources()) == set(HOLDERS)
+
+
+def test_only_one_file_asks_for_a_part_of_it() -> None:
+    assert find_askers(read_sources()) == set(ASKERS)
+
+
+def test_the_runtime_has_no_other_name() -> None:
+    assert find_renamed(read_sources()) == set()
 
 
 @pytest.mark.parametrize(
     ("line", "is_found"),
-    [("fn job(rt: &HostRuntime)", True), ("// a HostRuntime", False), ("fn job(alloc: Global)", False)],
+    [
+        ("fn job(rt: &HostRuntime)", True),
+        ("fn job(rt: &LibcRuntime)", True),
+        ("fn job(at: &FileAt)", True),
+        ("pub use crate::file::FileAt;", False),
+        ("// a HostRuntime", False),
+        ("fn job(alloc: Global)", False),
+    ],
 )
 def test_a_file_that_names_the_runtime_is_found(line: str, is_found: bool) -> None:
     assert find_holders({"job.rt": line}) == ({"job.rt"} if is_found else set())
+
+
+@pytest.mark.parametrize(
+    ("line", "is_found"),
+    [
+        ("fn job<R: Runtime>(rt: &R)", True),
+        ("fn job<R: Eprint + Files>(rt: &R)", True),
+        ("impl<'a, R: Net<Stream = S>> Port<'a, R>", True),
+        ("fn job(rt: &impl Print)", True),
+        ("fn job<R: Eprint>(rt: &R)", False),
+        ("use std::rt::{Files, Net};", False),
+    ],
+)
+def test_a_file_that_asks_for_a_part_of_it_is_found(line: str, is_found: bool) -> None:
+    assert find_askers({"job.rt": line}) == ({"job.rt"} if is_found else set())
+
+
+@pytest.mark.parametrize(
+    ("line", "is_found"),
+    [
+        ("use std::rt::{HostRuntime as Host};", True),
+        ("pub use crate::file::FileAt as Place;", True),
+        ("pub type Host = HostRuntime;", True),
+        ("type Host = &LibcRuntime;", True),
+        ("use std::rt::HostRuntime;", False),
+    ],
+)
+def test_another_name_of_it_is_found(line: str, is_found: bool) -> None:
+    assert find_renamed({"file.rt": line}) == ({"file.rt"} if is_found else set())

@@ -1,7 +1,7 @@
 """A reply 90 has its cause, and who answers a caller has no book: what the types of `cpi_office` leave open is listed here.
 
 The clauses of `Office::answer` bind each 90 to a call of the book whose failure was counted, or to an error of memory. An
-error of memory could be made by hand. So each place that makes a fault is listed with its reason, and one more fails.
+error of memory could be made by hand. So each place that makes a fault is listed with its reason, and the test fails at one that isn't listed.
 """
 
 from __future__ import annotations
@@ -9,7 +9,16 @@ from __future__ import annotations
 import pytest
 from edits.sources import Crate, list_items, read_crate
 
-from lib.causes import Place, find_held_books, find_made_faults, find_made_tokens
+from lib.causes import (
+    Place,
+    find_growths,
+    find_held_books,
+    find_made_faults,
+    find_made_tokens,
+    find_named_faults,
+    find_renamed,
+    find_tokens_of_callers,
+)
 from lib.places import ROOT
 
 REASONS = {
@@ -25,6 +34,41 @@ REASONS = {
     Place("refusal::Refusal::number", "Refusal::Unavailable => 90,"): "its number",
 }
 """Each place of a body that makes a fault, a cause or a 90, and why it may."""
+
+OTHER_REASONS = {
+    (
+        "cpi_release",
+        Place("printed_table::records", "return Err(AllocError);"),
+    ): "the list of a table's lines can't grow",
+    ("cpi_wire", Place("answers::is_failure", "matches!(reply, Reply::Refused(Refusal::Unavailable))")): "only asks",
+    ("cpi_wire", Place("input::next_row", "Err(_) => Err(AllocError),")): "a row couldn't be copied",
+    ("cpi_wire", Place("values::name_of", "Err(NameFault::NoMemory) => Err(AllocError),")): "a name had no memory",
+    (
+        "cpi_http",
+        Place("statuses::status_of_refusal", "Refusal::Unavailable => StatusCode::SERVICE_UNAVAILABLE,"),
+    ): "its status",
+    (
+        "cpi_app",
+        Place("shake::shake_of", "Ok(Served::Answered(_, true)) => Some(Shake::Unavailable),"),
+    ): "a 90 was sent",
+    (
+        "cpi_app",
+        Place("shake::ShakeDisplay::fmt", 'Shake::Unavailable => write!(f, "a request was refused by 90"),'),
+    ): "its line",
+}
+"""The same of the crates that store, read and write: an error of memory, or a word for a 90."""
+
+SIGHTS = ["public", "own_parts", "published", "latest_published", "published_table", "put_own_quote"]
+"""What one may ask of a sight."""
+
+TOKENS = [
+    Place("callers::serve_public", "answer_public(alloc, book, Present { moment: now }, request)"),
+    Place("callers::serve_collector", "Present { moment: now },"),
+    Place("callers::serve_collector", "Bearer { registration },"),
+    Place("callers::serve_desk", "Request::Tables => tables(book, Present { moment: now }),"),
+    Place("callers::serve_desk", "table(alloc, book, Present { moment: now }, month, form, edition)"),
+]
+"""Each place that makes what one sees an office by."""
 
 ANSWERS = """\
 pub fn items<S: Sight>(sight: &mut S) -> Result<Reply, Cause>
@@ -52,8 +96,28 @@ def test_each_fault_that_is_made_by_hand_has_its_reason(office: Crate) -> None:
 
 def test_only_one_file_makes_what_one_sees_an_office_by(office: Crate) -> None:
     assert find_made_tokens(office) == []
-    made = [line for item in office.items if item.file == "src/callers.rt" for line in item.text.split("\n")]
-    assert sum("Present {" in line or "Bearer {" in line for line in made) == 5
+    assert find_tokens_of_callers(office) == TOKENS
+
+
+def test_no_fault_or_token_has_another_name(office: Crate) -> None:
+    assert find_renamed(office) == []
+
+
+def test_no_body_asks_for_memory_by_a_size(office: Crate) -> None:
+    assert find_growths(office) == []
+
+
+def test_no_other_crate_makes_a_90_without_a_reason() -> None:
+    folders = (path for path in (ROOT / "crates").iterdir() if path.name not in ("cpi_office", "cpi_tests"))
+    crates = [read_crate(path) for path in sorted(folders)]
+    found = [(crate.name, place) for crate in crates for place in find_named_faults(crate)]
+    assert sorted(found) == sorted(OTHER_REASONS)
+
+
+def test_a_sight_shows_these_six_things_and_no_more(office: Crate) -> None:
+    methods = [item.word() for item in office.items if item.file == "src/sight.rt"]
+    assert methods == 2 * SIGHTS
+    assert "pub trait Sight {\n" in office.texts["src/sight.rt"]
 
 
 def test_no_function_with_a_sight_has_a_book(office: Crate) -> None:
@@ -69,6 +133,12 @@ def test_no_function_with_a_sight_has_a_book(office: Crate) -> None:
         "return Err(StoreFault.into());",
         "Ok(Reply::Refused(Refusal::Unavailable))",
         "Err(Cause { is_store: false })",
+        "Err(Self { is_store: false })",
+        "Err(std::alloc::AllocError)?",
+        "Err(cpi_store::StoreFault)?",
+        "None => AllocError,",
+        "AllocError,",
+        "Err(AllocError {})?",
     ],
 )
 def test_a_fault_that_a_body_makes_is_found(body: str) -> None:
@@ -80,10 +150,32 @@ def test_the_name_of_a_fault_is_none(body: str) -> None:
     assert find_made_faults(make_crate(body)) == []
 
 
+@pytest.mark.parametrize(
+    "line",
+    [
+        "std::alloc::AllocError as Full",
+        "Refusal as No",
+        "pub(crate) const FULL: AllocError = AllocError;",
+        "type Full = AllocError;",
+        "static NONE: Refusal = Refusal::NoTable;",
+        "macro_rules! full {",
+    ],
+)
+def test_another_name_of_a_fault_is_found(line: str) -> None:
+    [found] = find_renamed(Crate("small", {"src/items.rt": f"use a::{{B}}; // Cause as C\n{line}\n"}, []))
+    assert line.endswith(found)
+
+
+def test_a_growth_by_a_size_is_found() -> None:
+    body = "let names: Vec<u8> = Vec::with_capacity(alloc, first)?;"
+    assert find_growths(make_crate(body)) == [Place("items::items", body)]
+
+
 def test_a_token_that_another_file_makes_is_found() -> None:
     body = "tables(sight, Present { moment })"
     assert find_made_tokens(make_crate(body)) == [Place("items::items", body)]
     assert find_made_tokens(make_crate(body, "src/callers.rt")) == []
+    assert find_tokens_of_callers(make_crate("Self { moment }", "src/callers.rt")) != []
 
 
 def test_a_book_beside_a_sight_is_found() -> None:

@@ -4,22 +4,39 @@ A reply 90 has its cause by the contracts, but for a fault that a body makes by 
 tokens by which a function sees an office.
 
 `find_made_faults`    the faults that a body makes by hand, and each reply that says that the office is unavailable.
-`find_made_tokens`    the places outside of `callers.rt` that make a token.
+`find_named_faults`   the same in any crate: errors of memory, and what says that the office is unavailable.
+`find_growths`        the places that ask for memory by a size that they choose, which may be too large.
+`find_renamed`        the lines that give a fault, a token or what one sees another name, and those of a macro.
+`find_made_tokens`    the places that make a token; `callers.rt` may.
 `find_held_books`     the functions that answer from a sight and also name a book.
 """
 
 from __future__ import annotations
 
 import re
-from collections.abc import Iterator
+from collections.abc import Callable, Iterator
 from typing import NamedTuple
 
 from edits.sources import Crate, Item
 
-MADE = re.compile(r"(?<![\w:])(?:AllocError|StoreFault)\b(?!\s*[>,{:])|(?:^|\W)Cause \{|\bUnavailable\b")
-"""A fault, a cause or the refusal 90 within a body: not the name of a type in a signature."""
+MADE = re.compile(r"\b(?:AllocError|StoreFault)\b(?!\s*>)|(?:^|\W)(?:Cause|Self) \{|\bUnavailable\b")
+"""A fault, a cause or the refusal 90 within a body: not the last type of a `Result<.., AllocError>`."""
+
+NAMED = re.compile(r"\bAllocError\b(?!\s*>)|\bUnavailable\b")
+"""The same without what only `cpi_office` makes and without the faults of a store, which the stores themselves make."""
+
+GROWTH = re.compile(r"\b(?:with_capacity\w*|reserve\w*|resize\w*|repeat\w*)\b|\[in |format!|vec!")
+
+RENAMED = re.compile(
+    r"\b(?:AllocError|StoreFault|Cause|Refusal|Present|Bearer|Book|Sight) as \w+"
+    r"|^\s*(?:pub(?:\([a-z]+\))? )?(?:type|const|static)\b"
+    r".*\b(?:AllocError|StoreFault|Cause|Refusal|Present|Bearer)\b.*"
+    r"|macro_rules!.*",
+    re.M,
+)
 
 TOKEN = re.compile(r"\b(?:Present|Bearer) \{")
+TOKEN_OR_SELF = re.compile(r"\b(?:Present|Bearer|Self) \{")
 SIGHT, BOOK = re.compile(r"\bS: Sight\b"), re.compile(r"\b[Bb]ook\b")
 
 CALLERS = "src/callers.rt"
@@ -40,13 +57,38 @@ def list_bodies(crate: Crate) -> Iterator[tuple[Item, list[str]]]:
             yield item, [line.split("//")[0].strip() for line in lines]
 
 
+def find_places(crate: Crate, pattern: re.Pattern[str], in_file: Callable[[str], bool] = bool) -> list[Place]:
+    """The lines of bodies that a pattern is found in, of the files that are asked for; of all if nothing is said."""
+    bodies = ((item, body) for item, body in list_bodies(crate) if in_file(item.file))
+    return [Place(item.name, line) for item, body in bodies for line in body if pattern.search(line)]
+
+
 def find_made_faults(crate: Crate) -> list[Place]:
-    return [Place(item.name, line) for item, body in list_bodies(crate) for line in body if MADE.search(line)]
+    return find_places(crate, MADE)
+
+
+def find_named_faults(crate: Crate) -> list[Place]:
+    return find_places(crate, NAMED)
+
+
+def find_growths(crate: Crate) -> list[Place]:
+    return find_places(crate, GROWTH)
+
+
+def find_renamed(crate: Crate) -> list[str]:
+    """These lines, or parts of lines."""
+    texts = (drop_comments(text) for path, text in sorted(crate.texts.items()) if path.endswith(".rt"))
+    return [found[0].strip() for text in texts for found in RENAMED.finditer(text)]
 
 
 def find_made_tokens(crate: Crate) -> list[Place]:
-    others = ((item, body) for item, body in list_bodies(crate) if item.file != CALLERS)
-    return [Place(item.name, line) for item, body in others for line in body if TOKEN.search(line)]
+    """Those that a file other than `callers.rt` makes."""
+    return find_places(crate, TOKEN, lambda file: file != CALLERS)
+
+
+def find_tokens_of_callers(crate: Crate) -> list[Place]:
+    """Those that `callers.rt` makes."""
+    return find_places(crate, TOKEN_OR_SELF, lambda file: file == CALLERS)
 
 
 def find_held_books(crate: Crate) -> list[str]:

@@ -222,7 +222,9 @@ NAME = re.compile(r"^\w+(?:::\w+)?$")
 PATH = re.compile(r"^[\w.*-]+(?:/[\w.*-]+)*/?$")
 SUFFIXES = (".rt", ".antt", ".py", ".js", ".md", ".conf", ".c", ".cpp")
 # what a path begins with that is told as one of ours
-TOPS = re.compile(r"^(?:crates|docs|tests|bench|examples|ops|tools|web|src|specs|proofs|must-fail|cpi_\w+)/")
+TOPS = re.compile(
+    r"^(?:crates|docs|tests|bench|examples|ops|tools|web|src|specs|proofs|must-(?:fail|not-compile)|cpi_\w+)/"
+)
 # a path with a word that stands for any, or to what is built
 EXAMPLE = re.compile(r"\b[A-Z]{4,}\b|/out/")
 # programs and packages of others, beginnings of names, and words

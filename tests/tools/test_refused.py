@@ -529,7 +529,7 @@ src/lib.rt:4:5: error[unknown-method]: `u32` has no method `two`
 def uncompiled(clone: Clone) -> Clone:
     """A repository with one edit, which the compiler has to refuse."""
     (clone.top / "crates/low/must-fail/two.edit").unlink()
-    text = "code: unknown-method\nfile: src/lib.rt\nold:     1\nnew:     1.two()\n"
+    text = "code: unknown-method\nsays: method `two`\nfile: src/lib.rt\nold:     1\nnew:     1.two()\n"
     clone.write("low/must-not-compile/three.edit", text)
     return clone
 
@@ -543,14 +543,24 @@ def test_an_edit_that_must_not_compile_is_refused_by_its_code_and_then_kept(
         assert (ran.status, ran.out[-1], len(stand_in.runs())) == (0, "1 passed, 0 failed", runs)
         said = "refused: one, src/lib.rt:4, unknown-method: `u32` has no method `two`"
         assert find_verdict(ran, "low/three") == said
+    text = "code: unknown-method\nsays: has no method\nfile: src/lib.rt\nold:     1\nnew:     1.two()\n"
+    uncompiled.write("low/must-not-compile/three.edit", text)
+    assert (uncompiled.run(kit=stand_in.folder).status, len(stand_in.runs())) == (0, 2)
+
+
+ANOTHER = 'an error isn\'t [unknown-method] "method `two`" at a function that it changes: src/'
 
 
 @pytest.mark.parametrize(
     ("said", "status", "why"),
     [
-        (UNKNOWN.replace("unknown-method", "private-field"), 1, "the compiler doesn't answer [unknown-method]"),
-        (UNKNOWN.replace(":4:5", ":40:5"), 1, "the compiler doesn't answer [unknown-method]"),
-        (UNKNOWN.replace("src/lib", "src/two"), 1, "the compiler doesn't answer [unknown-method]"),
+        (UNKNOWN.replace("unknown-method", "private-field"), 1, ANOTHER),
+        (UNKNOWN.replace(":4:5", ":40:5"), 1, ANOTHER),
+        (UNKNOWN.replace("src/lib", "src/two"), 1, ANOTHER),
+        (UNKNOWN.replace("`two`", "`tow`"), 1, ANOTHER),
+        (UNKNOWN + UNKNOWN.replace("`two`", "`tow`"), 1, ANOTHER),
+        (UNKNOWN + UNKNOWN.replace("unknown-method", "unknown-name"), 1, ANOTHER),
+        (UNKNOWN + UNKNOWN.replace(":4:5", ":40:5"), 1, f"{ANOTHER}lib.rt:40:5: "),
         ("fn low::one: proved\nonly=1 proved=1\n", 0, "the compiler reads it: "),
         (SEEN, 1, "the compiler reads it: note: src/lib.rt:4:5: "),
     ],
@@ -586,10 +596,15 @@ def test_an_edit_that_must_not_compile_shares_no_run(uncompiled: Clone, stand_in
     [
         ("", "it has 0 lines 'code: CODE', and not one"),
         ("code: E0599\n", "it has 0 lines 'code: CODE', and not one"),
-        ("code: one\ncode: two\n", "it has 2 lines 'code: CODE', and not one"),
+        ("code: one\ncode: two\nsays: a\n", "it has 2 lines 'code: CODE', and not one"),
+        ("code: one\n", "it has 0 lines 'says: TEXT', and not one"),
+        ("code: one\nsays: \n", "it has 0 lines 'says: TEXT', and not one"),
+        ("code: one\nsays: a\nsays: b\n", "it has 2 lines 'says: TEXT', and not one"),
     ],
 )
-def test_an_edit_that_must_not_compile_needs_one_code(clone: Clone, stand_in: StandIn, text: str, fault: str) -> None:
+def test_an_edit_that_must_not_compile_needs_one_code_and_text(
+    clone: Clone, stand_in: StandIn, text: str, fault: str
+) -> None:
     stand_in.write(write_ending(UNKNOWN, 1))
     clone.write("low/must-not-compile/three.edit", f"{text}file: src/lib.rt\nold:     1\nnew:     2\n")
     assert find_verdict(clone.run(kit=stand_in.folder), "low/three") == f"BAD EDIT: {fault}"
@@ -597,11 +612,33 @@ def test_an_edit_that_must_not_compile_needs_one_code(clone: Clone, stand_in: St
 
 def test_a_name_is_that_of_one_edit_and_only_one_kind_has_a_code(clone: Clone, stand_in: StandIn) -> None:
     stand_in.write(write_ending(SEEN, 1))
-    clone.write("low/must-not-compile/two.edit", "code: one\nfile: src/lib.rt\nold:     1\nnew:     2\n")
+    clone.write("low/must-not-compile/two.edit", "code: one\nsays: a\nfile: src/lib.rt\nold:     1\nnew:     2\n")
     clone.write("low/must-fail/one.edit", "code: one\nfile: src/lib.rt\nold:     1\nnew:     2\n")
+    clone.write("low/must-fail/six.edit", "says: a\nfile: src/lib.rt\nold:     1\nnew:     2\n")
     ran = clone.run(kit=stand_in.folder)
     assert find_verdict(ran, "low/one") == "BAD EDIT: a 'code:' line is for an edit of must-not-compile/"
+    assert find_verdict(ran, "low/six") == "BAD EDIT: a 'says:' line is for an edit of must-not-compile/"
     assert "low/two: BAD EDIT: another edit has this name" in ran.out
+
+
+def list_methods(path: str, trait: str) -> set[str]:
+    """The functions of a trait, by the text between its first line and the brace that ends it."""
+    [body] = re.findall(rf"^pub trait {trait}\b.*?^}}", (ROOT / "crates" / path).read_text(), re.M | re.S)
+    return set(re.findall(r"\bfn (\w+)", body))
+
+
+def list_calls(text: str) -> set[str]:
+    return set(re.findall(r"\bsight\.(\w+)\(", text))
+
+
+def test_what_an_edit_asks_of_a_sight_and_the_compiler_refuses_is_asked_of_a_book_elsewhere() -> None:
+    """A method that nothing has would be refused too, and show nothing."""
+    crate = ROOT / "crates/cpi_office"
+    edits = [it for it in read_edits(crate, read_crate(crate)) if it.code == "unknown-method"]
+    calls = {it.name: {x for at in it.pairs for x in list_calls(at.new) - list_calls(at.old)} for it in edits}
+    books, sights = list_methods("cpi_store/src/book.rt", "Book"), list_methods("cpi_office/src/sight.rt", "Sight")
+    assert len(calls) >= 5 and all(calls.values())
+    assert {name: found for name, found in calls.items() if not found <= books - sights} == {}
 
 
 def test_a_run_that_is_killed_is_tried_once_more(clone: Clone, stand_in: StandIn) -> None:

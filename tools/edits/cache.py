@@ -51,8 +51,8 @@ class Cache:
         self.folder, self.sum = folder, sum
 
     def key(self, edit: Edit) -> str:
-        code = (edit.code,) if edit.code else ()
-        return hashlib.sha256(repr((self.sum, edit.name, edit.pairs, *code)).encode()).hexdigest()
+        error = (edit.code, edit.says) if edit.code else ()
+        return hashlib.sha256(repr((self.sum, edit.name, edit.pairs, *error)).encode()).hexdigest()
 
     def find(self, edit: Edit) -> Optional[str]:
         """What was said of an edit that was refused; None if nothing whole is kept of it."""

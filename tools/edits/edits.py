@@ -1,7 +1,7 @@
 """The edits of a crate, `must-fail/*.edit` and `must-not-compile/*.edit`, and the functions that each of them changes.
 
-`rt` reads those of `must-fail/` in the same way. An edit of `must-not-compile/` has a line more, `code: CODE`: the code of
-the error by which the compiler must refuse it.
+`rt` reads those of `must-fail/` in the same way. An edit of `must-not-compile/` has two lines more, `code: CODE` and
+`says: TEXT`: the code of the error by which the compiler must refuse it, and a part of that error's text.
 """
 
 from __future__ import annotations
@@ -34,8 +34,8 @@ class Edit(NamedTuple):
     """An edit of a crate.
 
     `functions` are those that it changes. `is_wide` says that it may change any other function too. `fault` says why it
-    can't be tried, and is empty if it can. `code` is that of the compiler's error; it is empty if the prover has to refuse
-    the edit.
+    can't be tried, and is empty if it can. `code` is that of the compiler's error, and `says` a part of its text; both are
+    empty if the prover has to refuse the edit.
     """
 
     name: str
@@ -44,6 +44,7 @@ class Edit(NamedTuple):
     is_wide: bool = True
     fault: str = ""
     code: str = ""
+    says: str = ""
 
     def names(self) -> set[str]:
         return {it.name for it in self.functions}
@@ -97,17 +98,20 @@ def read_folder(folder: Path, within: str, crate: Crate) -> list[Edit]:
 
 
 def read_file(path: Path, has_code: bool, crate: Crate) -> Edit:
-    """Reads a file with an edit, which has the code of the compiler's error or not."""
+    """Reads a file with an edit, which has the code and a text of the compiler's error or not."""
     text = path.read_text(encoding="utf-8", errors="replace")
     edit = read_edit(path.stem, text, crate)
-    codes = re.findall(r"^code: ([a-z][a-z-]*)$", text, re.M)
-    if edit.fault or not has_code and "\ncode:" not in f"\n{text}":
+    if edit.fault:
         return edit
     if not has_code:
-        return edit._replace(fault=f"a 'code:' line is for an edit of {UNCOMPILED}/")
-    if len(codes) != 1:
-        return edit._replace(fault=f"it has {len(codes)} lines 'code: CODE', and not one")
-    return edit._replace(code=codes[0])
+        word = re.search(r"^(?:code|says):", text, re.M)
+        return edit._replace(fault=f"a '{word[0]}' line is for an edit of {UNCOMPILED}/") if word else edit
+    codes = re.findall(r"^code: ([a-z][a-z-]*)$", text, re.M)
+    texts = re.findall(r"^says: *(\S.*?) *$", text, re.M)
+    for line, values in (("code: CODE", codes), ("says: TEXT", texts)):
+        if len(values) != 1:
+            return edit._replace(fault=f"it has {len(values)} lines '{line}', and not one")
+    return edit._replace(code=codes[0], says=texts[0])
 
 
 def read_edit(name: str, text: str, crate: Crate) -> Edit:

@@ -120,18 +120,42 @@ def list_unread(report: Report) -> list[re.Match[str]]:
 
 
 def find_uncompiled(edit: Edit, report: Report) -> str:
-    """The function that an edit changes and that the compiler refuses with the edit's code, with the place and the error:
-    `FUNCTION, FILE:LINE, ERROR`. It is `` if no such error is at such a function."""
-    for error in list_unread(report):
-        name = edit.find_function_at(error["file"], int(error["line"]))
-        if name and error["code"] == f"[{edit.code}]":
-            return f"{name}, {error['file']}:{error['line']}, {edit.code}: {error['name'] or ''}{error['what']}"
-    return ""
+    """The function that an edit changes and that the compiler refuses as the edit says, with the place and the error:
+    `FUNCTION, FILE:LINE, ERROR`. It is `` if there is no error, or one of another code, another text or another place.
+    """
+    errors = list_coded(report)
+    if not errors or find_others(edit, errors):
+        return ""
+    first = errors[0]
+    name = edit.find_function_at(first["file"], int(first["line"]))
+    return f"{name}, {first['file']}:{first['line']}, {edit.code}: {read_text(first)}"
 
 
 def find_compiled(edit: Edit, report: Report) -> str:
-    """Why a run doesn't show that the compiler refuses an edit with the edit's code."""
-    errors = [it for it in list_unread(report) if it["code"]]
-    if errors:
-        return f"the compiler doesn't answer [{edit.code}] at a function that it changes: {errors[0].string[:200]}"
+    """Why a run doesn't show that the compiler refuses an edit as the edit says."""
+    if others := find_others(edit, list_coded(report)):
+        said = f'[{edit.code}] "{edit.says}"'
+        return f"an error isn't {said} at a function that it changes: {others[0].string[:200]}"
     return f"the compiler reads it: {report.find_first_note()}"
+
+
+def list_coded(report: Report) -> list[re.Match[str]]:
+    """The compiler's errors: each of these has a code."""
+    return [it for it in list_unread(report) if it["code"]]
+
+
+def find_others(edit: Edit, errors: Sequence[re.Match[str]]) -> list[re.Match[str]]:
+    """Those of the compiler's errors that an edit doesn't ask for: of another code or text, or at no function that it
+    changes. One that is wrong in another way too, such as by a misspelt name, has some."""
+    return [
+        it
+        for it in errors
+        if it["code"] != f"[{edit.code}]"
+        or edit.says not in read_text(it)
+        or not edit.find_function_at(it["file"], int(it["line"]))
+    ]
+
+
+def read_text(error: re.Match[str]) -> str:
+    """What an error says, without its place and code."""
+    return f"{error['name'] or ''}{error['what']}"
