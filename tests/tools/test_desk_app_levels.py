@@ -11,7 +11,7 @@ import pytest
 
 from cpi_tools.command_line import main
 from cpi_tools.copying import private_copy
-from cpi_tools.desk.levels import chained_name, levels_of, other_tables
+from cpi_tools.desk.levels import chained_name, levels_now, levels_of, other_tables
 from cpi_tools.desk_app.freezes import Prepared, table_sum
 from cpi_tools.desk_app.frozen_receipts import receipt_of
 from cpi_tools.desk_app.tables_beside import beside
@@ -128,6 +128,18 @@ def test_each_of_two_tables_has_its_own_levels(cpi: Cpi, office: Path) -> None:
     )
     one, other = (float(str(cell)) for cell in (row[1], row[4]))
     assert 0 < one - other < 1
+
+
+def test_known_tables_aren_t_printed_again(cpi: Cpi, office: Path, monkeypatch: pytest.MonkeyPatch) -> None:
+    table = dict(all_tables(cpi, office))[MONTH]
+    known = levels_now(cpi, office, 202701, table, "2026")
+    assert known and known.others
+    with monkeypatch.context() as patch:
+        patch.setattr("cpi_tools.desk.levels.other_tables", None)
+        again = levels_now(cpi, office, 202701, table, "2026-06", known)
+    assert again and again.others == known.others and again.of("00") != known.of("00")
+    anew = levels_now(cpi, office, 202701, table, "2026", known._replace(others=known.others[:-1]))
+    assert anew and anew.others == known.others
 
 
 def test_a_receipt_keeps_the_level_with_its_period(cpi: Cpi, office: Path) -> None:

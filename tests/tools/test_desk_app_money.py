@@ -73,6 +73,15 @@ def test_the_page_says_so_while_no_configuration_names_a_currency(application: A
     assert "last price 246 , now 252" in ada.words(f"/month/{MONTH}/looks")
 
 
+def test_a_configuration_that_is_half_written_changes_no_price(application: Application, ada: Person) -> None:
+    config = application.desk.site_config
+    assert config.path and "last price 2.46 , now 2.52" in ada.words(f"/month/{MONTH}/looks")
+    config.path.write_text(OFFICE + "minor_digits = ", encoding="utf-8")
+    assert "last price 2.46 , now 2.52" in ada.words(f"/month/{MONTH}/looks")
+    config.path.write_text(OFFICE + "minor_digits = 3\n", encoding="utf-8")
+    assert "last price 0.246 , now 0.252" in ada.words(f"/month/{MONTH}/looks")
+
+
 # ---- what if
 
 
@@ -113,6 +122,11 @@ def test_texts_to_try_are_read_by_the_digits_of_the_currency() -> None:
     assert found.missing == [(8, 1)] and found.carry == ["01.1.1.2-01"]
     assert tried_of("7/1=1,459", Money(1, "yen")).prices == [((7, 1), 1459)]
     assert tried_of("7/1=210", None).prices == [((7, 1), 210)]
+    dinars = Money(1000, "dinars")
+    assert tried_of("7/1=1.250\n7/2=1.000", dinars).prices == [((7, 1), 1250), ((7, 2), 1000)]
+    assert tried_of("7/1=1,250", dinars, "\u202f").prices == [((7, 1), 1250)]
+    with pytest.raises(Fault, match="can be 1.25 or 1250"):
+        tried_of("7/1=1,250", dinars)
     for price in ("1,459", "1.459"):
         with pytest.raises(Fault, match=f"7/1={price} can be 1.459 or 1459. Write"):
             tried_of(f"7/1={price}", CROWNS)

@@ -3,6 +3,7 @@
 from __future__ import annotations
 
 import re
+import resource
 import time
 from pathlib import Path
 
@@ -169,11 +170,26 @@ def test_marks_are_of_one_price_and_outlive_a_crash(tmp_path: Path) -> None:
     again = Marks(path)
     assert (again.seen_by(ADA, 202602), again.seen_by(BEN, 202602)) == ({price}, set())
     assert [it.text for it in again.notes_of(202602)[price]] == ["a note"] and path.read_bytes() == whole
+    assert again.seen_by_anybody(202602) == {price} and again.seen_by_anybody(202603) == set()
     with pytest.raises(Fault, match="1,000 letters at most"):
         again.add(ADA, price, NOTE, "x" * 1001)
     path.write_bytes(b"{}\n" + whole)
     with pytest.raises(Fault, match="line 1 isn't as it was written"):
         Marks(path)
+
+
+def test_a_full_disk_takes_all_marks_or_none(tmp_path: Path) -> None:
+    path, price = tmp_path / "looks", Price(202602, 8, 1, 252)
+    marks = Marks(path)
+    marks.add(ADA, price, SEEN)
+    whole, limits = path.read_bytes(), resource.getrlimit(resource.RLIMIT_FSIZE)
+    try:
+        resource.setrlimit(resource.RLIMIT_FSIZE, (len(whole) * 5 // 2, limits[1]))
+        with pytest.raises(Fault, match="Nothing was noted: The disk is full"):
+            marks.add_all(BEN, [price, price._replace(slot=2), price._replace(slot=3)], SEEN)
+    finally:
+        resource.setrlimit(resource.RLIMIT_FSIZE, limits)
+    assert path.read_bytes() == whole and marks.seen_by(BEN, 202602) == set()
 
 
 def test_a_history_is_a_line_with_gaps() -> None:

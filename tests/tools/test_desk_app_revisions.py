@@ -3,6 +3,7 @@ and it goes into the website's file once the revision is frozen, and out with it
 
 from __future__ import annotations
 
+import codecs
 import errno
 import os
 import re
@@ -13,7 +14,8 @@ from typing import Any, NoReturn
 
 import pytest
 
-from cpi_tools.desk_app.reason_file import ReasonFile, Row, with_row
+from cpi_tools.desk_app.publishing import Site
+from cpi_tools.desk_app.reason_file import ReasonFile, Row, add, with_row
 from cpi_tools.pack.clocks import UTC, clock_of
 from cpi_tools.pack.config import read_config
 from cpi_tools.pack.reasons import reasons_of
@@ -125,15 +127,21 @@ def test_the_reason_comes_out_with_its_revision(
 
 
 def test_a_revision_isn_t_prepared_without_its_reason(application: Application, ada: Person, moment: int) -> None:
+    """The page asks for one thing at a time, so that nothing is typed beside the form that is sent."""
     reopens(ada, moment)
-    refused = prepares(application, ada)
+    application.tried(ada, MONTH)
+    trial = application.desk.trials.latest(202601)
+    assert trial and [it.action for it in forms_of(ada.get(FREEZE).text) if it.action.startswith("/month/")][-1] == PAGE
+    refused = ada.post(f"{FREEZE}/prepare", trial=trial.sum, reason="")
     assert refused.status_code == 400 and "Say why the month is revised." in words_of(refused.text)
+    ben = application.person(BEN)
+    assert ben.fill(PAGE, "/reason", **{**TEXTS, "reason-en": "At first"}).status_code == 303
     stale = ada.form(FREEZE, "/prepare")
-    assert application.person(BEN).fill(PAGE, "/reason", **TEXTS).status_code == 303
+    assert ben.fill(PAGE, "/reason", **TEXTS).status_code == 303
     late = ada.give(stale)
     assert late.status_code == 409 and "Ben changed this after your page was loaded, " in words_of(late.text)
     assert ada.fill(FREEZE, "/prepare").status_code == 303
-    refused = application.person(BEN).fill(PAGE, "/reason", **{"reason-en": "Another one"})
+    refused = ben.fill(PAGE, "/reason", **{"reason-en": "Another one"})
     assert refused.status_code == 409 and "The freeze with this reason is prepared" in words_of(refused.text)
     assert "Another one" in refused.text
 
@@ -200,6 +208,30 @@ def test_a_file_that_can_t_be_replaced_stops_no_freeze(
     assert reasons.read_text() == HEAD
 
 
+def test_a_folder_that_can_t_be_written_any_more_stops_no_freeze(
+    prepared: Application, ada: Person, reasons: Path, monkeypatch: pytest.MonkeyPatch
+) -> None:
+    monkeypatch.setattr("cpi_tools.desk_app.reason_file.os.access", lambda path, mode: False)
+    assert signed(prepared.person(BEN)).status_code == 503
+    assert ada.fill(FREEZE, "/drop").status_code == 303
+    words = ada.words(FREEZE)
+    assert "Write the reason into revisions.csv by hand" in words and WHY in words and POURQUOI in words
+    assert ada.fill(FREEZE, "/prepare").status_code == 303
+    assert "is frozen, revision 2." in words_of(signed(prepared.person(BEN)).text) and reasons.read_text() == HEAD
+
+
+def test_a_damaged_file_of_the_application_stops_no_page(
+    application: Application, ada: Person, moment: int, tmp_path: Path
+) -> None:
+    reopens(ada, moment)
+    own = next((tmp_path / "room").rglob("revision-reasons.json"), tmp_path / "room/revision-reasons.json")
+    own.write_text("[", encoding="utf-8")
+    application.tried(ada, MONTH)
+    for path in (FREEZE, "/publish", "/calendar", "/sample/calendar", PAGE):
+        assert "revision-reasons.json isn't as the application wrote it" in ada.words(path), path
+    assert WHY in ada.post(PAGE, revision="2", was="", **TEXTS).text
+
+
 # ---- the website's file
 
 
@@ -248,6 +280,15 @@ def test_what_can_t_be_written_after_the_freeze_is_told_and_written_later(
     assert WHY in reasons.read_text(encoding="utf-8")
 
 
+def test_a_receipt_that_is_there_is_shown_though_the_reason_waits(
+    prepared: Application, monkeypatch: pytest.MonkeyPatch
+) -> None:
+    with monkeypatch.context() as patch:
+        patch.setattr(prepared.desk.reasons, "go_out", full_disk)
+        words = words_of(signed(prepared.person(BEN)).text)
+    assert "January 2026 is frozen, revision 2." in words and "The disk is full" in words and "Its receipt" not in words
+
+
 def full_disk(*_: object) -> NoReturn:
     from cpi_tools.terminal import Fault, because_of
 
@@ -257,11 +298,40 @@ def full_disk(*_: object) -> NoReturn:
         raise Fault(because_of(fault)) from fault
 
 
+def test_a_reason_goes_out_whatever_languages_the_website_has_now(
+    prepared: Application, reasons: Path, tmp_path: Path
+) -> None:
+    config = tmp_path / "office.ini"
+    config.write_text(SITE.replace("languages = en fr", "languages = es en"), encoding="utf-8")
+    assert "is frozen, revision 2." in words_of(signed(prepared.person(BEN)).text)
+    (reason,) = read_config(config).reasons
+    assert {reason.text, *reason.texts.values()} == {WHY, POURQUOI} and prepared.desk.reasons.all() == []
+
+
+def test_the_website_is_written_whatever_comes_before(prepared: Application, ada: Person) -> None:
+    publisher = prepared.desk.publisher
+    assert publisher
+    publisher.before = lambda: int("x")
+    assert "up to" in written(publisher, ada) and not publisher.fault
+
+
+def test_the_file_that_a_link_names_keeps_its_mark(tmp_path: Path) -> None:
+    """The link stays, and so does the mark of UTF-8 that a spreadsheet needs."""
+    config, real, link = tmp_path / "office.ini", tmp_path / "kept/r.csv", tmp_path / "revisions.csv"
+    real.parent.mkdir()
+    real.write_text(f"\ufeff{HEAD}", encoding="utf-8")
+    link.symlink_to(real)
+    config.write_text(SITE, encoding="utf-8")
+    add(Site(tmp_path / "public", config), Row(MONTH, 2, {"en": WHY}, 1_767_225_660))
+    assert link.is_symlink() and WHY in real.read_text(encoding="utf-8-sig")
+    assert real.read_bytes().startswith(codecs.BOM_UTF8)
+
+
 @pytest.mark.parametrize("content", [HEAD, f"\ufeff{HEAD}2025-12,2,Why", f"{HEAD}2025-12,2,Why\n\n"])
 def test_a_row_is_added_behind_all_others(content: str) -> None:
     """The row needs two columns more; what is there stays."""
     file = ReasonFile(Path("r.csv"), content.encode(), ("en", "fr"), clock_of("Europe/Prague"))
-    made = with_row(file, Row(MONTH, 2, {"en": 'Of "rice", later', "fr": POURQUOI}, 1_767_225_660)).decode()
+    made = with_row(file, Row(MONTH, 2, {"en": 'Of "rice", later', "fr": POURQUOI}, 1_767_225_660)).decode("utf-8-sig")
     assert made.splitlines()[0] == "month,revision,reason,added,reason-fr"
     assert made.splitlines()[-1] == f'2026-01,2,"Of ""rice"", later",2026-01-01T01:01,{POURQUOI}'
     assert ("2025-12,2,Why,," in made.splitlines()) == ("Why" in content)

@@ -322,7 +322,7 @@ def test_the_desk_sees_them_in_a_list_and_at_their_price(application: Applicatio
     words = ada.words(f"/month/{MONTH}/field-notes")
     assert "2 notes." in words and "Rice Market hall Slot 8/1 stored now price 252" in words
     assert "receipt 3 sale brand Sun New label" in words
-    assert "stored now stock , with receipt 5: the note is of an earlier price" in words
+    assert "stored now stock, with receipt 5: the note is of an earlier price" in words
     photo = ada.get(f"/month/{MONTH}/field-notes/1.jpg")
     assert photo.mimetype == "image/jpeg" and photo.data.startswith(b"\xff\xd8") and PLACE not in photo.data
     assert ada.get(f"/month/{MONTH}/field-notes/2.jpg").status_code == 404

@@ -121,11 +121,39 @@ def test_rows_that_are_checked_are_marked_at_once(rows: list[str], ada: Person, 
     assert faults_at_sizes(browser, []) == []
 
 
+STAYS = """
+const [form, field] = [document.querySelector(arguments[0]), document.querySelector("input[name=text]")];
+field.value = "half typed";
+form.dispatchEvent(new Event("submit", { bubbles: true, cancelable: true }));
+const [wasSent, before] = [form.dataset.sent, new Event("beforeunload", { cancelable: true })];
+dispatchEvent(before);
+return [wasSent, before.defaultPrevented];
+"""
+"""A form is sent while a note is half typed, and the browser asks whether to leave the page."""
+
+
+def test_a_form_can_be_sent_again_by_whoever_stayed_on_the_page(rows: list[str], browser: Browser) -> None:
+    assert browser.run(STAYS, "form.who") == ["yes", True]
+    browser.wait(lambda: not browser.all("form[data-sent], p.waits, [aria-disabled]"), "a form that can be sent")
+
+
 def test_without_a_script_the_next_row_is_shown(rows: list[str], ada: Person, browser: Browser) -> None:
     browser.run("document.querySelector(arguments[0]).submit()", f"#{rows[0]} form.mark")
     browser.wait(lambda: not stays(browser), "another page")
     browser.wait_text("#counts", "2 to look at, 1 seen by you.")
     assert browser.run("return location.hash") == f"#{rows[1]}"
+
+
+def test_a_note_beside_the_one_that_goes_out_keeps_the_page(rows: list[str], ada: Person, browser: Browser) -> None:
+    """The session has ended, so the form leads to the sign-in: the browser asks first, since another note would be lost."""
+    browser.run("document.querySelector(arguments[0]).value = 'another'", f"#{rows[1]} input[name=text]")
+    ada.pages.kill()
+    ada.pages.start()
+    browser.run("HTMLFormElement.prototype.submit = () => { globalThis.left = 'yes'; }")
+    ada.type("j", "n", "It is right", Keys.ENTER)
+    browser.wait(lambda: browser.run("return globalThis.left === 'yes'"), "the form")
+    asks = "const it = new Event('beforeunload', { cancelable: true }); dispatchEvent(it); return it.defaultPrevented;"
+    assert browser.run(asks)
 
 
 def test_a_mark_of_an_ended_session_comes_back_after_signing_in(rows: list[str], ada: Person, browser: Browser) -> None:

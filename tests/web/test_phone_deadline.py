@@ -16,6 +16,7 @@ from .offices import ANNA, DESK, NOW, month_now
 from .phone import Phone
 from .readable import faults_enlarged, faults_of_page
 from .stage import Stage
+from .test_phone_devices import reply_is_lost
 
 HOUR, DAY = 3600, 86_400
 AFTER = month_now(1)
@@ -258,6 +259,16 @@ def test_a_window_that_has_closed_at_the_office_isnt_open_on_the_phone(phone: Ph
     phone.send()
     phone.enter(3, "5.00")
     phone.browser.wait_text("#deadline", f"The office says that the window of {in_words(NOW)} isn’t open yet.")
+
+
+def test_a_receipt_whose_answer_was_lost_says_nothing_of_the_window(phone: Phone, stage: Stage) -> None:
+    """The office stored the price in time, and the phone hears of it after the end."""
+    publish(stage, **{named(NOW): (-DAY * 9, -DAY + 1)})
+    reply_is_lost(phone, stage)
+    sets(stage, -9 * DAY, -DAY)
+    phone.browser.offline(False)
+    phone.browser.wait_text("#line", "All sent")
+    assert "The window closed on" in phone.browser.text("#deadline")
 
 
 # ---- which month is shown

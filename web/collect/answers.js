@@ -34,11 +34,15 @@ function agrees({ word, at }, { opens, closes }) {
   return word === "closed" ? at >= closes : at < opens;
 }
 
-/** By month the greatest receipt that the phone knows before entries are sent; none of a month without a list. */
-export async function receiptsBefore({ who }, sent) {
+/**
+ * By month the greatest receipt that the phone knows before entries are sent, by its lists and by what it has just looked
+ * up, also by month; none of a month without a list.
+ */
+export async function receiptsBefore({ who }, sent, lookedUp) {
   const months = [...new Set(sent.map(({ month }) => month))];
   const lists = await Promise.all(months.map((month) => store.listOf(who, month)));
-  return new Map(lists.flatMap((list, n) => (list ? [[months[n], greatest(list.quotes)]] : [])));
+  const top = (list, month) => Math.max(greatest(list.quotes), lookedUp.get(month) ?? 0);
+  return new Map(lists.flatMap((list, n) => (list ? [[months[n], top(list, months[n])]] : [])));
 }
 
 /**

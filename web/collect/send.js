@@ -2,7 +2,7 @@
 import { ask, NoAnswer } from "../shared/api.js";
 import { hear, receiptsBefore } from "./answers.js";
 import { keepList, keepMoved, settle } from "./kept-lists.js";
-import { areRows, hasMovedOn } from "./quotes.js";
+import { areRows, greatest, hasMovedOn } from "./quotes.js";
 import * as store from "./store.js";
 
 const ROWS = 50; // rows of one import: the office serves one after another, so nobody holds it for long
@@ -48,7 +48,8 @@ export function dueIn({ state, reply, tried, times = 0 }, now = Date.now()) {
  */
 export async function sendAll(collector, isAll, on) {
   const isDue = (entry) => dueIn(entry, isAll ? Infinity : undefined) === 0;
-  const refusal = await lookUp(collector, isDue, on);
+  const lookedUp = new Map(); // by month the greatest receipt: of an entry whose answer was lost it is no new one
+  const refusal = await lookUp(collector, isDue, on, lookedUp);
   if (refusal) return refusal;
   const done = new Set(); // versions
   for (;;) {
@@ -56,7 +57,7 @@ export async function sendAll(collector, isAll, on) {
     const sent = due.slice(0, ROWS);
     if (sent.length === 0) return null;
     for (const { version } of sent) done.add(version);
-    const before = await receiptsBefore(collector, sent);
+    const before = await receiptsBefore(collector, sent, lookedUp);
     const rows = await imported(collector, sent);
     if (!Array.isArray(rows)) return rows;
     const end = rows.findIndex((row) => !isOwn(row));
@@ -98,15 +99,16 @@ const isOwn = ({ refused }) => refused !== 11 && refused !== 90;
 
 /**
  * Looks up what the office has of the months of entries that weren't sent at once. Of those that another device has
- * overtaken meanwhile the collector is asked. A refusal of all, or null; throws NoAnswer.
+ * overtaken meanwhile the collector is asked; `lookedUp` gets the greatest receipt of each month. A refusal of all, or null; throws NoAnswer.
  */
-async function lookUp(collector, isDue, on) {
+async function lookUp(collector, isDue, on, lookedUp) {
   const isLate = (entry) => isDue(entry) && !isFresh(entry);
   const months = new Set((await store.entries(collector.who)).filter(isLate).map(({ month }) => month));
   for (const month of months) {
     const reply = await ask("GET", `/quotes/${month}/${month}`, collector);
     if (isOfAll(reply)) return reply;
     if (!areRows(reply.quotes)) throw new NoAnswer("odd");
+    lookedUp.set(month, greatest(reply.quotes));
     if (await keepList(collector, month, { quotes: reply.quotes })) await on.back();
     const quotes = new Map(reply.quotes.map((row) => [row[0], row]));
     const late = (await store.entries(collector.who)).filter((entry) => entry.month === month && isLate(entry));

@@ -3,7 +3,7 @@
 // VERSION is the hash of FILES, of the files of notes, and of the catalogues of all languages: tools/pages writes it. What
 // an office sets itself (SET) is kept too, and read anew behind each start, so that the next one has it; and so are the
 // catalogues of languages that this phone has spoken, and the files of notes if the office takes them: the page names these.
-const VERSION = "df6d27c68005750d";
+const VERSION = "4837d90f525fe1fd";
 const FILES = [
   "./", "answers.js", "app.js", "collect.css", "deadline.js", "drafts.js", "entry.js", "export.js", "form.js", "head.js",
   "icon.svg", "kept-lists.js", "key.js", "languages.js", "line.js", "list.js", "lists.js", "look.js",

@@ -17,6 +17,7 @@ from ..pack.public import Listed, Published, listed_in
 from ..pack.shown import NotCovered, Shown
 from ..pack.tables import NotATable, Series
 from ..program import LAST_MOMENT, Cpi, record
+from ..stored import read_copy
 from ..terminal import Fault, month_text
 from ..told import Figure, MonthName, Told, month_name_of, told
 from ..trial import printed
@@ -126,9 +127,20 @@ def levels_of(others: Sequence[Published], month: str, table: bytes, reference: 
     return Levels(month, others, reference, shown, series.base, is_later)
 
 
-def levels_now(cpi: Cpi, office_copy: Path, month: int, table: bytes, reference: str) -> Optional[Levels]:
+def levels_now(
+    cpi: Cpi, office_copy: Path, month: int, table: bytes, reference: str, known: Optional[Levels] = None
+) -> Optional[Levels]:
     """The levels of a month whose table this is, with the tables that a copy has of all other months; None if they can't
-    be read."""
+    be read. `known` are earlier levels of the month: their tables aren't printed again, if the copy has no others."""
     with contextlib.suppress(Fault):
-        return levels_of(other_tables(cpi, office_copy, month), month_text(month), table, reference)
+        is_known = known is not None and others_listed(office_copy, month) == {it.listed[:2] for it in known.others}
+        others = known.others if known and is_known else other_tables(cpi, office_copy, month)
+        return levels_of(others, month_text(month), table, reference)
     return None
+
+
+def others_listed(office_copy: Path, month: int) -> set[tuple[str, int]]:
+    """The latest tables that a copy has of all months but one: month like `2026-01`, and revision. Raises Fault."""
+    with read_copy(office_copy) as office:
+        latest = {it.month: it.revision for it in office.releases() if it.month != month}
+    return {(month_text(each), revision) for each, revision in latest.items()}

@@ -1,7 +1,8 @@
 """The bounds of an item, as changes from the last price: `−45 %` and `+90 %`. A record has them in thousandths of the last
 price, 550 and 1900.
 
-A bound is read with a sign or a percent sign, so that neither 550 nor 1.9 is taken for a percent.
+A bound is read with its sign only, so that neither 550 nor 1.9 is taken for a percent, nor 190 % of the last price for a
+change of 190 %.
 """
 
 from __future__ import annotations
@@ -73,8 +74,7 @@ def bound_of(text: str, column: str) -> Bound:
         return Bound(None, why)
     number = numbers.pop() * (-1 if parts["sign"] and parts["sign"] in MINUS else 1)
     bound, (least, most) = ONE + 10 * number, RANGES[column]
-    has_sign = parts["sign"] or parts["before"] or parts["after"] or not number
-    if not has_sign or bound.denominator > 1 or not least <= bound <= most:
+    if (number and not parts["sign"]) or bound.denominator > 1 or not least <= bound <= most:
         return Bound(None, wanted(text, column))
     return Bound(int(bound))
 

@@ -11,6 +11,7 @@ from typing import NamedTuple, Optional
 from ..pack.clocks import Clock
 from ..program import Cpi, Reply
 from ..report_language import Teller
+from ..sections import Section
 from ..speech import SPEAKS_ENGLISH, Speech
 from .copies import Copies, Copy
 from .deadlines import NAME as DEADLINES
@@ -36,9 +37,9 @@ from .sent_twice import Once
 from .sessions import Session, Sessions
 from .site_config import SiteConfig
 from .standing import looked_up
-from .tables_kept import TablesKept
+from .tables_kept import Earlier, TablesKept
 from .tray import Tray
-from .trials import Trials
+from .trials import Tried, Trials
 from .watching import Watch
 from .words import REASON_ABOVE
 
@@ -93,6 +94,8 @@ class Desk:
         self.trials = Trials(
             self.cpi, self.copies, self.tables, given.copies, given.left_out, self.site_config.reference_in
         )
+        self.since: dict[int, tuple[Tried, Earlier, Section]] = {}
+        """By month what changed since the table of an earlier day, as it was shown last."""
         self.marks = Marks(given.room / "looks.jsonl")
         self.prepared = PreparedFreeze(given.room / "prepared-freeze.json")
         self.reasons = RevisionReasons(given.room / "revision-reasons.json", self.log)

@@ -20,6 +20,7 @@ from .asked import desk
 from .faults import says
 from .freeze_steps import NOTHING
 from .freezes import Prepared, table_sum
+from .trials import known_levels
 
 CHANGED = _(
     "The office isn't as it was when this was prepared, so its table would be another one: drop it, and"
@@ -62,5 +63,6 @@ def frozen_table(prepared: Prepared) -> tuple[bytes, Optional[Levels]]:
         with private_copy(copy.path) as own:
             table = as_frozen(desk().cpi, own, state, tuple(prepared.carry)).table
         reference = desk().site_config.reference_in(month_text(prepared.month))
-        return table, levels_now(desk().cpi, copy.path, prepared.month, table, reference)
+        known = known_levels(desk().trials.latest(prepared.month))
+        return table, levels_now(desk().cpi, copy.path, prepared.month, table, reference, known)
     return prepared.text.encode(), None

@@ -174,18 +174,18 @@ def reasons(trial: Tried) -> list[str]:
 
 
 def reason_shown(trial: Tried) -> Union[Told, Mapping[str, str]]:
-    """Why the month is revised, by the languages, if the form showed what waits; else who changed it. Raises Fault if it
-    has to be said first."""
+    """Why the month is revised, by the languages, if the form showed what waits; else who changed it. Nothing if no reason
+    can go to the website's file: that stops no freeze. Raises Fault if the reason has to be said first."""
     asked = asked_of(trial.state)
     if asked is None:
         return {}
     if field("reason") != asked.was:
         return changed_by(asked.reason.by, asked.reason.at) if asked.reason else changed_by("", 0)
+    if asked.fault:
+        return {}
     if asked.reason:
         return asked.reason.texts
-    if not asked.fault:
-        raise Fault(EMPTY)
-    return {}
+    raise Fault(EMPTY)
 
 
 @views.post("/month/<month>/freeze/drop")
@@ -268,7 +268,7 @@ def sent(month: str, prepared: Prepared) -> Response:
         (reply,) = desk().send(session(), [confirmed.record])
     except Fault as fault:
         desk().prepared.keep(prepared)
-        return shown(month, 503, _("Nothing was sent: {fault}", fault=says(fault)))
+        return shown(month, 503, _("Nothing was sent: {fault}", fault=says(fault)), flask.request.form)
     answer = told(confirmed.record, reply)
     if not answer.is_done:
         if reply is not None:
@@ -283,6 +283,10 @@ def to_receipt(month: str, confirmed: Prepared) -> Response:
     try:
         finish(confirmed)
     except Fault as fault:
+        if frozen_receipts.kept(desk().log, confirmed.month, confirmed.revision):
+            # (what failed is the reason of the revision, which the next page of the month tries again)
+            came = {"fault": says(fault)}
+            return after("freeze.receipt", came, month=month, revision=confirmed.revision)
         places = {"month": month_words(confirmed.month), "revision": whole(confirmed.revision), "fault": says(fault)}
         text = _("{month} is frozen, revision {revision}. Its receipt can't be written yet: {fault}", **places)
         return after("freeze.show", {"fault": text}, month=month)
@@ -300,4 +304,5 @@ def receipt(month: str, revision: int) -> Response:
     if kept is None:
         flask.abort(404)
     named = {"publisher": desk().publisher, "languages": in_themselves(), "not_written": not_written()}
-    return page("receipt.html", month=month, kept=kept, receipt=kept.receipt, **named)
+    came = {"fault": NOTHING, **what_came()}
+    return page("receipt.html", month=month, kept=kept, receipt=kept.receipt, **named, **came)

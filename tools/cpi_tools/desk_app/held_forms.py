@@ -24,7 +24,8 @@ NOT_KEPT = ("token", "second-key", "held", "once")
 
 NOT_LISTED = frozenset(
     (
-        *("all", "cell", "from", "instead", "number", "offer", "prepared", "seen", "sheet", "shown", "to", "trial"),
+        *("after", "all", "before", "cell", "digits", "division", "from", "instead", "number", "offer", "only"),
+        *("prepared", "reason", "reasons-file", "revision", "seen", "sheet", "show", "shown", "sort", "to", "trial"),
         *("was", "what", "whole", "word", "written"),
     )
 )

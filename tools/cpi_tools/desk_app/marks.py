@@ -6,6 +6,7 @@ to be looked at again.
 
 from __future__ import annotations
 
+import errno
 import json
 import os
 import threading
@@ -83,13 +84,17 @@ class Marks:
             self._append(b"".join(json.dumps(it).encode() + b"\n" for it in made))
             self._all += made
 
-    def _append(self, line: bytes) -> None:
+    def _append(self, lines: bytes) -> None:
+        """Appends all of some lines, or nothing."""
         try:
             with naming(self._path):
                 opened = os.open(self._path, os.O_WRONLY | os.O_CREAT | os.O_APPEND, 0o600)
                 with os.fdopen(opened, "wb", buffering=0) as file:
-                    file.write(line)
-                    os.fsync(file.fileno())
+                    before = os.fstat(opened).st_size
+                    if file.write(lines) != len(lines):
+                        os.ftruncate(opened, before)
+                        raise OSError(errno.ENOSPC, os.strerror(errno.ENOSPC))
+                    os.fsync(opened)
         except OSError as fault:
             raise Fault(_("Nothing was noted: {fault}", fault=of_system(fault))) from fault
 
@@ -103,7 +108,8 @@ class Marks:
 
     def seen_by_anybody(self, month: int) -> set[Price]:
         """The prices of a month that somebody has seen."""
-        return set[Price]().union(*(self.seen_by(person, month) for person in {it.by for it in self._all}))
+        latest = {(it.by, it.of): it.what for it in self._all if it.of.month == month and it.what in (SEEN, UNSEEN)}
+        return {price for (_by, price), what in latest.items() if what == SEEN}
 
     def last_of(self, month: int) -> tuple[str, int]:
         """Who marked a price of a month last, and when in seconds since 1970 UTC; nobody, if nobody did."""

@@ -14,6 +14,7 @@ import subprocess
 import sys
 import threading
 import time
+import traceback
 from collections.abc import Callable, Sequence
 from pathlib import Path
 from typing import NamedTuple, Optional
@@ -195,8 +196,7 @@ class Publisher:
 
     def _run(self, by: str) -> None:
         try:
-            with contextlib.suppress(Fault):
-                self.before()
+            self._prepare()
             at = int(time.time())
             with self._durations.measured(WRITING):
                 told, errors = self._written(at)
@@ -211,6 +211,16 @@ class Publisher:
             raise
         finally:
             self.running = None
+
+    def _prepare(self) -> None:
+        """Does what comes before; whatever becomes of that, the website is written."""
+        try:
+            self.before()
+        except Fault:
+            # (the page says it, since it tries the same)
+            pass
+        except Exception:
+            traceback.print_exc()
 
     def _failed(self, by: str, why: Worded, line: str) -> None:
         """Keeps why the website wasn't written; the log has its line once, however often it is tried again."""

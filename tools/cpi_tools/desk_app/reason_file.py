@@ -6,6 +6,7 @@ step, and nothing of it is changed but the columns that the row needs.
 
 from __future__ import annotations
 
+import codecs
 import configparser
 import csv
 import hashlib
@@ -75,7 +76,7 @@ def reason_file(site: Site) -> ReasonFile:
                     head=of_others("month,revision,reason,added"),
                 )
             )
-        path = site.config.parent / name
+        path = (site.config.parent / name).resolve()
         return ReasonFile(path, path.read_bytes(), config.speaks.languages or (SOURCE,), config.clock)
     except (OSError, configparser.Error, UnicodeDecodeError) as fault:
         raise Fault(because_of(fault) if isinstance(fault, OSError) else str(fault)) from fault
@@ -116,14 +117,17 @@ def with_row(file: ReasonFile, row: Row) -> bytes:
         text = _written([[*head, *more], *([*each, *[""] * len(more)] for each in rows[1:] if any(each))])
     elif not text.endswith("\n"):
         text += "\n"
-    return (text + _written([[cells.get(name, "") for name in [*head, *more]]])).encode()
+    mark = codecs.BOM_UTF8 if file.content.startswith(codecs.BOM_UTF8) else b""
+    return mark + (text + _written([[cells.get(name, "") for name in [*head, *more]]])).encode()
 
 
 def _cells(file: ReasonFile, row: Row) -> dict[str, str]:
     """The cells of a row by their columns."""
-    first, *others = file.tags
-    translated = {f"{TRANSLATED}{tag}": row.texts[tag] for tag in others if row.texts.get(tag)}
-    said = {REASON: row.texts[first], ADDED: civil_or_seconds(row.moment, file.clock)}
+    first, *_others = file.tags
+    # (the website may have got other languages since the reason was kept)
+    main = first if first in row.texts else next(iter(row.texts))
+    translated = {f"{TRANSLATED}{tag}": text for tag, text in row.texts.items() if tag != main}
+    said = {REASON: row.texts[main], ADDED: civil_or_seconds(row.moment, file.clock)}
     return {"month": row.month, "revision": str(row.revision), **said, **translated}
 
 

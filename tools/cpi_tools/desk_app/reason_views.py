@@ -7,7 +7,7 @@ The form of `/month/MONTH/reason` has `revision`, `was` (the sum of the reason t
 from __future__ import annotations
 
 import time
-from collections.abc import Mapping
+from collections.abc import Mapping, Sequence
 from typing import NamedTuple, Optional
 
 import flask
@@ -65,13 +65,13 @@ def file_here() -> ReasonFile:
 
 
 def asked_of(state: State) -> Optional[Asked]:
-    """What is asked of a month; nothing of one that isn't reopened. Raises Fault if the application's own file can't be
-    read."""
+    """What is asked of a month; nothing of one that isn't reopened."""
     if not state.is_reopened:
         return None
     revision, month = state.revision + 1, month_text(state.month)
-    waits = desk().reasons.of(state.month, revision)
+    waits = None
     try:
+        waits = desk().reasons.of(state.month, revision)
         names = in_themselves()
         tags = file_here().tags
         return Asked(month, revision, {tag: names.get(tag.replace("-", "_"), tag) for tag in tags}, waits)
@@ -87,10 +87,13 @@ def still_asked() -> Optional[Asked]:
     return asked if asked and not asked.reason else None
 
 
-def not_written() -> list[tuple[Reason, Worded]]:
-    """The reasons of frozen revisions that aren't in the website's file yet, each with why: it was tried again. Raises
-    Fault."""
-    return desk().reasons.settle(desk().publisher)
+def not_written() -> Sequence[tuple[Optional[Reason], Worded]]:
+    """The reasons of frozen revisions that aren't in the website's file yet, each with why: it was tried again. Only why,
+    if the application's own file can't be read."""
+    try:
+        return desk().reasons.settle(desk().publisher)
+    except Fault as fault:
+        return [(None, says(fault))]
 
 
 def state_now(month: int) -> State:

@@ -150,7 +150,12 @@ def sent() -> Response:
     came = what_came()
     if not came:
         return flask.redirect(flask.url_for("log.show"))
-    return page("records-sent.html", asked=still_asked(), **came)
+    try:
+        asked = still_asked()
+    except Fault:
+        # (what became of the records is said whatever else can't be read now)
+        asked = None
+    return page("records-sent.html", asked=asked, **came)
 
 
 def answered(records: Sequence[Sequence[str]], replies: Sequence[Optional[Reply]]) -> list[Told]:

@@ -3,6 +3,7 @@ changes, so that the pages go by what the website will be written by."""
 
 from __future__ import annotations
 
+import contextlib
 from pathlib import Path
 from typing import Optional
 
@@ -23,20 +24,24 @@ class SiteConfig:
 
     def __init__(self, path: Optional[Path], tag: str):
         self.path, self._tag = path, tag
-        self._read: Optional[tuple[State, Config]] = None
+        self._state: Optional[State] = None
+        self._config: Optional[Config] = None
 
     def now(self) -> Optional[Config]:
-        """The configuration as it is now; None if there is none, or if it can't be read: *Publish* says why."""
+        """The configuration as it is now, or as it was last while it can't be read, which *Publish* says; None if there
+        is none yet."""
         if self.path is None:
             return None
-        try:
+        with contextlib.suppress(Fault, OSError):
             found = self.path.stat()
             state = found.st_mtime_ns, found.st_size
-            if self._read is None or self._read[0] != state:
-                self._read = state, read_config(self.path, KNOWN_IDS).spoken(self._tag)
-        except (Fault, OSError):
-            return None
-        return self._read[1]
+            if self._state != state:
+                try:
+                    self._config = read_config(self.path, KNOWN_IDS).spoken(self._tag)
+                finally:
+                    # (one that can't be read isn't read again for each price)
+                    self._state = state
+        return self._config
 
     def reference_in(self, month: str) -> str:
         """The period in which the website's levels of a month's release are 100; nothing if the configuration has none."""

@@ -27,7 +27,8 @@ from ..told import told as _
 from .asked import after, csv_file, desk, field, file_name, month_of, page, section_file, session, what_came
 from .faults import says
 from .tables_beside import beside
-from .trials import Tried
+from .tables_kept import Earlier
+from .trials import Tried, known_levels
 from .what_if_texts import example, tried_of
 
 views = flask.Blueprint("table", __name__)
@@ -67,6 +68,14 @@ def since_before(month: int, found: Tried) -> Optional[Section]:
     earlier = desk().tables.before(month, found.at)
     if earlier is None or not found.report.table:
         return None
+    kept = desk().since.get(month)
+    if kept is None or kept[0] is not found or kept[1] != earlier:
+        desk().since[month] = kept = (found, earlier, differences(earlier, found))
+    return kept[2]
+
+
+def differences(earlier: Earlier, found: Tried) -> Section:
+    """The nodes of the table of an earlier day and of one that was tried now that differ."""
     day, tables = of_others(earlier.day), (earlier.table, found.report.table)
     # t: the heading of a column: a figure of an earlier day, such as 2026-02-17
     heads = (lambda name: _("{day}: {head}", day=day, head=name)), (lambda name: _("now: {head}", head=name))
@@ -159,7 +168,8 @@ def try_prices(month: str) -> Response:
 def what_differs(office_copy: Path, month: int, found: Beside) -> Section:
     """The nodes of both tables that differ, each by its own levels."""
     tables, reference = (found.as_is.table, found.tried.table), desk().site_config.reference_in(month_text(month))
-    levels = levels_now(desk().cpi, office_copy, month, tables[1], reference)
+    known = known_levels(desk().trials.latest(month))
+    levels = levels_now(desk().cpi, office_copy, month, tables[1], reference, known)
     # t: the heading of a column: a figure as it would be
     heads = placed, (lambda name: _("what if: {head}", head=name))
     return beside("what-if", _("Nodes that differ"), tables, heads, levels)

@@ -64,6 +64,11 @@ class Tried(NamedTuple):
         return sum_of([[*self.state.window], self.state.revision, table, looks, said, carried, warned])
 
 
+def known_levels(found: Optional[Tried]) -> Optional[Levels]:
+    """The levels of a trial, if there is one, and it has levels."""
+    return found.report.levels if found else None
+
+
 class Running(NamedTuple):
     """A trial that runs: its month, since when, what is being done, who asked for it, and how long the last one took."""
 
@@ -171,7 +176,8 @@ class Trials:
         if frozen is None or not frozen.table:
             return None
         self._now(_("reading the tables"))
-        return levels_now(self._cpi, copy, month, frozen.table, self._reference_in(month_text(month)))
+        known, reference = known_levels(self.latest(month)), self._reference_in(month_text(month))
+        return levels_now(self._cpi, copy, month, frozen.table, reference, known)
 
     def close(self) -> None:
         """Removes what is at hand."""

@@ -100,6 +100,9 @@ def minor_of(line: Line, money: Optional[Money], group_sign: str) -> int:
     """The price that a line has, in minor units. Raises Fault."""
     minor = money.minor if money else 1
     amounts = numbers_in(line.right, "" if minor > 1 else group_sign)
+    if money and money.digits == 3 and amounts and group_sign not in line.right:
+        # (as the pages write an amount of three decimals)
+        amounts = {min(amounts)}
     if len(amounts) > 1:
         one, other = sorted(amounts)
         places = {"one": of_others(number_text(one)), "other": of_others(number_text(other))}

@@ -187,7 +187,7 @@ def lines_said(records: Sequence[list[str]]) -> list[tuple[Optional[Told], Worde
     """The first records of a draft, each as a sentence, if it is one, and as a line."""
     listed = records[:SHOWN]
     try:
-        with desk().copies_now() as copy, read_copy(copy.path) as office:
+        with desk().copies.latest() as copy, read_copy(copy.path) as office:
             names = names_of(office, records, listed)
     except Fault:
         # (the office is away: what it calls things isn't known then)

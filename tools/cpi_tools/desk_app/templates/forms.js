@@ -11,6 +11,15 @@ function textFor(form) {
   return own.textContent;
 }
 
+/** Forms that were sent can be sent again. */
+function release() {
+  for (const line of document.querySelectorAll("p.waits")) line.remove();
+  for (const form of document.querySelectorAll("form[data-sent]")) {
+    delete form.dataset.sent;
+    for (const button of form.querySelectorAll("button")) button.removeAttribute("aria-disabled");
+  }
+}
+
 function sent(event) {
   const form = event.target;
   if (form.method !== "post" || event.defaultPrevented) return;
@@ -25,16 +34,17 @@ function sent(event) {
   line.setAttribute("role", "status");
   form.after(line);
   line.textContent = textFor(form);
+  addEventListener("beforeunload", asked, { once: true });
+}
+
+/** Whoever is asked whether to leave the page may stay: then nothing was sent. No time passes in it until the answer. */
+function asked(event) {
+  if (event.defaultPrevented) setTimeout(release);
 }
 
 /** A page that comes back from the browser's memory can send its forms again. */
 function shown(event) {
-  if (!event.persisted) return;
-  for (const line of document.querySelectorAll("p.waits")) line.remove();
-  for (const form of document.querySelectorAll("form[data-sent]")) {
-    delete form.dataset.sent;
-    for (const button of form.querySelectorAll("button")) button.removeAttribute("aria-disabled");
-  }
+  if (event.persisted) release();
 }
 
 if (lines) {

@@ -93,7 +93,7 @@ function leave(form, more) {
   for (const [name, value] of Object.entries(more)) {
     if (name !== "only") form.append(Object.assign(document.createElement("input"), { type: "hidden", name, value }));
   }
-  isLeaving = true;
+  isLeaving = !fields().some((it) => it.form !== form && it.value !== "");
   form.submit();
 }
 
