@@ -152,6 +152,7 @@ def test_the_page_of_the_data_is_a_data_set_with_its_files(site: Path) -> None:
     assert (found["@type"], found["creator"]["name"], found["url"]) == ("Dataset", OFFICE, f"{ADDRESS}data.html")
     assert found["temporalCoverage"] == "2025-01/2027-05" and found["spatialCoverage"] == "Exampleland"
     assert found["identifier"] == "NSO:DF_CPI" and found["inLanguage"] == "en" and "Index" in found["variableMeasured"]
+    assert "Consumer price index" in found["keywords"] and "Laspeyres" in found["measurementTechnique"]
     files = {it["contentUrl"]: it for it in found["distribution"]}
     there = {it.name for it in (site / "data").iterdir() if it.is_file()}
     assert {it.removeprefix(f"{ADDRESS}data/") for it in files} == there

@@ -94,6 +94,34 @@ def test_a_version_is_compared_by_its_numbers() -> None:
     assert Versions([], "2026.1.999").give("Codelist", "CL", "other") == "2026.1.1000"
 
 
+def test_rows_below_a_pack_without_rows_rise_above_it_and_stay() -> None:
+    """A new folder began at 1.0.0 before the office named its earlier pack, which shows greater versions."""
+    rows = Versions([Artefact("Codelist", "CL", "1.0.3", "0" * 64)])
+    rows.give("Codelist", "SAME", "one")
+    versions = Versions(rows.rows, "2026.1.996664")
+    assert versions.give("Codelist", "CL", "other") == versions.give("Codelist", "SAME", "one") == "2026.1.996665"
+    for above in ("", "2026.1.996664"):
+        later = Versions(versions.rows, above)
+        assert later.give("Codelist", "SAME", "one") == "2026.1.996665"
+        assert later.give("Codelist", "CL", "third") == "2026.1.996666"
+
+
+def test_two_contents_never_share_a_version(tmp_path: Path) -> None:
+    """Two packs before have one version with different contents: whichever comes now, and whenever, counts on."""
+    packs = []
+    for name in ("one", "other"):
+        versions, data = Versions(), tmp_path / name / "data"
+        versions.give("Codelist", "CL", name)
+        data.mkdir(parents=True)
+        versions.write(data)
+        packs.append(tmp_path / name)
+    for content in ("one", "other", "third"):
+        assert versions_after(packs).give("Codelist", "CL", content) == "1.0.1"
+    # (a pack that doesn't write the artefact has its row for the next one)
+    versions_after(packs).write(packs[0] / "data")
+    assert versions_after(packs[:1]).give("Codelist", "CL", "one") == "1.0.1"
+
+
 # ---- packs without rows, and with rows that are damaged
 
 
@@ -173,6 +201,24 @@ def test_the_structure_says_what_each_value_is(published: list[Published], tmp_p
 
 
 # ---- whom to ask
+
+
+@pytest.mark.parametrize(
+    ("licence", "element"),
+    [("CC BY 4.0 & more", "AnnotationText"), ("https://example.org/by?a=1&b=2", "AnnotationURL")],
+)
+def test_the_dataflow_has_the_licence_before_its_name(
+    published: list[Published], tmp_path: Path, licence: str, element: str
+) -> None:
+    """As an annotation, which SDMX-ML 2.1 has first in what an agency maintains."""
+    out = written(published[:2], CONFIG._replace(licence=licence), tmp_path / "public")
+    (flow,) = ElementTree.parse(out / "data/structure.sdmx.xml").iter(f"{STRUCTURE}Dataflow")
+    assert [it.tag.rpartition("}")[2] for it in flow] == ["Annotations", "Name", "Structure"]
+    (annotation,) = flow[0]
+    found = [(it.tag.rpartition("}")[2], it.text) for it in annotation]
+    assert found == [("AnnotationType", "LICENSE"), (element, licence)]
+    out = written(published[:2], CONFIG, tmp_path / "other")
+    assert "Annotation" not in (out / "data/structure.sdmx.xml").read_text(encoding="utf-8")
 
 
 @pytest.mark.parametrize(

@@ -33,6 +33,18 @@ def test_a_number_has_the_digits_and_a_name_stays(text: str, wanted: Optional[st
     assert speech_of("ar").numbered(text) == SPEAKS_ENGLISH.numbered(text) == text
 
 
+@pytest.mark.parametrize(
+    ("text", "wanted"),
+    [
+        ("Indice 100 en {period}", "Indice \u0661\u0660\u0660 en {period}"),
+        ("il faut 1 ou 6, et non 2,5.", "il faut \u0661 ou \u0666, et non \u0662\u066b\u0665."),
+        ("SDMX-ML 2.1, COICOP\u00a02018, JSON-stat 2.0, SVG 1.1, un code tel que 01.1.1 ou 01.1.1.1-01", None),
+    ],
+)
+def test_a_number_behind_a_latin_word_has_them_and_a_code_stays(text: str, wanted: Optional[str]) -> None:
+    assert speech_of("fr", "arab").numbered(text) == (text if wanted is None else wanted)
+
+
 @pytest.fixture(scope="module")
 def site(published: list[Published], tmp_path_factory: pytest.TempPathFactory) -> Path:
     config = Config("NSO", "XX", "Office", speaks=OfficeLanguages(("ar",), "arab", {}), reference="2025")

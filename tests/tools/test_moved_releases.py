@@ -18,6 +18,7 @@ from cpi_tools.pack.announced import Announced, BadAnnounced, announced_after, a
 from cpi_tools.pack.cards import NO_CARDS
 from cpi_tools.pack.clocks import UTC
 from cpi_tools.pack.config import Config
+from cpi_tools.pack.office_languages import OfficeLanguages
 from cpi_tools.pack.planned import BadCalendar, Planned, planned_of
 from cpi_tools.pack.tables import Series
 from cpi_tools.publish import check, publish
@@ -52,6 +53,12 @@ def event(out: Path) -> icalendar.Event:
     return next(it for it in events if it["UID"].startswith(MONTH))
 
 
+def updates(out: Path) -> list[str]:
+    """When the feed changed, and then each of its entries."""
+    feed = ElementTree.parse(out / "feed.xml").getroot()
+    return [it.text or "" for it in feed.iter() if it.tag.endswith("updated")]
+
+
 def words(out: Path, page: str = "calendar.html") -> str:
     text = html.unescape(re.sub(r"<[^>]*>", "", (out / page).read_text(encoding="utf-8")))
     return " ".join(text.split())
@@ -71,11 +78,37 @@ def test_a_moved_release_is_said_with_what_was_announced_and_why(tmp_path: Path)
     sums = (out / "SHA256SUMS").read_bytes()
     written(out, Planned(MONTH, 1, SECOND, None, "A holiday <1>."))
     assert (out / "SHA256SUMS").read_bytes() == sums
-    stamp = event(out).decoded("DTSTAMP")
+    stamp, updated = event(out).decoded("DTSTAMP"), updates(out)
+    assert updated[0] == max(updated)
     written(out, Planned(MONTH, 1, THIRD))
     assert "for 29 January 2027, 08:30 UTC, and comes on 30 January 2027, 08:30 UTC. Published" in words(out)
     assert event(out)["SEQUENCE"] == 2 and event(out).decoded("DTSTAMP") > stamp
+    assert updates(out)[0] == max(updates(out)) > updated[0]
     assert check(TABLES, CONFIG._replace(planned=(Planned(MONTH, 1, THIRD),)), out, None, lambda _: None) == []
+
+
+def test_an_event_that_moved_has_the_moment_of_the_last_table(tmp_path: Path) -> None:
+    """Other programs take an event with a later DTSTAMP, which the next table changes as it does in all events."""
+    out = written(tmp_path / "public", Planned(MONTH, 1, FIRST), tables=12)
+    for tables in (12, 13, 13):
+        written(out, Planned(MONTH, 1, SECOND), tables=tables)
+        assert event(out).decoded("DTSTAMP").timestamp() == two_years()[tables - 1].listed.moment
+        assert event(out)["SEQUENCE"] == 1
+
+
+ISOLATES = {"\u2066": 1, "\u2067": 1, "\u2068": 1, "\u2069": -1}
+
+
+def test_a_feed_from_right_to_left_keeps_its_isolates(tmp_path: Path) -> None:
+    """A time and its zone stay in their order, and a reason of another direction turns nothing beside it."""
+    config = CONFIG._replace(speaks=OfficeLanguages(("ar",), "latn", {}))
+    out = tmp_path / "public"
+    for moment in (FIRST, SECOND):
+        planned = Planned(MONTH, 1, moment, None, "A holiday (1)")
+        publish(TABLES, config._replace(planned=(planned,)), out, None, lambda _: None)
+    texts = "".join(ElementTree.parse(out / "feed.xml").getroot().itertext())
+    assert "\u206608:30 UTC\u2069" in texts and "\u2068A holiday (1)\u2069" in texts
+    assert sum(ISOLATES.get(it, 0) for it in texts) == 0
 
 
 def test_a_table_that_came_later_than_announced_is_said(tmp_path: Path) -> None:

@@ -28,11 +28,11 @@ ARABIC: Mapping[str, str] = {
 NUMBER = re.compile(r"[#0,.]+")
 
 WRITTEN = re.compile(
-    r"<[^>]*>|\{[a-z_]+\}|%\([a-z_]+\)s"
-    r"|(?<![A-Za-z0-9.,:/#&;_-])(?<![A-Za-z] )[0-9]+(?:[.,][0-9]+)*(?![A-Za-z0-9_/-]|[.:][A-Za-z0-9])"
+    r"<[^>]*>|\{[a-z_]+\}|%\([a-z_]+\)s|[A-Za-z-]*[A-Z]{2}[A-Za-z-]*\s[0-9]+(?:\.[0-9]+)*|[0-9]+(?:\.[0-9]+){2,}"
+    r"|(?<![A-Za-z0-9.,:/#&;_-])(?P<number>[0-9]+(?:[.,][0-9]+)*)(?![A-Za-z0-9_/-]|[.:][A-Za-z0-9])"
 )
-"""What is passed by in a text of a catalogue, tags and places, and a number in it: none within a name such as SHA-256, or
-behind one, as in COICOP 2018."""
+"""What is passed by in a text of a catalogue, and a number in it. Tags and places are passed by, a name in capitals with
+its number, as COICOP 2018, and a code such as 01.1.1; a number within a name, as SHA-256, is none."""
 
 
 class Cldr(Speech):
@@ -48,6 +48,9 @@ class Cldr(Speech):
         named = {".": signs["decimal"], ",": signs["group"], "+": signs["plusSign"], "-": minus, MINUS: minus}
         self._signs = {**own, **named}
         self._digits, self._figures = str.maketrans(own), str.maketrans(self._signs)
+        # (the texts of a catalogue have the language's own signs)
+        latin = {locale.number_symbols[name]: signs[name] for name in ("group", "decimal")}
+        self._written = str.maketrans({**own, **latin})
         before, after = NUMBER.split(locale.percent_formats[None].pattern, maxsplit=1)
         self._percent = [part.replace("%", signs["percentSign"]) for part in (before, after)]
         if digits != LATIN:
@@ -75,7 +78,7 @@ class Cldr(Speech):
     def numbered(self, text: str) -> str:
         if self.digits == LATIN:
             return text
-        return WRITTEN.sub(lambda it: self.figure(it[0]) if it[0][0].isdigit() else it[0], text)
+        return WRITTEN.sub(lambda it: it[0].translate(self._written) if it["number"] else it[0], text)
 
     def whole(self, number: int) -> str:
         return self.figure(f"{number:,}")

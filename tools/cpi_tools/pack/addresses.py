@@ -7,7 +7,6 @@ Without an address all links are relative, and nothing of this is written but th
 from __future__ import annotations
 
 import json
-import re
 from collections.abc import Iterable, Sequence
 from pathlib import Path
 
@@ -16,6 +15,7 @@ from markupsafe import Markup
 from ..speech import SPEAKS_ENGLISH, Speech
 from .config import Config
 from .cube import measures_of
+from .markup import is_address
 from .releases import Release
 from .tables import Series, iso
 from .versions import ALONE, Version
@@ -100,6 +100,12 @@ def dataset(
             ),
             "inLanguage": version.tag or speech.language.tag,
             "identifier": f"{config.agency}:{config.id('DF_CPI')}",
+            "keywords": [speech.t("Consumer price index"), "CPI", "COICOP 2018"],
+            "measurementTechnique": speech.t(
+                "Items are those of the classification COICOP 2018. Dutot indices of elementary aggregates make an index of"
+                " Laspeyres type, which is chained each December. The Consumer Price Index Manual: Concepts and Methods"
+                " (2020) describes both."
+            ),
             "variableMeasured": [speech.t(it.name) for it in measures_of(config)],
             "url": address_of(config, "data.html", version),
             "dateModified": iso(series.moment),
@@ -140,8 +146,9 @@ def _published_by(config: Config) -> dict[str, object]:
     found["isAccessibleForFree"] = True
     found["spatialCoverage"] = config.country or config.area
     if config.licence:
-        is_address = re.fullmatch(r"https?://\S+", config.licence)
-        found["license"] = config.licence if is_address else {"@type": "CreativeWork", "name": config.licence}
+        found["license"] = (
+            config.licence if is_address(config.licence) else {"@type": "CreativeWork", "name": config.licence}
+        )
     return found
 
 

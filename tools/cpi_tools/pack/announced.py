@@ -9,7 +9,7 @@ from __future__ import annotations
 
 import json
 import re
-from collections.abc import Iterable, Mapping
+from collections.abc import Iterable, Mapping, Sequence
 from datetime import datetime, timezone
 from pathlib import Path
 from typing import Any, NamedTuple, Optional
@@ -42,6 +42,13 @@ class Announced(NamedTuple):
     def of(self) -> tuple[str, int]:
         """Its month and revision."""
         return self.month, self.revision
+
+
+def coming(series: Series, planned: Sequence[Planned]) -> list[Planned]:
+    """The announced releases that aren't out, by their moments. One whose moment passed before a later table came out
+    isn't announced any more."""
+    there = {(table.month, table.revision) for table in series.vintages}
+    return [it for it in planned if (it.month, it.revision) not in there and it.moment > series.moment]
 
 
 Earlier = Mapping[tuple[str, int], Announced]

@@ -26,7 +26,8 @@ SHOWN = re.compile(
 )
 """An artefact in a structure message, with its version."""
 
-SUM = re.compile("[0-9a-f]{64}")
+SUM = re.compile("(?:[0-9a-f]{64})?")
+"""A sum; empty if packs before have different contents with the same version, so that no content keeps it."""
 
 
 class BadArtefacts(Fault):
@@ -34,7 +35,7 @@ class BadArtefacts(Fault):
 
 
 class Artefact(NamedTuple):
-    """An artefact of a pack: its class, its id, its version, and the SHA-256 of its content."""
+    """An artefact of a pack: its class, its id, its version, and the SHA-256 of its content, which may be empty."""
 
     kind: str
     id: str
@@ -64,6 +65,8 @@ class Versions:
             earlier = self._rows.get((it.kind, it.id))
             if earlier is None or numbers_of(earlier.version) < numbers_of(it.version):
                 self._rows[it.kind, it.id] = it
+            elif numbers_of(earlier.version) == numbers_of(it.version) and earlier.sum != it.sum:
+                self._rows[it.kind, it.id] = earlier._replace(sum="")
 
     @property
     def rows(self) -> list[Artefact]:
@@ -71,14 +74,16 @@ class Versions:
         return [self._rows[key] for key in sorted(self._rows)]
 
     def give(self, kind: str, name: str, content: str) -> str:
-        """The version of an artefact with some content."""
+        """The version of an artefact with some content: that of its row if it has the same content and isn't below those
+        of a pack without rows, or else one that follows both."""
         its_sum = hashlib.sha256(content.encode()).hexdigest()
         known = self._rows.get((kind, name))
-        if known is None:
-            self._rows[kind, name] = Artefact(kind, name, after(self._above) if self._above else FIRST, its_sum)
-        elif known.sum != its_sum:
-            self._rows[kind, name] = known._replace(version=after(known.version), sum=its_sum)
-        return self._rows[kind, name].version
+        shown = [it for it in (known.version if known else "", self._above) if it]
+        greatest = max(shown, key=numbers_of, default="")
+        if known is None or known.sum != its_sum or numbers_of(known.version) < numbers_of(greatest):
+            known = Artefact(kind, name, after(greatest) if greatest else FIRST, its_sum)
+            self._rows[kind, name] = known
+        return known.version
 
     def write(self, folder: Path) -> None:
         """Writes them into the folder `data` of a pack, a row a line; nothing if there is none."""

@@ -12,8 +12,7 @@ from pathlib import Path
 from typing import NamedTuple
 
 from ..speech import SPEAKS_ENGLISH, Speech
-from .announced import Announced
-from .coming import coming
+from .announced import Announced, coming
 from .config import Config
 from .planned import Planned
 from .release_names import name_of, page_of_release
@@ -114,7 +113,7 @@ def _lines(series: Series, config: Config, events: Sequence[Event], speech: Spee
     for it in events:
         yield "BEGIN:VEVENT"
         yield f"UID:{name_of(it.month, it.revision)}.{config.area}.{config.agency}@cpi"
-        yield f"DTSTAMP:{_stamp(it.said if it.moves else series.moment)}"
+        yield f"DTSTAMP:{_stamp(max(it.said, series.moment))}"
         if it.moves:
             yield f"SEQUENCE:{it.moves}"
         yield f"DTSTART:{_stamp(it.moment)}"

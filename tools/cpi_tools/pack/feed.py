@@ -10,6 +10,7 @@ from collections.abc import Iterable, Iterator, Sequence
 from pathlib import Path
 from xml.sax.saxutils import escape, quoteattr
 
+from ..others import apart
 from ..speech import SPEAKS_ENGLISH, Speech
 from .announced import Announced
 from .calendar_pages import PAGE, moved
@@ -24,6 +25,9 @@ FEED = "feed.xml"
 MOST_ENTRIES = 24
 """The releases that were published last."""
 
+DIRECTIONS = frozenset("\u061c\u200e\u200f\u2066\u2067\u2068\u2069")
+"""Marks and isolates: nobody sees them, and a text of two directions is read in its order by them."""
+
 
 def write_feed(
     folder: Path, config: Config, series: Series, releases: Iterable[Release], speech: Speech = SPEAKS_ENGLISH
@@ -35,17 +39,19 @@ def write_feed(
 
 
 def _lines(config: Config, series: Series, releases: Sequence[Release], speech: Speech) -> Iterator[str]:
+    moves = moved(series, config)
     yield '<?xml version="1.0" encoding="utf-8"?>'
     yield f'<feed xmlns="http://www.w3.org/2005/Atom" xml:lang="{speech.language.tag}">'
     yield f"<id>{config.address}</id>"
     yield f"<title>{_text(config.title)}</title>"
     yield f"<subtitle>{_text(speech.t('Releases of {office}', office=config.office))}</subtitle>"
-    yield f"<updated>{iso(series.moment)}</updated>"
+    said = [*(it.last_said for it in releases), *(it.said for it in moves)]
+    yield f"<updated>{iso(max([series.moment, *said]))}</updated>"
     yield f"<author><name>{_text(config.office)}</name></author>"
     yield f'<link rel="self" type="application/atom+xml" href={quoteattr(config.address + FEED)}/>'
     yield f'<link rel="alternate" type="text/html" href={quoteattr(config.address)}/>'
     entries = [(it.table.moment, [*_entry(config, it, speech)]) for it in releases]
-    entries += [(it.said, [*_move(config, series, it, speech)]) for it in moved(series, config)]
+    entries += [(it.said, [*_move(config, series, it, speech)]) for it in moves]
     for _, entry in sorted(entries, key=lambda it: it[0], reverse=True)[:MOST_ENTRIES]:
         yield from entry
     yield "</feed>"
@@ -60,7 +66,7 @@ def _move(config: Config, series: Series, it: Announced, speech: Speech) -> Iter
     else:
         says = speech.t("{release} was announced for {before}, and was published on {moment}.", **places)
     if it.reason:
-        why = speech.t("The office says why: {reason}", reason=it.reason)
+        why = speech.t("The office says why: {reason}", reason=apart(it.reason, speech.language.dir))
         says = f"{says} {why}"
     address = f"{config.address}{PAGE}#{name_of(it.month, it.revision)}-moved-{it.moves}"
     yield f"<entry><id>{address}</id>"
@@ -90,9 +96,12 @@ def _says(release: Release, speech: Speech) -> Iterator[str]:
     if release.provisional:
         yield provisional_then(release.provisional, speech)
     for it in release.reasons:
-        yield speech.t("Why the office revised this month: {reason}", reason=it.said(speech.language.tag))
+        yield speech.t(
+            "Why the office revised this month: {reason}",
+            reason=apart(it.said(speech.language.tag), speech.language.dir),
+        )
 
 
 def _text(text: str) -> str:
     """A text of XML 1.0, which has no control characters."""
-    return escape("".join(it if it.isprintable() or it == " " else " " for it in text))
+    return escape("".join(it if it.isprintable() or it in DIRECTIONS else " " for it in text))

@@ -18,3 +18,8 @@ def text_of(text: str) -> str:
 def attributes_of(named: Mapping[str, str]) -> str:
     """Attributes of an element, each behind a space; what is empty is left out."""
     return "".join(f" {name}={quoteattr(FORBIDDEN.sub(chr(0xFFFD), value))}" for name, value in named.items() if value)
+
+
+def is_address(text: str) -> bool:
+    """Whether a text, such as a licence, is an address of the web."""
+    return re.fullmatch(r"https?://\S+", text) is not None

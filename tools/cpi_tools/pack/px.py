@@ -18,7 +18,7 @@ from typing import TextIO
 from ..exact import ALL_ITEMS
 from ..terminal import time_text
 from . import figures
-from .coming import coming
+from .announced import coming
 from .config import Config
 from .cube import BREAK, ITEM, REVISABLE, STATUSES, Measure, all_measures_of, general_notes, notes_of
 from .figures import Known

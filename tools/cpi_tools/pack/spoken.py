@@ -30,7 +30,7 @@ SECTIONS: Mapping[str, str] = {
 """The pages that the head of each leads to, with their names."""
 
 FILES: Mapping[str, str] = {
-    "cpi.xlsx": marked("Workbook: index, changes, weights, contributions"),
+    "cpi.xlsx": marked("Workbook: index, changes, weights, shares, contributions"),
     "printed.csv": marked(
         "The figures of the pages: the index with one decimal, its reference period, its changes, and the share of all"
         " weight"

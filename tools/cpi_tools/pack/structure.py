@@ -8,7 +8,7 @@ from ..speech import marked
 from .artefact_versions import Versions
 from .artefacts import SHARED, Reference, Structure, fixed, items, shared
 from .config import Config
-from .markup import attributes_of, text_of
+from .markup import attributes_of, is_address, text_of
 from .sdmx import (
     CONCEPTS,
     DEFINITION,
@@ -90,11 +90,19 @@ def element(name: str, body: str = "", **attributes: str) -> str:
     return f"<{head}>\n{body}</{name}>\n" if body else f"<{head}/>\n"
 
 
-def _named(name: str, title: str, body: str = "", language: str = "en", others: Names = (), **attributes: str) -> str:
-    """An element that has a name for readers, and perhaps further ones in other languages."""
+def _named(
+    name: str,
+    title: str,
+    body: str = "",
+    language: str = "en",
+    others: Names = (),
+    annotations: str = "",
+    **attributes: str,
+) -> str:
+    """An element that has a name for readers, and perhaps further ones in other languages, and annotations before it."""
     names = ((language, title), *others)
     told = "".join(f'<common:Name xml:lang="{tag}">{text_of(text)}</common:Name>\n' for tag, text in names)
-    return element(name, told + body, **attributes)
+    return element(name, annotations + told + body, **attributes)
 
 
 def _kept(own: Reference) -> dict[str, str]:
@@ -106,8 +114,26 @@ def _dataflow(own: Structure, config: Config) -> str:
     reference = element("Ref", **_kept(own.definition), **{"class": "DataStructure"})
     body = element("str:Structure", reference)
     return _named(
-        "str:Dataflow", config.title, body, config.language, title_of_index(config), **_kept(own.flow), **CHANGES
+        "str:Dataflow",
+        config.title,
+        body,
+        config.language,
+        title_of_index(config),
+        _licence(config),
+        **_kept(own.flow),
+        **CHANGES,
     )
+
+
+def _licence(config: Config) -> str:
+    """The annotations of the dataflow: the licence of its data, if the office names one."""
+    if not config.licence:
+        return ""
+    said = f'<common:AnnotationText xml:lang="{config.language}">{text_of(config.licence)}</common:AnnotationText>\n'
+    if is_address(config.licence):
+        said = f"<common:AnnotationURL>{text_of(config.licence)}</common:AnnotationURL>\n"
+    kind = "<common:AnnotationType>LICENSE</common:AnnotationType>\n"
+    return element("common:Annotations", element("common:Annotation", kind + said))
 
 
 def _list_of(own: Structure, config: Config, name: str) -> Reference:
