@@ -10,7 +10,7 @@ from . import ctrl_c
 def main() -> int:
     """Runs a tool by the words of the command line; its exit status."""
     ctrl_c.ends_silently()
-    # (all tools are read here, which takes a while)
+    # (modules are read from here on, which takes a while)
     from .command_line import main as run
 
     try:

@@ -5,43 +5,26 @@ from __future__ import annotations
 import argparse
 import contextlib
 import sys
-from collections.abc import Iterator, Sequence
+from collections.abc import Iterable, Iterator, Sequence
+from importlib import import_module
 from typing import Optional
 
-from . import (
-    backup,
-    calendar_file,
-    desk,
-    doctor,
-    drill,
-    explain,
-    follow,
-    gaps,
-    keep,
-    keys,
-    moved_weights,
-    next_year,
-    probe,
-    promote,
-    publish,
-    receive,
-    restore,
-    take_in,
-    take_out,
-)
 from .csv_files import formulas_told
 from .output import shown_outputs
 from .terminal import Fault, ToolWords, ends_by_signals, is_line
 from .version import ShowVersion
 
-TOOLS = (
-    backup, drill, restore, follow, receive, keep, promote, gaps, probe, doctor, keys, calendar_file, desk, explain, publish, take_in, take_out, next_year,
-    moved_weights,
-)  # fmt: skip
+TOOLS = {
+    "backup": "backup", "drill": "drill", "restore": "restore", "follow": "follow", "receive": "receive", "keep": "keep",
+    "promote": "promote", "gaps": "gaps", "probe": "probe", "doctor": "doctor", "keys": "keys", "calendar": "calendar_file",
+    "desk": "desk", "explain": "explain", "publish": "publish", "take-in": "take_in", "take-out": "take_out",
+    "next-year": "next_year", "weights": "moved_weights",
+}  # fmt: skip
+"""The module of each tool, in the order of the help."""
 
 
-def parser() -> ToolWords:
-    """The parser of all tools; each module adds its own words."""
+def parser(named: Iterable[str] = TOOLS) -> ToolWords:
+    """The parser of these tools; the module of each is read, and adds its own words."""
     words = ToolWords(
         prog="cpi-tools",
         description="Companions of cpi, the program of a consumer price index office.",
@@ -49,9 +32,14 @@ def parser() -> ToolWords:
     )
     words.add_argument("--version", action=ShowVersion, help="which version this is, and which program it runs")
     tools = words.add_subparsers(required=True, metavar="TOOL", title="tools", parser_class=ToolWords)
-    for tool in TOOLS:
-        tool.add_words(tools)
+    for tool in named:
+        import_module(f".{TOOLS[tool]}", __package__).add_words(tools)
     return words
+
+
+def _parser_for(words: Sequence[str]) -> ToolWords:
+    """The parser that these words need: if they begin with a tool, no other tool's module is read."""
+    return parser(words[:1] if words and words[0] in TOOLS else TOOLS)
 
 
 def main(given: Optional[Sequence[str]] = None) -> int:
@@ -73,7 +61,7 @@ def _run(words: Sequence[str]) -> int:
     tool = "cpi-tools"
     try:
         with _flushed():
-            chosen, others = parser().parse_known_args(words)
+            chosen, others = _parser_for(words).parse_known_args(words)
         tool = f"cpi-tools {chosen.tool}"
         with _flushed():
             return _ran(chosen, others, words)
