@@ -1,11 +1,14 @@
-"""A desk's folder as its application keeps it: a log, notes on prices, notes of the field, and what waits."""
+"""A desk's folder as its application keeps it: a log, notes on prices, notes of the field, questions to collectors, and what
+waits."""
 
 from __future__ import annotations
 
 from pathlib import Path
 
+from cpi_tools.desk_app import field_questions as question
 from cpi_tools.desk_app.desk_log import SAID, DeskLog
 from cpi_tools.desk_app.field_notes import FieldNotes, Of, Said
+from cpi_tools.desk_app.field_questions import FieldQuestions
 from cpi_tools.desk_app.marks import NOTE, Marks, Price
 from cpi_tools.desk_files import seen_in
 
@@ -24,6 +27,7 @@ class DeskRoom:
         self.say()
         self.note()
         self.field()
+        self.ask()
         self.keep("prepared-freeze.json", '{"by": "Ada"}')
         self.keep("rows.json", "{}")
         for name in ("tables/2026-01-at-2026-02-01.csv", "next-year/2027/sheets/items.csv"):
@@ -47,6 +51,15 @@ class DeskRoom:
         notes = FieldNotes(self.path / "field-notes.db", MONTHS)
         notes.add(Of(1, 2, 202601, self.count), Said(False, "", "", f"note {self.count}", b""), photo)
         notes.close()
+
+    def ask(self) -> None:
+        """A question to a collector, with its answer."""
+        self.count += 1
+        asked = FieldQuestions(self.path / "field-questions.db", MONTHS)
+        of, said = question.Of(1, self.count, 202601, 300, 2), question.Said(question.TEXT, 0, "", 0, "yes")
+        number = asked.ask(of, "Ada", f"question {self.count}", 0, lambda number: self.say(f"asked question {number}"))
+        asked.answer(asked.of_collector(1, 202601, number), said, lambda number: self.say(f"{number} was answered"))
+        asked.close()
 
     def keep(self, name: str, text: str) -> None:
         """A file that is written whole."""

@@ -24,7 +24,7 @@ from .test_desk_app_month import MONTH, SIGNED, WHY, frozen_months
 from .test_desk_app_publish import OFFICE, frozen as published_at, with_site
 
 CEM = "Cem"
-FREEZE, LOOKS, NOTES = (f"/month/{MONTH}/{it}" for it in ("freeze", "looks", "field-notes"))
+FREEZE, LOOKS, NOTES, QUESTIONS = (f"/month/{MONTH}/{it}" for it in ("freeze", "looks", "field-notes", "questions"))
 YEAR = "/year/2027/"
 MAY = ["2026-05-01T08:00", "2026-05-24T18:00", "2026-06-10T09:30"]
 MAYS = f"calendar,2026-05,{','.join(MAY)}\n"
@@ -317,6 +317,20 @@ def test_a_note_that_somebody_removed_is_told(application: Application, ada: Per
     late(ada.give(form), BY_BEN)
 
 
+def test_a_question_that_somebody_asked_or_took_back_is_told(
+    application: Application, ada: Person, ben: Person
+) -> None:
+    application.tried(ada, MONTH)
+    asking = ada.form(LOOKS, "/looks/ask")
+    assert ben.fill(LOOKS, "/looks/ask", text="Is it still 1 kg?").status_code == 303
+    late(ada.give(asking, text="Which brand?"), "Ben asked this meanwhile, ", "Is it still 1 kg?", "Which brand?")
+    withdrawing, removing = (ada.form(QUESTIONS, it) for it in ("/withdraw", "/remove"))
+    assert ben.fill(QUESTIONS, "/withdraw").status_code == 303
+    late(ada.give(withdrawing), BY_BEN)
+    assert ben.fill(QUESTIONS, "/remove").status_code == 303
+    late(ada.give(removing), BY_BEN)
+
+
 # ---- the reason of a revision
 
 
@@ -360,6 +374,9 @@ COVERED: dict[str, object] = {
     "publish.now": test_what_is_to_be_published_is_what_the_page_showed,
     "publish.plan": test_what_is_to_be_published_is_what_the_page_showed,
     "field_notes.remove": test_a_note_that_somebody_removed_is_told,
+    "asking.ask": test_a_question_that_somebody_asked_or_took_back_is_told,
+    "asking.withdraw": test_a_question_that_somebody_asked_or_took_back_is_told,
+    "asking.remove": test_a_question_that_somebody_asked_or_took_back_is_told,
     "sign_in.enter": Harmless("it begins a session"),
     "sign_in.leave": Harmless("it ends the own session"),
     "table.begin": Harmless("it tries the month as it is now"),
@@ -386,7 +403,17 @@ def view_of(application: Application, form: PageForm) -> str:
 
 
 PAGES = (
-    *("/", FREEZE, LOOKS, NOTES, f"/month/{MONTH}/table", f"/month/{MONTH}/what-if", "/calendar", "/calendar/2026"),
+    *(
+        "/",
+        FREEZE,
+        LOOKS,
+        NOTES,
+        QUESTIONS,
+        f"/month/{MONTH}/table",
+        f"/month/{MONTH}/what-if",
+        "/calendar",
+        "/calendar/2026",
+    ),
     *(f"/sample/{it}" for it in ("items", "outlets", "collectors", "assignments", "handovers", "calendar")),
     *(f"{YEAR}?sheet={it}" for it in ("weights", "classification", "places", "series")),
     *("/year", "/publish", "/records", "/log"),
@@ -401,6 +428,7 @@ def shown_forms(application: Application, ada: Person) -> dict[str, list[PageFor
     assert ada.post(f"{YEAR}check").status_code == 303
     waited(lambda: not application.desk.drafts.running)
     prepares(application, application.person(BEN))
+    assert ada.fill(LOOKS, "/looks/ask", text="Is it still 1 kg?").status_code == 303
     for kind, text in (("outlets", "10;Other\n12;Harbour"), ("calendar", f"2026-05;{';'.join(MAY)}")):
         assert ada.fill(f"/sample/{kind}", "/judge", 1, pasted=text).status_code == 303
     found = dict[str, list[PageForm]]()

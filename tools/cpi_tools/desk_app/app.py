@@ -39,6 +39,7 @@ from .desk import Desk
 from .faults import says
 from .form_bounds import MOST_BYTES, fault_of_form, told_of_too_large
 from .held_forms import form_of_request
+from .question_words import answer_in_words, gone_in_words
 from .reached import Reached
 from .refreshing import is_answer, is_by_itself, loads_itself, without_itself
 from .long_forms import long_forms, with_names
@@ -120,6 +121,7 @@ def make_app(desk: Desk, reached: Reached) -> flask.Flask:
         prices_are=lambda: prices_are(desk.teller.money()), has_money=lambda: bool(desk.teller.money())
     )
     templates.globals.update(loads_itself=loads_itself, is_answer=is_answer)
+    templates.globals.update(answer_in_words=answer_in_words, gone_in_words=gone_in_words)
 
     def page(template: str, status: int = 200, /, **named: object) -> Response:
         found: Optional[Session] = flask.g.get("session")
@@ -147,10 +149,11 @@ def make_app(desk: Desk, reached: Reached) -> flask.Flask:
     for views in VIEWS:
         app.register_blueprint(views.views)
     if desk.field:
-        from . import field_pages, field_views  # (they need python3-pil, which an office without notes hasn't)
+        # (they need python3-pil, which an office without notes hasn't)
+        from . import asking_views, field_pages, field_question_views
 
-        app.register_blueprint(field_views.views)
-        app.register_blueprint(field_pages.views)
+        for views in (field_question_views, field_pages, asking_views):
+            app.register_blueprint(views.views)
     return app
 
 

@@ -20,6 +20,7 @@ from .desk_log import DeskLog
 from .drafts import Drafts
 from .durations import Durations
 from .field_notes import FieldNotes
+from .field_questions import FieldQuestions
 from .freezes import PreparedFreeze
 from .held_forms import HeldForms
 from .kept import Kept
@@ -45,16 +46,16 @@ from .words import REASON_ABOVE
 
 LOG = "desk.log"
 
-FIELD_NOTES = "field-notes.db"
+FIELD_NOTES, FIELD_QUESTIONS = "field-notes.db", "field-questions.db"
 
 
 class Given(NamedTuple):
     """What the words of the command line say: the office's URL and file, the application's folder, the program, after
     how many idle seconds a session ends, the office's clock, where copies lie, how many quotes a trial leaves out in
-    turn, for how many months notes of the field are kept, 0 if none are taken, the address of the front that collectors
-    reach, if sheets with their keys are printed here, how the pages speak, where the website goes, if it is written
-    here, from how many millionths of a point on a price that nobody has seen needs a reason at a freeze, and the file of
-    the second key, if there is one.
+    turn, for how many months notes of the field and questions to collectors are kept, 0 if there are none, the address
+    of the front that collectors reach, if sheets with their keys are printed here, how the pages speak, where the
+    website goes, if it is written here, from how many millionths of a point on a price that nobody has seen needs a
+    reason at a freeze, and the file of the second key, if there is one.
     """
 
     url: str
@@ -104,6 +105,8 @@ class Desk:
         self.second_key = SecondKey(given.second_key) if given.second_key else None
         months = given.field_months
         self.field: Optional[FieldNotes] = FieldNotes(given.room / FIELD_NOTES, months) if months else None
+        path = given.room / FIELD_QUESTIONS
+        self.questions: Optional[FieldQuestions] = FieldQuestions(path, months) if months else None
         self.turns = Turns()
         self.tray = Tray(given.room / "rows.json")
         self.drafts = Drafts(self.cpi, self.copies, given.room / "next-year")
@@ -160,5 +163,6 @@ class Desk:
         self.trials.close()
         self.copies.close()
         self.log.close()
-        if self.field:
-            self.field.close()
+        for file in (self.field, self.questions):
+            if file:
+                file.close()

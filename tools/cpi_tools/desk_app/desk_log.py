@@ -41,6 +41,10 @@ PREPARED, DROPPED, CONFIRMED, DONE_ALREADY = "prepared: ", "dropped: ", "confirm
 FROZEN_STEP = "frozen: {what}; prepared by {by}"
 UNSEEN = "; confirmed with prices that nobody has seen: {because}"
 DROPPED_DRAFT, REMOVED_NOTE = "dropped the draft of {year}", "removed note {number} of the field, {month}"
+ASKED = "asked collector {collector} about slot {slot}, {month}: question {number}"
+WITHDREW = "withdrew question {number} to collector {collector}, {month}"
+ANSWERED_QUESTION = "question {number} was answered by collector {collector}, {month}"
+REMOVED_QUESTION = "removed question {number} and its answers, {month}"
 WRITTEN, PLANNED, NOT_PLANNED = "the website was written", "to be published", "not to be published"
 """Other steps, or how they begin."""
 

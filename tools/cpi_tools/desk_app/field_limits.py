@@ -1,9 +1,9 @@
-"""What a note of the field may have at most. `web/collect/note-limits.js` has the same names for the phone."""
+"""What a note of the field, and a question to a collector, may have at most. `web/collect/note-limits.js` has the same names for the phone."""
 
 from __future__ import annotations
 
 MOST_LETTERS = 500
-"""Letters of the text."""
+"""Letters of the text of a note, a question or an answer."""
 
 MOST_BRAND_LETTERS = 80
 """Letters of a brand."""
@@ -25,3 +25,12 @@ MOST_MESSAGE_BYTES = MOST_PHOTO_BYTES + 20_000
 
 MOST_NOTES = 500
 """Notes of a collector of one month."""
+
+MOST_OPEN = 50
+"""Questions to a collector that wait for an answer."""
+
+MOST_OPEN_IN_ALL = 2_000
+"""The same, to all collectors."""
+
+MOST_ANSWERS = 10
+"""Answers to a question."""

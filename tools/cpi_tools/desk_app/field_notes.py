@@ -7,20 +7,14 @@ themselves, and the bytes that they had are written over.
 
 from __future__ import annotations
 
-import contextlib
 import hashlib
 import json
-import os
 import sqlite3
-import threading
-import time
-from collections.abc import Callable, Iterator
-from pathlib import Path
 from typing import NamedTuple, Optional
 
-from ..others import of_others, own_line
-from ..terminal import Fault, because_of
+from ..told import Told
 from ..told import told as _
+from .field_file import FieldFile
 from .field_limits import MOST_NOTES
 
 SCHEMA = """
@@ -75,43 +69,16 @@ class TooMany(Exception):
     """A collector has MOST_NOTES notes of the month."""
 
 
-class FieldNotes:
-    """The file. Notes are kept for so many months, the one that it is now being the first; `clock` tells the seconds
-    since 1970 UTC."""
+class FieldNotes(FieldFile):
+    """The file of the notes."""
 
-    def __init__(self, path: Path, months: int, clock: Callable[[], float] = time.time):
-        """Opens the file, or makes it. Raises Fault."""
-        self.path, self.months, self._clock = path, months, clock
-        self._lock = threading.Lock()
-        try:
-            os.close(os.open(path, os.O_RDWR | os.O_CREAT, 0o600))
-            self._link = sqlite3.connect(path, check_same_thread=False, isolation_level=None)
-            for text in ("PRAGMA secure_delete = ON", "PRAGMA synchronous = FULL"):
-                self._link.execute(text)
-            self._link.executescript(SCHEMA)
-        except OSError as fault:
-            raise Fault(because_of(fault)) from fault
-        except sqlite3.Error as fault:
-            places = {"path": of_others(str(path)), "fault": own_line(fault)}
-            raise Fault(_("{path} can't be read as the notes of the field: {fault}", **places)) from fault
-        self.forget()
+    SCHEMA = SCHEMA
 
-    def close(self) -> None:
-        """Ends it."""
-        with self._lock:
-            self._link.close()
+    def _unreadable(self, **places: object) -> Told:
+        return _("{path} can't be read as the notes of the field: {fault}", **places)
 
-    @contextlib.contextmanager
-    def _asking(self) -> Iterator[sqlite3.Connection]:
-        """The file, which nobody else asks meanwhile. Raises Fault."""
-        with self._lock:
-            try:
-                yield self._link
-            except sqlite3.Error as fault:
-                places = {"path": of_others(str(self.path)), "fault": own_line(fault)}
-                raise Fault(
-                    _("{path} can't be read or written as the notes of the field: {fault}", **places)
-                ) from fault
+    def _unusable(self, **places: object) -> Told:
+        return _("{path} can't be read or written as the notes of the field: {fault}", **places)
 
     # ---- writing
 
@@ -147,12 +114,6 @@ class FieldNotes:
         """Removes the notes of months that are past for long enough; how many. Raises Fault."""
         with self._asking() as link:
             return link.execute("DELETE FROM note WHERE month < ?", (self.first_month(),)).rowcount
-
-    def first_month(self) -> int:
-        """The first month whose notes are kept."""
-        now = time.gmtime(self._clock())
-        count = now.tm_year * 12 + now.tm_mon - self.months
-        return count // 12 * 100 + count % 12 + 1
 
     # ---- reading
 

@@ -54,23 +54,27 @@ def send(month: str, slot: int) -> Response:
     sent = sent_of(flask.request.form, photo)
     if number < notes.first_month():
         raise Refused(409, fault="past", wanted=_("A month from {month} on.", month=month_text(notes.first_month())))
-    if sent.receipt > who.receipts.get(slot, 0):
+    stored = who.quotes.get(slot)
+    if stored is None or sent.receipt > stored.receipt:
         raise Refused(
             409, fault="price", wanted=_("The receipt of a price that the office has of this slot and month.")
         )
     return flask.jsonify(note=number_of(notes, Of(who.collector, slot, number, sent.receipt), sent.said))
 
 
+def bounded(most: int, named: str) -> None:
+    """Refuses a message of more bytes, by the name of its longest field, or of too many fields. Raises Refused."""
+    length = flask.request.content_length
+    if length is None or length > most:
+        raise Refused(413, fault="long", field=named, wanted=_("At most {most} bytes.", most=whole(most)))
+    if has_too_many():
+        flask.abort(413)
+
+
 def bounded_photo() -> bytes:
     """The photograph of a message, empty for none. Raises Refused if the message is too long, or NotAPicture if it has
     one without a byte."""
-    length = flask.request.content_length
-    if length is None or length > MOST_MESSAGE_BYTES:
-        raise Refused(
-            413, fault="long", field="photo", wanted=_("At most {most} bytes.", most=whole(MOST_MESSAGE_BYTES))
-        )
-    if has_too_many():
-        flask.abort(413)
+    bounded(MOST_MESSAGE_BYTES, "photo")
     sent = flask.request.files.get("photo")
     photo: bytes = sent.read() if sent else b""
     if sent and not photo:

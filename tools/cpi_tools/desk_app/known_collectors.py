@@ -12,6 +12,9 @@ from .desk import Desk
 
 FIELD = re.compile("[ \t]*CPI-Key +([0-9a-f]{32})[ \t]*", re.ASCII | re.IGNORECASE)
 
+MISSING = "missing"
+"""The mark of a quote without a price, which has the reason in the place of the price."""
+
 NOBODY, DESK = 11, 12
 """How the office refuses a key that nobody has, and one that isn't a collector's."""
 
@@ -26,11 +29,20 @@ class NoCollector(Exception):
         self.number, self.status = number, STATUS.get(number, 409)
 
 
+class KnownQuote(NamedTuple):
+    """A quote as the office has it: its mark, or the reason why there is no price; the price in minor units, or 0; its
+    receipt."""
+
+    mark: str
+    value: int
+    receipt: int
+
+
 class KnownCollector(NamedTuple):
-    """A collector, and by slot the receipt of the quote that the office has of a month."""
+    """A collector, and by slot the quotes that the office has of a month."""
 
     collector: int
-    receipts: dict[int, int]
+    quotes: dict[int, KnownQuote]
 
 
 def collector_of_field(desk: Desk, field: str, month: int) -> KnownCollector:
@@ -41,8 +53,12 @@ def collector_of_field(desk: Desk, field: str, month: int) -> KnownCollector:
     reply = desk.office.quotes(found[1], month_text(month))
     if "refused" in reply:
         raise NoCollector(int(reply["refused"]))
-    receipts = {int(row[0]): int(row[4]) for row in reply.get("quotes", [])}
-    return KnownCollector(_number_of(desk, found[1]), receipts)
+    quotes = {int(row[0]): _quote(row[2], row[3], int(row[4])) for row in reply.get("quotes", [])}
+    return KnownCollector(_number_of(desk, found[1]), quotes)
+
+
+def _quote(mark: str, value: object, receipt: int) -> KnownQuote:
+    return KnownQuote(str(value), 0, receipt) if mark == MISSING else KnownQuote(mark, int(str(value)), receipt)
 
 
 def _number_of(desk: Desk, key: str) -> int:

@@ -12,6 +12,7 @@ from typing import Any, NamedTuple, Optional
 from ..desk.unusual import CONFIRMED, OF_AGGREGATE, OF_DIVISION
 from ..told import Told
 from ..told import told as _
+from .field_questions import ANSWERED, OPEN
 from .looks import ALONE, OTHER, Look
 
 SHOWN = 50
@@ -42,6 +43,16 @@ ORDERS: dict[str, Told] = {
 SHOWS: dict[str, Told] = {NOT_SEEN: _("Not seen by me"), ALREADY_SEEN: _("Seen by me"), ALL: _("All of them")}
 """Which of them are shown, by the word that an address has for it."""
 
+ASKED_SOME = "some"
+ASKED: dict[str, Told] = {
+    # t: of prices: the desk has put a question to their collectors
+    ASKED_SOME: _("Asked about"),
+    OPEN: _("No answer yet"),
+    # t: of prices: their collectors have answered the desk's question
+    ANSWERED: _("Answered"),
+}
+"""What has become of the question about a price, by the word that an address has for it."""
+
 SORTED_BY: dict[str, Callable[[Look], Any]] = {
     "change": lambda it: -abs(float(it.percent or 0)),
     "item": lambda it: (str(it.item).casefold(), it.slot),
@@ -52,13 +63,15 @@ SORTED_BY: dict[str, Callable[[Look], Any]] = {
 
 
 class Chosen(NamedTuple):
-    """What an address says: which prices are shown (a key of SHOWS), of which reason, division and collector, in which
-    order, after or before which price, and which one only; each is empty if it isn't said."""
+    """What an address says: which prices are shown (a key of SHOWS), of which reason, division and collector, about which
+    a collector was asked (a key of ASKED), in which order, after or before which price, and which one only; each is empty
+    if it isn't said."""
 
     show: str = ""
     reason: str = ""
     division: str = ""
     who: str = ""
+    asked: str = ""
     sort: str = ""
     after: str = ""
     before: str = ""
@@ -74,8 +87,8 @@ class Chosen(NamedTuple):
         """The same without a place, so from the first price on."""
         return self._replace(after="", before="", only="").query
 
-    def has(self, it: Look, is_seen: bool) -> bool:
-        """Whether a price is one of those that are shown."""
+    def has(self, it: Look, is_seen: bool, question: str = "") -> bool:
+        """Whether a price is one of those that are shown; `question` is what has become of the question about it."""
         if self.only:
             return key_of(it) == self.only
         if self.show != ALL and is_seen != (self.show == ALREADY_SEEN):
@@ -84,6 +97,7 @@ class Chosen(NamedTuple):
             (not self.reason or REASONS[self.reason] in it.why)
             and it.code.startswith(self.division)
             and self.who in ("", str(it.slot[0]))
+            and (not self.asked or self.asked == question or (self.asked == ASKED_SOME and question != ""))
         )
 
 
@@ -109,14 +123,24 @@ def chosen_of(asked: Mapping[str, str]) -> Chosen:
     return known._replace(
         show=show if show in SHOWS else NOT_SEEN,
         reason=known.reason if known.reason in REASONS else "",
+        asked=known.asked if known.asked in ASKED else "",
         sort=known.sort if known.sort in SORTED_BY else "",
     )
 
 
-def part_of(looks: Sequence[Look], seen: Collection[tuple[int, int]], chosen: Chosen) -> Part:
-    """The part of all prices that a page shows; `seen` has the slots of those that its person has seen."""
+NO_QUESTIONS: Mapping[tuple[int, int], str] = {}
+
+
+def part_of(
+    looks: Sequence[Look],
+    seen: Collection[tuple[int, int]],
+    chosen: Chosen,
+    asked: Mapping[tuple[int, int], str] = NO_QUESTIONS,
+) -> Part:
+    """The part of all prices that a page shows; `seen` has the slots of those that its person has seen, and `asked` by
+    slot what has become of the question about it."""
     ordered = sorted(looks, key=SORTED_BY[chosen.sort]) if chosen.sort else [*looks]
-    fits = [chosen.has(it, it.slot in seen) for it in ordered]
+    fits = [chosen.has(it, it.slot in seen, asked.get(it.slot, "")) for it in ordered]
     by_filters = chosen._replace(only="")
     places = {key_of(it): at for at, it in enumerate(ordered)}
     wanted = [at for at, is_one in enumerate(fits) if is_one]
@@ -131,7 +155,7 @@ def part_of(looks: Sequence[Look], seen: Collection[tuple[int, int]], chosen: Ch
     further = {**chosen.filters, "after": key_of(ordered[last])} if last >= 0 else {}
     return Part(
         [ordered[at] for at in shown],
-        sum(by_filters.has(it, it.slot in seen) for it in ordered),
+        sum(by_filters.has(it, it.slot in seen, asked.get(it.slot, "")) for it in ordered),
         earlier if any(at < first for at in wanted) else None,
         further if any(at > last for at in wanted) else None,
     )

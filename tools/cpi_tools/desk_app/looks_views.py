@@ -17,8 +17,9 @@ from ..told import told as _
 from .asked import desk, field, month_of, page, session
 from .changes import changed_by
 from .faults import says
+from .field_of_month import questions_by_slot, state_of
 from .looks import Look
-from .looks_chosen import ORDERS, REASONS, SHOWS, Chosen, chosen_of, key_of, part_of
+from .looks_chosen import ASKED, ORDERS, REASONS, SHOWS, Chosen, chosen_of, key_of, part_of
 from .looks_rows import amount, percent_of, price_of, rows_of
 from .marks import NOTE, SEEN, UNSEEN, Price
 from .trials import Tried
@@ -52,14 +53,17 @@ def shown(month: str, asked: Mapping[str, str], status: int = 200, /, **typed: o
     """The same, with what came of a form; `asked` says which prices, and from which one on."""
     number = month_of(month)
     found, chosen = desk().trials.latest(number), chosen_of(asked)
-    named: dict[str, object] = {"refused": NOTHING, "of": None, "text": "", "checked": frozenset[str](), **typed}
+    named: dict[str, object] = {"refused": NOTHING, "of": None, "text": "", "question": "", "checked": frozenset[str]()}
+    named.update(typed)
     named.update(month=month, found=found, running=desk().trials.running, fault=desk().trials.fault(number))
     named.update(chosen=chosen, rows=[], part=None, amount=amount, **choices())
     if found:
         seen = desk().marks.seen_by(session().person, number)
         slots = {it.slot for it in found.looks if price_of(number, it) in seen}
-        part = part_of(found.looks, slots, chosen)
-        named.update(rows=rows_of(number, found, part.looks), part=part, seen=len(slots), **filters_of(found))
+        asked_about = questions_by_slot(number)
+        part = part_of(found.looks, slots, chosen, {slot: state_of(it) for slot, it in asked_about.items()})
+        rows = rows_of(number, found, part.looks, asked_about)
+        named.update(rows=rows, part=part, seen=len(slots), **filters_of(found))
     answer = page("looks.html", status, **named)
     answer.headers["Content-Security-Policy"] = POLICY
     return answer
@@ -69,8 +73,9 @@ def choices() -> dict[str, object]:
     """What a person chooses from: each list by its words of an address, with what it is called."""
     say = desk().teller.say
     reasons = [("", say(_("Any reason"))), *((name, say(text)) for name, text in REASONS.items())]
-    shows, orders = ([(name, say(text)) for name, text in each.items()] for each in (SHOWS, ORDERS))
-    return {"reasons_told": reasons, "shows_told": shows, "orders_told": orders}
+    shows, orders, asked = ([(name, say(text)) for name, text in each.items()] for each in (SHOWS, ORDERS, ASKED))
+    asked.insert(0, ("", say(_("All of them"))))
+    return {"reasons_told": reasons, "shows_told": shows, "orders_told": orders, "asked_told": asked}
 
 
 def filters_of(found: Tried) -> dict[str, object]:
@@ -154,7 +159,8 @@ def place_after(month: int, price: Price, what: str, chosen: Chosen) -> str:
         return f"{price.collector}-{price.slot}"
     seen = desk().marks.seen_by(session().person, month)
     slots = {it.slot for it in found.looks if price_of(month, it) in seen}
-    keys = [key_of(it) for it in part_of(found.looks, slots, chosen).looks]
+    asked_about = {slot: state_of(it) for slot, it in questions_by_slot(month).items()}
+    keys = [key_of(it) for it in part_of(found.looks, slots, chosen, asked_about).looks]
     own = f"{price.collector}-{price.slot}"
     at = keys.index(own) if own in keys else -1
     return next(iter([*keys[at + 1 : at + 2], *keys[max(at - 1, 0) : max(at, 0)], own]))

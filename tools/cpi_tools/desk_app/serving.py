@@ -27,7 +27,7 @@ SOCKET_MODE = "660"
 """The owner of the socket and its group open it; that group is its folder's."""
 
 FORGETTING = 3_600
-"""Seconds from one look for notes of the field that are kept no longer to the next."""
+"""Seconds from one look for notes and questions that are kept no longer to the next."""
 
 
 def serve(given: Given, listen: str, front: str) -> None:
@@ -97,7 +97,9 @@ def _place(reached: Reached) -> dict[str, Any]:
 
 
 def _forgetting(desk: Desk, over: threading.Event) -> None:
-    """Removes the notes of the field whose time has passed, each hour, whoever looks at the pages."""
-    while desk.field and not over.wait(FORGETTING):
-        with contextlib.suppress(Fault):  # (the next page of the notes meets it too)
-            desk.field.forget()
+    """Removes the notes of the field and the questions whose time has passed, each hour, whoever looks at the pages."""
+    files = [it for it in (desk.field, desk.questions) if it]
+    while files and not over.wait(FORGETTING):
+        for file in files:
+            with contextlib.suppress(Fault):  # (the next page of them meets it too)
+                file.forget()

@@ -75,6 +75,8 @@ async function sent(form, more, row) {
   }
   if (!answer.ok || !answer.redirected) {
     say(page.querySelector("#refused, .told.bad")?.textContent.trim() ?? message.dataset.away, row);
+    const fresh = row && page.getElementById(row.id);
+    if (fresh) takeNotes(row, fresh); // (somebody else may have asked)
     return null;
   }
   const fresh = page.getElementById("counts");
@@ -108,11 +110,21 @@ async function mark(form) {
   busy.delete(form);
   const fresh = page?.getElementById(row.id);
   if (!fresh) return;
-  const notes = row.querySelector(".notes"), known = notes.childElementCount + (field ? 1 : 0);
-  notes.replaceChildren(...fresh.querySelector(".notes").childNodes);
-  if (notes.childElementCount > known) say(message.dataset.others, row);
+  const known = row.querySelector(".notes").childElementCount + (field ? 1 : 0);
+  if (takeNotes(row, fresh) > known) say(message.dataset.others, row);
   showSeen(row, fresh.hasAttribute("data-seen"));
   if (field && field.value === text) field.value = ""; // (what was typed meanwhile stays)
+  const fold = form.closest("details");
+  if (fold && field.value === "") fold.open = false;
+  if (fold || !form.isConnected) go(row); // (what had the focus is gone)
+}
+
+/** Takes what is noted and asked of a price from a row of a newer page; how much that is. */
+function takeNotes(row, fresh) {
+  const notes = row.querySelector(".notes"), question = row.querySelector("input[name=question]");
+  notes.replaceChildren(...fresh.querySelector(".notes").childNodes);
+  if (question) question.value = fresh.querySelector("input[name=question]").value;
+  return notes.childElementCount;
 }
 
 /** Sends what is checked; the rows stay where they are. */
@@ -160,7 +172,14 @@ const KEYS = {
   n: () => {
     const row = rowNow() ?? rows()[0];
     go(row);
-    row.querySelector("input[name=text]").focus();
+    row.querySelector(".noting input[name=text]").focus();
+  },
+  q: () => {
+    const row = rowNow() ?? rows()[0], fold = row.querySelector("details.asking");
+    if (!fold) return;
+    go(row);
+    fold.open = true;
+    fold.querySelector("input[name=text]").focus();
   },
 };
 
