@@ -292,6 +292,8 @@ def run(chosen: argparse.Namespace) -> int:
     for line in told:
         print(f"cpi-tools publish: {line}", file=sys.stderr)
     _tell_unknown(config, series)
+    for line in config.about.lacking():
+        print(f"cpi-tools publish: {line}", file=sys.stderr)
     if config.address and not has_cards(chosen.out):
         print(f"cpi-tools publish: releases have no cards: {NOT_DRAWN}", file=sys.stderr)
     return 0

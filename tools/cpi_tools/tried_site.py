@@ -17,8 +17,9 @@ ANOTHER = {"agency": "TRIAL", "area": "XX", "office": "An office that is tried"}
 FILES = ("aggregates", "calendar")
 """Words of a configuration that name a file from its folder."""
 
-OF_ANOTHER_SITE = ("address", "revisions")
-"""Words of the made-up country that aren't the trial's: its months were moved, and its address is that of another site."""
+OF_ANOTHER_SITE = ("address", "revisions", "about")
+"""Words of the made-up country that aren't the trial's: its months were moved, its address is that of another site, and what
+it says of its weights names their years."""
 
 
 def of_country(path: Path, first: str) -> dict[str, str]:

@@ -8,12 +8,14 @@ from collections.abc import Mapping
 from pathlib import Path
 from typing import NamedTuple, Optional
 
+from ..languages import SOURCE
 from ..speech import LATIN
 from ..terminal import Fault, because_of
 from .announced import Announced
 from .clocks import UTC, Clock, NoZone, clock_of
 from .dated import Dated, dated_of, value_in
 from .office_languages import BadLanguages, OfficeLanguages, Own, read_languages
+from .own_words import OwnWords, read_own_words
 from .planned import Planned, read_planned
 from .reasons import Reason, read_reasons
 from .shown import EXACT, RATES
@@ -31,7 +33,7 @@ ADDRESS = re.compile(r"https?://[A-Za-z0-9.-]+(:[0-9]{1,5})?(/[A-Za-z0-9._~-]+)*
 
 NAMES = ("agency", "area", "office", "title", "country", "contact", "licence", "reference", "currency", "minor_digits",
          "without", "aggregates", "rates", "language", "provisional", "address", "zone",
-         "calendar", "years", "revisions", "languages", "digits")  # fmt: skip
+         "calendar", "years", "revisions", "languages", "digits", "about")  # fmt: skip
 NEEDED = ("agency", "area", "office")
 
 
@@ -75,7 +77,8 @@ class Config(NamedTuple):
     are the office's own ids of SDMX by those that are used else, `specials` its special aggregates, `provisional` is how
     many of the last months it may still revise (0 to MOST_PROVISIONAL), `years` how many years are in the files of
     the folder `data` (None: as many as don't make them large), `speaks` are the languages of the pages
-    (without one they are English), and `announced` are the releases that the pack before announced, and these do.
+    (without one they are English), `announced` are the releases that the pack before announced, and these do, and `about`
+    is what the office says of the index in its own words.
     """
 
     agency: str
@@ -104,6 +107,7 @@ class Config(NamedTuple):
     reasons: tuple[Reason, ...] = ()
     speaks: OfficeLanguages = OfficeLanguages()
     announced: tuple[Announced, ...] = ()
+    about: OwnWords = OwnWords()
 
     def reference_in(self, month: str) -> str:
         """The reference period of the release of a month."""
@@ -132,9 +136,10 @@ class Config(NamedTuple):
 
 def read_config(path: Path, known: KnownIds = KnownIds()) -> Config:
     """The sections `[office]` and `[sdmx]` of a file; `known` are the ids that the latter may name. The files of special
-    aggregates, of announced releases and of reasons, if there are any, are named from the folder of this file.
+    aggregates, of announced releases and of reasons, and the folder of the office's own words, if there are any, are named
+    from the folder of this file.
 
-    Raises BadConfig, BadSpecials, BadCalendar or BadReasons.
+    Raises BadConfig, BadSpecials, BadCalendar, BadReasons, or a fault of `own_words`.
     """
     parser = configparser.ConfigParser(interpolation=None)
     parser.optionxform = str  # type: ignore[assignment]
@@ -149,7 +154,9 @@ def read_config(path: Path, known: KnownIds = KnownIds()) -> Config:
     # (a word without a value is as one that isn't there; a value of several lines is one)
     found = {name: " ".join(value.split()) for name, value in parser["office"].items() if value.strip()}
     ids = dict(parser["sdmx"]) if "sdmx" in parser else {}
-    specials, calendar, reasons = (found.pop(name, "") for name in ("aggregates", "calendar", "revisions"))
+    specials, calendar, reasons, about = (
+        found.pop(name, "") for name in ("aggregates", "calendar", "revisions", "about")
+    )
     sections = {name: dict(parser[name]) for name in parser.sections() if name not in ("office", "sdmx")}
     languages, digits = found.pop("languages", ""), found.pop("digits", LATIN)
     try:
@@ -163,6 +170,7 @@ def read_config(path: Path, known: KnownIds = KnownIds()) -> Config:
         speaks=speaks,
         planned=read_planned(path.parent / calendar, config.clock) if calendar else (),
         reasons=read_reasons(path.parent / reasons, config.clock) if reasons else (),
+        about=read_own_words(path.parent / about, speaks.languages or (SOURCE,)) if about else OwnWords(),
     )
 
 

@@ -32,6 +32,7 @@ from .figures import Known
 from .given import Given, lead_of, sorted_values, values_of, with_bars
 from .headline import headline
 from .item_files import ItemFiles
+from .logos import LOGO, Logo
 from .measures import reference_level
 from .month_rows import MonthRows
 from .new_files import NewFiles
@@ -57,6 +58,7 @@ from .spoken import (
 )
 from .tables import Row, Table, before, link_of
 from .script_words import write_words
+from .shown_words import own_words_of
 from .versions import ALONE, Version
 from .wording import filters_of, page_of, share
 
@@ -150,6 +152,7 @@ class Site:
             sections=sections(speech),
             ways=self._ways,
             languages=self.versions,
+            logo=self._logo,
         )
 
     def _ways(self, root: str, here: str) -> Markup:
@@ -183,6 +186,11 @@ class Site:
         """Whether the pages are in the folder of the pack, with what all languages share."""
         return not self.version.folder
 
+    @property
+    def _logo(self) -> Optional[Logo]:
+        """The office's logo in the language."""
+        return self.config.about.logo(self.speech.language.tag)
+
     def _make_folders(self) -> None:
         """The folders of the pages, and what all of them share."""
         if self.is_first:
@@ -192,6 +200,8 @@ class Site:
             (self.folder / "assets").mkdir(parents=True)
         for name in ("node", *(("picture", "embed") if self.config.has(PICTURES) else ())):
             (self.folder / name).mkdir()
+        if self._logo:
+            (self.folder / "assets" / LOGO).write_bytes(self._logo.data)
 
     def _write_own(self) -> None:
         """The pages of the folder of a language."""
@@ -212,7 +222,7 @@ class Site:
         says = file_says(self.speech, self.config)
         data = {"files": files, "file_says": says, "years": years, "first_year": first_year, "lacking": self._lacking()}
         self._page("data.html", **data, dataset=self.releases.dataset(files))
-        self._page("method.html")
+        self._page("method.html", **own_words_of(self.config.about, self.speech, self.versions))
         changes = [change(self.shown, self.month, is_annual) for is_annual in (True, False)]
         part = given(Known(self.series, self.contributions, self.shown), self.month)
         self._page("how-to-read.html", changes=[*filter(None, changes)], part=part)

@@ -30,6 +30,7 @@ from .artefacts import Structure
 from .before import Before
 from .clocks import UTC
 from .config import SDMX_FORMS, Config
+from .own_words import OwnWords
 from .part import Now, known_of, write_part
 from .shown import Shown
 from .tables import Series, Unexplained
@@ -148,7 +149,7 @@ class Archives:
         # (which has no part in these files: what only pages say, releases to come, and what earlier releases had)
         config = own._replace(
             without=frozenset(), years=None, address="", clock=UTC, planned=(), announced=(), reasons=(), references=(), all_rates=(),
-            all_provisional=(),
+            all_provisional=(), about=OwnWords(),
         )  # fmt: skip
         content = (
             tool(),
