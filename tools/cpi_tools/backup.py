@@ -286,7 +286,7 @@ def add_words(tools: argparse._SubParsersAction[ToolWords]) -> None:
     """The tool `backup`."""
     words = tools.add_parser(
         "backup",
-        help="a right copy of an office's file, while cpi runs or not",
+        help="copies an office's file, while cpi runs or not",
         description=DESCRIPTION,
         epilog=EPILOG,
     )

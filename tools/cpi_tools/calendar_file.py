@@ -130,7 +130,7 @@ exit status: 0 if the calendar is there; 1 with one line why it isn't; 2 if the 
 
 def add_words(tools: argparse._SubParsersAction[ToolWords]) -> None:
     """The tool `calendar`."""
-    says = "the windows of the months, for the collectors' page"
+    says = "writes the windows of the months for the collectors' page"
     words = tools.add_parser("calendar", help=says, description=DESCRIPTION, epilog=EPILOG)
     words.add_argument("file", type=Path, metavar="FILE", help="the office's file, which is only read")
     words.add_argument("--out", type=a_file, required=True, metavar="CALENDAR", help="where the calendar is written")

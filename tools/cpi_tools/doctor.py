@@ -362,7 +362,7 @@ def add_words(tools: argparse._SubParsersAction[ToolWords]) -> None:
     """The tool `doctor`."""
     words = tools.add_parser(
         "doctor",
-        help="why an office can't be opened, and what to do",
+        help="says why an office can't be opened, and what to do",
         description=DESCRIPTION,
         epilog=EPILOG,
     )

@@ -192,7 +192,10 @@ refused; 3 if something is missing or differs
 def add_words(tools: argparse._SubParsersAction[ToolWords]) -> None:
     """The tool `gaps`."""
     words = tools.add_parser(
-        "gaps", help="which prices with a receipt an office doesn't have", description=DESCRIPTION, epilog=EPILOG
+        "gaps",
+        help="lists the prices with a receipt that an office doesn't have",
+        description=DESCRIPTION,
+        epilog=EPILOG,
     )
     words.add_argument("file", type=Path, metavar="FILE", help="the office's file, which is only read")
     lists = words.add_mutually_exclusive_group(required=True)

@@ -155,7 +155,7 @@ exit status: 0 if the rows are written; 1 with one line why they aren't; 2 if th
 
 def add_words(tools: argparse._SubParsersAction[ToolWords]) -> None:
     """The tool `weights`."""
-    says = "weights of a year, moved by prices to December for the next plan"
+    says = "moves a year's weights by prices to December, for the next plan"
     words = tools.add_parser("weights", help=says, description=DESCRIPTION, epilog=EPILOG)
     words.add_argument("sheet", type=Path, metavar="SHEET", help="codes and weights")
     add_source(words)

@@ -262,7 +262,7 @@ exit status: 0 where the folder is there; 1 with one line why it isn't, and noth
 
 def add_words(tools: argparse._SubParsersAction[ToolWords]) -> None:
     """The tool `next-year`."""
-    says = "who leaves the sample, and a draft of next year's plan"
+    says = "drafts next year's plan, and lists the series that leave the sample"
     words = tools.add_parser("next-year", help=says, description=DESCRIPTION, epilog=EPILOG)
     words.add_argument("file", type=Path, metavar="FILE", help="the office's file, which is only read")
     words.add_argument("year", type=at_least(2000), metavar="YEAR", help="the year that comes, such as 2027")

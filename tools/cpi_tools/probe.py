@@ -204,7 +204,7 @@ def add_words(tools: argparse._SubParsersAction[ToolWords]) -> None:
     """The tool `probe`."""
     words = tools.add_parser(
         "probe",
-        help="whether an office answers, takes writes, publishes in time, and is backed up",
+        help="says whether an office answers, takes writes, publishes in time, and is backed up",
         description=DESCRIPTION,
         epilog=EPILOG,
     )

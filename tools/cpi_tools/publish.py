@@ -251,7 +251,7 @@ def add_words(tools: argparse._SubParsersAction[ToolWords]) -> None:
     """The tool `publish`."""
     words = tools.add_parser(
         "publish",
-        help="data files and a website of all published tables",
+        help="writes data files and a website of all published tables",
         description=DESCRIPTION,
         epilog=EPILOG,
     )

@@ -184,7 +184,7 @@ exit status: 0 if there is no problem; 1 if there is one, or with one line what 
 
 def add_words(tools: argparse._SubParsersAction[ToolWords]) -> None:
     """The tool `take-in`."""
-    says = "an office's spreadsheets become records"
+    says = "makes records of an office's spreadsheets"
     words = tools.add_parser("take-in", help=says, description=DESCRIPTION, epilog=EPILOG)
     words.add_argument("folder", type=Path, metavar="FOLDER", help="the folder of the files, or one workbook .xlsx")
     do = words.add_mutually_exclusive_group(required=True)

@@ -228,7 +228,7 @@ exit status: 0 where the files are there; 1 with one line why they aren't, and n
 
 def add_words(tools: argparse._SubParsersAction[ToolWords]) -> None:
     """The tool `take-out`."""
-    says = "an office's file as the spreadsheets that take-in reads"
+    says = "writes an office's file as the spreadsheets that take-in reads"
     words = tools.add_parser("take-out", help=says, description=DESCRIPTION, epilog=EPILOG)
     words.add_argument("file", type=Path, metavar="FILE", help="the office's file, which is only read")
     words.add_argument("folder", type=Path, metavar="FOLDER", help="a folder that isn't there yet")

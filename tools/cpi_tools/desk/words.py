@@ -209,7 +209,7 @@ exit status: 0 with the nodes; 1 with one line why there are none; 2 where the w
 def add_words(tools: argparse._SubParsersAction[ToolWords]) -> None:
     """The tool `desk`."""
     words = tools.add_parser(
-        "desk", help="the month before it is frozen, and its freeze", description=DESCRIPTION, epilog=EPILOG
+        "desk", help="shows a month before it is frozen, and closes it", description=DESCRIPTION, epilog=EPILOG
     )
     jobs = words.add_subparsers(required=True, metavar="JOB", title="jobs", parser_class=ToolWords)
     _add_month(jobs)
@@ -233,7 +233,7 @@ def _job(jobs: argparse._SubParsersAction[ToolWords], name: str, says: str, text
 
 
 def _add_month(jobs: argparse._SubParsersAction[ToolWords]) -> None:
-    words = _job(jobs, "month", "a report on a month, with its provisional table", MONTH, MONTH_EPILOG)
+    words = _job(jobs, "month", "reports on a month, with its provisional table", MONTH, MONTH_EPILOG)
     add = words.add_argument
     add("--out", type=Path, required=True, metavar="FOLDER", help="where the report is written")
     add("--left-out", type=at_least(0), default=20, metavar="N", help="quotes that are left out in turn (%(default)s)")
@@ -252,7 +252,7 @@ def _add_month(jobs: argparse._SubParsersAction[ToolWords]) -> None:
 
 
 def _add_close(jobs: argparse._SubParsersAction[ToolWords]) -> None:
-    words = _job(jobs, "close", "the carry list, and the one record that freezes the month", CLOSE, CLOSE_EPILOG)
+    words = _job(jobs, "close", "writes the carry list, and the one record that freezes the month", CLOSE, CLOSE_EPILOG)
     add = words.add_argument
     add(
         "--carry",
@@ -267,7 +267,7 @@ def _add_close(jobs: argparse._SubParsersAction[ToolWords]) -> None:
 
 
 def _add_what_if(jobs: argparse._SubParsersAction[ToolWords]) -> None:
-    words = _job(jobs, "what-if", "the table as other quotes would make it", WHAT_IF, WHAT_IF_EPILOG)
+    words = _job(jobs, "what-if", "makes the table as other quotes would make it", WHAT_IF, WHAT_IF_EPILOG)
     add = words.add_argument
     add("--missing", type=a_slot, action="append", default=[], metavar="COLLECTOR/SLOT", help="as if it were missing")
     add("--reason", choices=REASONS, default=REASONS[0], help="why it is missing (%(default)s)")

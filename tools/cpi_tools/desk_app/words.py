@@ -163,7 +163,9 @@ def add_second_person(words: argparse.ArgumentParser) -> None:
 
 def add_serve(jobs: argparse._SubParsersAction[ToolWords]) -> None:
     """The job `serve` of the tool `desk`."""
-    words = jobs.add_parser("serve", help="the desk's pages in a browser", description=SERVE, epilog=SERVE_EPILOG)
+    words = jobs.add_parser(
+        "serve", help="serves the desk's pages to a browser", description=SERVE, epilog=SERVE_EPILOG
+    )
     add = words.add_argument
     add("--office", type=a_url, default=URL, metavar="URL", help="the office's address (%(default)s)")
     add("--file", type=Path, required=True, metavar="FILE", help="the office's file, which is only read")

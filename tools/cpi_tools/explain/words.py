@@ -156,7 +156,9 @@ exit status: 0 where each line is true; 1 where one isn't, or with one line why 
 
 def add_words(tools: argparse._SubParsersAction[ToolWords]) -> None:
     """The tool `explain`."""
-    words = tools.add_parser("explain", help="a figure down to its receipts", description=DESCRIPTION, epilog=EPILOG)
+    words = tools.add_parser(
+        "explain", help="explains a figure down to its receipts", description=DESCRIPTION, epilog=EPILOG
+    )
     add = words.add_argument
     add("file", type=Path, metavar="FILE", help="the office's file, which is only read")
     add("month", type=a_month, metavar="MONTH", help="a frozen month like 2026-02")

@@ -100,7 +100,7 @@ exit status: 0 if the page is there; 1 with one line why it isn't; 2 if the word
 
 def add_words(tools: argparse._SubParsersAction[ToolWords]) -> None:
     """The tool `keys`."""
-    says = "a sheet to print for each collector, to sign in on a phone"
+    says = "makes a sheet for each collector, to sign in on a phone"
     words = tools.add_parser("keys", help=says, description=DESCRIPTION, epilog=EPILOG)
     add = words.add_argument
     add("file", type=Path, metavar="FILE", help="the office's file, which is only read")
