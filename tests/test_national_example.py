@@ -49,6 +49,7 @@ from lib.pack_faults import workbook_faults
 from lib.pack_figures import ALL, Figures, sets_of_the_nation
 from lib.pack_forms import rows_of_csv
 from lib.pack_releases import first_page_faults, release_faults
+from lib.pack_slices import slice_faults
 from lib.pack_then import Then, releases
 from lib.pack_vintages import changed, reasons, revised
 from lib.program import Program
@@ -259,6 +260,10 @@ def test_the_sdmx_of_the_pack(pack: Pack) -> None:
 
 def test_the_json_stat_and_px_of_the_pack(pack: Pack) -> None:
     assert first_of(cube_faults(pack.site, pack.known)) is None
+
+
+def test_the_slices_of_the_pack(pack: Pack) -> None:
+    assert first_of(slice_faults(pack.site, pack.known)) is None
 
 
 def test_the_workbook_of_the_pack(pack: Pack) -> None:

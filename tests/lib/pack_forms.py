@@ -11,7 +11,7 @@ import zipfile
 from collections.abc import Iterable, Iterator
 from decimal import Decimal
 from pathlib import Path
-from typing import Any
+from typing import IO, Any, Union
 from xml.etree import ElementTree
 
 OFFICE = "http://schemas.openxmlformats.org/officeDocument/2006/relationships"
@@ -90,7 +90,7 @@ def px_cells(path: Path) -> dict[tuple[str, str, str], str]:
 Attributes = dict[str, str]
 
 
-def read_sdmx_ml(path: Path) -> Iterator[Attributes]:
+def read_sdmx_ml(path: Union[Path, IO[bytes]]) -> Iterator[Attributes]:
     """The observations of a data message (StructureSpecificData), each with the attributes of its series."""
     series: Attributes = {}
     for event, element in ElementTree.iterparse(path, ("start", "end")):

@@ -758,7 +758,13 @@ def test_a_pack_may_be_without_a_form(
     assert again(published, out, config=config) == []
     whole = {it.relative_to(pack).as_posix() for it in pack.rglob("*") if it.is_file()}
     found = {it.relative_to(out).as_posix() for it in out.rglob("*") if it.is_file()}
-    assert sorted(whole - found) == left_out and found <= whole
+    assert sorted(name for name in whole - found if name.count("/") == 1) == left_out and found <= whole
+    ends = tuple(name.removeprefix("data/cpi") for name in left_out if "/cpi." in name)
+    gone = (name for name in whole if name.count("/") > 1)
+    is_xml_out = ".sdmx.xml" in ends
+    assert {name for name in whole - found if name.count("/") > 1} == {
+        name for name in gone if name.endswith(ends) or is_xml_out and name.startswith("data/sdmx/")
+    }
     differing = {name for name in found if (out / name).read_bytes() != (pack / name).read_bytes()}
     assert differing == {"index.html", "data.html", "SHA256SUMS"}
     for name in left_out:

@@ -46,6 +46,7 @@ from .pack.reason_files import added_reasons, write_reasons
 from .pack.reasons import given_reasons
 from .pack.sdmx import KNOWN_IDS
 from .pack.set_vintages import set_lines
+from .pack.slices import sdmx_slices, write_slices
 from .pack.signature import Sign, Signature, is_signed, unsigned
 from .pack.specials import Sets
 from .pack.shown import Shown
@@ -111,9 +112,11 @@ def write_pack(pack: Pack, folder: Path, now: Now, before: Before) -> None:
     recent = known_of(series.part(*span), archives.unexplained, shown)
     pack.versions.write(data)
     write_announced(announced, data)
-    write_part(recent, structure, config, data, now, kept)
-    known = Known(series, contributions, shown, recent)
     files = NewFiles(folder)
+    with sdmx_slices(recent, structure, config, files) as also:
+        write_part(recent, structure, config, data, now, kept, also)
+    write_slices(recent, structure, config, files, now)
+    known = Known(series, contributions, shown, recent)
     items = ItemFiles(known, Notes(shown, config.provisional), before, archives.same_to, files)
     write_sites(known, recent, config, Shared(items, signature, pack.cards, files), now)
     now("sums")

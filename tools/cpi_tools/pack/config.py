@@ -39,10 +39,11 @@ NEEDED = ("agency", "area", "office")
 
 SDMX_FORMS = ("sdmx-csv", "sdmx-ml")
 JSON_STAT, PX = "json-stat", "px"
-PICTURES = "pictures"
-FORMS = (*SDMX_FORMS, JSON_STAT, PX, PICTURES)
+PICTURES, SLICES = "pictures", "slices"
+FORMS = (*SDMX_FORMS, JSON_STAT, PX, PICTURES, SLICES)
 """The forms of the observations that a pack may be without; in a national one they are most of all bytes. Without
-pictures there are no files of them, and no pages to embed; those in the pages stay."""
+pictures there are no files of them, and no pages to embed; those in the pages stay. Slices are files of parts of the
+observations (`slices`)."""
 
 
 MOST_PROVISIONAL = 24

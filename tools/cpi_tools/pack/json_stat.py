@@ -11,13 +11,13 @@ They are in the order of items, then of measures, then of months.
 from __future__ import annotations
 
 import json
-from collections.abc import Iterator, Sequence
-from typing import Any, TextIO
+from collections.abc import Iterable, Iterator, Sequence
+from typing import Any, Optional, TextIO
 
 from .config import Config
 from .cube import IMPUTED_PRICES, Measure, general_notes, meanings_of, measures_of, notes_of, statuses_of
 from .figures import Known
-from .tables import iso
+from .tables import Series, iso
 from .tongues import Tongue, first_of, others_of
 
 NAME = "cpi.jsonstat.json"
@@ -26,11 +26,13 @@ NAME = "cpi.jsonstat.json"
 class JsonStat:
     """Writes the dataset: what it is, and then a measure of an item after the other."""
 
-    def __init__(self, file: TextIO, known: Known, config: Config):
+    def __init__(self, file: TextIO, known: Known, config: Config, codes: Optional[Sequence[str]] = None):
+        """`codes` are the items, if they aren't all."""
         self._file, self._separator = file, "\n"
-        head = {**_about(known, config), "dimension": _dimensions(known, first_of(config))}
+        items = known.codes if codes is None else codes
+        head = {**_about(known, config, items), "dimension": _dimensions(known, first_of(config), items)}
         file.write(json.dumps(head, ensure_ascii=False, indent=1)[:-2])
-        statuses = ",".join(f'"{place}":"{status}"' for place, status in _statuses(known, config))
+        statuses = ",".join(f'"{place}":"{status}"' for place, status in _statuses(known, config, items))
         file.write(f',\n "status": {{{statuses}}},\n "value": [')
 
     def add(self, measure: Measure, figures: Sequence[str]) -> None:
@@ -45,10 +47,10 @@ class JsonStat:
         self._file.write("\n ]\n}\n")
 
 
-def _about(known: Known, config: Config) -> dict[str, Any]:
-    """What the dataset is, but for its dimensions."""
+def _about(known: Known, config: Config, codes: Sequence[str]) -> dict[str, Any]:
+    """What the dataset of some items is, but for its dimensions."""
     series, measures, own = known.series, measures_of(config), first_of(config)
-    others = {it.tag: _in_language(known, it) for it in others_of(config)}
+    others = {it.tag: _in_language(known, it, codes) for it in others_of(config)}
     return {
         "version": "2.0",
         "class": "dataset",
@@ -57,7 +59,7 @@ def _about(known: Known, config: Config) -> dict[str, Any]:
         "updated": iso(series.moment),
         "note": general_notes(known, own.config, own.speech),
         "id": ["item", "measure", "month"],
-        "size": [len(series.all_titles), len(measures), len(series.months)],
+        "size": [len(codes), len(measures), len(series.months)],
         "role": {"time": ["month"], "metric": ["measure"]},
         "extension": {
             "status": _statuses_in(known, own),
@@ -77,9 +79,9 @@ def _statuses_in(known: Known, tongue: Tongue) -> dict[str, Any]:
     return {"label": meanings_of(known, tongue.speech)}
 
 
-def _in_language(known: Known, tongue: Tongue) -> dict[str, Any]:
+def _in_language(known: Known, tongue: Tongue, codes: Sequence[str]) -> dict[str, Any]:
     """The texts of the dataset in another language."""
-    dimensions = _dimensions(known, tongue)
+    dimensions = _dimensions(known, tongue, codes)
     for it in dimensions.values():
         it["category"] = {name: it["category"][name] for name in ("label", "unit", "note") if name in it["category"]}
         if "unit" in it["category"]:
@@ -93,13 +95,13 @@ def _in_language(known: Known, tongue: Tongue) -> dict[str, Any]:
     }
 
 
-def _dimensions(known: Known, tongue: Tongue) -> dict[str, Any]:
+def _dimensions(known: Known, tongue: Tongue, codes: Sequence[str]) -> dict[str, Any]:
     series, measures, t = known.series, measures_of(tongue.config), tongue.speech.t
-    titles = {code: tongue.title(series, code) for code in series.all_titles}
+    titles = {code: tongue.title(series, code) for code in codes}
     items = {
         "index": [*titles],
         "label": titles,
-        "child": {code: below for code in series.titles if (below := series.children(code))},
+        "child": _children(series, codes),
         "note": {code: notes_of(known, code, tongue.speech) for code in titles},
     }
     units = {it.id: {"label": t(it.unit), "decimals": it.decimals} for it in measures}
@@ -111,10 +113,17 @@ def _dimensions(known: Known, tongue: Tongue) -> dict[str, Any]:
     }
 
 
-def _statuses(known: Known, config: Config) -> Iterator[tuple[int, str]]:
+def _children(series: Series, codes: Sequence[str]) -> dict[str, list[str]]:
+    """The items next below each item, as far as both are there; of special aggregates none."""
+    there, nodes = frozenset(codes), (code for code in codes if code not in series.specials)
+    found = ((code, [it for it in series.children(code) if it in there]) for code in nodes)
+    return {code: below for code, below in found if below}
+
+
+def _statuses(known: Known, config: Config, codes: Iterable[str]) -> Iterator[tuple[int, str]]:
     """The places of figures with a status, counted from 0 over the whole cube."""
     measures, months = measures_of(config), len(known.series.months)
-    for at, code in enumerate(known.series.all_titles):
+    for at, code in enumerate(codes):
         for which, measure in enumerate(measures):
             begin = (at * len(measures) + which) * months
             figures = known.texts(measure.figure, code) if known.shown.provisional else ()

@@ -29,13 +29,13 @@ import functools
 import re
 from collections.abc import Iterator, Mapping, Sequence
 from pathlib import Path
-from typing import NamedTuple, Optional, TextIO, Union
+from typing import NamedTuple, Optional, Protocol, TextIO, Union
 
 from ..csv_files import line_of
 from ..speech import marked
 from . import figures
 from .artefacts import SHARED, Structure, item_id
-from .config import Config, KnownIds
+from .config import SDMX_FORMS, Config, KnownIds
 from .figures import Figure, Known
 from .measures import average_change, full_years
 from .markup import attributes_of, text_of
@@ -43,6 +43,9 @@ from .tables import Series, iso, link_of
 from .tidy import written
 
 FLOW, DEFINITION, SCHEME = "DF_CPI", "DSD_CPI", "CS_CPI"
+
+ENDS = {"sdmx-csv": "sdmx.csv", "sdmx-ml": "sdmx.xml"}
+"""How the names of the files of each form end."""
 
 DIMENSIONS = ("FREQ", "REF_AREA", "MEASURE", "UNIT_MEASURE", "COICOP18", "TRANSFORMATION")
 TIME, VALUE = "TIME_PERIOD", "OBS_VALUE"
@@ -149,11 +152,13 @@ Observation = tuple[str, str, Attributes]
 
 
 class Observed(NamedTuple):
-    """A series of observations: the ids of its dimensions, its attributes, and its observations by month."""
+    """A series of observations: the ids of its dimensions, its attributes, its observations by month, and the code of its
+    node."""
 
     key: tuple[str, ...]
     attributes: tuple[str, ...]
     observations: Sequence[Observation]
+    code: str
 
 
 class Months:
@@ -219,7 +224,7 @@ def observed(known: Known, config: Config) -> Iterator[Observed]:
             found = months.observations(it, code)
             if found:
                 key = (config.id("M"), config.area, *ids[:2], item_id(code), ids[2])
-                yield Observed(key, (str(it.decimals),), found)
+                yield Observed(key, (str(it.decimals),), found, code)
     yield from _annual(known, config)
 
 
@@ -257,7 +262,7 @@ def _annual(known: Known, config: Config) -> Iterator[Observed]:
                     found.append((f"{each.year:04}", value_text, (base, config.id(status), "", "", iso(each.moment))))
             if found:
                 key = (config.id("A"), config.area, *ids[:2], item_id(code), ids[2])
-                yield Observed(key, (str(it.decimals),), found)
+                yield Observed(key, (str(it.decimals),), found, code)
 
 
 def _status_of_year(year: Year, marks: Sequence[str], provisional: frozenset[str]) -> str:
@@ -279,19 +284,35 @@ def _bases(it: Measure, known: Known, code: str) -> list[tuple[str, str]]:
     return known.shown.hundreds(code)
 
 
-def write_data(known: Known, structure: Structure, config: Config, folder: Path) -> None:
+class Also(Protocol):
+    """What else is made of the series as they are written, such as slices."""
+
+    def add(self, name: str, found: Observed, text: str) -> None:
+        """Takes a series, and its text in the form of a name."""
+
+
+def write_data(known: Known, structure: Structure, config: Config, folder: Path, also: Optional[Also] = None) -> None:
     """Writes the observations in each form that the pack has, as `cpi.sdmx.csv` and `cpi.sdmx.xml`."""
     with contextlib.ExitStack() as files:
-        forms: list[Union[CsvForm, XmlForm]] = []
-        if config.has("sdmx-csv"):
-            forms.append(CsvForm(files.enter_context(opened(folder / "cpi.sdmx.csv")), structure, config))
-        if config.has("sdmx-ml"):
-            forms.append(XmlForm(files.enter_context(opened(folder / "cpi.sdmx.xml")), structure, known.series, config))
+        forms: dict[str, Form] = {}
+        for form in filter(config.has, SDMX_FORMS):
+            file = files.enter_context(opened(folder / f"cpi.{ENDS[form]}"))
+            forms[form] = form_of(form, file, structure, known.series, config)
         for found in observed(known, config):
-            for each in forms:
-                each.add(found)
-        for each in forms:
-            each.end()
+            for form, it in forms.items():
+                text = it.text_of(found)
+                it.put(text)
+                if also:
+                    also.add(form, found, text)
+        for it in forms.values():
+            it.end()
+
+
+def form_of(form: str, file: TextIO, structure: Structure, series: Series, config: Config, part: str = "") -> Form:
+    """A form of some observations, whose head is written; `part` is the id of a part of all."""
+    if form == "sdmx-csv":
+        return CsvForm(file, structure, config)
+    return XmlForm(file, structure, series, config, part)
 
 
 def opened(path: Path) -> TextIO:
@@ -314,8 +335,8 @@ class CsvForm:
         self._attributes: dict[Attributes, str] = {}
         file.write(line_of(["STRUCTURE", "STRUCTURE_ID", "ACTION", *names]) + "\n")
 
-    def add(self, found: Observed) -> None:
-        """Writes a series."""
+    def text_of(self, found: Observed) -> str:
+        """The rows of a series."""
         start, attributes = line_of([*self._start, *found.key]), self._attributes.get(found.attributes)
         if attributes is None:
             attributes = self._attributes[found.attributes] = line_of(found.attributes)
@@ -324,7 +345,11 @@ class CsvForm:
             f"{start},{month},{value},{attributes},{ends.get(said) or self._end(said)}"
             for month, value, said in found.observations
         ]
-        self._file.write("".join(lines))
+        return "".join(lines)
+
+    def put(self, text: str) -> None:
+        """Writes the rows of a series."""
+        self._file.write(text)
 
     def _end(self, said: Attributes) -> str:
         """The end of the lines of some attributes."""
@@ -344,20 +369,21 @@ def _attribute(name: str, value: str) -> str:
     return attributes_of({name: value})
 
 
+DATA_END = "</message:DataSet>\n</message:StructureSpecificData>\n"
 OBSERVATION, OF_VALUE = f'<Obs {TIME}="', f'" {VALUE}="'
 
 
 class XmlForm:
     """SDMX-ML 2.1, StructureSpecificData."""
 
-    def __init__(self, file: TextIO, structure: Structure, series: Series, config: Config):
+    def __init__(self, file: TextIO, structure: Structure, series: Series, config: Config, part: str = ""):
         self._file, self._config = file, config
         self._ends: dict[Attributes, str] = {}
         self._names = [config.id(name) for name in (*DIMENSIONS, *SERIES_ATTRIBUTES)]
-        file.write(_data_head(structure, series, config))
+        file.write(data_head(structure, series, config, part))
 
-    def add(self, found: Observed) -> None:
-        """Writes a series."""
+    def text_of(self, found: Observed) -> str:
+        """The element of a series."""
         named = map(_attribute, self._names, (*found.key, *found.attributes))
         ends = self._ends
         # (months, figures and the ids of attributes have no character that would have to be escaped)
@@ -365,7 +391,11 @@ class XmlForm:
             f'{OBSERVATION}{month}{OF_VALUE}{value}"{ends.get(said) or self._end(said)}'
             for month, value, said in found.observations
         ]
-        self._file.write(f"<Series{''.join(named)}>\n{''.join(lines)}</Series>\n")
+        return f"<Series{''.join(named)}>\n{''.join(lines)}</Series>\n"
+
+    def put(self, text: str) -> None:
+        """Writes the element of a series."""
+        self._file.write(text)
 
     def _end(self, said: Attributes) -> str:
         """The end of the observations of some attributes."""
@@ -376,7 +406,10 @@ class XmlForm:
 
     def end(self) -> None:
         """Writes the end of the data set."""
-        self._file.write("</message:DataSet>\n</message:StructureSpecificData>\n")
+        self._file.write(DATA_END)
+
+
+Form = Union[CsvForm, XmlForm]
 
 
 SCHEMAS = "http://www.sdmx.org/resources/sdmxml/schemas/v2_1/"
@@ -384,10 +417,11 @@ SPACES = f'xmlns:message="{SCHEMAS}message" xmlns:common="{SCHEMAS}common"'
 PROLOGUE = '<?xml version="1.0" encoding="UTF-8"?>\n'
 
 
-def message_header(series: Series, config: Config, name: str, structure: str = "") -> str:
+def message_header(series: Series, config: Config, name: str, structure: str = "", part: str = "") -> str:
     """The header: it was prepared when the last table was published, so the same tables give the same bytes."""
+    own = f"_{part}" if part else ""
     return (
-        f"<message:Header>\n<message:ID>{config.id(name)}_{series.months[-1]}</message:ID>\n"
+        f"<message:Header>\n<message:ID>{config.id(name)}_{series.months[-1]}{own}</message:ID>\n"
         f"<message:Test>false</message:Test>\n<message:Prepared>{iso(series.moment)}</message:Prepared>\n"
         f"{_sender(config)}\n{structure}</message:Header>\n"
     )
@@ -419,8 +453,9 @@ CONTACTS = (
 """What a contact is by its form, and the element that SDMX has for it."""
 
 
-def _data_head(own: Structure, series: Series, config: Config) -> str:
-    """What is before the series: namespaces, header, and the beginning of the data set."""
+def data_head(own: Structure, series: Series, config: Config, part: str = "") -> str:
+    """What is before the series: namespaces, header, and the beginning of the data set; the id of a part of all is in that
+    of the message."""
     definition, version = own.definition.id, own.definition.version
     model = "urn:sdmx:org.sdmx.infomodel.datastructure.DataStructure"
     space = f"{model}={config.agency}:{definition}({version}):ObsLevelDim:{TIME}"
@@ -434,7 +469,7 @@ def _data_head(own: Structure, series: Series, config: Config) -> str:
         f"{PROLOGUE}<message:StructureSpecificData {SPACES}"
         f' xmlns:ss="{SCHEMAS}data/structurespecific" xmlns:own="{space}"'
         ' xmlns:xsi="http://www.w3.org/2001/XMLSchema-instance">\n'
-        f"{message_header(series, config, FLOW, structure)}"
+        f"{message_header(series, config, FLOW, structure, part)}"
         f'<message:DataSet ss:structureRef="{definition}" xsi:type="own:DataSetType"'
         ' ss:dataScope="DataStructure" action="Information">\n'
     )

@@ -44,6 +44,7 @@ from .release_site import ReleaseSite
 from .revised import all_revised
 from .shown import EXACT
 from .signature import Signature
+from .slices import series_path
 from .specials import Sets, Special
 from .spoken import (
     FILES,
@@ -221,6 +222,7 @@ class Site:
         first_year, years = self.recent.series.months[0][:4], self._years()
         says = file_says(self.speech, self.config)
         data = {"files": files, "file_says": says, "years": years, "first_year": first_year, "lacking": self._lacking()}
+        data["series_path"] = self._series_path()
         self._page("data.html", **data, dataset=self.releases.dataset(files))
         self._page("method.html", **own_words_of(self.config.about, self.speech, self.versions))
         changes = [change(self.shown, self.month, is_annual) for is_annual in (True, False)]
@@ -465,8 +467,13 @@ class Site:
 
     def _files(self) -> list[tuple[str, int]]:
         """The files of the folder `data` with their sizes in bytes, in the order of their page."""
-        found = [(self.pack / "data" / name) for name in FILES]
-        return [(it.name, it.stat().st_size) for it in found if it.is_file()]
+        found = [(name, self.pack / "data" / name) for name in FILES]
+        return [(name, it.stat().st_size) for name, it in found if it.is_file()]
+
+    def _series_path(self) -> str:
+        """The path of the index of all items, as SDMX-REST has it; empty if the pack has no such paths."""
+        path = series_path(self.config, ALL_ITEMS)
+        return path if (self.pack / path).is_file() else ""
 
     def _years(self) -> list[tuple[str, int]]:
         """The archives of earlier years with their sizes in bytes, the last first."""

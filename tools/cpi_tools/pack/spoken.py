@@ -57,6 +57,12 @@ FILES: Mapping[str, str] = {
     "artefacts.json": marked("The versions of these structures, now and in earlier packs"),
     "cpi.jsonstat.json": marked("JSON-stat 2.0: a cube of items, figures and months"),
     "cpi.px": marked("PX (PC-Axis, PxWeb): the same cube"),
+    "newest/cpi.csv": marked("The newest month; newest/ has it in the other forms too"),
+    "slices/headline.sdmx.csv": marked(
+        "SDMX of all items, the divisions and special aggregates; slices/01.sdmx.csv has all of division 01"
+    ),
+    "slices/headline.sdmx.xml": marked("The same as SDMX-ML"),
+    "json-stat/index.json": marked("JSON-stat 2.0: the list of the cubes of single items, such as json-stat/00.json"),
 }
 """The files of the folder `data` in the order in which they are offered, and what is in them."""
 
