@@ -4,8 +4,9 @@ from __future__ import annotations
 
 import copy
 import json
-from collections.abc import Callable, Iterable, Iterator
+from collections.abc import Callable, Iterator
 from decimal import Decimal
+from functools import partial
 from pathlib import Path
 
 from .nation import year_before
@@ -100,8 +101,8 @@ def csv_rows(known: Figures) -> dict[str, Iterator[Row]]:
 def part_faults(folder: Path, known: Figures, wanted: Observations) -> Iterator[str]:
     """The slices of SDMX, which are the whole together."""
     divisions = sorted({code[:2] for code in known.nodes} - {ALL})
-    parts: dict[str, Callable[[str], bool]] = {"headline": lambda code: is_headline(known, code)}
-    parts.update({each: lambda code, each=each: code in known.nodes and code[:2] == each for each in divisions})
+    parts: dict[str, Callable[[str], bool]] = {"headline": partial(is_headline, known)}
+    parts.update({each: partial(is_in_division, known, each) for each in divisions})
     names = {f"{part}.sdmx.{end}" for part in parts for end in ("csv", "xml")}
     if {path.name for path in folder.iterdir()} != names:
         yield f"the slices are {sorted(path.name for path in folder.iterdir())}, wanted {sorted(names)}"
@@ -118,6 +119,11 @@ def part_faults(folder: Path, known: Figures, wanted: Observations) -> Iterator[
 def is_headline(known: Figures, code: str) -> bool:
     """Whether an item is all items, a division or a special aggregate."""
     return code in known.sets or len(code) == 2
+
+
+def is_in_division(known: Figures, division: str, code: str) -> bool:
+    """Whether an item is a division, or below it."""
+    return code in known.nodes and code[:2] == division
 
 
 # ---- paths
