@@ -74,10 +74,11 @@ def whole(peer: socket.socket) -> bytes:
 
 
 class Front(NamedTuple):
-    """Caddy with the file of `ops/`, the office behind it, its log, and what is in the place of the desk's
-    application."""
+    """Caddy with the file of `ops/`: its port, that without TLS, the office behind it, its log, and what is in the place of
+    the desk's application."""
 
     port: int
+    plain_port: int
     office: Office
     log: Path
     desk: Office
@@ -103,7 +104,7 @@ TRIES = 3
 def filled(folder: Path, front: Front) -> str:
     """The file of `ops/` with its words filled in; nothing that Caddy writes lies outside of the folder."""
     text = (ROOT / "ops/Caddyfile").read_text(encoding="utf-8")
-    own = f"{{\n\tskip_install_trust\n\tadmin off\n\thttp_port {free_port()}\n\thttps_port {front.port}\n\tservers {{"
+    own = f"{{\n\tskip_install_trust\n\tadmin off\n\thttp_port {front.plain_port}\n\thttps_port {front.port}\n\tservers {{"
     assert text.count("{\n\tservers {") == 1
     text = text.replace("{\n\tservers {", own)
     words = {"HOST": "localhost", "PORT": str(front.office.port), "LOG": str(front.log), "WEB": f"{folder}/web"}
@@ -140,7 +141,7 @@ def front(needed: Callable[[str], str], tmp_path: Path) -> Iterator[Front]:
     (tmp_path / "set.js").write_text("export const office = {};\n")
     (tmp_path / "site").mkdir()
     for _ in range(TRIES):
-        found = Front(free_port(), office, tmp_path / "log", desk)
+        found = Front(free_port(), free_port(), office, tmp_path / "log", desk)
         (tmp_path / "Caddyfile").write_text(filled(tmp_path, found))
         with running(caddy, tmp_path) as process:
             if answers(found, process):
@@ -529,3 +530,77 @@ def test_while_the_desks_application_is_away_one_sentence_says_so(front: Front) 
     assert "default-src 'none'" in str(answer.getheader("Content-Security-Policy"))
     assert front.asked("GET", "/collect/")[0] == 200
     assert front.asked("GET", "/api/tables") == (200, REPLY)
+
+
+# ---- what an attacker asks for
+
+
+EVIL = (
+    "%0d%0aSet-Cookie:%20cpi_desk=evil;%20Path=/desk%0d%0aX-Injected:%20yes",
+    "%0aX-Injected:%20yes",
+    "%0d%0aContent-Length:%200%0d%0a%0d%0a<script>alert(1)</script>",
+    "%250d%250aX-Injected:%20yes",
+    "?%0d%0aX-Injected:%20yes",
+)
+"""What is put at the end of a path."""
+
+PLACES = ("/", "/a", "/desk", "/desk/", "/desk/sign-in", "/published", "/published/", "/tables", "/tables/", "/collect/",
+          "/config.js", "/calendar.json", "/api/items", "/api/table/2011-02/text", "/notes/2011-02", "/nowhere")  # fmt: skip
+"""The routes of the front, and an address without one."""
+
+
+CLOSED = "Host: localhost\r\nContent-Length: 0\r\nConnection: close\r\n\r\n"
+"""The rest of a message's head."""
+
+
+def raw(front: Front, message: str, is_plain: bool = False) -> bytes:
+    """What Caddy answers to a message, byte for byte."""
+    trusting = ssl.SSLContext(ssl.PROTOCOL_TLS_CLIENT)
+    trusting.check_hostname, trusting.verify_mode = False, ssl.CERT_NONE
+    port = front.plain_port if is_plain else front.port
+    with socket.create_connection(("127.0.0.1", port), 20) as line:
+        peer = line if is_plain else trusting.wrap_socket(line, server_hostname="localhost")
+        peer.sendall(message.encode("latin-1"))
+        answer = b""
+        with contextlib.suppress(OSError):
+            while piece := peer.recv(65536):
+                answer += piece
+        return answer
+
+
+def test_no_path_writes_into_a_head(front: Front, tmp_path: Path) -> None:
+    """With a website and without one; as nginx does it: tests/web/test_front_heads.py."""
+    for name in ("choose.html", "index.html"):
+        for place in PLACES:
+            for evil in EVIL:
+                for method, is_plain in (("GET", True), ("GET", False), ("POST", False)):
+                    asked = f"{method} {place}{evil} HTTP/1.1\r\n"
+                    head, end, body = raw(front, f"{asked}{CLOSED}", is_plain).partition(b"\r\n\r\n")
+                    lines = head.lower().replace(b"\r", b"\n").split(b"\n")
+                    assert end and lines[0].startswith(b"http/1.1 "), (asked, head)
+                    assert not [line for line in lines if line.startswith((b"x-injected", b"set-cookie"))], (
+                        asked,
+                        head,
+                    )
+                    assert not body.startswith(b"<script>"), asked
+        (tmp_path / "site" / name).write_text("<!DOCTYPE html>")
+
+
+@pytest.mark.parametrize("path", ["/desk/sign-in", "/desk/%73ign-in", "/desk//sign-in", "/desk/x/../sign-in"])
+def test_the_form_to_sign_in_is_a_short_one(path: str, front: Front) -> None:
+    """However it is spelled."""
+    head = f"POST {path} HTTP/1.1\r\nHost: localhost\r\nContent-Type: application/x-www-form-urlencoded\r\n"
+    head += "Connection: close\r\n"
+    assert raw(front, f"{head}Content-Length: 4096\r\n\r\n{'a=&' * 1365}a").startswith(b"HTTP/1.1 200 ")
+    assert len(front.desk.messages) == 1
+    assert raw(front, f"{head}Content-Length: 4097\r\n\r\n{'a=&' * 1365}ab").startswith(b"HTTP/1.1 413 ")
+    assert len(front.desk.messages) == 1
+
+
+@pytest.mark.parametrize("path", ["/desk/sign-in", "/desk//sign-in", "/desk/records/judge", "/notes/2026-01/7"])
+def test_a_form_whose_length_is_not_told_does_not_reach_the_desk(path: str, front: Front) -> None:
+    """Its pieces would go there as they come, however many they are."""
+    head = f"POST {path} HTTP/1.1\r\nHost: localhost\r\nAuthorization: CPI-Key {KEY}\r\nConnection: close\r\n"
+    pieces = f"{5000:x}\r\n{'a' * 5000}\r\n" * 10 + "0\r\n\r\n"
+    told = raw(front, f"{head}Transfer-Encoding: chunked\r\n\r\n{pieces}")
+    assert told.startswith(b"HTTP/1.1 411 ") and front.desk.messages == [], told[:100]
