@@ -17,7 +17,7 @@ from .version import ShowVersion
 TOOLS = {
     "backup": "backup", "drill": "drill", "restore": "restore", "follow": "follow", "receive": "receive", "keep": "keep",
     "promote": "promote", "gaps": "gaps", "probe": "probe", "doctor": "doctor", "keys": "keys", "calendar": "calendar_file",
-    "desk": "desk", "explain": "explain", "publish": "publish", "take-in": "take_in", "take-out": "take_out",
+    "desk": "desk", "explain": "explain", "quality": "quality", "publish": "publish", "take-in": "take_in", "take-out": "take_out",
     "next-year": "next_year", "weights": "moved_weights",
 }  # fmt: skip
 """The module of each tool, in the order of the help."""

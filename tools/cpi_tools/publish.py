@@ -41,6 +41,7 @@ from .pack.new_files import NewFiles
 from .pack.notes import Notes
 from .pack.part import Now, known_of, write_part
 from .pack.public import Published
+from .pack.quality_files import write_quality
 from .pack.published_sets import NO_SETS, KeptSets, changed_sets, kept_sets, refuse_changed
 from .pack.reason_files import added_reasons, write_reasons
 from .pack.reasons import given_reasons
@@ -112,6 +113,7 @@ def write_pack(pack: Pack, folder: Path, now: Now, before: Before) -> None:
     recent = known_of(series.part(*span), archives.unexplained, shown)
     pack.versions.write(data)
     write_announced(announced, data)
+    write_quality(series, config, data)
     files = NewFiles(folder)
     with sdmx_slices(recent, structure, config, files) as also:
         write_part(recent, structure, config, data, now, kept, also)
@@ -184,9 +186,22 @@ def publish(
         chain = previous_of(last, series), versions_after(packs), announced_in(packs)
         pack = Pack(series, config, *chain, signed_by(key, config.agency), cards, sets)
         write_pack(pack, new, now, Before(behind_link(out) if standing else None))
+        _tell_uncounted(series, config, tell)
         if earlier:
             _tell_changes(changed_pages(earlier, new, series), tell)
     return series
+
+
+def _tell_uncounted(series: Series, config: Config, tell: Callable[[str], None]) -> None:
+    """A line if the file of counts lacks published releases: it may be of an earlier month."""
+    counted_ones = {cell.of for cell in config.counts}
+    lacking = [table for table in series.vintages if table.rows and (table.month, table.revision) not in counted_ones]
+    if config.counts and lacking:
+        last = lacking[-1]
+        tell(
+            f"the counts of quality lack {counted(len(lacking), 'release')}, such as {last.month}, revision"
+            f" {last.revision}: cpi-tools quality writes them anew"
+        )
 
 
 def _tell_changes(changed: Sequence[str], tell: Callable[[str], None]) -> None:

@@ -20,6 +20,7 @@ from .planned import Planned, read_planned
 from .reasons import Reason, read_reasons
 from .shown import EXACT, RATES
 from .specials import Special, read_specials
+from .survey_counts import FEWEST_LEAST, LEAST_OUTLETS, MOST_LEAST, Cell, read_counts
 
 ID = re.compile(r"[A-Za-z0-9_$@-]{1,60}")
 NAME = re.compile(r"[A-Za-z][A-Za-z0-9_-]{0,59}")
@@ -33,7 +34,8 @@ ADDRESS = re.compile(r"https?://[A-Za-z0-9.-]+(:[0-9]{1,5})?(/[A-Za-z0-9._~-]+)*
 
 NAMES = ("agency", "area", "office", "title", "country", "contact", "licence", "reference", "currency", "minor_digits",
          "without", "aggregates", "rates", "language", "provisional", "address", "zone",
-         "calendar", "years", "revisions", "languages", "digits", "about")  # fmt: skip
+         "calendar", "years", "revisions", "languages", "digits", "about", "quality",
+         "least_outlets")  # fmt: skip
 NEEDED = ("agency", "area", "office")
 
 
@@ -44,6 +46,10 @@ FORMS = (*SDMX_FORMS, JSON_STAT, PX, PICTURES, SLICES)
 """The forms of the observations that a pack may be without; in a national one they are most of all bytes. Without
 pictures there are no files of them, and no pages to embed; those in the pages stay. Slices are files of parts of the
 observations (`slices`)."""
+
+
+TABLES = "tables"
+"""What `quality` is if the office has no file of counts: quality in figures by published tables only."""
 
 
 MOST_PROVISIONAL = 24
@@ -79,7 +85,8 @@ class Config(NamedTuple):
     many of the last months it may still revise (0 to MOST_PROVISIONAL), `years` how many years are in the files of
     the folder `data` (None: as many as don't make them large), `speaks` are the languages of the pages
     (without one they are English), `announced` are the releases that the pack before announced, and these do, and `about`
-    is what the office says of the index in its own words.
+    is what the office says of the index in its own words. With
+    `has_quality` quality is told in figures, with the `counts` of the survey, in which a division has `least_outlets`.
     """
 
     agency: str
@@ -109,6 +116,9 @@ class Config(NamedTuple):
     speaks: OfficeLanguages = OfficeLanguages()
     announced: tuple[Announced, ...] = ()
     about: OwnWords = OwnWords()
+    has_quality: bool = False
+    counts: tuple[Cell, ...] = ()
+    least_outlets: int = LEAST_OUTLETS
 
     def reference_in(self, month: str) -> str:
         """The reference period of the release of a month."""
@@ -140,20 +150,11 @@ def read_config(path: Path, known: KnownIds = KnownIds()) -> Config:
     aggregates, of announced releases and of reasons, and the folder of the office's own words, if there are any, are named
     from the folder of this file.
 
-    Raises BadConfig, BadSpecials, BadCalendar, BadReasons, or a fault of `own_words`.
+    Raises BadConfig, BadSpecials, BadCalendar, BadReasons, BadCounts, or a fault of `own_words`.
     """
-    parser = configparser.ConfigParser(interpolation=None)
-    parser.optionxform = str  # type: ignore[assignment]
-    try:
-        parser.read_string(path.read_text(encoding="utf-8"), str(path))
-    except OSError as fault:
-        raise BadConfig(because_of(fault)) from fault
-    except (configparser.Error, UnicodeDecodeError) as fault:
-        raise BadConfig(f"{path}: {' '.join(str(fault).split())}") from fault
-    if "office" not in parser:
-        raise BadConfig(f"{path} has no section [office]")
-    # (a word without a value is as one that isn't there; a value of several lines is one)
-    found = {name: " ".join(value.split()) for name, value in parser["office"].items() if value.strip()}
+    parser = _read_sections(path)
+    found = _office_words(parser)
+    quality, least_outlets = found.pop("quality", ""), _least_outlets(path, found.pop("least_outlets", ""))
     ids = dict(parser["sdmx"]) if "sdmx" in parser else {}
     specials, calendar, reasons, about = (
         found.pop(name, "") for name in ("aggregates", "calendar", "revisions", "about")
@@ -172,7 +173,44 @@ def read_config(path: Path, known: KnownIds = KnownIds()) -> Config:
         planned=read_planned(path.parent / calendar, config.clock) if calendar else (),
         reasons=read_reasons(path.parent / reasons, config.clock) if reasons else (),
         about=read_own_words(path.parent / about, speaks.languages or (SOURCE,)) if about else OwnWords(),
+        has_quality=bool(quality),
+        counts=read_counts(path.parent / quality, least_outlets) if quality not in ("", TABLES) else (),
+        least_outlets=least_outlets,
     )
+
+
+def read_least_outlets(path: Path) -> int:
+    """The number `least_outlets` of a configuration. Raises BadConfig."""
+    return _least_outlets(path, _office_words(_read_sections(path)).get("least_outlets", ""))
+
+
+def _read_sections(path: Path) -> configparser.ConfigParser:
+    """The sections of a file, of which [office] is one. Raises BadConfig."""
+    parser = configparser.ConfigParser(interpolation=None)
+    parser.optionxform = str  # type: ignore[assignment]
+    try:
+        parser.read_string(path.read_text(encoding="utf-8"), str(path))
+    except OSError as fault:
+        raise BadConfig(because_of(fault)) from fault
+    except (configparser.Error, UnicodeDecodeError) as fault:
+        raise BadConfig(f"{path}: {' '.join(str(fault).split())}") from fault
+    if "office" not in parser:
+        raise BadConfig(f"{path} has no section [office]")
+    return parser
+
+
+def _office_words(parser: configparser.ConfigParser) -> dict[str, str]:
+    """The words of [office]. One without a value is as one that isn't there; a value of several lines is one."""
+    return {name: " ".join(value.split()) for name, value in parser["office"].items() if value.strip()}
+
+
+def _least_outlets(path: Path, text: str) -> int:
+    """How many outlets a division with counts has at least. Raises BadConfig."""
+    if not text:
+        return LEAST_OUTLETS
+    if text not in map(str, range(FEWEST_LEAST, MOST_LEAST + 1)):
+        raise BadConfig(f"{path}: least_outlets: {text} isn't {FEWEST_LEAST} to {MOST_LEAST}")
+    return int(text)
 
 
 def _config(found: dict[str, str], ids: dict[str, str], known: KnownIds, specials: tuple[Special, ...]) -> Config:

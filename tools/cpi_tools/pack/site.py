@@ -39,6 +39,8 @@ from .new_files import NewFiles
 from .notes import Notes, note_names, present, said
 from .pictures import Chart, base_text, of_imputed, of_node
 from .public import Source
+from .quality import Quality
+from .quality_files import rate_of
 from .reasons import GivenReason, Reasons, given_reasons
 from .release_site import ReleaseSite
 from .revised import all_revised
@@ -225,6 +227,10 @@ class Site:
         data["series_path"] = self._series_path()
         self._page("data.html", **data, dataset=self.releases.dataset(files))
         self._page("method.html", **own_words_of(self.config.about, self.speech, self.versions))
+        if self.config.has_quality:
+            self._page(
+                "quality.html", quality=Quality(self.series, self.config, self.releases.releases.all), rate_of=rate_of
+            )
         changes = [change(self.shown, self.month, is_annual) for is_annual in (True, False)]
         part = given(Known(self.series, self.contributions, self.shown), self.month)
         self._page("how-to-read.html", changes=[*filter(None, changes)], part=part)

@@ -50,6 +50,8 @@ FILES: Mapping[str, str] = {
     "rereferenced.csv": marked("Levels with another reference period, {period} = 100"),
     "releases.csv": marked("Month, revision, moment and SHA-256 of each publication"),
     "announced.json": marked("The announced releases, and which of them moved"),
+    "quality.csv": marked("Quality in figures: response, imputation, timeliness, punctuality and revisions"),
+    "quality.json": marked("The same as JSON, by sections"),
     REASONS: marked("Why the office revised months, in its own words"),
     "cpi.sdmx.csv": "SDMX-CSV 2.0",
     "cpi.sdmx.xml": "SDMX-ML 2.1, StructureSpecificData",
