@@ -17,7 +17,7 @@ from cpi_tools.follow import Follower, mark_beside
 from cpi_tools.mirrors import sum_of
 from cpi_tools.places import Folder
 from cpi_tools.program import Cpi
-from cpi_tools.second_copies import MARK, NAMES, NOTE, OFFICE, second_text, state_of
+from cpi_tools.second_copies import MARK, NAMES, NOTE, OFFICE, CopyNote, second_text, state_of
 from .offices import LOAD_KEY, LOAD_MONTH, TABLES
 from .ran import Ran, run
 
@@ -161,14 +161,14 @@ def test_a_follower_that_writes_meanwhile_does_no_harm(
     """Two rounds go by while the copy is read, so that its file is of one moment and its log of another."""
     copy, times = promote._copy, []
 
-    def later(path: Path, to: Path) -> None:
-        copy(path, to)
+    def later(path: Path, to: Path, note: CopyNote) -> None:
+        copy(path, to, note)
         times.append(path.parent.name)
         if len(times) == 1:
             for price in (1, 2):
                 assert cpi.replay([f"70,{LOAD_KEY},quote,3,{LOAD_MONTH},price,{price}"], db=office)
                 assert Follower(office, Folder(dest)).round() == ""
-            copy(path, to.with_name("mixed"))
+            copy(path, to.with_name("mixed"), note)
             log_beside(to).write_bytes(b"")
 
     monkeypatch.setattr(promote, "_copy", later)

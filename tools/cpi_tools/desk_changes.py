@@ -25,15 +25,19 @@ from collections.abc import Iterator, Mapping
 from pathlib import Path
 from typing import IO, Any, NamedTuple, Optional
 
-from .desk_files import DATABASE, LOGS, Notes, Sized, is_name
+from .desk_files import DATABASE, LOGS, MOST_FILES, Notes, Sized, is_name
 from .held_folders import HeldFolder, held
 from .mirrors import PAGE
 from .page_changes import CAME, LONGEST_LINE, NotFitting
+from .plain_json import moment_of, plain_json, whole_number
 from .second_copies import DESK, INDEX
 from .terminal import Fault, because_of, naming
 
 CARRIED_DESK = "desk-changes"
 """The file of changes."""
+
+MOST_FOLDERS = 10**9
+"""The greatest number of a folder."""
 
 WHOLE, APPEND, PAGES = "whole", "append", "pages"
 """How a file is written: all of it, its new end, or the pages of an SQLite file that changed."""
@@ -94,16 +98,18 @@ def page_sizes(part: Part, size: int) -> Iterator[int]:
 def index_in(text: str) -> Optional[Index]:
     """The index of a text; None if it is none."""
     try:
-        read = json.loads(text)
-        files = {str(name): Sized(int(size), str(sum_)) for name, (size, sum_) in read["files"].items()}
-        index = Index(int(read["number"]), int(read["copied"]), _notes(*read["notes"]), files)
-        return index if index.number > 0 and all(map(is_name, files)) else None
+        read = plain_json(text)
+        files = {str(name): Sized(whole_number(size), str(sum_)) for name, (size, sum_) in read["files"].items()}
+        index = Index(
+            whole_number(read["number"], MOST_FOLDERS), moment_of(read["copied"]), _notes(*read["notes"]), files
+        )
+        return index if index.number > 0 and all(map(is_name, files)) and len(files) <= MOST_FILES else None
     except (ValueError, LookupError, TypeError, AttributeError):
         return None
 
 
 def _notes(came: Any, kept: Any, sum_: Any) -> Notes:
-    return Notes(int(came), int(kept), str(sum_))
+    return Notes(whole_number(came), whole_number(kept), str(sum_))
 
 
 def index_at(place: HeldFolder) -> Optional[Index]:
@@ -155,7 +161,7 @@ def desk_received_text(index: Index) -> str:
 def read_desk_head(file: IO[bytes]) -> DeskChanges:
     """What the first line of a file of changes says; the file is at its first byte then. Raises NotFitting."""
     try:
-        read = json.loads(file.readline(LONGEST_LINE))
+        read = plain_json(file.readline(LONGEST_LINE))
         before, index = (index_in(read[name]) for name in ("before", "index"))
         parts = tuple(_part(each) for each in read["parts"])
         if index is None or (read["before"] and before is None):

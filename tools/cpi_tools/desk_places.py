@@ -23,7 +23,7 @@ from .desk_changes import Index, index_at
 from .desk_files import ASIDE, DATABASE, HERE, LOG, LOGS, is_later, seen_in
 from .held_folders import HeldFolder, held
 from .mirrors import sum_of
-from .rooms import new_room
+from .rooms import new_room, refuse_without_room
 from .second_copies import DESK, second_text
 from .stored import unchanged_office
 from .terminal import Fault, because_of
@@ -82,6 +82,7 @@ def copied_desk(dest: Path, to: Path) -> Optional[tuple[Index, list[str]]]:
         if index is None:
             return None
         with place.folder(DESK) as desk, desk.folder(str(index.number)) as folder:
+            refuse_without_room(f"{folder.path} has", _size_of(folder, index), to)
             for name in index.files:
                 try:
                     _copy_from(folder, name, to / name)
@@ -97,6 +98,15 @@ def copied_desk(dest: Path, to: Path) -> Optional[tuple[Index, list[str]]]:
     return index, faults
 
 
+def _size_of(folder: HeldFolder, index: Index) -> int:
+    """The bytes of the files of a folder that an index names."""
+    size = 0
+    for name in index.files:
+        with contextlib.suppress(OSError), os.fdopen(folder.opened_below(name)) as file:
+            size += os.fstat(file.fileno()).st_size
+    return size
+
+
 def _not_whole(path: Path, name: str) -> str:
     """A file that was being received as the first machine was lost; an SQLite file only if it can be read."""
     if name.endswith(DATABASE):
@@ -110,14 +120,11 @@ def _not_whole(path: Path, name: str) -> str:
 
 def _copy_from(folder: HeldFolder, name: str, to: Path) -> None:
     """Copies a file of a folder that is open, by plain names. Raises OSError."""
-    *above, leaf = name.split("/")
     to.parent.mkdir(mode=0o700, parents=True, exist_ok=True)
-    with contextlib.ExitStack() as opened:
-        for each in above:
-            folder = opened.enter_context(folder.folder(each))
-        source = opened.enter_context(os.fdopen(folder.opened(leaf), "rb"))
+    with os.fdopen(folder.opened_below(name, links=1), "rb") as source:
         number = os.open(to, os.O_WRONLY | os.O_CREAT | os.O_EXCL | os.O_CLOEXEC, 0o600)
-        shutil.copyfileobj(source, opened.enter_context(os.fdopen(number, "wb")), 1 << 20)
+        with os.fdopen(number, "wb") as file:
+            shutil.copyfileobj(source, file, 1 << 20)
 
 
 # ---- its place
@@ -146,6 +153,8 @@ def place_desk(made: Path, target: Path, owner: os.stat_result) -> Placed:
     Fault and OSError."""
     if refuse_desk(made, target):
         return Placed(False, None)
+    size = sum(seen.size for seen in seen_in(made).values())
+    refuse_without_room("the desk's folder has", size, target if target.is_dir() else target.parent)
     if not target.is_dir():
         target.mkdir(mode=0o700)
         with held(target) as folder:

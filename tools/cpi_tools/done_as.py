@@ -15,6 +15,7 @@ from collections.abc import Callable
 from typing import Any, NoReturn
 
 from .access import User, this_user
+from .plain_json import plain_json
 from .terminal import Fault, because_of, is_line
 
 MOST_BYTES = 1 << 20
@@ -53,7 +54,7 @@ def done_as(user: User, work: Work) -> dict[str, Any]:
 def _answer_in(text: bytes, ended: str) -> dict[str, Any]:
     """The answer of another user's process. Raises the Fault that it says, or that it ended without an answer."""
     try:
-        answer = json.loads(text)
+        answer = plain_json(text)
         if "fault" in answer and is_line(str(answer["fault"])):
             raise Fault(str(answer["fault"]))
         return dict(answer["done"])

@@ -23,6 +23,7 @@ from typing import NamedTuple, Optional
 from .access import user_of
 from .borg import Repository
 from .held_folders import held
+from .plain_json import moment_of, plain_json, whole_number
 from .second_copies import DRILLED, LOG, MOST_BYTES, NOTE, OFFICE, CopyNote, Sum, fault_of, note_in
 from .terminal import Fault, because_of, is_line
 
@@ -78,12 +79,12 @@ def last_drill_of(dest: Path) -> Optional[LastDrill]:
 
 def last_drill_in(text: str) -> LastDrill:
     """The same of a text. Raises ValueError, LookupError or TypeError if it is none."""
-    fields = json.loads(text)
-    file, log = (part and Sum(int(part["size"]), str(part["sum"])) for part in (fields["file"], fields["log"]))
+    fields = plain_json(text)
+    file, log = (part and Sum(whole_number(part["size"]), str(part["sum"])) for part in (fields["file"], fields["log"]))
     generation, failed, fault = (str(fields[name]) for name in ("generation", "failed", "fault"))
     if not is_line(generation + failed + fault):
         raise ValueError(text)
-    return LastDrill(generation, int(fields["copied"]), file, log, failed, fault)
+    return LastDrill(generation, moment_of(fields["copied"]), file, log, failed, fault)
 
 
 def write_last_drill(dest: Path, last: LastDrill) -> None:

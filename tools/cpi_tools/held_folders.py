@@ -49,6 +49,16 @@ class HeldFolder:
         os.close(opened)
         raise NotPlain(self.path / name, "a plain file" if not stat.S_ISREG(known.st_mode) else "a file of one name")
 
+    def opened_below(self, name: str, links: Optional[int] = None) -> int:
+        """The descriptor of a plain file that lies in folders of it, by its names with a `/` between. Raises OSError."""
+        *above, leaf = name.split("/")
+        with contextlib.ExitStack() as opened:
+            folder = self
+            for each in above:
+                folder = opened.enter_context(folder.folder(each))
+            number = folder.opened(leaf, links=links)
+        return number
+
     def text(self, name: str, most: int) -> str:
         """The first bytes of a file as a text. Raises OSError."""
         with os.fdopen(self.opened(name), "rb") as file:

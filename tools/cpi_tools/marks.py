@@ -20,6 +20,7 @@ from pathlib import Path
 from typing import Any, NamedTuple, Optional
 
 from .copying import private_copy
+from .plain_json import whole_number
 from .stored import SCHEMA, StoredOffice, unchanged_office
 from .terminal import Fault, month_text
 
@@ -170,10 +171,10 @@ def _other_quote(before: tuple[Quoted, ...], now: tuple[Quoted, ...]) -> Optiona
 
 def identity_in(told: Any) -> Optional[Identity]:
     """The identity of what a note tells. Raises ValueError, LookupError or TypeError if it is none."""
-    return None if told is None else Identity(int(told["collector"]), str(told["sum"]))
+    return None if told is None else Identity(whole_number(told["collector"]), str(told["sum"]))
 
 
 def marks_in(told: Any) -> Optional[Marks]:
     """The marks of what a note tells; None of a note that an earlier version wrote. Raises ValueError, LookupError or
     TypeError if they are none."""
-    return None if told is None else Marks(*(int(told[name]) for name in Marks._fields))
+    return None if told is None else Marks(*(whole_number(told[name]) for name in Marks._fields))

@@ -24,6 +24,7 @@ from typing import IO, Any, NamedTuple
 from .copying import log_beside
 from .held_folders import HeldFolder, held
 from .mirrors import PAGE
+from .plain_json import MOST, plain_json
 from .second_copies import LOG, NAMES, NOTE, OFFICE, CopyNote, Sum, note_in, note_text, state_in
 from .terminal import Fault, because_of, naming
 
@@ -111,7 +112,7 @@ def received_text(name: str, note: CopyNote) -> str:
 def read_head(file: IO[bytes]) -> Changes:
     """What the first line of a file of changes says; the file is at its first page then. Raises NotFitting."""
     try:
-        told = json.loads(file.readline(LONGEST_LINE))
+        told = plain_json(file.readline(LONGEST_LINE))
         before, note = (note_in(told[name]) for name in ("before", "note"))
         if before is None or note is None or told["name"] not in NAMES:
             raise ValueError
@@ -122,7 +123,7 @@ def read_head(file: IO[bytes]) -> Changes:
 
 def _of_file(told: Any) -> OfFile:
     time, pages = told
-    if type(time) is not int or any(type(page) is not int for page in pages):
+    if type(time) is not int or abs(time) > MOST or any(type(page) is not int for page in pages):
         raise ValueError
     return OfFile(time, pages)
 

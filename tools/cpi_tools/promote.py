@@ -39,7 +39,7 @@ from .holders import is_held
 from .mirrors import sync
 from .page_changes import drop_changes
 from .program import Cpi, add_program
-from .rooms import new_room
+from .rooms import new_room, refuse_without_room
 from .second_copies import (
     NAMES,
     OFFICE,
@@ -219,7 +219,7 @@ def _copied(dest: Path, wanted: Optional[str], to: Path) -> tuple[str, CopyNote]
         if not (note := state.notes.get(name)):
             raise Fault(f"{dest / name} has no note that is whole, so it isn't a whole copy")
         try:
-            _copy(dest / name / OFFICE, to)
+            _copy(dest / name / OFFICE, to, note)
             fault = fault_of(to, note)
         except NotPlain as found:
             fault = because_of(found)
@@ -229,23 +229,28 @@ def _copied(dest: Path, wanted: Optional[str], to: Path) -> tuple[str, CopyNote]
             raise Fault(f"{dest / name} isn't whole, and nothing was promoted: {fault}{_other(dest, name, to)}")
 
 
-def _copy(path: Path, to: Path) -> None:
-    """Copies a file of a copy and its log, with mode 0600 and onto the disk. A log without a byte is none."""
+def _copy(path: Path, to: Path, note: CopyNote) -> None:
+    """Copies a file of a copy and its log, with mode 0600 and onto the disk, and no more of them than what its note says and
+    a byte. A log without a byte is none. Raises Fault if there is no room for what the note says."""
+    size, log = note.file.size, note.log.size
     for target in (to, log_beside(to)):
         target.unlink(missing_ok=True)
+    refuse_without_room(f"{path.parent} has, by its note,", size + log, to.parent)
     with held(path.parent.parent) as place, place.folder(path.parent.name) as copy:
-        for name, target in ((path.name, to), (f"{path.name}-wal", log_beside(to))):
+        for name, target, most in ((path.name, to, size), (f"{path.name}-wal", log_beside(to), log)):
             with contextlib.suppress(FileNotFoundError):
-                _copy_file(copy.opened(name), target, name == path.name)
+                _copy_file(copy.opened(name, links=1), target, most + 1, name == path.name)
 
 
-def _copy_file(number: int, target: Path, is_needed: bool) -> None:
-    """Copies an open file to a new one; without a byte only if it is needed."""
+def _copy_file(number: int, target: Path, most: int, is_needed: bool) -> None:
+    """Copies so many bytes of an open file to a new one; of one without a byte only if it is needed."""
     with os.fdopen(number, "rb") as source:
         if is_needed or os.fstat(number).st_size:
             opened = os.open(target, os.O_WRONLY | os.O_CREAT | os.O_EXCL | os.O_CLOEXEC, 0o600)
             with os.fdopen(opened, "wb") as to:
-                shutil.copyfileobj(source, to, 1 << 20)
+                while most and (block := source.read(min(most, 1 << 20))):
+                    to.write(block)
+                    most -= len(block)
             sync(target)
 
 
@@ -253,8 +258,9 @@ def _other(dest: Path, name: str, to: Path) -> str:
     """What is to be said of the other copy, which is copied too, if that is whole."""
     (other,) = [each for each in NAMES if each != name]
     note = state_of(dest).notes.get(other)
-    with contextlib.suppress(OSError):
-        _copy(dest / other / OFFICE, to)
+    with contextlib.suppress(OSError, Fault):
+        if note:
+            _copy(dest / other / OFFICE, to, note)
         if note and not fault_of(to, note):
             return f" (--copy {other} takes the one of {second_text(note.copied)}, which is whole)"
     return ""

@@ -13,6 +13,8 @@ from collections.abc import Iterator
 from pathlib import Path
 from typing import Optional
 
+from .terminal import Fault
+
 MARK = ".cpi-room"
 """A file in each room, which its tool has locked as long as it runs (flock(2)). The kernel drops the lock of a tool that
 was killed."""
@@ -32,6 +34,12 @@ def new_room(prefix: str, folder: Optional[Path] = None) -> Iterator[Path]:
         with contextlib.suppress(OSError):
             fcntl.flock(mark, fcntl.LOCK_EX | fcntl.LOCK_NB)
         yield Path(made)
+
+
+def refuse_without_room(what: str, size: int, folder: Path) -> None:
+    """Raises Fault if the disk of a folder has no room for so many bytes: a file may have more of them than its own disk."""
+    if size > (free := shutil.disk_usage(folder).free):
+        raise Fault(f"{what} {size:,} bytes, and {folder} has {free:,} left")
 
 
 def stays(room: Path) -> None:

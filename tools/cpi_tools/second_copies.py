@@ -29,6 +29,7 @@ from .copying import log_beside
 from .held_folders import HeldFolder, NotPlain, held
 from .marks import Identity, Known, Marks, identity_in, marks_in
 from .mirrors import MirroredOffice, Taken, sum_of
+from .plain_json import moment_of, plain_json, whole_number
 from .terminal import Fault, because_of, is_line
 from .whole_files import write_whole
 
@@ -210,8 +211,8 @@ def promotion_of(folder: Path) -> Optional[Promotion]:
 def _promotion_in(place: HeldFolder) -> Optional[Promotion]:
     """The same of a place that is open. Raises Fault and OSError."""
     try:
-        told = json.loads(place.text(MARK, MOST_BYTES))
-        return Promotion(str(told["machine"]), int(told["promoted"]), int(told["copied"]))
+        told = plain_json(place.text(MARK, MOST_BYTES))
+        return Promotion(str(told["machine"]), moment_of(told["promoted"]), moment_of(told["copied"]))
     except FileNotFoundError:
         return None
     except (ValueError, LookupError, TypeError) as fault:
@@ -222,7 +223,7 @@ def refusal_of(folder: Path) -> str:
     """Why the last round was refused; empty if it wasn't. Raises Fault if that can't be read."""
     try:
         with held(folder) as place:
-            return str(json.loads(place.text(REFUSED, MOST_BYTES))["because"])
+            return str(plain_json(place.text(REFUSED, MOST_BYTES))["because"])
     except FileNotFoundError:
         return ""
     except OSError as fault:
@@ -244,14 +245,18 @@ def _note_in(place: HeldFolder, name: str) -> Optional[CopyNote]:
 def note_in(text: str) -> Optional[CopyNote]:
     """The note of a text; None if it is none that is whole."""
     try:
-        told = json.loads(text)
-        file, log = (Sum(int(told[name]["size"]), str(told[name]["sum"])) for name in ("file", "log"))
-        receipts = tuple((int(row[0]), int(row[1]), str(row[2]), int(row[3])) for row in told["receipts"])
+        told = plain_json(text)
+        file, log = (Sum(whole_number(told[name]["size"]), str(told[name]["sum"])) for name in ("file", "log"))
+        receipts = tuple(
+            (whole_number(row[0]), whole_number(row[1]), str(row[2]), whole_number(row[3])) for row in told["receipts"]
+        )
         office, machine = str(told["office"]), str(told["machine"])
-        if not is_line(office + machine):
+        if not is_line("".join((office, machine, *(row[2] for row in receipts)))):
             return None
         known = identity_in(told.get("identity")), marks_in(told.get("marks"))
-        return CopyNote(office, machine, int(told["round"]), int(told["copied"]), file, log, receipts, *known)
+        return CopyNote(
+            office, machine, whole_number(told["round"]), moment_of(told["copied"]), file, log, receipts, *known
+        )
     except (ValueError, LookupError, TypeError, AttributeError):
         return None
 
