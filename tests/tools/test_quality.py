@@ -440,3 +440,28 @@ def test_an_office_without_it_publishes_what_it_did(published: list[Published], 
 def test_a_file_that_cannot_be_written_is_one_line(tmp_path: Path) -> None:
     with pytest.raises(Fault, match="nowhere"):
         write_counts([], tmp_path / "nowhere/counts.csv")
+
+
+@pytest.mark.parametrize(
+    "tag, says", [("fr", "Triangle des révisions"), ("es", "Triángulo de revisiones"), ("ar", "مثلث")]
+)
+def test_the_page_is_there_in_each_language(cpi: Cpi, survey: Survey, tmp_path: Path, tag: str, says: str) -> None:
+    """With counts that are hidden and others, and a release that came late; no English heading is left."""
+    from cpi_tools.pack.office_languages import OfficeLanguages
+    from cpi_tools.pack.public import from_file
+
+    public = from_file(cpi, survey.file, 1_700_000_000)
+    late = Planned("2026-02", 1, max(each.listed.moment for each in public) - 3600)
+    config = CONFIG._replace(
+        counts=tuple(read_office(cpi, survey.file, 1_700_000_000, 5)),
+        planned=(late,),
+        speaks=OfficeLanguages((tag, "en")),
+    )
+    folder = tmp_path / "public"
+    publish(public, config, folder, None, quiet)
+    own, english = (Texts.of_page(folder / name) for name in ("quality.html", "en/quality.html"))
+    assert any(says in text for text in own.of("h3")) and "%(" not in own.markup
+    for element in ("h1", "h2", "h3", "caption", 'th scope="col" class="n"'):
+        texts, sources = own.of(element), english.of(element)
+        assert len(texts) == len(sources) and not {*texts} & {*sources} - {"Imputation"}, element
+    assert own.markup.count("<tr>") == english.markup.count("<tr>")

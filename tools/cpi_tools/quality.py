@@ -155,7 +155,7 @@ exit status: 0 if the file is written; 1 with a line why not; 2 if the words are
 def add_words(tools: argparse._SubParsersAction[ToolWords]) -> None:
     """The tool `quality`."""
     words = tools.add_parser(
-        "quality", help="counts of who answered, by release and division", description=DESCRIPTION, epilog=EPILOG
+        "quality", help="count who answered, by release and division", description=DESCRIPTION, epilog=EPILOG
     )
     add = words.add_argument
     add("--db", type=Path, required=True, metavar="OFFICE", help="an office's file, which is only read")
