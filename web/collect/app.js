@@ -10,7 +10,7 @@ import { notice, noticeUntilRead, showHead } from "./head.js";
 import * as languages from "./languages.js";
 import * as line from "./line.js";
 import { choose, jump, render } from "./list.js";
-import { notes } from "./optional.js";
+import { notes, questions } from "./optional.js";
 import * as search from "./search.js";
 import * as session from "./session.js";
 import * as shownMonth from "./shown-month.js";
@@ -80,11 +80,12 @@ async function passed() {
   await shownMonth.follow();
 }
 
-/** Loads what an office needs that takes notes of the field; nothing, if it takes none. */
+/** Loads what an office needs that takes notes of the field, and asks collectors; nothing, if it takes none. */
 async function loadNotes() {
   const { notes: areTaken } = /** @type {{ notes?: boolean }} */ (office);
   if (areTaken !== true) return;
-  await import("./notes.js").then((it) => it.listen(), () =>
+  const parts = Promise.all([import("./notes.js"), import("./questions.js")]);
+  await parts.then((found) => found.forEach((it) => it.listen()), () =>
     noticeUntilRead(() => t("The part of this page for notes isn’t on this phone yet. Open the page again with a line.")));
 }
 
@@ -99,12 +100,14 @@ line.on.settled = (answered) => {
   entry.settled(answered);
   unsent.settled(answered);
   notes.settled();
+  questions.settled();
 };
 languages.on.spoken = () => {
   find("key-fault").textContent = "";
   notice("");
   render();
   notes.render();
+  questions.render();
 };
 unsent.on.open = entry.edit;
 unsent.on.dropped = entry.dropped;

@@ -8,7 +8,7 @@ import { noticeUntilRead } from "./head.js";
 import { refresh, send } from "./line.js";
 import { focusOn, nextToDo, touch } from "./list.js";
 import { farFrom } from "./look.js";
-import { notes } from "./optional.js";
+import { notes, questions } from "./optional.js";
 import { entryAt, isToDo, rowOf, state, storedOf, takeEntries, takeEntry } from "./state.js";
 import * as store from "./store.js";
 import * as tabs from "./tabs.js";
@@ -78,8 +78,8 @@ async function keep(choice) {
   const price = form.awaitTyping();
   isSaving = true;
   try {
-    // (the note first: a price is sent at once, and a note waits for it)
-    if (!(await notes.keep(edited, choice))) {
+    // (note and answer first: a price is sent at once, and they wait for it)
+    if (!(await notes.keep(edited, choice)) || !(await questions.keep(edited, choice))) {
       if (editing === edited && isOpen()) find("price").value = price;
       return;
     }
@@ -125,7 +125,7 @@ export function settled(answered) {
 }
 
 /** Closes the form without saving it. */
-function leave() {
+export function leave() {
   const content = form.content();
   drafts.keepDraft(editing, content === editing.filled ? null : content);
   close();

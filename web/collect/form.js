@@ -4,7 +4,7 @@ import { changeOf, figures, percent, shown, typed } from "../shared/money.js";
 import { inWords } from "../shared/months.js";
 import { parts, t, whole } from "../shared/texts.js";
 import { boundsOf, isOutside } from "./look.js";
-import { notes } from "./optional.js";
+import { notes, questions } from "./optional.js";
 import { keyOfEntry, state } from "./state.js";
 import { article, inMarks, whyNotStored } from "./wording.js";
 
@@ -35,6 +35,7 @@ export function fill({ month, slot, row, entry, stored }) {
   find("entry-drop").hidden = !entry;
   find("entry-withdraw").hidden = !stored || stored[2] === "missing";
   notes.fill({ month, slot }, null);
+  questions.fill({ month, slot, entry, stored });
   showFault("");
   showQuestion(entry && entry.state !== "waiting" ? entry : null);
   showFields(row);

@@ -1,14 +1,14 @@
 // The head of the page: who is signed in, the connection to the office, and how much isn't stored. It is seen always.
 import { becomes, find, make } from "../shared/dom.js";
 import { form, t, tn } from "../shared/texts.js";
-import { notes } from "./optional.js";
+import { notes, questions } from "./optional.js";
 import { countOf, state } from "./state.js";
 
 /** Shows all of it. "All sent" appears only when nothing is left on the phone. */
 export function showHead() {
   const waiting = countOf("waiting"), refused = countOf("refused"), look = countOf("look");
   find("who").replaceChildren(state.name);
-  find("line").textContent = state.who ? [wordsOf(waiting), notes.told()].filter(Boolean).join(" · ") : "";
+  find("line").textContent = state.who ? [wordsOf(waiting), notes.told(), questions.told()].filter(Boolean).join(" · ") : "";
   find("line").dataset.line = state.line === "up" && waiting ? "waiting" : state.line;
   showAlarm([
     // t: of entries, on the red button of the head; short
@@ -18,6 +18,7 @@ export function showHead() {
     // t: of entries, on the red button of the head; short
     look && tn("{count} to look at", "{count} to look at", look),
     notes.alarm(),
+    questions.alarm(),
   ].filter(Boolean));
 }
 
@@ -46,7 +47,7 @@ function wordsOf(waiting) {
   // t: of entries, in the head of the page; short
   if (waiting) return tn("{count} to be sent", "{count} to be sent", waiting);
   // t: nothing is left on this phone; short
-  return state.entries.length + notes.count() === 0 ? t("All sent") : "";
+  return state.entries.length + notes.count() + questions.count() === 0 ? t("All sent") : "";
 }
 
 /** (two lines of a small phone, so that the head doesn't grow) */

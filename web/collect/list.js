@@ -7,6 +7,7 @@ import { t, tc, tn, whole } from "../shared/texts.js";
 import { showDeadline } from "./deadline.js";
 import { draftOf } from "./drafts.js";
 import { showHead } from "./head.js";
+import { questions } from "./optional.js";
 import * as search from "./search.js";
 import { entryOf, isToDo, rowOf, state, storedOf, takeKept } from "./state.js";
 import * as store from "./store.js";
@@ -35,7 +36,7 @@ export function choose() {
 
 /** Whether To do shows a slot. */
 function isOpen(slot) {
-  if (statusOf(slot)[0] !== "good") open.add(slot);
+  if (statusOf(slot)[0] !== "good" || questions.isOpen(slot)) open.add(slot);
   return open.has(slot);
 }
 
@@ -150,7 +151,7 @@ function slotButton([slot, , , , text, unit, last]) {
       make("span", { class: "unit" }, make("bdi", {}, unit), " · ", lastOf(last))),
     make("span", { class: "told" },
       make("span", { class: "mark" }, mark), make("span", { class: `chip ${kind}` }, told),
-      make("span", { class: "still" }, lineOf(slot))));
+      make("span", { class: questions.isOpen(slot) ? "still asks" : "still" }, lineOf(slot))));
 }
 
 function lastOf(price) {
@@ -160,10 +161,11 @@ function lastOf(price) {
   return t("last {price}", { price: shown(price) });
 }
 
-/** Whether a draft is kept of a slot, or what the office still has of it. A row that had such a line keeps it. */
+/** Whether a draft is kept of a slot, the desk asks about it, or what the office still has of it. A row that had such a line
+ * keeps it. */
 function lineOf(slot) {
   // t: of a row whose form was closed before it was saved; short
-  const told = draftOf({ month: state.month, slot }) ? t("Written, not saved") : stillStored(slot);
+  const told = draftOf({ month: state.month, slot }) ? t("Written, not saved") : questions.lineOf(slot) || stillStored(slot);
   if (told) tall.add(slot);
   return told || (tall.has(slot) ? "\u00a0" : "");
 }

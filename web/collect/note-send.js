@@ -6,7 +6,7 @@ const SECONDS = 120; // for a photograph on a slow line
 const FOR_GOOD = new Set(["form", "picture", "long", "many", "past"]);
 
 /** Asks; [status, reply], the reply being null if it isn't the application's. Throws if no answer comes. */
-async function ask(path, key, body) {
+export async function ask(path, key, body) {
   const response = await fetch(`/notes/${path}`, {
     method: body ? "POST" : "GET", headers: { Authorization: `CPI-Key ${key}` }, body, cache: "no-store",
     credentials: "omit", redirect: "error", referrerPolicy: "no-referrer", signal: /** @type {any} */ (AbortSignal).timeout?.(SECONDS * 1000),
@@ -41,7 +41,8 @@ export async function send({ key }, note, receipt) {
   }
 }
 
-const wordOf = (status) => (status === 429 || status >= 500 ? "busy" : "none");
+/** A word for why there is no answer, by the status of what came. */
+export const wordOf = (status) => (status === 429 || status >= 500 ? "busy" : "none");
 
 /** What the desk has of a collector's month, [number, slot, receipt, at, isSale, brand, quantity, text, hasPhoto] each; or
  * null. */

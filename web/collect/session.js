@@ -10,7 +10,7 @@ import { nameIn, readKey, takeLink } from "./key.js";
 import * as line from "./line.js";
 import { choose, render, show } from "./list.js";
 import { takeShared } from "./lists.js";
-import { notes } from "./optional.js";
+import { notes, questions } from "./optional.js";
 import { showSentAgain } from "./restored.js";
 import * as search from "./search.js";
 import * as shownMonth from "./shown-month.js";
@@ -101,6 +101,7 @@ async function enter(key, name) {
   await show();
   choose();
   await notes.begin();
+  await questions.begin();
   await showSentAgain(state);
 }
 
@@ -119,12 +120,12 @@ async function showStorage() {
 // ---- Signing out
 
 function askToLeave() {
-  const count = state.entries.length, written = drafts.count();
-  const lost = [whatIsLeft(count), notes.whatIsLeft(), written && whatIsWritten(written)];
+  const count = state.entries.length, written = drafts.count() + questions.countTyped();
+  const lost = [whatIsLeft(count), notes.whatIsLeft(), questions.whatIsLeft(), written && whatIsWritten(written)];
   find("leaving-text").textContent = lost.filter(Boolean).join(" ");
   find("leaving-taken").hidden = count === 0;
   // t: a button of the question of "Sign out"
-  find("leaving-go").textContent = count + notes.count() ? t("Throw away and sign out") : t("Sign out");
+  find("leaving-go").textContent = count + notes.count() + questions.count() ? t("Throw away and sign out") : t("Sign out");
   find("leaving").returnValue = "stay";
   find("leaving").showModal();
 }
@@ -142,6 +143,7 @@ async function left() {
   if (find("leaving").returnValue !== "leave") return;
   line.rest();
   await notes.forget(state.who);
+  await questions.forget(state.who);
   await store.forget(state.who); // (if the browser refuses that, the page says so, and all stays)
   cleared();
   tabs.tell("key");
@@ -155,6 +157,7 @@ function cleared() {
   unsent.forget();
   search.forget();
   notes.clear();
+  questions.clear();
   Object.assign(state, signedOut());
   takeKept(null, []);
   noticeUntilRead(() => "");

@@ -26,9 +26,14 @@ export async function follow() {
 export const turn = (by) => turnTo(moved(state.month, by));
 
 async function turnTo(month) {
+  await turnWithout(month);
+  await line.refresh();
+}
+
+/** Turns to a month as the phone has it. */
+export async function turnWithout(month) {
   state.month = month;
   notice("");
   await show();
   choose();
-  await line.refresh();
 }

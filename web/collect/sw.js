@@ -1,9 +1,10 @@
 // Keeps the files of the collectors' page, so that it opens without a line. It never touches the interfaces of the office
 // and of the desk's machine.
-// VERSION is the hash of FILES, of the files of notes, and of the catalogues of all languages: tools/pages writes it. What
-// an office sets itself (SET) is kept too, and read anew behind each start, so that the next one has it; and so are the
-// catalogues of languages that this phone has spoken, and the files of notes if the office takes them: the page names these.
-const VERSION = "4837d90f525fe1fd";
+// VERSION is the hash of FILES, of the files of notes and questions, and of the catalogues of all languages: tools/pages
+// writes it. What an office sets itself (SET) is kept too, and read anew behind each start, so that the next one has it; and
+// so are the catalogues of languages that this phone has spoken, and the files of notes and questions if the office takes
+// them: the page names these.
+const VERSION = "63640db090677071";
 const FILES = [
   "./", "answers.js", "app.js", "collect.css", "deadline.js", "drafts.js", "entry.js", "export.js", "form.js", "head.js",
   "icon.svg", "kept-lists.js", "key.js", "languages.js", "line.js", "list.js", "lists.js", "look.js",
@@ -26,9 +27,9 @@ self.addEventListener("install", (event) => {
   })());
 });
 
-const NAMED = new RegExp(`^${new URL("./", self.location.href).href}(languages/[A-Za-z-]+\\.json|notes?[a-z-]*\\.(js|css))$`);
+const NAMED = new RegExp(`^${new URL("./", self.location.href).href}(languages/[A-Za-z-]+\\.json|(notes?|questions?)[a-z-]*\\.(js|css))$`);
 
-/** The addresses of catalogues and of files of notes that the versions before have kept. */
+/** The addresses of catalogues and of files of notes and questions that the versions before have kept. */
 async function named() {
   const found = new Set();
   for (const name of await caches.keys()) {

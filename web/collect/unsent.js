@@ -3,7 +3,7 @@
 import { becomes, find, make } from "../shared/dom.js";
 import { inWords } from "../shared/months.js";
 import { parts, t } from "../shared/texts.js";
-import { notes } from "./optional.js";
+import { notes, questions } from "./optional.js";
 import { entryAt, keyOfEntry, kindOf, rowOf, state, storedOf } from "./state.js";
 import * as store from "./store.js";
 import { article, inMarks, slotOf, whyNotStored } from "./wording.js";
@@ -29,11 +29,11 @@ export function render() {
   becomes(find("unsent-list"), make("ul", { id: "unsent-list" }, ...listed.map(item)));
 }
 
-/** Lists what isn't stored, brings it into sight and gives it the focus; if only notes aren't, those. */
+/** Lists what isn't stored, brings it into sight and gives it the focus; if there are only questions or notes, those. */
 function showAll() {
   choose();
   render();
-  if (listed.length === 0 && notes.showAll()) return;
+  if (listed.length === 0 && (questions.showAll() || notes.showAll())) return;
   find("unsent").scrollIntoView({ block: "start" });
   find("unsent-title").focus({ preventScroll: true });
 }
