@@ -22,6 +22,15 @@ class PageForm(NamedTuple):
         return [*kept, *((name, text) for name, text in named.items() if name not in had)]
 
 
+def with_row(form: PageForm, code: str, **cells: str) -> PageForm:
+    """A form of many rows in which a person wrote something else into cells of one, which its field `code` begins."""
+    fields, at = list[tuple[str, str]](), ""
+    for name, text in form.fields:
+        at = text if name == "code" else at
+        fields.append((name, cells[name] if at == code and name in cells else text))
+    return form._replace(fields=fields)
+
+
 class _Reader(HTMLParser):
     def __init__(self) -> None:
         super().__init__()

@@ -4,6 +4,7 @@ ours, whatever is missing or odd in it."""
 
 from __future__ import annotations
 
+import csv
 import re
 import time
 from collections.abc import Callable, Iterator
@@ -12,20 +13,21 @@ from typing import Any, NamedTuple
 
 import pytest
 
+from cpi_tools.desk_app import drafts
 from cpi_tools.desk_app.freezes import PreparedFreeze
 from cpi_tools.program import Cpi
 from lib.served import heard, message, peer_of
 from . import surveys
 from .desk_apps import ADA, BEN, LISTEN, PATIENCE, Application, Person, applied, words_of
 from .loads import DESK_KEY
-from .page_forms import PageForm, forms_of
+from .page_forms import PageForm, forms_of, with_row
 from .surveys import key_of
 from .test_desk_app_month import MONTH, SIGNED, WHY, frozen_months
 from .test_desk_app_publish import OFFICE, frozen as published_at, with_site
 
 CEM = "Cem"
 FREEZE, LOOKS, NOTES, QUESTIONS = (f"/month/{MONTH}/{it}" for it in ("freeze", "looks", "field-notes", "questions"))
-YEAR = "/year/2027/"
+YEAR, RICE, FLOUR = "/year/2027/", "01.1.1.1-01", "01.1.1.2-01"
 MAY = ["2026-05-01T08:00", "2026-05-24T18:00", "2026-06-10T09:30"]
 MAYS = f"calendar,2026-05,{','.join(MAY)}\n"
 OTHER_MAY = MAYS.replace("05-24", "05-20")
@@ -236,19 +238,74 @@ def test_rows_that_changed_in_another_window_stay(application: Application, ada:
 
 
 def test_a_weight_that_somebody_put_stays(application: Application, ada: Person, ben: Person) -> None:
+    """Each saves the rows of their own; a row that both change is refused to the second one, who sees both."""
     drafted(application, ada)
-    rice, flour = ada.form(YEAR, "/put", 0), ada.form(YEAR, "/put", 1)
-    paste, settings = ada.form(YEAR, "/put", 2), ada.form(YEAR, "/set")
-    dropping = ada.form(YEAR, "/drop")
-    assert ben.fill(YEAR, "/put", 0, weight="590000").status_code == 303
-    late(ada.give(rice, weight="610000"), BY_BEN, "610000")
-    assert ada.give(flour, weight="390000").status_code == 303
-    late(ada.give(paste, pasted="01.1.1.1-01;1"), "Ada changed this", "01.1.1.1-01;1")
-    late(ada.give(dropping), "Ada changed this")
+    table, paste, settings = ada.form(YEAR, "/put", 0), ada.form(YEAR, "/put", 1), ada.form(YEAR, "/set")
+    reference, dropping = ada.form(YEAR, "/reference"), ada.form(YEAR, "/drop")
+    assert ben.give(with_row(ben.form(YEAR, "/put"), RICE, weight="590000", source="Ben's")).status_code == 303
+    both = with_row(with_row(table, RICE, weight="610000"), FLOUR, weight="390000")
+    was = f"{RICE} was 600000 , and is 590000, Ben's now."
+    late(ada.give(both), BY_BEN, was, "here: 590000", 'value="610000"', 'value="390000"')
+    late(ada.give(paste, pasted=f"{RICE};1"), BY_BEN, was, f"{RICE};1")
+    late(ada.give(paste, pasted=f"{FLOUR};1000000", whole="1"), BY_BEN, was, f"{FLOUR};1000000")
+    late(ada.give(dropping), BY_BEN)
+    # (what nobody else touched is saved, by a page of before too)
+    assert ada.give(with_row(table, FLOUR, weight="380000")).status_code == 303
+    assert ada.give(paste, pasted=f"{FLOUR};410000", source="Ada's").status_code == 409
+    assert ada.fill(YEAR, "/put", 1, pasted=f"{FLOUR};410000", source="Ada's").status_code == 303
     assert ben.fill(YEAR, "/set", unit="percent").status_code == 303
-    late(ada.give(settings, reference="2026-01"), BY_BEN, "2026-01")
-    text = ada.get(f"{YEAR}weights.csv").text
-    assert text.splitlines()[1:] == ["01.1.1.1-01,590000", "01.1.1.2-01,390000"]
+    late(ada.give(settings, decimal=","), BY_BEN)
+    assert ben.fill(YEAR, "/reference", reference="2026-02").status_code == 303
+    late(ada.give(reference, reference="2026-01"), BY_BEN, "2026-01")
+    rows = [*csv.reader(ada.get(f"{YEAR}weights.csv").text.splitlines())][1:]
+    assert [row[2:] for row in rows] == [["60.0000", "590000", "Ben's"], ["40.0000", "410000", "Ada's"]]
+
+
+def test_who_changed_what_is_on_the_page_and_in_a_file(application: Application, ada: Person, ben: Person) -> None:
+    drafted(application, ada)
+    assert ben.give(with_row(ben.form(YEAR, "/put"), RICE, weight="590000")).status_code == 303
+    assert ada.fill(YEAR, "/put", 1, pasted=f"code;title;weight\n{FLOUR};Flour;410000").status_code == 303
+    words = ada.words(YEAR)
+    assert "Ada changed this draft last, " in words
+    assert re.search(f"{RICE} Rice, packed 600000 60.000 % 59.000 % \u22121.000 Ben , [0-9]+ ", words), words
+    rows = [line.split(",", 1)[1] for line in ada.get(f"{YEAR}who-changed-what.csv").text.splitlines()]
+    assert rows == [
+        "person,sheet,before,after",
+        "Ada,made,,",
+        f'Ben,weights,"{RICE},600000,","{RICE},590000,"',
+        f'Ada,weights,"{FLOUR},400000,","{FLOUR},410000,"',
+    ]
+    # (a form that changes nothing is no change)
+    assert ada.give(ada.form(YEAR, "/put")).status_code == 303
+    assert len(ada.get(f"{YEAR}who-changed-what.csv").text.splitlines()) == 4
+
+
+def test_a_draft_that_is_made_anew_is_no_draft_of_before(application: Application, ada: Person, ben: Person) -> None:
+    drafted(application, ada)
+    table, paste = (with_row(ada.form(YEAR, "/put"), RICE, weight="1"), ada.form(YEAR, "/put", 1))
+    assert ben.fill(YEAR, "/drop").status_code == 303
+    drafted(application, ben)
+    assert ben.give(with_row(ben.form(YEAR, "/put"), RICE, weight="590000")).status_code == 303
+    late(ada.give(paste, pasted=f"{FLOUR};1"), BY_BEN)
+    late(ada.give(table), BY_BEN, "here: 590000")
+
+
+def test_a_draft_that_changes_as_it_is_judged_isn_t_sent(
+    application: Application, ada: Person, ben: Person, monkeypatch: pytest.MonkeyPatch
+) -> None:
+    """The page would show another plan than the one that was judged."""
+    drafted(application, ada)
+    stands = drafts.what_stands
+
+    def changes_meanwhile(*of: Any) -> Any:
+        assert ben.give(with_row(ben.form(YEAR, "/put"), RICE, weight="590000")).status_code == 303
+        return stands(*of)
+
+    monkeypatch.setattr(drafts, "what_stands", changes_meanwhile)
+    assert ada.post(f"{YEAR}check").status_code == 303
+    waited(lambda: not application.desk.drafts.running)
+    assert "Ben changed the draft while it was judged: judge it again." in ada.words(YEAR)
+    assert application.desk.drafts.checked(2027) is None
 
 
 def test_a_row_of_a_draft_that_somebody_changed_stays(application: Application, ada: Person, ben: Person) -> None:
@@ -368,6 +425,7 @@ COVERED: dict[str, object] = {
     "year.put": test_a_weight_that_somebody_put_stays,
     "year.set_all": test_a_weight_that_somebody_put_stays,
     "year.out": test_a_row_of_a_draft_that_somebody_changed_stays,
+    "year.set_reference": test_a_weight_that_somebody_put_stays,
     "year.drop": test_a_weight_that_somebody_put_stays,
     "year.send": test_a_plan_that_was_judged_before_another_isn_t_sent,
     "reason.keep": test_a_reason_that_somebody_wrote_stays,

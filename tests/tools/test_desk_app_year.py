@@ -2,6 +2,7 @@
 
 from __future__ import annotations
 
+import csv
 import re
 import time
 from pathlib import Path
@@ -13,7 +14,7 @@ from cpi_tools.desk_app.draft_sheets import Draft, Settings
 from cpi_tools.desk_app.drafts import Checked
 from cpi_tools.desk_app.year_views import too_long
 from cpi_tools.stored import StoredOffice, read_copy
-from .page_forms import forms_of
+from .page_forms import forms_of, with_row
 from .desk_apps import ADA, PATIENCE, Application, Person, words_of
 
 RICE, FLOUR = "01.1.1.1-01", "01.1.1.2-01"
@@ -31,6 +32,11 @@ def waited(application: Application) -> None:
 def made(application: Application, ada: Person) -> None:
     assert ada.post("/year/make", year="2027").status_code == 303
     waited(application)
+
+
+def put(person: Person, code: str, /, **cells: str) -> None:
+    """Writes into the cells of a weight, and saves the table."""
+    assert person.give(with_row(person.form(PAGE, "/2027/put"), code, **cells)).status_code == 303
 
 
 def judged(application: Application, ada: Person) -> str:
@@ -63,7 +69,12 @@ def test_a_draft_is_what_next_year_makes(application: Application, ada: Person) 
     assert "7 3 10 RICE 2026-12 2027-12" in ada.words(f"{PAGE}?sheet=series")
     assert "FLOUR 01.1.1.2-01" in ada.words(f"{PAGE}?sheet=places")
     assert "<b>wheat" not in ada.get(f"{PAGE}?sheet=leaving").text
-    assert ada.get(f"{PAGE[:-1]}/weights.csv").text.splitlines() == ["code,weight", f"{RICE},600000", f"{FLOUR},400000"]
+    rows = [*csv.reader(ada.get(f"{PAGE}weights.csv").text.splitlines())]
+    assert [[row[0], *row[2:]] for row in rows] == [
+        ["code", "weight_2026", "weight", "source"],
+        [RICE, "600000", "600000", ""],
+        [FLOUR, "400000", "400000", ""],
+    ]
     again = ada.post("/year/make", year="2027")
     assert again.status_code == 409 and "There is a draft of 2027 already" in words_of(again.text)
     assert ada.fill(PAGE, "/2027/drop").status_code == 303
@@ -83,22 +94,23 @@ def test_a_year_that_can_t_be_drafted_says_why(application: Application, ada: Pe
 
 def test_weights_that_don_t_add_up_are_told_and_refused_by_cpi(application: Application, ada: Person) -> None:
     made(application, ada)
-    ada.fill(PAGE, "/2027/put", weight="599000")
+    put(ada, RICE, weight="599000")
     assert "The weights add up to 999,000, and should to 1,000,000." in ada.words(PAGE)
     words = judged(application, ada)
     assert "What is refused" in words and "classification.csv" in words and "999,000" in words
     assert "Send" not in words.partition("What is refused")[0].partition("Judge it")[2]
-    ada.fill(PAGE, "/2027/put", weight="60 %")
+    put(ada, RICE, weight="60 %")
     assert f"Weights that are no numbers: {RICE}" in ada.words(PAGE)
-    refused = ada.fill(PAGE, "/2027/put", 2, pasted=f"{RICE}\t600000\n09.1.1.1-01\t5\n")
+    refused = ada.fill(PAGE, "/2027/put", 1, pasted=f"{RICE}\t600000\n09.1.1.1-01\t5\n")
     assert refused.status_code == 400 and "The draft has no code 09.1.1.1-01" in words_of(refused.text)
     assert "09.1.1.1-01\t5" in refused.text
 
 
 def test_a_draft_is_pasted_judged_and_sent_once(application: Application, ada: Person) -> None:
     made(application, ada)
-    ada.fill(PAGE, "/2027/set", unit="percent", decimal=",", reference="2026-01")
-    ada.fill(PAGE, "/2027/put", 2, pasted=f"weight;code\n55,5;{RICE}\n44,5;{FLOUR}\n")
+    ada.fill(PAGE, "/2027/set", unit="percent", decimal=",")
+    ada.fill(PAGE, "/2027/reference", reference="2026-01")
+    ada.fill(PAGE, "/2027/put", 1, pasted=f"weight;code\n55,5;{RICE}\n44,5;{FLOUR}\n")
     assert ada.post(f"{PAGE[:-1]}/out", sheet="series", cell="8").status_code == 400
     out = [it for it in forms_of(ada.get(f"{PAGE}?sheet=series").text) if ("cell", "8") in it.fields]
     assert ada.give(out[0]).status_code == 303
@@ -126,6 +138,22 @@ def test_a_draft_is_pasted_judged_and_sent_once(application: Application, ada: P
     ada = application.person(ADA)
     words = judged(application, ada)
     assert "The office has all of it already." in words and "The office has 4 rows already." in words
+
+
+def test_the_file_of_weights_can_be_pasted_back(application: Application, ada: Person) -> None:
+    made(application, ada)
+    text = ada.get(f"{PAGE}weights.csv").text
+    changed = text.replace(f"400000,400000,", "400000,300000,Survey").replace("600000,600000,", "600000,700000,")
+    answer = ada.fill(PAGE, "/2027/put", 1, pasted=changed)
+    assert answer.status_code == 303
+    assert "Columns that aren't read: title, weight_2026" in words_of(ada.follow(answer).text)
+    again = [*csv.reader(ada.get(f"{PAGE}weights.csv").text.splitlines())]
+    assert [row[3:] for row in again] == [["weight", "source"], ["700000", ""], ["300000", "Survey"]]
+    # (an empty source leaves the one that is there)
+    assert ada.fill(PAGE, "/2027/put", 1, pasted=f"{FLOUR};300000;").status_code == 303
+    assert "300000,Survey" in ada.get(f"{PAGE}weights.csv").text
+    put(ada, FLOUR, source="")
+    assert "300000,Survey" not in ada.get(f"{PAGE}weights.csv").text
 
 
 def test_what_isn_t_carried_out_is_told_and_the_draft_stays(
@@ -156,7 +184,7 @@ def test_a_draft_keeps_what_it_is_told(tmp_path: Path) -> None:
     draft.put("classification", [[RICE, "Rice, packed", "1"]])
     assert draft.rows("classification") == [["00", "All, of it", ""], [RICE, "Rice, packed", "1"]]
     draft.put("weights", [], is_whole=True)
-    assert draft.rows("weights") == [[RICE, ""]] and draft.sum().found == 0
+    assert draft.rows("weights") == [[RICE, "", ""]] and draft.sum().found == 0
     draft.take_out("classification", ["00", "", ""])
     assert draft.rows("classification") == [[RICE, "Rice, packed", ""]]
     draft.put("series", [["7", "", "1", "RICE", "2026-12", "2027-12"], ["7", "", "2", "RICE", "2026-12", "2027-12"]])

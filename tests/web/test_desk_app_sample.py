@@ -86,7 +86,7 @@ def test_a_draft_of_the_year_is_changed_judged_and_sent(stage: Stage, ada: Perso
     browser.wait_text("#sum", "1,000,000, which is all.")
     ada.reach("input[name=weight]")
     browser.run("document.querySelector('input[name=weight]').value = '590000'")
-    ada.press(".one button")
+    ada.press("#weights button.main")
     browser.wait_text("#sum", "990,000, and should to 1,000,000.")
     ada.reach("#pasted")
     browser.type("#pasted", "01.1.1.1-01;590000\n01.1.1.2-01;410000")

@@ -72,7 +72,7 @@ VIEWS = (
 FREE = ("sign_in.show", "sign_in.enter", "style", "script")
 """What is answered without a session, by the names of the views."""
 
-LOADED = ("style", "script", "looks.script", "field_notes.photo")
+LOADED = ("style", "script", "looks.script", "year.script", "field_notes.photo")
 """What a page loads by itself, by the names of the views: no person does."""
 
 SETTINGS = "CPI_DESK_FRONT, --front"

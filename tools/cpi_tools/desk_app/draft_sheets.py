@@ -1,12 +1,12 @@
 """The draft of a coming year, as `cpi-tools next-year` makes it and `take-in` reads it: a folder with the sheets of the
-plan and of the new series, which a person changes row by row or by pasting, and the lists of what leaves the sample."""
+plan and of the new series, which people change row by row or by pasting, and the lists of what leaves the sample. Beside
+the sheets are the sources of the weights, and the changes of the draft."""
 
 from __future__ import annotations
 
 import csv
 import io
 import json
-import time
 from collections.abc import Callable, Sequence
 from fractions import Fraction
 from pathlib import Path
@@ -21,6 +21,7 @@ from ..sent import FIELDS
 from ..terminal import Fault, because_of
 from ..told import told as _
 from ..whole_files import write_whole
+from .draft_changes import CHANGES, Change, Changes, Pair
 from .faults import not_as_written
 from .freezes import sum_of
 from .sample_kinds import Kind
@@ -29,11 +30,11 @@ CLASSIFICATION, WEIGHTS, PLACES, SERIES = "classification", "weights", "places",
 
 SHEETS: dict[str, Kind] = {
     CLASSIFICATION: Kind(CLASSIFICATION, "T", ("code", "title", "weight"), optional="weight"),
-    WEIGHTS: Kind(WEIGHTS, "W", ("code", "weight")),
+    WEIGHTS: Kind(WEIGHTS, "W", ("code", "weight", "source"), optional="source"),
     PLACES: Kind(PLACES, "I", ("item", "code")),
     SERIES: Kind(SERIES, "assign", FIELDS["assign"], ("first", "last"), "slot"),
 }
-"""What is changed, by its name; weights are those of the classification."""
+"""What is changed, by its name; weights are those of the classification, with where each comes from."""
 
 KEYS = {CLASSIFICATION: 1, WEIGHTS: 1, PLACES: 1, SERIES: 2}
 """How many columns name a row of a sheet; a series without a slot is named by all of them."""
@@ -44,7 +45,7 @@ LISTS: dict[str, tuple[str, ...]] = {name: tuple(heads) for name, heads in HEADS
 UNITS = {"ppm": Fraction(1_000_000), **WHOLE, "money": None}
 """What weights may be given in, with what they add up to; money has no such sum."""
 
-SETTINGS = "settings.json"
+SETTINGS_FILE, SOURCES_FILE = "settings.json", "sources.csv"
 
 
 class Settings(NamedTuple):
@@ -69,11 +70,12 @@ class Sum(NamedTuple):
 
 Cells = list[str]
 
-CHANGES = "changes.jsonl"
-"""A line for each change of a draft: the moment in seconds since 1970 UTC, who, and the sheet."""
+SETTINGS, REFERENCE, ALL, MADE = "settings", "reference", "all", "made"
+"""Stand for what the weights are given in, for the month at whose prices they are, for all of a draft, and for its
+making."""
 
-ALL = "all"
-"""Stands for all sheets and the settings."""
+ONE_FILE = (WEIGHTS, CLASSIFICATION)
+"""Two sheets of the same rows."""
 
 
 class Draft:
@@ -81,6 +83,7 @@ class Draft:
 
     def __init__(self, folder: Path):
         self.folder, self.year = folder, int(folder.name)
+        self.changes = Changes(folder / CHANGES)
 
     @property
     def sheets(self) -> Path:
@@ -94,38 +97,49 @@ class Draft:
         if name in LISTS:
             return read_rows(self.folder / f"{name}.csv", LISTS[name])
         if name == WEIGHTS:
-            return [[code, weight] for code, _, weight in self.rows(CLASSIFICATION) if weight or "-" in code]
+            sources = self.sources()
+            rows = self.rows(CLASSIFICATION)
+            return [[code, weight, sources.get(code, "")] for code, _, weight in rows if weight or "-" in code]
         return read_rows(self.sheets / f"{name}.csv", SHEETS[name].columns)
 
-    def put(self, name: str, rows: Sequence[Sequence[str]], is_whole: bool = False) -> None:
+    def sources(self) -> dict[str, str]:
+        """Where the weights of codes come from, if that is known. Raises Fault."""
+        return {code: source for code, source in read_rows(self.folder / SOURCES_FILE, ("code", "source"))}
+
+    def put(self, name: str, rows: Sequence[Sequence[str]], is_whole: bool = False, by: str = "") -> None:
         """Puts rows into a sheet, in the place of those that they name; `is_whole` says that these are all. Raises
         Fault."""
         if name == WEIGHTS:
-            self._put_weights(rows, is_whole)
+            self._put_weights(rows, is_whole, by)
             return
-        key = _key_of(name)
+        key = key_of(name)
         found = {} if is_whole else {key(row): row for row in self.rows(name)}
         found.update((key(row), [*row]) for row in rows)
-        self._write(name, [*found.values()])
+        self._write(name, [*found.values()], by)
 
-    def _put_weights(self, rows: Sequence[Sequence[str]], is_whole: bool) -> None:
-        given = {code: weight for code, weight in rows}
-        before = self.rows(CLASSIFICATION)
+    def _put_weights(self, rows: Sequence[Sequence[str]], is_whole: bool, by: str) -> None:
+        given = {code: weight for code, weight, _ in rows}
+        before, shown = self.rows(CLASSIFICATION), self.rows(WEIGHTS)
         if unknown := sorted({*given} - {row[0] for row in before}):
             code = of_others(unknown[0])
             raise Fault(_("The draft has no code {code}: give it a title first, or leave its weight out.", code=code))
-        left = "" if is_whole else None
-        self._write(
-            CLASSIFICATION,
-            [[code, title, given.get(code, weight if left is None else left)] for code, title, weight in before],
-        )
+        sources = {**self.sources(), **{code: source for code, _, source in rows}}
+        weights = {code: given.get(code, "" if is_whole else weight) for code, _, weight in before}
+        after = [[code, weights[code], sources.get(code, "")] for code in weights if weights[code] or "-" in code]
+        if self._noted(WEIGHTS, shown, after, by):
+            write_rows(self.folder / SOURCES_FILE, ("code", "source"), [[*it] for it in sources.items() if it[1]])
+            self._write_rows(CLASSIFICATION, [[code, title, weights[code]] for code, title, _ in before])
 
-    def take_out(self, name: str, cells: Sequence[str]) -> None:
+    def take_out(self, name: str, cells: Sequence[str], by: str = "") -> None:
         """Takes the row out that some cells name. Raises Fault."""
-        key = _key_of(name)
-        self._write(name, [row for row in self.rows(name) if key(row) != key(cells)])
+        key = key_of(name)
+        self._write(name, [row for row in self.rows(name) if key(row) != key(cells)], by)
 
-    def _write(self, name: str, rows: Sequence[Sequence[str]]) -> None:
+    def _write(self, name: str, rows: Sequence[Cells], by: str) -> None:
+        if self._noted(name, self.rows(name), rows, by):
+            self._write_rows(name, rows)
+
+    def _write_rows(self, name: str, rows: Sequence[Sequence[str]]) -> None:
         kind = SHEETS[name]
         year = [] if name == SERIES else [str(self.year)]
         heads = [*(["year"] if year else []), *kind.columns]
@@ -134,38 +148,46 @@ class Draft:
     # ---- what a page showed, and who changed it since
 
     def shown(self, name: str, cells: Optional[Sequence[str]] = None) -> str:
-        """A sum of what a page shows of the draft: of a sheet, of the settings or of ALL; of a sheet only the row that some
-        cells name, if there are any. Raises Fault."""
-        if name == SETTINGS:
-            return sum_of([self.settings(), self.reference()])
+        """A sum of what a page shows of the draft: of a sheet, of the settings, of the reference month or of ALL; of a
+        sheet only the row that some cells name, if there are any. Raises Fault."""
+        if name in (SETTINGS, REFERENCE):
+            return sum_of(self.reference() if name == REFERENCE else self.settings())
         if name == ALL:
             return sum_of([*(self.rows(it) for it in SHEETS), self.settings(), self.reference()])
         if cells is None:
             return sum_of(self.rows(name))
-        key = _key_of(name)
+        key = key_of(name)
         return sum_of(next((row for row in self.rows(name) if key(row) == key(cells)), None))
 
-    def note(self, by: str, name: str) -> None:
-        """Notes who changed a sheet, or the settings, and that it was now. Raises Fault."""
-        noted = self.notes() + [(int(time.time()), by, name)]
-        write(self.folder / CHANGES, "".join(f"{json.dumps(it)}\n" for it in noted))
+    def note(self, by: str, name: str, pairs: Sequence[Pair] = ()) -> None:
+        """Notes who changes a sheet, a setting, or makes the draft, which rows, and that it is now. Raises Fault."""
+        self.changes.add(by, name, pairs)
 
-    def notes(self) -> list[tuple[int, str, str]]:
-        """Who changed what, the first change first. Raises Fault."""
-        path = self.folder / CHANGES
-        try:
-            lines = path.read_text(encoding="utf-8").splitlines() if path.exists() else []
-            return [(int(at), str(by), str(name)) for at, by, name in map(json.loads, lines)]
-        except OSError as fault:
-            raise Fault(because_of(fault)) from fault
-        except (ValueError, TypeError) as fault:
-            raise Fault(not_as_written(path, fault)) from fault
+    def _noted(self, name: str, before: Sequence[Cells], after: Sequence[Cells], by: str) -> bool:
+        """Notes how rows of a sheet become others, before they are written: so no change is unknown. Whether they do."""
+        pairs = pairs_of(before, after, key_of(name))
+        if pairs:
+            self.note(by, name, pairs)
+        return bool(pairs)
 
     def changed_last(self, name: str) -> tuple[str, int]:
-        """Who changed a sheet, the settings or ALL last, and when; nobody, if nobody did. Raises Fault."""
-        named = {WEIGHTS, CLASSIFICATION} if name in (WEIGHTS, CLASSIFICATION) else {name}
-        of = [(by, at) for at, by, it in self.notes() if name == ALL or it in named]
-        return of[-1] if of else ("", 0)
+        """Who changed a sheet, a setting or ALL last, and when; nobody, if nobody did. Raises Fault."""
+        of = [it for it in self.changes.all() if name == ALL or it.name in names_with(name)]
+        return (of[-1].by, of[-1].at) if of else ("", 0)
+
+    def touched_since(
+        self, version: str, name: str, rows: Optional[Sequence[Sequence[str]]]
+    ) -> Optional[tuple[str, int, list[Pair]]]:
+        """Who changed one of some rows of a sheet last (None: any row) since the draft had a version, when, and how these
+        rows were changed; None if nobody did. Raises Fault."""
+        since = self.changes.since(version)
+        if since is None:
+            return (*self.changed_last(ALL), [])
+        key = key_of(name)
+        keys = None if rows is None else {key(row) for row in rows}
+        found = [it for it in since if it.name in names_with(name) and touches(it, keys, key)]
+        pairs = [pair for it in found for pair in it.pairs or () if keys is None or keys & keys_of(pair, key)]
+        return (found[-1].by, found[-1].at, pairs) if found else None
 
     # ---- the reference month, and what the weights are in
 
@@ -177,34 +199,68 @@ class Draft:
     def settings(self) -> Settings:
         """What the weights are in. Raises Fault."""
         try:
-            return Settings(*json.loads((self.folder / SETTINGS).read_text(encoding="utf-8")))
+            return Settings(*json.loads((self.folder / SETTINGS_FILE).read_text(encoding="utf-8")))
         except FileNotFoundError:
             return Settings()
         except (OSError, ValueError, TypeError) as fault:
-            raise Fault(not_as_written(self.folder / SETTINGS, fault)) from fault
+            raise Fault(not_as_written(self.folder / SETTINGS_FILE, fault)) from fault
 
-    def set(self, settings: Settings, reference: str) -> None:
-        """Sets all three. Raises Fault."""
-        write(self.folder / SETTINGS, json.dumps([*settings]))
-        write_rows(self.sheets / "plans.csv", ["year", "reference"], [[str(self.year), reference]])
+    def set(self, settings: Settings, by: str = "") -> None:
+        """Sets what the weights are in. Raises Fault."""
+        if settings != self.settings():
+            self.note(by, SETTINGS, [([*self.settings()], [*settings])])
+            write(self.folder / SETTINGS_FILE, json.dumps([*settings]))
+
+    def set_reference(self, reference: str, by: str = "") -> None:
+        """Sets the month at whose prices the weights are. Raises Fault."""
+        if reference != self.reference():
+            self.note(by, REFERENCE, [([self.reference()], [reference])])
+            write_rows(self.sheets / "plans.csv", ["year", "reference"], [[str(self.year), reference]])
+
+    def numbers(self) -> dict[str, Optional[Fraction]]:
+        """The weights by their codes; None of a text that is no number. Raises Fault."""
+        unit, decimal = self.settings()
+        reads, found = Numbers(decimal), dict[str, Optional[Fraction]]()
+        for code, weight, _ in self.rows(WEIGHTS):
+            plain = weight[:-1] if unit == "percent" and weight.endswith("%") else weight
+            found[code] = reads.of(plain) if weight else Fraction(0)
+        return found
 
     def sum(self) -> Sum:
         """What the weights add up to. Raises Fault."""
-        unit, decimal = self.settings()
-        numbers, found, unread = Numbers(decimal), Fraction(0), list[str]()
-        for code, weight in self.rows(WEIGHTS):
-            plain = weight[:-1] if unit == "percent" and weight.endswith("%") else weight
-            number = numbers.of(plain) if weight else Fraction(0)
-            if number is None:
-                unread.append(code)
-            found += number or 0
-        return Sum(found, UNITS[unit], unread)
+        numbers = self.numbers()
+        unread = [code for code, number in numbers.items() if number is None]
+        return Sum(sum(filter(None, numbers.values()), Fraction(0)), UNITS[self.settings().unit], unread)
 
 
-def _key_of(name: str) -> Callable[[Sequence[str]], tuple[str, ...]]:
+Key = tuple[str, ...]
+
+
+def key_of(name: str) -> Callable[[Sequence[str]], Key]:
     """What names a row of a sheet."""
     count = KEYS[name]
     return lambda cells: tuple(cells[:count]) if all(cells[:count]) else tuple(cells)
+
+
+def names_with(name: str) -> Sequence[str]:
+    """The names of changes that are of a sheet too."""
+    return ONE_FILE if name in ONE_FILE else (name,)
+
+
+def pairs_of(before: Sequence[Cells], after: Sequence[Cells], key: Callable[[Sequence[str]], Key]) -> list[Pair]:
+    """The rows that become others, are new or go, each as it was and as it is."""
+    was, now = ({key(row): [*row] for row in rows} for rows in (before, after))
+    return [(was.get(it), now.get(it)) for it in {**was, **now} if was.get(it) != now.get(it)]
+
+
+def keys_of(pair: Pair, key: Callable[[Sequence[str]], Key]) -> set[Key]:
+    """The keys of a row as it was and as it is."""
+    return {key(cells) for cells in pair if cells}
+
+
+def touches(change: Change, keys: Optional[set[Key]], key: Callable[[Sequence[str]], Key]) -> bool:
+    """Whether a change is of one of some rows; of one whose rows aren't known it may be."""
+    return keys is None or change.pairs is None or any(keys & keys_of(pair, key) for pair in change.pairs)
 
 
 # ---- files

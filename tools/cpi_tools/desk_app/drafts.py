@@ -10,13 +10,14 @@ import threading
 import time
 from collections import Counter
 from collections.abc import Callable, Iterable, Iterator, Sequence
+from functools import partial
 from pathlib import Path
 from typing import NamedTuple, Optional
 
 from ..cells import SheetFault
 from ..next_year import next_year
 from ..office_files import Options
-from ..others import Worded, own_line
+from ..others import Worded, of_others, own_line
 from ..plan_rows import Weighed
 from ..program import Cpi
 from ..sent import Bundle, Problem, body_of
@@ -27,7 +28,7 @@ from ..told import Told, sentences
 from ..told import told as _
 from .copies import Copies
 from .standing import what_stands
-from .draft_sheets import Draft
+from .draft_sheets import ALL, MADE, Draft
 from .durations import Durations
 from .faults import met, of_system, says
 
@@ -114,9 +115,9 @@ class Drafts:
 
     # ---- in the background
 
-    def make(self, year: int) -> bool:
-        """Begins to make the draft of a year; whether it did."""
-        return self._begin(year, _("cpi says on a copy who is in the sample"), self._make)
+    def make(self, year: int, by: str = "") -> bool:
+        """Begins to make the draft of a year for a person; whether it did."""
+        return self._begin(year, _("cpi says on a copy who is in the sample"), partial(self._make_for, by))
 
     def check(self, year: int) -> bool:
         """Begins to judge the draft of a year; whether it did."""
@@ -151,6 +152,11 @@ class Drafts:
         finally:
             self.running = None
 
+    def _make_for(self, by: str, year: int) -> None:
+        self._make(year)
+        if draft := self.draft(year):
+            draft.note(by, MADE)
+
     def _make(self, year: int) -> None:
         self._copies.renew()
         with self._copies.latest() as copy:
@@ -159,7 +165,9 @@ class Drafts:
     def _check(self, year: int) -> None:
         self._copies.renew()
         draft = Draft(self._folder / str(year))
-        unit, decimal = draft.settings()
+        with self.changing:
+            unit, decimal = draft.settings()
+            version = draft.changes.version()
         options = Options(decimal=decimal, weights=unit)
         with self._copies.latest() as copy, taken_in(self._cpi, draft.sheets, options, UTC, copy.path) as found:
             taken, judged = found
@@ -168,8 +176,19 @@ class Drafts:
             with read_copy(copy.path) as office:
                 stood = what_stands(office, records)
             said = judged.problems, taken.warnings, taken.weighed, records, judged.taken, passed_over, stood
-        self.sent.pop(year, None)
-        self._checked[year] = Checked(int(time.time()), *said)
+        with self.changing:
+            # (what is sent is what the page shows then, and not what the draft was as this began)
+            if draft.changes.version() != version:
+                raise Fault(changed_meanwhile(draft.changed_last(ALL)[0]))
+            self.sent.pop(year, None)
+            self._checked[year] = Checked(int(time.time()), *said)
+
+
+def changed_meanwhile(by: str) -> Told:
+    """That somebody changed a draft as it was judged."""
+    if not by:
+        return _("The draft was changed while it was judged: judge it again.")
+    return _("{name} changed the draft while it was judged: judge it again.", name=of_others(by))
 
 
 def records_of(bundles: Iterable[Bundle]) -> Iterator[list[str]]:

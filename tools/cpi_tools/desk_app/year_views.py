@@ -2,10 +2,11 @@
 here, judged on a copy, and sent.
 
 `/year/make` takes `year`. The forms of `/year/YEAR/` are `put` (`sheet`: classification, weights, places or series; the
-columns of a row by their names, or `pasted`; `whole` if these rows are all), `out` (`sheet`, and `cell`, the code, the
-item, or all cells of a series), `set` (`unit`: ppm, permille, percent or money; `decimal`; `reference`), `check`, `send`
-(`seen`) and `drop`. Those that change it have `shown`, the sum of what the page showed of that: a row with one weight, a
-sheet, the settings or all.
+columns of a row by their names, of weights once a row and with `was`, what the page showed of it; or `pasted`, with
+`source` for weights without one; `whole` if these rows are all), `out` (`sheet`, and `cell`, the code, the item, or all
+cells of a series), `set` (`unit`: ppm, permille, percent or money; `decimal`), `reference` (`reference`), `check`, `send`
+(`seen`) and `drop`. `put` has `shown`, the version of the draft that the page showed, and refuses rows that somebody
+changed since; the others that change it have the sum of a row, of a setting or of all.
 """
 
 from __future__ import annotations
@@ -13,7 +14,8 @@ from __future__ import annotations
 import time
 from collections.abc import Mapping, Sequence
 from fractions import Fraction
-from typing import Any, Optional
+from pathlib import Path
+from typing import Any, NamedTuple, Optional
 
 import flask
 from werkzeug.wrappers import Response
@@ -23,13 +25,14 @@ from ..numbers_of_texts import decimal
 from ..others import Worded, of_others
 from ..stored import read_copy
 from ..terminal import Fault
-from ..told import Figure, Told, told_of, whole
+from ..told import Figure, Told, sentences, told_of, whole
 from ..told import told as _
 from .asked import after, csv_file, desk, field, page, session, what_came
 from .changes import changed_by, changed_by_step, replaced_since
 from .desk_log import DROPPED_DRAFT, SAID
 from .desk_log import shown as hidden
-from .draft_sheets import ALL, CLASSIFICATION, KEYS, LISTS, SETTINGS, SHEETS, UNITS, WEIGHTS, Draft, Settings
+from .draft_changes import Change, Pair
+from .draft_sheets import ALL, KEYS, LISTS, REFERENCE, SETTINGS, SHEETS, UNITS, WEIGHTS, Draft, Settings
 from .drafts import Checked, Left
 from .faults import says
 from .freezes import sum_of
@@ -38,11 +41,24 @@ from .pasted import pasted
 from .record_names import names_in, names_of
 from .record_sentences import sentence_of
 from .records_views import answered
-from .sample_views import SHOWN, number_in
+from .sample_views import SHOWN
+from .weight_forms import Given, absent, differs, given_rows, quicker
+from .year_weights import PRICES, columns_of_file, of_weights
 
 views = flask.Blueprint("year", __name__)
 
 NOTHING = Worded("")
+
+SCRIPT = Path(__file__).with_name("templates") / "weights.js"
+
+NEWEST, FEW_ROWS = 20, 5
+"""So many changes are on the page, each with so many rows; the file has all."""
+
+
+@views.get("/weights.js")
+def script() -> Response:
+    """The script of the table of weights: keys, and columns that are pasted."""
+    return flask.Response(SCRIPT.read_text(encoding="utf-8"), mimetype="text/javascript")
 
 
 @views.get("/year")
@@ -73,7 +89,7 @@ def make() -> Response:
     if desk().drafts.draft(int(text)):
         told_so = _("There is a draft of {year} already: drop it first, if it is to be made anew.", year=int(text))
         return shown_form(409, told_so)
-    desk().drafts.make(int(text))
+    desk().drafts.make(int(text), session().person)
     return flask.redirect(flask.url_for("year.first"), 303)
 
 
@@ -111,14 +127,17 @@ def shown(
     status: int = 200,
     fault: Worded = NOTHING,
     answer: Worded = NOTHING,
+    unread: Worded = NOTHING,
     typed: Optional[Mapping[str, str]] = None,
+    given: Sequence[Given] = (),
 ) -> Response:
-    """The page of a draft, with what came of a step; `typed` are the fields of a form that wasn't taken."""
+    """The page of a draft, with what came of a step; `typed` are the fields of a form that wasn't taken, `given` the
+    weights of one."""
     name = flask.request.values.get("sheet", WEIGHTS)
     name = name if name in SHEETS or name in LISTS else WEIGHTS
     drafts, filled = desk().drafts, typed or {}
-    is_row = bool(filled) and "pasted" not in filled
     total, checked = draft.sum(), drafts.checked(draft.year)
+    changes = draft.changes.all()
     named: dict[str, Any] = {
         "draft": draft,
         "years": drafts.years(),
@@ -133,33 +152,64 @@ def shown(
         "lines": lines_said(checked.records) if checked else [],
         "sent": drafts.sent.get(draft.year, []),
         "typed": filled,
-        "is_row": is_row,
+        "is_row": bool(filled) and "pasted" not in filled and not given,
+        "changes": newest(changes),
+        "lines_of_changes": len(changes),
         "shown_settings": draft.shown(SETTINGS),
         "shown_all": draft.shown(ALL),
-        # (a weight that wasn't taken is in the row that the page shows)
-        **of_sheet(draft, name, filled.get("code", "") if is_row and name == WEIGHTS else ""),
+        **of_sheet(draft, name),
+        **(of_weights(draft, query_of(), start_of(), given) if name == WEIGHTS else {}),
     }
-    return page("year.html", status, fault=fault or drafts.fault, answer=answer, **named)
+    return page("year.html", status, fault=fault or drafts.fault, answer=answer, unread=unread, **named)
 
 
-def of_sheet(draft: Draft, name: str, code: str) -> dict[str, Any]:
-    """What the page has of a sheet: the rows that are searched for, or that of a code."""
-    query = code or flask.request.args.get("query", "")
-    rows = searched(draft.rows(name), query)
-    start = min(number_in("from"), max(0, (len(rows) - 1) // SHOWN * SHOWN))
+def query_of() -> str:
+    """What is searched for, by the address, or by the form that came from such a page."""
+    return flask.request.values.get("query", "")
+
+
+def start_of() -> int:
+    """From which row on a sheet is shown, by the address or such a form; 0 if that is no number."""
+    text = flask.request.values.get("from", "")
+    return int(text) if text.isascii() and text.isdigit() and len(text) < 9 else 0
+
+
+class Noted(NamedTuple):
+    """A change as the page has it: some of its rows as they were and as they are, and how many more there are."""
+
+    change: Change
+    rows: list[tuple[str, str]]
+    more: int
+
+
+def newest(changes: Sequence[Change]) -> list[Noted]:
+    """The last changes, the latest first."""
+    found = [*changes][-NEWEST:][::-1]
+    return [Noted(it, rows_of_change(it)[:FEW_ROWS], max(0, len(it.pairs or ()) - FEW_ROWS)) for it in found]
+
+
+def rows_of_change(change: Change) -> list[tuple[str, str]]:
+    """The rows of a change as lines, as they were and as they are."""
+    return [(line_of(was or []), line_of(now or [])) for was, now in change.pairs or ()]
+
+
+def of_sheet(draft: Draft, name: str) -> dict[str, Any]:
+    """What the page has of a sheet: the rows that are searched for."""
+    query = query_of()
+    rows = searched(draft.rows(name), query) if name != WEIGHTS else []
+    start = min(start_of(), max(0, (len(rows) - 1) // SHOWN * SHOWN))
     return {
         "sheet": name,
         "kind": SHEETS.get(name),
         "columns": SHEETS[name].columns if name in SHEETS else LISTS[name],
         "counts": {it: len(draft.rows(it)) for it in (*SHEETS, *LISTS)},
         "rows": rows[start : start + SHOWN],
-        "titles": {row[0]: row[1] for row in draft.rows(CLASSIFICATION)} if name == WEIGHTS else {},
         "total": len(rows),
         "first": start,
         "step": SHOWN,
         "query": query,
         "sum_of": sum_of,
-        "shown": draft.shown(name) if name in SHEETS else "",
+        "shown": draft.changes.version(),
     }
 
 
@@ -208,31 +258,47 @@ def too_long(checked: Checked) -> Worded:
 
 @views.get("/year/<int:year>/<name>.csv")
 def file(year: int, name: str) -> Response:
-    """A sheet or a list, as it is taken in."""
+    """A sheet or a list, as it is taken in; of the weights with more beside them."""
     if name not in SHEETS and name not in LISTS:
         flask.abort(404)
+    draft = draft_of(year)
     columns = SHEETS[name].columns if name in SHEETS else LISTS[name]
-    rows = draft_of(year).rows(name)
-    return csv_file(f"{year}-{name}.csv", "".join(f"{line_of(cells)}\n" for cells in [columns, *rows]))
+    heads, rows = columns_of_file(draft) if name == WEIGHTS else (columns, draft.rows(name))
+    return csv_file(f"{year}-{name}.csv", "".join(f"{line_of(cells)}\n" for cells in [heads, *rows]))
+
+
+@views.get("/year/<int:year>/who-changed-what.csv")
+def changes_file(year: int) -> Response:
+    """All changes of a draft, the first one first."""
+    rows = [
+        [time.strftime("%Y-%m-%dT%H:%M:%SZ", time.gmtime(it.at)), it.by, it.name, *lines]
+        for it in draft_of(year).changes.all()
+        for lines in rows_of_change(it) or [("", "")]
+    ]
+    heads = ["at", "person", "sheet", "before", "after"]
+    return csv_file(f"{year}-changes.csv", "".join(f"{line_of(cells)}\n" for cells in [heads, *rows]))
 
 
 # ---- changes
 
 
-def to_sheet(draft: Draft, name: str, changed: str) -> Response:
-    """Back to a sheet, once it is noted who changed what."""
-    draft.note(session().person, changed)
+def to_sheet(draft: Draft, name: str, unread: Sequence[str] = ()) -> Response:
+    """Back to a sheet that was changed, as it was searched."""
     desk().drafts.changed(draft.year)
-    return flask.redirect(flask.url_for("year.show", year=draft.year, sheet=name), 303)
+    to: dict[str, Any] = {"year": draft.year, "sheet": name, "_anchor": "sheet"}
+    to.update({it: flask.request.form[it] for it in ("query", "from", PRICES) if flask.request.form.get(it)})
+    if unread:
+        return after("year.show", {"unread": of_others(", ".join(unread))}, **to)
+    return flask.redirect(flask.url_for("year.show", **to), 303)
 
 
-def refused(draft: Draft, status: int, fault: Worded) -> Response:
+def refused(draft: Draft, status: int, fault: Worded, given: Sequence[Given] = ()) -> Response:
     """The page again, with what was filled in."""
-    return shown(draft, status, fault, typed=flask.request.form.to_dict())
+    return shown(draft, status, fault, typed=flask.request.form.to_dict(), given=given)
 
 
 def changed_since(draft: Draft, name: str, now: str) -> Optional[Told]:
-    """That a sheet, the settings or ALL aren't any more as the form showed them; None if they are. `now` is their sum."""
+    """That a row, a setting or ALL aren't any more as the form showed them; None if they are. `now` is their sum."""
     return None if field("shown") == now else changed_by(*draft.changed_last(name))
 
 
@@ -240,26 +306,59 @@ def changed_since(draft: Draft, name: str, now: str) -> Optional[Told]:
 def put(year: int) -> Response:
     """Puts rows into a sheet."""
     with desk().drafts.changing:
-        return put_now(draft_of(year), flask.request.form)
+        draft, name, form = draft_of(year), field("sheet"), flask.request.form
+        if name not in SHEETS:
+            flask.abort(400)
+        if name == WEIGHTS and "pasted" not in form:
+            return put_weights(draft)
+        return put_rows(draft, name, form)
 
 
-def put_now(draft: Draft, form: Mapping[str, str]) -> Response:
-    """Puts them, if the sheet is as the form showed it; of a form with one weight only that row."""
-    name, text = field("sheet"), form.get("pasted", "")
-    if name not in SHEETS:
-        flask.abort(400)
-    kind, is_pasted = SHEETS[name], "pasted" in form
+def put_rows(draft: Draft, name: str, form: Mapping[str, str]) -> Response:
+    """Puts a row, or those that were pasted, if nobody changed them since the page was shown."""
+    kind, is_pasted, is_whole, version = SHEETS[name], "pasted" in form, bool(form.get("whole")), field("shown")
     row = [] if is_pasted else [field(it).strip() for it in kind.columns]
-    if others := changed_since(draft, name, draft.shown(name, row if name == WEIGHTS and row else None)):
-        return refused(draft, 409, others)
     try:
-        rows = pasted(text, kind).rows if is_pasted else [row]
+        rows, unread = pasted(form["pasted"], kind) if is_pasted else ([row], [])
         if lacks := [it for it, cell in zip(kind.columns, rows[0]) if not cell and it not in (kind.optional, "weight")]:
             raise Fault(_("The row lacks a cell: {column}.", column=of_others(lacks[0])))
-        draft.put(name, rows, bool(form.get("whole")))
+        if name == WEIGHTS:
+            rows = with_sources(draft, rows, form.get("source", "").strip())
+        if others := draft.touched_since(version, name, None if is_whole else rows):
+            return refused(draft, 409, told_others(*others))
+        draft.put(name, rows, is_whole, session().person)
     except Fault as fault:
         return refused(draft, 400, says(fault))
-    return to_sheet(draft, name, name)
+    return to_sheet(draft, name, unread)
+
+
+def told_others(by: str, at: int, pairs: Sequence[Pair]) -> Told:
+    """Who changed the same rows since the page was shown, when, and how."""
+    how = differs(pairs)
+    return sentences(changed_by(by, at), how) if how else changed_by(by, at)
+
+
+def with_sources(draft: Draft, rows: Sequence[Sequence[str]], source: str) -> list[list[str]]:
+    """Pasted weights, those without a source with the one of the form, or the one that is there."""
+    known = draft.sources()
+    return [[code, weight, own or source or known.get(code, "")] for code, weight, own in rows]
+
+
+def put_weights(draft: Draft) -> Response:
+    """Puts the weights and sources of the table that a person changed, if nobody else changed them meanwhile."""
+    version, given = field("shown"), given_rows()
+    now = {code: [weight, source] for code, weight, source in draft.rows(WEIGHTS)}
+    rows = [[it.code, *it.now] for it in given if it.is_changed and now.get(it.code) != it.now]
+    try:
+        if others := quicker(given, now):
+            changed = [[it.code] for it in others]
+            by, at, pairs = draft.touched_since(version, WEIGHTS, changed) or (*draft.changed_last(WEIGHTS), [])
+            parts = [told_others(by, at, pairs), absent(given, now)]
+            return refused(draft, 409, sentences(*(it for it in parts if it)), given)
+        draft.put(WEIGHTS, rows, by=session().person)
+    except Fault as fault:
+        return refused(draft, 400, says(fault), given)
+    return to_sheet(draft, WEIGHTS)
 
 
 @views.post("/year/<int:year>/out")
@@ -272,21 +371,32 @@ def out(year: int) -> Response:
             flask.abort(400)
         if others := changed_since(draft, name, draft.shown(name, cells)):
             return refused(draft, 409, others)
-        draft.take_out(name, cells)
-        return to_sheet(draft, name, name)
+        draft.take_out(name, cells, session().person)
+        return to_sheet(draft, name)
 
 
 @views.post("/year/<int:year>/set")
 def set_all(year: int) -> Response:
-    """Sets what the weights are in, and the reference month."""
+    """Sets what the weights are in."""
     with desk().drafts.changing:
-        draft, unit, sign, reference = draft_of(year), field("unit"), field("decimal"), field("reference")
+        draft, unit, sign = draft_of(year), field("unit"), field("decimal")
         if unit not in UNITS or sign not in (".", ","):
             flask.abort(400)
         if others := changed_since(draft, SETTINGS, draft.shown(SETTINGS)):
             return refused(draft, 409, others)
-        draft.set(Settings(unit, sign), reference.strip())
-        return to_sheet(draft, WEIGHTS, SETTINGS)
+        draft.set(Settings(unit, sign), session().person)
+        return to_sheet(draft, WEIGHTS)
+
+
+@views.post("/year/<int:year>/reference")
+def set_reference(year: int) -> Response:
+    """Sets the month at whose prices the weights are."""
+    with desk().drafts.changing:
+        draft, reference = draft_of(year), field("reference").strip()
+        if others := changed_since(draft, REFERENCE, draft.shown(REFERENCE)):
+            return refused(draft, 409, others)
+        draft.set_reference(reference, session().person)
+        return to_sheet(draft, WEIGHTS)
 
 
 @views.post("/year/<int:year>/drop")

@@ -1,0 +1,101 @@
+"""Weights moved by prices on the page of a draft: as the freeze of January moves them, which the examples of METHOD show."""
+
+from __future__ import annotations
+
+import csv
+import io
+import subprocess
+import sys
+from collections.abc import Iterator
+from fractions import Fraction
+from pathlib import Path
+
+import pytest
+
+from cpi_tools.copying import private_copy
+from cpi_tools.csv_files import line_of
+from cpi_tools.desk_app.draft_weights import before, in_unit, months_to_move, moved, percent_text, shares_of
+from cpi_tools.program import Cpi
+from cpi_tools.stored import read_copy
+from lib.places import ROOT
+from .desk_apps import ADA, Application, Person, applied
+from .test_desk_app_year import PAGE, made
+
+RICE, FLOUR = "01.1.1.1-01", "01.1.1.2-01"
+
+
+def worked(cpi: Cpi, folder: Path, is_january_frozen: bool) -> Path:
+    """The office of the example, whose weights of 2027 are of June 2026; with its January, or up to December and without
+    the plan of 2027."""
+    made_by = subprocess.run(
+        [sys.executable, ROOT / "examples/worked/make", "--records"], stdout=subprocess.PIPE, text=True, check=True
+    )
+    rows = [*csv.reader(io.StringIO(made_by.stdout))]
+    if not is_january_frozen:
+        rows = [it for it in rows[: rows.index(next(filter(is_of_january, rows)))] if it[2:4] != ["plan", "2027"]]
+    file = folder / "worked.db"
+    cpi.replay(map(line_of, rows), file)
+    return file
+
+
+def is_of_january(fields: list[str]) -> bool:
+    """Whether a record freezes January 2027."""
+    return fields[2:4] == ["freeze", "2027-01"]
+
+
+@pytest.fixture
+def application(cpi: Cpi, tmp_path: Path) -> Iterator[Application]:
+    with applied(cpi, worked(cpi, tmp_path, False), tmp_path / "room") as it:
+        yield it
+
+
+def test_weights_are_moved_as_the_freeze_moves_them(cpi: Cpi, tmp_path: Path) -> None:
+    """By METHOD rice rose from 108.04 to 112.68 since June 2026, and flour from 104 to 107.8492: 573,621 and 466,655 of
+    weights of 550,000 and 450,000."""
+    file = worked(cpi, tmp_path, True)
+    with private_copy(file) as copy, read_copy(copy) as office:
+        numbers: dict[str, Fraction | None] = {RICE: Fraction(550_000), FLOUR: Fraction(450_000)}
+        found = moved(office, numbers, 202606, 2027)
+        (january,) = [it for it in office.releases() if it.month == 202701]
+        in_use = {code: it.weight for code, it in office.levels(january).items() if "-" in code}
+        assert months_to_move(office, 2027)[0] == 202611 and 202512 not in months_to_move(office, 2027)
+        assert moved(office, numbers, 202512, 2027) is None and moved(office, numbers, 202612, 2027) is None
+        lacking = moved(office, {**numbers, "01.1.1.3-01": Fraction(1)}, 202606, 2027)
+        was = before(office, 2027)
+    assert found and not found.lacking and (found.then, found.now) == (202606, 202612)
+    assert in_use == {RICE: 573_621, FLOUR: 466_655}
+    # (573,621 of 1,040,276 are 55.141 percent)
+    assert [percent_text(found.shares[it]) for it in (RICE, FLOUR)] == ["55.141", "44.859"]
+    assert {code: round(number * found.prices[code]) for code, number in numbers.items() if number} == in_use
+    assert lacking and lacking.lacking == ["01.1.1.3-01"] and not lacking.shares
+    # (the weights of a year before are those in use, which prices moved)
+    assert was.shares == {RICE: Fraction(573_621, 1_040_276), FLOUR: Fraction(466_655, 1_040_276)}
+
+
+def test_a_share_in_the_unit_of_a_draft() -> None:
+    share = Fraction(1, 3)
+    assert [in_unit(share, it) for it in ("ppm", "permille", "percent", "money")] == [
+        "333333",
+        "333.333",
+        "33.3333",
+        "",
+    ]
+    assert in_unit(None, "ppm") == "" and shares_of({RICE: Fraction(0)}) == {} and percent_text(None) == ""
+
+
+def test_what_prices_make_of_weights_is_shown_before_it_is_chosen(application: Application) -> None:
+    ada: Person = application.person(ADA)
+    made(application, ada)
+    assert ada.fill(PAGE, "/2027/put", 1, pasted=f"{RICE};550000\n{FLOUR};450000").status_code == 303
+    shown = ada.words(f"{PAGE}?prices=2026-06")
+    assert "at prices of June 2026 as they are here, and at prices of December 2026." in shown
+    assert f"{RICE} Rice in packets 600000 60.000 % 55.000 % \u22125.000 55.141 % +4.3 %" in shown, shown
+    assert "so nothing is moved" in shown
+    # (only now it is chosen, and the page goes on to show it)
+    assert ada.give(ada.form(f"{PAGE}?prices=2026-06", "/reference")).status_code == 303
+    assert "This draft says: at prices of 2026-06." in ada.words(PAGE) and "55.141 %" in ada.words(PAGE)
+    assert ada.give(ada.form(f"{PAGE}?prices=", "/reference")).status_code == 303
+    assert "55.141 %" not in ada.words(PAGE)
+    for month in ("2025-12", "2026-12", "2031-01"):
+        assert f"Weights can't be moved from {month}: " in ada.words(f"{PAGE}?prices={month}")
+    assert ada.get(f"{PAGE}?prices=x").status_code == 200
