@@ -84,8 +84,32 @@ def test_a_bound_that_is_typed_in_percent_goes_to_the_office(application: Applic
     ada.fill("/sample/items", "/items/send")
     assert items(application)["TEA"] == (550, 1900)
     assert "TEA Tea, black 100 g \u221245 % +90 % 0" in ada.words("/sample/items")
-    file = ada.get("/sample/items.csv").text
-    assert ",550,1900," in file and "The file has bounds in thousandths" in ada.words("/sample/items")
+    assert "TEA,\"Tea, black\",100 g,'-45 %,'+90 %,0\n" in ada.get("/sample/items.csv").text
+
+
+def test_what_was_downloaded_can_be_pasted_back(application: Application, ada: Person) -> None:
+    """Also as a spreadsheet gives it back, which takes our marks of a text away, or reads the percent as a number."""
+    ada.fill("/sample/items", "/items/judge", **TEA, low="-45.5 %", high="0")
+    ada.fill("/sample/items", "/items/send")
+    ada.fill("/sample/outlets", "/outlets/judge", outlet="70", name="=Shop")
+    ada.fill("/sample/outlets", "/outlets/send")
+    for kind, count in (("items", 3), ("outlets", 3), ("assignments", 3)):
+        text = ada.get(f"/sample/{kind}.csv").text
+        for given in (text, text.replace("'", ""), text.replace(" %", "%").replace("'", "")):
+            page = ada.follow(ada.fill(f"/sample/{kind}", f"/{kind}/judge", 1, pasted=given)).text
+            assert f"Send {count} rows" in words_of(page), words_of(page)
+            assert ada.fill(f"/sample/{kind}", f"/{kind}/send").status_code == 303
+            assert f"/sample/{kind}/send" not in ada.get(f"/sample/{kind}").text
+    assert items(application)["TEA"] == (545, 1000)
+
+
+def test_a_file_of_before_is_refused_with_what_it_means(application: Application, ada: Person) -> None:
+    """It has thousandths, which nobody can tell from percents without a sign."""
+    text = "item,text,unit,low,high,slots\nTEA,Tea,100 g,550,1900,0\n"
+    words = words_of(ada.follow(ada.fill("/sample/items", "/items/judge", 1, pasted=text)).text)
+    assert "550 ” isn't read as a lower bound. Wanted is a change in percent with its sign, from" in words
+    assert "If 550 is in thousandths of the last price, as in files of before, write \u221245 % ." in words, words
+    assert "TEA" not in items(application)
 
 
 def test_a_text_that_is_no_bound_stays_as_it_was_typed_with_why(application: Application, ada: Person) -> None:

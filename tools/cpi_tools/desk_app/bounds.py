@@ -14,7 +14,7 @@ from typing import NamedTuple, Optional
 
 from ..exact import decimal, with_sign
 from ..others import Worded, of_others
-from ..told import Told
+from ..told import Told, sentences
 from ..told import told as _
 from .sample_kinds import Kind
 from .typed_numbers import number_text, numbers_in, plain
@@ -28,6 +28,8 @@ RANGES = {LOW: (1, ONE), HIGH: (ONE, 10_000)}
 """The least and the greatest bound, as docs/reference/OFFICE.md has them."""
 
 EXAMPLES = {LOW: 550, HIGH: 1900}
+
+MINUS_SIGN = "\u2212"
 
 MINUS = "-\u2212\u2010\u2011\u2012\u2013\ufe63\uff0d"
 PLUS = "+\uff0b\ufe62"
@@ -80,7 +82,17 @@ def bound_of(text: str, column: str) -> Bound:
 
 
 def wanted(text: str, column: str) -> Told:
-    """That a text isn't a bound, and which texts are."""
+    """That a text isn't a bound, and which texts are; of thousandths also what they are in percent."""
+    least, most = RANGES[column]
+    if THOUSANDTHS.fullmatch(text) and least <= int(text) <= most:
+        places = {"text": of_others(text), "percent": of_others(f"{percent_of(int(text))} %")}
+        meant = _("If {text} is in thousandths of the last price, as in files of before, write {percent}.", **places)
+        return sentences(wanted_percent(text, column), meant)
+    return wanted_percent(text, column)
+
+
+def wanted_percent(text: str, column: str) -> Told:
+    """That a text isn't a bound in percent, and which texts are."""
     least, most = (of_others(f"{percent_of(it)} %") for it in RANGES[column])
     places = {"text": of_others(text[:MOST_LETTERS]), "least": least, "most": most}
     example = of_others(f"{percent_of(EXAMPLES[column])} %")
@@ -126,6 +138,11 @@ def bounds_shown(columns: Sequence[str], cells: Sequence[str], in_percent: Calla
         str(in_percent(percent_of(int(cell)))) if column in RANGES and THOUSANDTHS.fullmatch(cell) else cell
         for column, cell in zip(columns, cells)
     ]
+
+
+def bounds_in_file(columns: Sequence[str], cells: Sequence[str]) -> list[str]:
+    """Cells of the office with bounds in percent, in the signs that a spreadsheet knows: `-45 %` and `+90 %`."""
+    return bounds_shown(columns, cells, lambda percent: f"{percent.replace(MINUS_SIGN, '-')} %")
 
 
 NOT_READ = "bound"

@@ -13,6 +13,7 @@ from typing import NamedTuple, Optional
 from ..cells import shown
 from ..months_of_texts import month_of
 from ..others import Worded, of_others
+from ..sheets import unmarked
 from ..told import Told, told_of, whole
 from ..told import told as _
 from .judging import MOST_ROWS, NotRead
@@ -190,5 +191,7 @@ def listed(texts: Iterable[str]) -> Worded:
 
 
 def _read(cell: str, is_month: bool) -> str:
-    """A cell; a month in another spelling is that month, and what is none stays for `cpi` to refuse."""
-    return (month_of(cell) or cell) if is_month else cell
+    """A cell without a spreadsheet's mark of a text, which our files have too; a month in another spelling is that month,
+    and what is none stays for `cpi` to refuse."""
+    text = unmarked(cell)
+    return (month_of(text) or text) if is_month else text

@@ -31,7 +31,7 @@ from ..terminal import Fault, month_text
 from ..told import Told, told_of, whole
 from ..told import told as _
 from .asked import after, csv_file, desk, field, page, session, what_came
-from .bounds import NOT_READ, bounds_shown, has_bounds
+from .bounds import NOT_READ, bounds_in_file, bounds_shown, has_bounds
 from .clock_faults import window_faults
 from .faults import says
 from .pasted import pasted
@@ -220,17 +220,19 @@ def text_of(kind: Kind, rows: Sequence[Waiting]) -> str:
 
 @views.get("/sample/<kind>.csv")
 def file(kind: str) -> Response:
-    """All rows that a search finds, as a file; keys of collectors aren't in it."""
+    """All rows that a search finds, as a file that can be pasted back; keys of collectors aren't in it."""
     it = kind_of(kind)
     if it.name not in LISTINGS:
         flask.abort(404)
     with desk().copies_now() as copy, read_copy(copy.path) as office:
         found = found_in(office, it.name, flask.request.args.get("query", ""), cut_of(it))
-    text = io.StringIO()
+    columns, rows, text = LISTINGS[it.name].columns, rows_of(it, found), io.StringIO()
+    if has_bounds(it):
+        rows = [bounds_in_file(columns, row) for row in rows]
     with formulas_told("", True):
         out = Writer(text)
-        out.writerow(LISTINGS[it.name].columns)
-        out.writerows(rows_of(it, found))
+        out.writerow(columns)
+        out.writerows(rows)
     return csv_file(f"{it.name}-{time.strftime('%Y-%m-%d', time.gmtime())}.csv", text.getvalue())
 
 
