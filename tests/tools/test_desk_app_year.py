@@ -143,7 +143,7 @@ def test_a_draft_is_pasted_judged_and_sent_once(application: Application, ada: P
 def test_the_file_of_weights_can_be_pasted_back(application: Application, ada: Person) -> None:
     made(application, ada)
     text = ada.get(f"{PAGE}weights.csv").text
-    changed = text.replace(f"400000,400000,", "400000,300000,Survey").replace("600000,600000,", "600000,700000,")
+    changed = text.replace("400000,400000,", "400000,300000,Survey").replace("600000,600000,", "600000,700000,")
     answer = ada.fill(PAGE, "/2027/put", 1, pasted=changed)
     assert answer.status_code == 303
     assert "Columns that aren't read: title, weight_2026" in words_of(ada.follow(answer).text)

@@ -221,7 +221,7 @@ class Draft:
         """The weights by their codes; None of a text that is no number. Raises Fault."""
         unit, decimal = self.settings()
         reads, found = Numbers(decimal), dict[str, Optional[Fraction]]()
-        for code, weight, _ in self.rows(WEIGHTS):
+        for code, weight, _source in self.rows(WEIGHTS):
             plain = weight[:-1] if unit == "percent" and weight.endswith("%") else weight
             found[code] = reads.of(plain) if weight else Fraction(0)
         return found
