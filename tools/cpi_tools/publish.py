@@ -42,6 +42,7 @@ from .pack.notes import Notes
 from .pack.part import Now, known_of, write_part
 from .pack.public import Published
 from .pack.quality_files import write_quality
+from .pack.profile_files import write_profiles
 from .pack.published_sets import NO_SETS, KeptSets, changed_sets, kept_sets, refuse_changed
 from .pack.reason_files import added_reasons, write_reasons
 from .pack.reasons import given_reasons
@@ -118,6 +119,7 @@ def write_pack(pack: Pack, folder: Path, now: Now, before: Before) -> None:
     with sdmx_slices(recent, structure, config, files) as also:
         write_part(recent, structure, config, data, now, kept, also)
     write_slices(recent, structure, config, files, now)
+    write_profiles(recent, structure, config, data)
     known = Known(series, contributions, shown, recent)
     items = ItemFiles(known, Notes(shown, config.provisional), before, archives.same_to, files)
     write_sites(known, recent, config, Shared(items, signature, pack.cards, files), now)

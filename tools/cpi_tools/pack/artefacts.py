@@ -8,22 +8,15 @@ Frequency, area and status are lists that agencies share: they are referred to b
 
 from __future__ import annotations
 
-import re
 from collections.abc import Mapping
 from typing import NamedTuple
 
 from ..exact import ALL_ITEMS, parent_of
 from .config import Config
+from .references import REFERENCE
+from .references import Reference as Reference
 from .tables import Series
 from .tongues import Names, named, titles_of
-
-
-class Reference(NamedTuple):
-    """An artefact of an agency in a version."""
-
-    agency: str
-    id: str
-    version: str
 
 
 SHARED = {
@@ -32,8 +25,6 @@ SHARED = {
     "OBS_STATUS": "SDMX:CL_OBS_STATUS(2.2)",
 }
 """The lists of other agencies, by the concept that takes its codes from them."""
-
-REFERENCE = re.compile(r"([A-Za-z][A-Za-z0-9_.-]*):([A-Za-z0-9_@$-]+)\(([0-9]+(?:\.[0-9]+)*)\)")
 
 
 def shared(config: Config, concept: str) -> Reference:

@@ -4,7 +4,7 @@ from __future__ import annotations
 
 import configparser
 import re
-from collections.abc import Mapping
+from collections.abc import Mapping, Sequence
 from pathlib import Path
 from typing import NamedTuple, Optional
 
@@ -17,6 +17,7 @@ from .dated import Dated, dated_of, value_in
 from .office_languages import BadLanguages, OfficeLanguages, Own, read_languages
 from .own_words import OwnWords, read_own_words
 from .planned import Planned, read_planned
+from .profiles import BadProfile, Profile, read_profile
 from .reasons import Reason, read_reasons
 from .shown import EXACT, RATES
 from .specials import Special, read_specials
@@ -35,7 +36,7 @@ ADDRESS = re.compile(r"https?://[A-Za-z0-9.-]+(:[0-9]{1,5})?(/[A-Za-z0-9._~-]+)*
 NAMES = ("agency", "area", "office", "title", "country", "contact", "licence", "reference", "currency", "minor_digits",
          "without", "aggregates", "rates", "language", "provisional", "address", "zone",
          "calendar", "years", "revisions", "languages", "digits", "about", "quality",
-         "least_outlets")  # fmt: skip
+         "least_outlets", "profiles")  # fmt: skip
 NEEDED = ("agency", "area", "office")
 
 
@@ -87,6 +88,7 @@ class Config(NamedTuple):
     (without one they are English), `announced` are the releases that the pack before announced, and these do, and `about`
     is what the office says of the index in its own words. With
     `has_quality` quality is told in figures, with the `counts` of the survey, in which a division has `least_outlets`.
+    `profiles` are the structures of other agencies in which the series are written too.
     """
 
     agency: str
@@ -119,6 +121,7 @@ class Config(NamedTuple):
     has_quality: bool = False
     counts: tuple[Cell, ...] = ()
     least_outlets: int = LEAST_OUTLETS
+    profiles: tuple[Profile, ...] = ()
 
     def reference_in(self, month: str) -> str:
         """The reference period of the release of a month."""
@@ -155,6 +158,7 @@ def read_config(path: Path, known: KnownIds = KnownIds()) -> Config:
     parser = _read_sections(path)
     found = _office_words(parser)
     quality, least_outlets = found.pop("quality", ""), _least_outlets(path, found.pop("least_outlets", ""))
+    profiles = found.pop("profiles", "").replace(",", " ").split()
     ids = dict(parser["sdmx"]) if "sdmx" in parser else {}
     specials, calendar, reasons, about = (
         found.pop(name, "") for name in ("aggregates", "calendar", "revisions", "about")
@@ -176,6 +180,7 @@ def read_config(path: Path, known: KnownIds = KnownIds()) -> Config:
         has_quality=bool(quality),
         counts=read_counts(path.parent / quality, least_outlets) if quality not in ("", TABLES) else (),
         least_outlets=least_outlets,
+        profiles=_profiles(path, profiles),
     )
 
 
@@ -202,6 +207,16 @@ def _read_sections(path: Path) -> configparser.ConfigParser:
 def _office_words(parser: configparser.ConfigParser) -> dict[str, str]:
     """The words of [office]. One without a value is as one that isn't there; a value of several lines is one."""
     return {name: " ".join(value.split()) for name, value in parser["office"].items() if value.strip()}
+
+
+def _profiles(path: Path, names: Sequence[str]) -> tuple[Profile, ...]:
+    """The profiles of some files, each of which has an id of its own. Raises BadProfile."""
+    profiles = tuple(read_profile(path.parent / name) for name in names)
+    ids = [profile.id for profile in profiles]
+    for profile in profiles:
+        if ids.count(profile.id) > 1:
+            raise BadProfile(f"{profile.path}, line {profile.line('id')}: another profile has the id {profile.id} too")
+    return profiles
 
 
 def _least_outlets(path: Path, text: str) -> int:

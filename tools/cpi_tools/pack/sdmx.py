@@ -458,9 +458,9 @@ def data_head(own: Structure, series: Series, config: Config, part: str = "") ->
     of the message."""
     definition, version = own.definition.id, own.definition.version
     model = "urn:sdmx:org.sdmx.infomodel.datastructure.DataStructure"
-    space = f"{model}={config.agency}:{definition}({version}):ObsLevelDim:{TIME}"
+    space = f"{model}={own.definition.agency}:{definition}({version}):ObsLevelDim:{TIME}"
     named = {"structureID": definition, "namespace": space, "dimensionAtObservation": TIME}
-    reference = {"agencyID": config.agency, "id": definition, "version": version, "class": "DataStructure"}
+    reference = {"agencyID": own.definition.agency, "id": definition, "version": version, "class": "DataStructure"}
     structure = (
         f"<message:Structure{attributes_of(named)}>\n<common:Structure>\n<Ref{attributes_of(reference)}/>\n"
         "</common:Structure>\n</message:Structure>\n"

@@ -38,6 +38,7 @@ from .month_rows import MonthRows
 from .new_files import NewFiles
 from .notes import Notes, note_names, present, said
 from .pictures import Chart, base_text, of_imputed, of_node
+from .profile_files import files_of
 from .public import Source
 from .quality import Quality
 from .quality_files import rate_of
@@ -225,7 +226,7 @@ class Site:
         says = file_says(self.speech, self.config)
         data = {"files": files, "file_says": says, "years": years, "first_year": first_year, "lacking": self._lacking()}
         data["series_path"] = self._series_path()
-        self._page("data.html", **data, dataset=self.releases.dataset(files))
+        self._page("data.html", **data, files_of_profile=files_of, dataset=self.releases.dataset(files))
         self._page("method.html", **own_words_of(self.config.about, self.speech, self.versions))
         if self.config.has_quality:
             self._page(
