@@ -479,6 +479,7 @@ def test_notes_of_the_field_go_to_the_desk_s_application_with_a_key_and_nothing_
     assert message.startswith(b"POST /notes/2026-01/7 HTTP/1.1\r\n") and message.endswith(b"x" * 300_000)
     assert KEY.encode() in message and b"secret" not in message
     assert asked("GET", "/notes/2026-01")[0] == asked("GET", "/notes/2026-01/photo/12")[0] == 200
+    assert asked("GET", "/notes/questions")[0] == asked("POST", "/notes/2026-01/questions/3", b"x")[0] == 200
     assert asked("POST", "/notes/2026-01/7", b"x" * 330_000)[0] == 413
     count = len(front.desk.messages)
     for method, path in (("PUT", "/notes/2026-01"), ("GET", "/notes/2026-01/photo/x"), ("GET", "/notes/")):

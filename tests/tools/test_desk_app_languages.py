@@ -20,7 +20,14 @@ MONTH, CODE = "2026-02", "01.1.1.2-01"
 WHY = {f"why-{CODE}": "\u03b3\u03b4 \u03b5"}
 PAGES = (
     *("/", f"/month/{MONTH}/", f"/month/{MONTH}/looks?all=1", f"/month/{MONTH}/table", f"/month/{MONTH}/freeze"),
-    *(f"/month/{MONTH}/what-if", f"/month/{MONTH}/field-notes", "/calendar", "/records", "/log"),
+    *(
+        f"/month/{MONTH}/what-if",
+        f"/month/{MONTH}/field-notes",
+        f"/month/{MONTH}/questions",
+        "/calendar",
+        "/records",
+        "/log",
+    ),
 )
 
 SAME = re.compile(rf"{NAMES.pattern}|\b(?:CET|CEST|CSV|cpi|COLLECTOR/SLOT)\b")
@@ -38,15 +45,31 @@ def steps(application: Application, ada: Person) -> None:
     """A month that was tried, a price that somebody noted, a record that was refused, and one without a reply."""
     application.tried(ada, MONTH)
     ada.fill(f"/month/{MONTH}/looks", "/looks", 1, text="γ")
+    asked_twice(application, ada)
     offered = ada.sent("/records/judge", text="outlet,12,Γ\n").text
     ada.post("/records/send", left="", offer=re.findall('name="offer" value="([^"]+)"', offered)[0])
 
 
+def asked_twice(application: Application, ada: Person) -> None:
+    """A question that was answered, one in its place that another took, and one that was withdrawn."""
+    for _ in range(2):
+        ada.fill(f"/month/{MONTH}/looks", "/looks/ask", text="γ")
+    phoned(application, f"{MONTH}/questions/2", what="confirmed", receipt="3", text="γ")
+    ada.fill(f"/month/{MONTH}/looks", "/looks/ask", text="γ")
+    ada.fill(f"/month/{MONTH}/looks", "/withdraw")
+    ada.fill(f"/month/{MONTH}/looks", "/looks/ask", text="γ")
+
+
+def phoned(application: Application, path: str, **form: str) -> Any:
+    """What a collector's phone is answered."""
+    fields = {"Authorization": f"CPI-Key {surveys.key_of(8)}"}
+    client = application.app.test_client()
+    return client.post(f"/notes/{path}", data=form, headers=fields, base_url=f"http://{LISTEN}").json
+
+
 def noted(application: Application, **said: str) -> Any:
     """What a collector's phone is answered to a note of a price."""
-    fields, form = {"Authorization": f"CPI-Key {surveys.key_of(8)}"}, {"receipt": "2", **said}
-    address = f"/notes/{MONTH}/1"
-    return application.app.test_client().post(address, data=form, headers=fields, base_url=f"http://{LISTEN}").json
+    return phoned(application, f"{MONTH}/1", **{"receipt": "2", **said})
 
 
 def test_no_word_of_a_page_is_left_in_english(cpi: Cpi, tmp_path: Path, monkeypatch: pytest.MonkeyPatch) -> None:

@@ -309,6 +309,10 @@ def test_phone_front_and_guide_have_the_same_limits() -> None:
     )
     assert f"| photograph | {MOST_PHOTO_BYTES:,} bytes, and {MOST_PHOTO_SIDE:,} pixels on its longer side |" in guide
     assert f"| notes of a collector and month | {field_limits.MOST_NOTES} |" in guide
+    assert f"| question, answer | {MOST_LETTERS} letters |" in guide
+    most = f"{field_limits.MOST_OPEN} and {field_limits.MOST_OPEN_IN_ALL:,}"
+    assert f"| open questions to a collector, and to all | {most} |" in guide
+    assert f"| answers to a question | {field_limits.MOST_ANSWERS} |" in guide
 
 
 # ---- the desk

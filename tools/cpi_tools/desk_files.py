@@ -1,11 +1,13 @@
 """The files of the desk's application as they are copied: its folder has the desk's log, notes on prices, notes of the
-field, the draft of a year, and what waits. A backup, a second copy, a restore and a promotion all read it so.
+field, questions to collectors, the draft of a year, and what waits. A backup, a second copy, a restore and a promotion all
+read it so.
 
 Each file is read at one moment, while the application runs. The logs are only appended to, and only whole lines are
-taken. All others but the notes of the field are written whole or not at all. Of those, an SQLite file, nobody commits a
-change while it is read.
+taken. All others but the notes of the field and the questions are written whole or not at all. Of those, SQLite files,
+nobody commits a change while it is read.
 
-**Which of two folders is the later one.** By the logs: one goes on from another if each log begins with the other's.
+**Which of two folders is the later one.** By the logs: one goes on from another if each log begins with the other's. Each
+change of a question is in the desk's log first.
 """
 
 from __future__ import annotations

@@ -204,7 +204,7 @@ def add_serve(jobs: argparse._SubParsersAction[ToolWords]) -> None:
         type=at_least(0),
         default=0,
         metavar="MONTHS",
-        help="take notes of the field from phones, and keep them for so many months (0: take none)",
+        help="take notes of the field from phones, ask collectors, and keep that for so many months (0: do neither)",
     )
     add("--copies", type=Path, metavar="FOLDER", help="where copies of the office's file lie (else where TMPDIR says)")
     add_program(words)
