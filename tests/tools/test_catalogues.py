@@ -38,13 +38,14 @@ def source() -> Catalog:
 
 
 def kept_scripts() -> list[Path]:
-    """The scripts that a phone keeps, those of notes too, without those that `tools/pages` makes of other files."""
+    """The scripts that a phone keeps, those of notes and questions too, without those that `tools/pages` makes of other
+    files."""
     text = (ROOT / "web/collect/sw.js").read_text(encoding="utf-8")
     names = re.findall(r'"((?:\.\./shared/)?[a-z-]+\.js)"', text.partition("];")[0])
     assert len(names) > 20
     made = ("refused.js", "../shared/languages.js")
-    notes = sorted((ROOT / "web/collect").glob("note*.js"))
-    assert len(notes) > 5
+    notes = [it for begin in ("note", "question") for it in sorted((ROOT / "web/collect").glob(f"{begin}*.js"))]
+    assert len(notes) > 12
     return [ROOT / "web/collect" / name for name in names if name not in made] + notes
 
 
@@ -52,7 +53,7 @@ TEXT = re.compile(r"[A-Za-z\u2019]{2,} [A-Za-z{]|^[A-Z][a-z]")
 """A string that looks like a text: two words, or one with a capital letter."""
 
 NO_TEXTS = {"Enter", "QuotaExceededError", "Content-Type", "Retry-After", "why good", "why bad", "actions gone"}
-NO_TEXTS |= {"note-about note-fault"}
+NO_TEXTS |= {"note-about note-fault", "answer-about answer-fault", "still asks"}
 """Names of keys, errors and fields of HTTP, and classes, which no reader sees."""
 
 
@@ -213,7 +214,8 @@ def outside_of_python(module: str, others: Iterable[str] = ()) -> list[str]:
 
 NO_TEXT = re.compile(
     r"^default-src |^<(?:svg|meta|input) |^\"/?><path |^record or step$|isn't as it was written|^refused by |^not carried out; it would be |^; $|^no reply$|^not sent$"
-    r"|^\s*(?:CREATE|DELETE|INSERT|PRAGMA|SELECT) |^ (?:AND|FROM|ORDER) | NOT NULL$"
+    r"|^\s*(?:BEGIN|CREATE|DELETE|INSERT|PRAGMA|SELECT|UPDATE) |^ (?:AND|FROM|IN|ORDER) | NOT NULL$"
+    r"|^[a-z_]+ >?= (?:0|\?) AND |^\) ORDER BY "
 )
 """What is no text of a page: a field of HTTP, markup, SQL, a heading of a file, why the application doesn't start, a
 refusal's line in English, and names of states."""
