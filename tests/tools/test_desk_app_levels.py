@@ -9,13 +9,15 @@ from pathlib import Path
 
 import pytest
 
+from cpi_tools import trial
 from cpi_tools.command_line import main
 from cpi_tools.copying import private_copy
 from cpi_tools.desk.levels import chained_name, levels_now, levels_of, other_tables
 from cpi_tools.desk_app.freezes import Prepared, table_sum
 from cpi_tools.desk_app.frozen_receipts import receipt_of
 from cpi_tools.desk_app.tables_beside import beside
-from cpi_tools.program import LAST_MOMENT, Cpi
+from cpi_tools.pack.public import Listed
+from cpi_tools.program import LAST_MOMENT, Cpi, Session
 from cpi_tools.stored import read_copy
 from cpi_tools.terminal import slot_text
 from cpi_tools.told import placed, told
@@ -140,6 +142,35 @@ def test_known_tables_aren_t_printed_again(cpi: Cpi, office: Path, monkeypatch: 
     assert again and again.others == known.others and again.of("00") != known.of("00")
     anew = levels_now(cpi, office, 202701, table, "2026", known._replace(others=known.others[:-1]))
     assert anew and anew.others == known.others
+
+
+def test_a_trial_prints_the_other_tables_in_the_run_that_freezes(
+    application: Application, monkeypatch: pytest.MonkeyPatch
+) -> None:
+    """No further copy is opened for them, and a table that is at hand isn't printed again, nor for another month."""
+    ada, printed = application.person(ADA), list[tuple[str, int]]()
+    prints = trial.printed
+
+    def counted(session: Session, listed: Listed) -> bytes:
+        printed.append((listed.month, listed.revision))
+        return prints(session, listed)
+
+    monkeypatch.setattr(trial, "printed", counted)
+    monkeypatch.setattr("cpi_tools.desk.levels.private_copy", None)
+    application.tried(ada, MONTH)
+    first = application.desk.trials.latest(202701)
+    assert first and first.report.levels and first.report.levels.others
+    others = [(it.listed.month, it.listed.revision) for it in first.report.levels.others]
+    assert {*printed} == {*others, (MONTH, 1)} and "2026-06" in dict(others)
+    # (the month before, a year before and the link month are printed by each trial, next to the month's own)
+    printed.clear()
+    application.tried(ada, MONTH)
+    again = application.desk.trials.latest(202701)
+    assert again and again.report.levels and again.report.levels.others == first.report.levels.others
+    assert {*printed} == {("2026-12", 1), ("2026-01", 1), (MONTH, 1)}
+    printed.clear()
+    application.tried(ada, "2026-12")
+    assert "2026-06" not in dict(printed)
 
 
 def test_a_receipt_keeps_the_level_with_its_period(cpi: Cpi, office: Path) -> None:

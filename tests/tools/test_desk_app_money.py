@@ -82,6 +82,22 @@ def test_a_configuration_that_is_half_written_changes_no_price(application: Appl
     assert "last price 0.246 , now 0.252" in ada.words(f"/month/{MONTH}/looks")
 
 
+def test_a_page_finds_its_currency_once(application: Application, ada: Person, monkeypatch: pytest.MonkeyPatch) -> None:
+    """However many prices it has."""
+    config = application.desk.site_config
+    finds, found = config.now, list[object]()
+
+    def counted() -> object:
+        found.append(finds())
+        return found[-1]
+
+    monkeypatch.setattr(config, "now", counted)
+    for page in ("looks", "table"):
+        found.clear()
+        assert "2.52" in ada.words(f"/month/{MONTH}/{page}")
+        assert len(found) == 1, page
+
+
 # ---- what if
 
 

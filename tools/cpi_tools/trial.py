@@ -53,12 +53,13 @@ class State(NamedTuple):
 
 class Frozen(NamedTuple):
     """A month that is frozen on a copy: revision, carry list, those tables that its changes are against, and its own as
-    the last of them."""
+    the last of them. `others` are the latest tables of all other months, if they were asked for."""
 
     copy: Path
     revision: int
     carry: tuple[str, ...]
     tables: list[Published]
+    others: Optional[list[Published]] = None
 
     @property
     def table(self) -> bytes:
@@ -93,26 +94,39 @@ def calendar_record(window: Window) -> Record:
 
 
 def freeze_on_copy(
-    cpi: Cpi, copy: Path, state: State, at: int, carry: Sequence[str] = (), sent: Iterable[Record] = ()
+    cpi: Cpi,
+    copy: Path,
+    state: State,
+    at: int,
+    carry: Sequence[str] = (),
+    sent: Iterable[Record] = (),
+    known: Optional[Sequence[Published]] = None,
 ) -> Frozen:
     """Freezes a month on a copy at a moment, and lets each aggregate that a refusal names be carried.
 
-    The copy is changed. `carry` is what the list begins with, `sent` are records that are sent first. One run of the
-    program does it all, so the copy is opened once. Raises Refused where one of these is refused, or the freeze for
-    anything else.
+    The copy is changed. `carry` is what the list begins with, `sent` are records that are sent first. With `known`, tables
+    that are at hand, the tables of all other months are there too, and only those are printed that aren't known. One run
+    of the program does it all, so the copy is opened once. Raises Refused where one of these is refused, or the freeze
+    for anything else.
     """
     with cpi.session(copy) as session:
         for fields in sent:
             must(session, fields)
         listed = frozen_with(session, state.month, at, carry)
         tables = tables_around(session, month_text(state.month), state.revision + 1)
-    return Frozen(copy, state.revision + 1, listed, tables)
+        others = None if known is None else other_tables_in(session, month_text(state.month), known)
+    return Frozen(copy, state.revision + 1, listed, tables, others)
 
 
-def as_frozen(cpi: Cpi, copy: Path, state: State, carry: tuple[str, ...]) -> Frozen:
-    """The latest release of a month that stands frozen, as if it had just been made."""
+def as_frozen(
+    cpi: Cpi, copy: Path, state: State, carry: tuple[str, ...], known: Optional[Sequence[Published]] = None
+) -> Frozen:
+    """The latest release of a month that stands frozen, as if it had just been made; `known` as of `freeze_on_copy`."""
+    month = month_text(state.month)
     with cpi.session(copy) as session:
-        return Frozen(copy, state.revision, carry, tables_around(session, month_text(state.month), state.revision))
+        tables = tables_around(session, month, state.revision)
+        others = None if known is None else other_tables_in(session, month, known)
+        return Frozen(copy, state.revision, carry, tables, others)
 
 
 def must(session: Session, fields: Record) -> None:
@@ -143,6 +157,16 @@ def tables_around(session: Session, month: str, revision: int) -> list[Published
     latest = {each.month: each for each in listed if each.month in earlier}
     (own,) = [each for each in listed if (each.month, each.revision) == (month, revision)]
     return [Published(each, printed(session, each)) for each in [*sorted(latest.values()), own]]
+
+
+def other_tables_in(session: Session, month: str, known: Sequence[Published]) -> list[Published]:
+    """The latest tables of all months but one, as they are printed once all are published. Those that are known aren't
+    printed again: a revision of a month has one table for ever."""
+    had = {it.listed[:2]: it.table for it in known}
+    listed = listed_in(session.ask(record(LAST_MOMENT, "public", "tables")))
+    latest = {each.month: each for each in sorted(listed) if each.month != month}
+    # (the table of the first December is empty)
+    return [Published(each, had[each[:2]] if each[:2] in had else printed(session, each)) for each in latest.values()]
 
 
 def printed(session: Session, listed: Listed) -> bytes:

@@ -13,14 +13,14 @@ from typing import NamedTuple, Optional, Union
 
 from ..copying import private_copy
 from ..exact import points
-from ..pack.public import Listed, Published, listed_in
+from ..pack.public import Listed, Published
 from ..pack.shown import NotCovered, Shown
 from ..pack.tables import NotATable, Series
-from ..program import LAST_MOMENT, Cpi, record
+from ..program import LAST_MOMENT, Cpi
 from ..stored import read_copy
 from ..terminal import Fault, month_text
 from ..told import Figure, MonthName, Told, month_name_of, told
-from ..trial import printed
+from ..trial import other_tables_in
 
 Period = Union[MonthName, Figure]
 """A month by its name, or a year."""
@@ -103,12 +103,11 @@ class Levels(NamedTuple):
         return levels_of(self.others, self.month, table, self.reference)
 
 
-def other_tables(cpi: Cpi, office_copy: Path, month: int) -> list[Published]:
-    """The latest tables of all months but one, as they are printed once all are published. Raises Fault."""
+def other_tables(cpi: Cpi, office_copy: Path, month: int, known: Sequence[Published] = ()) -> list[Published]:
+    """The latest tables of all months but one, as they are printed once all are published, on a further copy; those that
+    are known aren't printed again. Raises Fault."""
     with private_copy(office_copy) as copy, cpi.session(copy) as session:
-        listed = listed_in(session.ask(record(LAST_MOMENT, "public", "tables")))
-        latest = {each.month: each for each in sorted(listed) if each.month != month_text(month)}
-        return [Published(each, printed(session, each)) for each in latest.values()]
+        return other_tables_in(session, month_text(month), known)
 
 
 def levels_of(others: Sequence[Published], month: str, table: bytes, reference: str) -> Levels:
@@ -131,10 +130,11 @@ def levels_now(
     cpi: Cpi, office_copy: Path, month: int, table: bytes, reference: str, known: Optional[Levels] = None
 ) -> Optional[Levels]:
     """The levels of a month whose table this is, with the tables that a copy has of all other months; None if they can't
-    be read. `known` are earlier levels of the month: their tables aren't printed again, if the copy has no others."""
+    be read. `known` are earlier levels of the month: their tables aren't printed again."""
+    had = known.others if known else []
     with contextlib.suppress(Fault):
-        is_known = known is not None and others_listed(office_copy, month) == {it.listed[:2] for it in known.others}
-        others = known.others if known and is_known else other_tables(cpi, office_copy, month)
+        is_known = others_listed(office_copy, month) == {it.listed[:2] for it in had}
+        others = had if known and is_known else other_tables(cpi, office_copy, month, had)
         return levels_of(others, month_text(month), table, reference)
     return None
 

@@ -9,6 +9,7 @@ from typing import NamedTuple, Optional
 from ..copying import private_copy
 from ..exact import ALL_ITEMS, decimal, depth_of, points, tenths, with_sign
 from ..others import of_others
+from ..pack.public import Published
 from ..program import Cpi
 from ..sections import Section, text_of
 from ..stored import read_copy
@@ -97,8 +98,11 @@ def report_of(cpi: Cpi, office_copy: Path, asked: Asked, now: Now) -> Report:
             return report_with(cpi, office_copy, tried, Facts(office, asked.month, tried.frozen), asked, now)
 
 
-def tried_on(cpi: Cpi, office_copy: Path, copy: Path, asked: Asked, now: Now) -> OnCopy:
-    """Freezes the month on `copy`, a further copy of `office_copy`. Raises Refused as `report_of` does."""
+def tried_on(
+    cpi: Cpi, office_copy: Path, copy: Path, asked: Asked, now: Now, known: Optional[Sequence[Published]] = None
+) -> OnCopy:
+    """Freezes the month on `copy`, a further copy of `office_copy`; `known` as of `freeze_on_copy`. Raises Refused as
+    `report_of` does."""
     with read_copy(office_copy) as office:
         state = state_of(office, asked.month)
         carry = next((each.carry for each in reversed(office.releases()) if each.month == asked.month), ())
@@ -106,9 +110,9 @@ def tried_on(cpi: Cpi, office_copy: Path, copy: Path, asked: Asked, now: Now) ->
     now(told("freezing {month} on a copy", month=month_of(asked.month)))
     try:
         frozen = (
-            as_frozen(cpi, copy, state, carry)
+            as_frozen(cpi, copy, state, carry, known)
             if state.is_frozen
-            else freeze_on_copy(cpi, copy, state, frozen_at(state, asked))
+            else freeze_on_copy(cpi, copy, state, frozen_at(state, asked), known=known)
         )
     except Refused as refused:
         return OnCopy(state, early, None, refused_words(refused))

@@ -36,7 +36,7 @@ from .second_key import SecondKey
 from .sending import Sender
 from .sent_twice import Once
 from .sessions import Session, Sessions
-from .site_config import SiteConfig
+from .site_config import OnceARequest, SiteConfig
 from .standing import looked_up
 from .tables_kept import Earlier, TablesKept
 from .tray import Tray
@@ -81,7 +81,7 @@ class Desk:
         """Raises Fault if the log or a file of the folder can't be taken."""
         self.given, self.cpi = given, Cpi(given.program)
         self.site_config = SiteConfig(given.site.config if given.site else None, given.speech.language.tag)
-        self.teller = Teller(given.speech, given.clock, self.site_config.money)
+        self.teller = Teller(given.speech, given.clock, OnceARequest(self.site_config.money))
         self.office = Office(given.url)
         self.log = DeskLog(given.room / LOG)
         self.copies = Copies(given.file, given.copies)

@@ -4,8 +4,11 @@ changes, so that the pages go by what the website will be written by."""
 from __future__ import annotations
 
 import contextlib
+from collections.abc import Callable
 from pathlib import Path
 from typing import Optional
+
+import flask
 
 from ..money import Money
 from ..others import of_others
@@ -52,6 +55,23 @@ class SiteConfig:
         """The office's currency; None if the configuration names none."""
         config = self.now()
         return Money(10**config.minor_digits, config.currency) if config and config.currency else None
+
+
+class OnceARequest:
+    """What finds the currency once for all prices of a page, so that a page has one, whatever becomes of the file
+    meanwhile."""
+
+    def __init__(self, find: Callable[[], Optional[Money]]):
+        self._find = find
+
+    def __call__(self) -> Optional[Money]:
+        """The currency; of a request the one that was found first."""
+        if not flask.has_request_context():
+            return self._find()
+        if "money" not in flask.g:
+            flask.g.money = self._find()
+        found: Optional[Money] = flask.g.money
+        return found
 
 
 def prices_are(money: Optional[Money]) -> Told:

@@ -14,9 +14,10 @@ from typing import NamedTuple, Optional
 from ..copying import right_copy
 from ..desk.closing import Closed, closed_of
 from ..desk.facts import Facts
-from ..desk.levels import Levels, levels_now
+from ..desk.levels import Levels, levels_of
 from ..desk.report import Asked, Report, report_with, tried_on
 from ..desk.unusual import PERCENT_OF_WIDTH
+from ..pack.public import Published
 from ..program import Cpi
 from ..stored import read_copy
 from ..others import Worded
@@ -160,9 +161,9 @@ class Trials:
 
     def _tried(self, office_copy: Path, at: int, copy: Path, month: int) -> Tried:
         asked = Asked(month, at, self._left_out, PERCENT_OF_WIDTH, SMALL)
-        tried = tried_on(self._cpi, office_copy, copy, asked, self._now)
+        tried = tried_on(self._cpi, office_copy, copy, asked, self._now, self._tables_known())
         with read_copy(copy) as office:
-            facts = Facts(office, month, tried.frozen, self._levels(copy, month, tried.frozen))
+            facts = Facts(office, month, tried.frozen, self._levels(month, tried.frozen))
             report = report_with(self._cpi, office_copy, tried, facts, asked, self._now)
             self._now(_("looking at prices"))
             looks = looks_of(facts, PERCENT_OF_WIDTH)
@@ -172,12 +173,17 @@ class Trials:
         by = self.running.by if self.running else ""
         return Tried(at, copy, tried.state, report, looks, closed, by)
 
-    def _levels(self, copy: Path, month: int, frozen: Optional[Frozen]) -> Optional[Levels]:
-        if frozen is None or not frozen.table:
+    def _tables_known(self) -> list[Published]:
+        """The tables that the trials at hand printed, but for those of months that were tried."""
+        levels = [known_levels(found) for found, _folder in [*self._found.values()]]
+        return [table for each in levels if each for table in each.others]
+
+    def _levels(self, month: int, frozen: Optional[Frozen]) -> Optional[Levels]:
+        if frozen is None or not frozen.table or frozen.others is None:
             return None
         self._now(_("reading the tables"))
-        known, reference = known_levels(self.latest(month)), self._reference_in(month_text(month))
-        return levels_now(self._cpi, copy, month, frozen.table, reference, known)
+        reference = self._reference_in(month_text(month))
+        return levels_of(frozen.others, month_text(month), frozen.table, reference)
 
     def close(self) -> None:
         """Removes what is at hand."""
