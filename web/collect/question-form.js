@@ -111,6 +111,6 @@ export const countTyped = () => typed.size;
 /** Leaves nothing of a collector in the form. */
 export function clear() {
   typed.clear();
-  fill({ month: "", slot: 0 }, null, null);
+  fill({ month: "", slot: 0, entry: undefined, stored: undefined }, null, null);
   find("question").replaceChildren();
 }

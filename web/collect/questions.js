@@ -54,7 +54,7 @@ async function reload() {
 
 function render() {
   const answered = kept.map((answer) => ({ question: answer.question, answer }));
-  const open = asked.filter((it) => !hasAnswer(it)).map((question) => ({ question }));
+  const open = asked.filter((it) => !hasAnswer(it)).map((question) => ({ question, answer: undefined }));
   const rowAt = ({ month, slot }) => rows.get(month)?.find((row) => row[0] === slot)
     ?? (month === state.month ? rowOf(slot) : undefined);
   left.render([...open, ...answered].map((it) => ({ ...it, row: rowAt(it.question) ?? it.answer?.row })));
