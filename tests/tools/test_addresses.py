@@ -4,6 +4,7 @@ schema.org; and that its pages are HTML."""
 from __future__ import annotations
 
 import calendar
+import hashlib
 import json
 import re
 import subprocess
@@ -155,9 +156,10 @@ def test_the_page_of_the_data_is_a_data_set_with_its_files(site: Path) -> None:
     assert "Consumer price index" in found["keywords"] and "Laspeyres" in found["measurementTechnique"]
     files = {it["contentUrl"]: it for it in found["distribution"]}
     there = {it.name for it in (site / "data").iterdir() if it.is_file()}
-    assert {it.removeprefix(f"{ADDRESS}data/") for it in files} == there
+    assert {name for it in files if "/" not in (name := it.removeprefix(f"{ADDRESS}data/"))} == there
     for address, it in files.items():
-        assert it["contentSize"] == f"{(site / address.removeprefix(ADDRESS)).stat().st_size} B"
+        data = (site / address.removeprefix(ADDRESS)).read_bytes()
+        assert it["contentSize"] == f"{len(data)} B" and it["sha256"] == hashlib.sha256(data).hexdigest()
         assert re.fullmatch(r"[a-z]+/[a-z.+-]+(;version=[0-9.]+)?", it["encodingFormat"])
 
 
@@ -167,7 +169,7 @@ def test_a_release_is_a_data_set_with_its_table(site: Path, published: list[Publ
             found = data_of(site / f"release/{it.name[:-4]}.html")
             (file,) = found["distribution"]
             assert (site / file["contentUrl"].removeprefix(ADDRESS)).read_bytes() == it.table
-            assert file["contentSize"] == f"{len(it.table)} B"
+            assert file["contentSize"] == f"{len(it.table)} B" and file["sha256"] == it.sha256
             assert (found["temporalCoverage"], found["version"]) == (it.listed.month, str(it.listed.revision))
             assert found["datePublished"] == stamp(it.listed.moment)
 

@@ -431,7 +431,8 @@ def test_an_office_without_it_publishes_what_it_did(published: list[Published], 
     more = {it.relative_to(with_quality).as_posix() for it in with_quality.rglob("*") if it.is_file()}
     assert more - names == {"quality.html", "data/quality.csv", "data/quality.json"} and not names - more
     differing = {name for name in names if (plain / name).read_bytes() != (with_quality / name).read_bytes()}
-    assert differing == {"SHA256SUMS", "data.html", "method.html", "revisions.html"}
+    described = {"data/csv-metadata.json", "data.html"}
+    assert differing == {*described, "SHA256SUMS", "method.html", "revisions.html"}
     assert not any(
         "quality.html" in (plain / name).read_text(encoding="utf-8") for name in names if name.endswith("html")
     )

@@ -67,22 +67,22 @@ def test_each_language_has_the_same_pages_and_data_are_there_once(site: Path) ->
 
 def test_the_first_language_is_as_without_others(site: Path, published: list[Published], tmp_path: Path) -> None:
     """But for the switch, the addresses of the other languages, the map of all pages, and forms of data that have their titles
-    in all languages, or a version by these."""
+    in all languages, or a version by these, with the sums of them."""
     publish(published, CONFIG._replace(speaks=OfficeLanguages()), tmp_path / "alone", None, lambda _: None)
     alone = {it.relative_to(tmp_path / "alone") for it in (tmp_path / "alone").rglob("*") if it.is_file()}
     of_others = re.compile(
         r'<link rel="alternate" hreflang=[^\n]*\n|<nav class="languages"[^>]*>\n<ul>\n(?:<li>[^\n]*\n)*</ul>\n</nav>\n|"inLanguage":"en",'
     )
-    forms = {
-        name
-        for name in alone
-        if re.search(r"(\.sdmx\.(csv|xml)|structure\.xml|artefacts\.json|\.px|\.jsonstat\.json)$", name.name)
-    }
+    named = re.compile(r"(\.sdmx\.(csv|xml)|structure\.xml|artefacts\.json|\.px|\.jsonstat\.json)$")
+    slices = re.compile("data/(newest|slices|sdmx|json-stat)/")
+    described = re.compile(r"(csv-metadata|-schema)\.json$|catalog\.jsonld$")
+    forms = {it for it in alone if named.search(it.name) and not slices.match(it.as_posix())}
     assert len(forms) == 6
+    forms |= {it for it in alone if slices.match(it.as_posix()) or described.search(it.name)}
     for name in sorted(alone - forms - {Path("SHA256SUMS"), Path("sitemap.xml")}):
         here, there = (site / name).read_bytes(), (tmp_path / "alone" / name).read_bytes()
         if name.suffix == ".html":
-            sizes = re.compile(r"[0-9.]+.?k?B\b" if name.name == "data.html" else "^$")
+            sizes = re.compile(r"[0-9.]+.?k?B\b|[0-9a-f]{64}" if name.name == "data.html" else "^$")
             texts = (of_others.sub("", it.decode()) for it in (here, there))
             assert len({sizes.sub("", it) for it in texts}) == 1, name
         else:

@@ -96,7 +96,7 @@ def write_pack(pack: Pack, folder: Path, now: Now, before: Before) -> None:
     series = pack.series
     announced = announced_after(pack.moments, pack.config.planned, series)
     config = pack.config._replace(announced=announced)
-    signature = _write_manifest(pack, folder)
+    signature, files = _write_manifest(pack, folder), NewFiles(folder)
     now("what each month is computed from")
     shown, data = Shown(series, config.reference, config.rates, config.provisional), folder / "data"
     sums = _write_tables(series, data / "tables", before)
@@ -115,7 +115,7 @@ def write_pack(pack: Pack, folder: Path, now: Now, before: Before) -> None:
     pack.versions.write(data)
     write_announced(announced, data)
     write_quality(series, config, data)
-    files = NewFiles(folder)
+    files.sums.update({**sums, **before.taken})
     with sdmx_slices(recent, structure, config, files) as also:
         write_part(recent, structure, config, data, now, kept, also)
     write_slices(recent, structure, config, files, now)
@@ -124,7 +124,7 @@ def write_pack(pack: Pack, folder: Path, now: Now, before: Before) -> None:
     items = ItemFiles(known, Notes(shown, config.provisional), before, archives.same_to, files)
     write_sites(known, recent, config, Shared(items, signature, pack.cards, files), now)
     now("sums")
-    write_sums(folder, {**sums, **before.taken, **files.sums})
+    write_sums(folder, {**before.taken, **files.sums})
 
 
 def _write_tables(series: Series, folder: Path, before: Before) -> dict[str, str]:

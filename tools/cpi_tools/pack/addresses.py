@@ -13,6 +13,7 @@ from pathlib import Path
 from markupsafe import Markup
 
 from ..speech import SPEAKS_ENGLISH, Speech
+from .citations import doi_of
 from .config import Config
 from .cube import measures_of
 from .markup import is_address
@@ -37,8 +38,15 @@ TYPES = {
     "json": "application/json",
     "jsonstat.json": "application/json",
     "px": "text/plain",
+    "jsonld": "application/ld+json",
 }
 """The media types of the data files, by the ends of their names."""
+
+OTHER_TYPES = {
+    "structure.sdmx.xml": "application/vnd.sdmx.structure+xml;version=2.1",
+    "csv-metadata.json": "application/csvm+json",
+}
+"""Those of single files."""
 
 
 # ---- the map of the pages (sitemaps.org)
@@ -73,33 +81,43 @@ def address_of(config: Config, page: str, version: Version = ALONE) -> str:
 
 def type_of(name: str) -> str:
     """The media type of a data file by its name."""
-    ends = name.split(".", 1)[1]
-    return "application/vnd.sdmx.structure+xml;version=2.1" if name.startswith("structure.") else TYPES[ends]
+    return OTHER_TYPES.get(name) or TYPES[name.split(".", 1)[1]]
+
+
+def identifier_of(config: Config) -> str:
+    """What the data of an office are called, by its names in SDMX."""
+    return f"{config.agency}:{config.id('DF_CPI')}"
+
+
+def description_of(config: Config, series: Series, speech: Speech) -> str:
+    """What is in the data."""
+    return speech.t(
+        "{title} of {office}: indices, changes, weights and contributions of {count} items by COICOP 2018, each"
+        " month from {first} to {last}.",
+        title=config.title,
+        office=config.office,
+        count=len(series.titles),
+        first=series.months[0],
+        last=series.months[-1],
+    )
 
 
 def dataset(
     config: Config,
     series: Series,
-    files: Sequence[tuple[str, int]],
+    files: Sequence[tuple[str, int, str]],
     speech: Speech = SPEAKS_ENGLISH,
     version: Version = ALONE,
 ) -> Markup:
-    """What the page of the data says of the index: its months, its publisher, and each file with its bytes."""
+    """What the page of the data says of the index: its months, its publisher, and each file with its bytes and its
+    SHA-256."""
     return _script(
         {
             **_published_by(config),
             "name": speech.row([config.title, config.country or config.area]),
-            "description": speech.t(
-                "{title} of {office}: indices, changes, weights and contributions of {count} items by COICOP 2018, each"
-                " month from {first} to {last}.",
-                title=config.title,
-                office=config.office,
-                count=len(series.titles),
-                first=series.months[0],
-                last=series.months[-1],
-            ),
+            "description": description_of(config, series, speech),
             "inLanguage": version.tag or speech.language.tag,
-            "identifier": f"{config.agency}:{config.id('DF_CPI')}",
+            "identifier": _identifiers(identifier_of(config), config.doi),
             "keywords": [speech.t("Consumer price index"), "CPI", "COICOP 2018"],
             "measurementTechnique": speech.t(
                 "Items are those of the classification COICOP 2018. Dutot indices of elementary aggregates make an index of"
@@ -110,7 +128,7 @@ def dataset(
             "url": address_of(config, "data.html", version),
             "dateModified": iso(series.moment),
             "temporalCoverage": f"{series.months[0]}/{series.months[-1]}",
-            "distribution": [_file(config, f"data/{name}", size) for name, size in files],
+            "distribution": [_file(config, f"data/{name}", size, its_sum) for name, size, its_sum in files],
         }
     )
 
@@ -126,15 +144,20 @@ def release_dataset(config: Config, release: Release, size: int, version: Versio
             ),
             "description": f"{release.headline}.",
             "inLanguage": version.tag or release.shown.speech.language.tag,
-            "identifier": f"{config.agency}:{config.id('DF_CPI')}:{release.name}",
+            "identifier": _identifiers(f"{identifier_of(config)}:{release.name}", doi_of(config, release)),
             "url": address_of(config, release.page, version),
             "datePublished": iso(table.moment),
             "version": str(table.revision),
             "temporalCoverage": table.month,
             "isPartOf": {"@type": "Dataset", "name": config.title, "url": address_of(config, "data.html", version)},
-            "distribution": [_file(config, f"data/tables/{release.name}.csv", size)],
+            "distribution": [_file(config, f"data/tables/{release.name}.csv", size, table.sha256)],
         }
     )
+
+
+def _identifiers(own: str, doi: str) -> object:
+    """What a data set is called: by its office, and by its DOI if it has one."""
+    return [f"https://doi.org/{doi}", own] if doi else own
 
 
 def _published_by(config: Config) -> dict[str, object]:
@@ -152,11 +175,12 @@ def _published_by(config: Config) -> dict[str, object]:
     return found
 
 
-def _file(config: Config, path: str, size: int) -> dict[str, object]:
+def _file(config: Config, path: str, size: int, its_sum: str) -> dict[str, object]:
     """A file that can be taken."""
     name = path.rpartition("/")[2]
     words = {"name": name, "encodingFormat": type_of(name) if "/tables/" not in path else TYPES["csv"]}
-    return {"@type": "DataDownload", **words, "contentUrl": config.address + path, "contentSize": f"{size} B"}
+    whole = {"contentSize": f"{size} B", "sha256": its_sum}
+    return {"@type": "DataDownload", **words, "contentUrl": config.address + path, **whole}
 
 
 def _script(found: dict[str, object]) -> Markup:

@@ -38,6 +38,9 @@ EMBED = "embed/chosen.html"
 IMPORT = re.compile(r'^import \{[^}]*\} from "\.[a-z./]+\.js";\n', re.M)
 EXPORT = re.compile(r"^export ", re.M)
 
+EARLIER = "-earlier.csv"
+"""The end of the name of an item's file of earlier revisions."""
+
 ITEM_HEAD = (*HEAD, "shown_month_change", "shown_year_change", "contribution_month", "contribution_year", "notes")
 """The columns of an item's file: those of cpi.csv, the changes as the pages show them, in percent, what the item gives to
 the changes of all items, in percentage points, and the letters of its notes."""
@@ -84,7 +87,7 @@ def write_chooser(series: Series, folder: Path) -> None:
     (folder / "assets" / "choose.js").write_text(script(), encoding="utf-8")
     (folder / "assets" / "frame.js").write_text(script(OF_FRAMES, {}), encoding="utf-8")
     for code, rows in _earlier(series).items():
-        write_rows(folder / "node" / f"{code}-earlier.csv", HEAD, rows)
+        write_rows(folder / "node" / f"{code}{EARLIER}", HEAD, rows)
 
 
 def write_items(series: Series, folder: Path) -> None:

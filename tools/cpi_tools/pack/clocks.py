@@ -11,7 +11,7 @@ import io
 import re
 import struct
 import zoneinfo
-from datetime import datetime, timezone, tzinfo
+from datetime import date, datetime, timezone, tzinfo
 from typing import NamedTuple, Optional
 
 from ..speech import SPEAKS_ENGLISH, Speech
@@ -54,6 +54,10 @@ class Clock(NamedTuple):
         own = datetime.fromtimestamp(moment, self.zone or timezone.utc)
         there = datetime.fromtimestamp(moment, timezone.utc)
         return speech.time(there, "UTC") if own.date() == there.date() else UTC.local(moment, speech)
+
+    def date_at(self, moment: int) -> date:
+        """The day of a moment."""
+        return datetime.fromtimestamp(moment, self.zone or timezone.utc).date()
 
     def zone_at(self, moment: int) -> tuple[str, int]:
         """What the zone calls its time at a moment, such as CET, and by how many seconds that is ahead of UTC."""

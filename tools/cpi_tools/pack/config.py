@@ -31,11 +31,12 @@ AGENCY = re.compile(r"[A-Za-z][A-Za-z0-9_-]*(\.[A-Za-z][A-Za-z0-9_-]*)*")
 LANGUAGE = re.compile(r"[a-z]{2,3}(-[A-Za-z0-9]{2,8})*")
 LIST = re.compile(r"[A-Za-z][A-Za-z0-9_.-]*:[A-Za-z0-9_@$-]+\([0-9]+(\.[0-9]+)*\)")
 REFERENCE = re.compile(r"2[01][0-9]{2}(-(0[1-9]|1[0-2]))?")
+DOI = re.compile(r"10\.[0-9]{4,9}(\.[0-9]+)*/[A-Za-z0-9._;()/-]*[A-Za-z0-9]")
 ADDRESS = re.compile(r"https?://[A-Za-z0-9.-]+(:[0-9]{1,5})?(/[A-Za-z0-9._~-]+)*/?")
 
 NAMES = ("agency", "area", "office", "title", "country", "contact", "licence", "reference", "currency", "minor_digits",
          "without", "aggregates", "rates", "language", "provisional", "address", "zone",
-         "calendar", "years", "revisions", "languages", "digits", "about", "quality",
+         "calendar", "years", "revisions", "languages", "digits", "about", "doi", "quality",
          "least_outlets", "profiles")  # fmt: skip
 NEEDED = ("agency", "area", "office")
 
@@ -85,10 +86,10 @@ class Config(NamedTuple):
     are the office's own ids of SDMX by those that are used else, `specials` its special aggregates, `provisional` is how
     many of the last months it may still revise (0 to MOST_PROVISIONAL), `years` how many years are in the files of
     the folder `data` (None: as many as don't make them large), `speaks` are the languages of the pages
-    (without one they are English), `announced` are the releases that the pack before announced, and these do, and `about`
-    is what the office says of the index in its own words. With
-    `has_quality` quality is told in figures, with the `counts` of the survey, in which a division has `least_outlets`.
-    `profiles` are the structures of other agencies in which the series are written too.
+    (without one they are English), `announced` are the releases that the pack before announced, and these do, `about`
+    is what the office says of the index in its own words, and `doi` is the DOI of the index, with which those of its
+    releases begin. With `has_quality` quality is told in figures, with the `counts` of the survey, in which a division has
+    `least_outlets`. `profiles` are the structures of other agencies in which the series are written too.
     """
 
     agency: str
@@ -122,6 +123,7 @@ class Config(NamedTuple):
     counts: tuple[Cell, ...] = ()
     least_outlets: int = LEAST_OUTLETS
     profiles: tuple[Profile, ...] = ()
+    doi: str = ""
 
     def reference_in(self, month: str) -> str:
         """The reference period of the release of a month."""
@@ -255,6 +257,8 @@ def _test_words(found: dict[str, str]) -> None:
         raise BadConfig(f"area: {found['area']} is no code of an area, such as XX")
     if not LANGUAGE.fullmatch(found.get("language", "en")):
         raise BadConfig(f"language: {found['language']} is no language such as en or pt-BR")
+    if not DOI.fullmatch(found.get("doi", "10.1234/cpi")):
+        raise BadConfig(f"doi: {found['doi']} is no DOI such as 10.1234/cpi")
 
 
 def _test_dated(references: tuple[Dated, ...], all_rates: tuple[Dated, ...], provisional: tuple[Dated, ...]) -> None:

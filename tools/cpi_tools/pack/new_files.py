@@ -5,6 +5,8 @@ from __future__ import annotations
 import hashlib
 from pathlib import Path
 
+from .manifest import sum_of
+
 
 class NewFiles:
     """Writes files into the folder of a pack, which takes its place as a whole later."""
@@ -22,3 +24,9 @@ class NewFiles:
             while left:
                 left = left[file.write(left) :]
         self.sums[name] = hashlib.sha256(content).hexdigest()
+
+    def sum_of(self, name: str) -> str:
+        """The SHA-256 of a file of the pack that is whole; it is computed once."""
+        if name not in self.sums:
+            self.sums[name] = sum_of(self.folder / name)
+        return self.sums[name]

@@ -14,10 +14,12 @@ from .addresses import LOST, address_of, dataset, release_dataset
 from .calendar_pages import ICS, CalendarOf, write_ics
 from .card_pictures import write_cards
 from .cards import NO_CARDS, Cards
+from .citations import BIBTEX, DATACITE, RIS, doi_of, write_citations
 from .config import Config
 from .feed import write_feed
 from .figures import Known
 from .given import Given
+from .new_files import NewFiles
 from .notes import provisional_then
 from .release_pictures import ReleasePictures
 from .releases import Release, ReleasePages, hundreds_of
@@ -52,11 +54,17 @@ class ReleaseSite:
             card=self.version.folder + latest.card if self.cards.are_written else "",
             card_says=latest.headline,
             dataset="",
+            cited_in=[("BibTeX", BIBTEX), ("RIS", RIS)],
+            DATACITE=DATACITE,
+            doi_of=partial(doi_of, self.config),
         )
 
-    def dataset(self, files: Sequence[tuple[str, int]]) -> str:
-        """What the page of the data says to other programs."""
-        return dataset(self.config, self.series, files, self.speech, self.version) if self.config.address else ""
+    def dataset(self, names: Sequence[tuple[str, int]], files: NewFiles) -> str:
+        """What the page of the data says to other programs, of files by their names and sizes."""
+        if not self.config.address:
+            return ""
+        found = [(name, size, files.sum_of(f"data/{name}")) for name, size in names]
+        return dataset(self.config, self.series, found, self.speech, self.version)
 
     def write(self, pages: jinja2.Environment, pack: Path) -> None:
         """Writes all of it into the folder of a pack; the other pages of the site are there."""
@@ -65,6 +73,8 @@ class ReleaseSite:
             write_page(pages, name, folder / name, **version.standing("", name, name))
         pictures = ReleasePictures(pages, self.config, folder, version)
         self.releases.write(pages, folder, partial(self._of_release, pack, pictures))
+        for it in self.releases.all:
+            write_citations(pack, self.config, it, version, self._size(pack, it))
         # (an office's own address is that of its pages in the language)
         own = self.config._replace(address=address_of(self.config, "", version))
         if not version.folder:
@@ -74,6 +84,11 @@ class ReleaseSite:
             write_cards(self.cards, self.config, self.releases.all, pack, version)
             write_feed(folder, own, self.series, self.releases.all, self.speech)
 
+    @staticmethod
+    def _size(pack: Path, release: Release) -> int:
+        """The bytes of the table of a release."""
+        return (pack / "data" / "tables" / f"{release.name}.csv").stat().st_size
+
     def _of_release(
         self, pack: Path, pictures: ReleasePictures, release: Release, rows: Sequence[Given]
     ) -> dict[str, object]:
@@ -82,8 +97,7 @@ class ReleaseSite:
         found.update(pictures.write(release, rows))
         if not self.config.address:
             return found
-        size = (pack / "data" / "tables" / f"{release.name}.csv").stat().st_size
-        found["dataset"] = release_dataset(self.config, release, size, self.version)
+        found["dataset"] = release_dataset(self.config, release, self._size(pack, release), self.version)
         if self.cards.are_written:
             found.update(card=self.version.folder + release.card, card_says=release.headline)
         return found

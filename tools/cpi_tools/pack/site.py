@@ -226,7 +226,7 @@ class Site:
         says = file_says(self.speech, self.config)
         data = {"files": files, "file_says": says, "years": years, "first_year": first_year, "lacking": self._lacking()}
         data["series_path"] = self._series_path()
-        self._page("data.html", **data, files_of_profile=files_of, dataset=self.releases.dataset(files))
+        self._page("data.html", **data, files_of_profile=files_of, dataset=self.releases.dataset(files, self.files))
         self._page("method.html", **own_words_of(self.config.about, self.speech, self.versions))
         if self.config.has_quality:
             self._page(

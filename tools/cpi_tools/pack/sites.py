@@ -8,7 +8,10 @@ from typing import NamedTuple, Optional
 from ..speech import SPEAKS_ENGLISH, Speech, speech_of
 from .addresses import write_sitemap
 from .cards import Cards
+from .catalog import Spoken, write_catalog
+from .chooser import EARLIER, ITEM_HEAD
 from .config import Config
+from .csvw import Columns, write_data, write_items
 from .figures import Known
 from .item_files import ItemFiles
 from .new_files import NewFiles
@@ -16,6 +19,7 @@ from .office_languages import Own
 from .part import Now
 from .signature import Signature
 from .site import Site
+from .tidy import HEAD
 from .versions import ALONE, versions_of
 
 
@@ -34,13 +38,19 @@ def write_sites(known: Known, recent: Known, config: Config, shared: Shared, now
     of the months that pages show."""
     languages, digits, own = config.speaks
     speeches = [speech_of(tag.replace("-", "_"), digits) for tag in languages] or [SPEAKS_ENGLISH]
-    versions = versions_of(speeches)
+    versions, columns = versions_of(speeches), Columns(config, speeches)
+    write_data(columns, shared.files)
+    if config.address:
+        spoken_in = zip(speeches, versions or [ALONE])
+        found = [Spoken(it, config.spoken(it.language.tag), version) for it, version in spoken_in]
+        write_catalog(known.series, found, shared.files)
     for speech, version in zip(speeches, versions or [ALONE]):
         tag = speech.language.tag
         titles, spoken = own.get(tag, Own()).titles, config.spoken(tag)
         figures, shown = (_in(it, speech, titles) for it in (known, recent))
         site = Site(figures, spoken, shared.files, shared.signature, shared.cards, shown, version, versions)
         site.write(shared.items, lambda done, of: now(f"pages, {done} of {of}"))
+    write_items(columns, shared.files, {"": ITEM_HEAD, EARLIER: HEAD})
     if config.address:
         write_sitemap(shared.files.folder, config, known.series, site.releases.releases.all, versions or [ALONE])
 

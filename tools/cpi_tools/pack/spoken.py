@@ -65,6 +65,8 @@ FILES: Mapping[str, str] = {
     ),
     "slices/headline.sdmx.xml": marked("The same as SDMX-ML"),
     "json-stat/index.json": marked("JSON-stat 2.0: the list of the cubes of single items, such as json-stat/00.json"),
+    "csv-metadata.json": marked("CSVW: what each column of the CSV files has, for programs"),
+    "catalog.jsonld": marked("DCAT: these data and their files, for the catalogues of data portals"),
 }
 """The files of the folder `data` in the order in which they are offered, and what is in them."""
 

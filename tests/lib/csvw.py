@@ -1,0 +1,94 @@
+"""A reader of CSV on the Web (W3C recommendation, 2015) by its own rules: where the metadata of a file is, what each column
+has, and which cells aren't as it says."""
+
+from __future__ import annotations
+
+import csv
+import json
+import re
+from collections.abc import Iterator
+from pathlib import Path
+from typing import Any, Optional
+
+CONTEXT = "http://www.w3.org/ns/csvw"
+
+NAME = re.compile(r"([A-Za-z0-9]|%[0-9A-Fa-f]{2})([A-Za-z0-9_.]|%[0-9A-Fa-f]{2})*")
+"""The name of a column: a variable of a URI template that doesn't begin with an underscore (5.6)."""
+
+FORMS = {
+    "string": r"(?s).*",
+    "gYear": r"\d{4}",
+    "gYearMonth": r"\d{4}-(0[1-9]|1[0-2])",
+    "nonNegativeInteger": r"\d+",
+    "decimal": r"[+-]?(\d+(\.\d*)?|\.\d+)",
+    "dateTimeStamp": r"\d{4}-(0[1-9]|1[0-2])-\d\dT\d\d:\d\d:\d\d(\.\d+)?(Z|[+-]\d\d:\d\d)",
+    "boolean": r"true|false|1|0",
+}
+"""The built-in datatypes that are used here, as XML Schema writes them."""
+
+
+def metadata_of(path: Path) -> Optional[tuple[dict[str, Any], dict[str, Any]]]:
+    """The table of a CSV file and the group that it is in, from the first place of the standard (5.3) whose metadata name
+    the file."""
+    for name in (f"{path.name}-metadata.json", "csv-metadata.json"):
+        if (path.parent / name).is_file():
+            group = json.loads((path.parent / name).read_text(encoding="utf-8"))
+            assert group["@context"] == CONTEXT
+            tables = [it for it in group.get("tables", [group]) if it["url"] == path.name]
+            if tables:
+                (table,) = tables
+                return table, group
+    return None
+
+
+def schema_of(path: Path, table: dict[str, Any], group: dict[str, Any]) -> dict[str, Any]:
+    """The columns of a table: its own, or those of its group; a text is the name of a file that has them."""
+    found = table.get("tableSchema", group.get("tableSchema"))
+    if isinstance(found, str):
+        found = json.loads((path.parent / found).read_text(encoding="utf-8"))
+        assert found["@context"] == CONTEXT
+    assert isinstance(found, dict)
+    return found
+
+
+def faults_of(path: Path) -> Iterator[str]:
+    """What is in a CSV file otherwise than its metadata say."""
+    found = metadata_of(path)
+    if found is None:
+        yield f"{path}: no metadata"
+        return
+    schema, dialect = schema_of(path, *found), found[1].get("dialect", {})
+    columns = schema["columns"]
+    with path.open(encoding=dialect.get("encoding", "utf-8"), newline="") as file:
+        rows = [*csv.reader(file, delimiter=dialect.get("delimiter", ","), quotechar=dialect.get("quoteChar", '"'))]
+    names = [it["name"] for it in columns]
+    yield from (f"{path}: {it} is no name of a column" for it in names if not NAME.fullmatch(it))
+    if len({*names}) != len(names):
+        yield f"{path}: two columns have one name"
+    if dialect.get("header", True):
+        head = rows.pop(0)
+        if head != [it.get("titles", it["name"]) for it in columns]:
+            yield f"{path}: its columns are {head}"
+    keys = set[tuple[str, ...]]()
+    for at, row in enumerate(rows, 1):
+        if len(row) != len(columns):
+            yield f"{path}: row {at} has {len(row)} cells"
+            continue
+        yield from (f"{path}: row {at}: {it}" for it in cell_faults(columns, row))
+        key = tuple(row[names.index(it)] for it in schema.get("primaryKey", ()))
+        if key and key in keys:
+            yield f"{path}: row {at}: {key} is there twice"
+        keys.add(key)
+
+
+def cell_faults(columns: list[dict[str, Any]], row: list[str]) -> Iterator[str]:
+    """The cells of a row that aren't as their columns say."""
+    for column, cell in zip(columns, row):
+        if cell == column.get("null", ""):
+            if column.get("required"):
+                yield f"{column['name']} is empty"
+            continue
+        datatype = column.get("datatype", "string")
+        base, form = (datatype, None) if isinstance(datatype, str) else (datatype["base"], datatype.get("format"))
+        if not re.fullmatch(FORMS[base], cell) or (form and not re.fullmatch(form, cell)):
+            yield f"{column['name']}: {cell!r} is no {base} {form or ''}"
