@@ -12,6 +12,7 @@ import random
 import re
 import zoneinfo
 from collections.abc import Iterator, Mapping
+from fractions import Fraction
 from pathlib import Path
 from typing import NamedTuple
 
@@ -29,6 +30,7 @@ from cpi_tools.publish import publish
 from cpi_tools.quality import read_office, write_counts
 from cpi_tools.terminal import Fault
 from lib.offices import plan_with
+from lib.pack_faults import text
 from lib.page_texts import Texts
 from lib.quality import COUNTS, Slot, days_after, exposed, imputed_weight, percent, response, revision_sizes, triangle
 
@@ -214,7 +216,7 @@ ALL = ["2026-01", "1", "00", *GOOD[3:]]
 
 
 def rows_with(**changed: str) -> list[list[str]]:
-    return [[*HEAD], ALL, [changed.get(name, text) for name, text in zip(HEAD, GOOD)]]
+    return [[*HEAD], ALL, [changed.get(name, cell) for name, cell in zip(HEAD, GOOD)]]
 
 
 @pytest.mark.parametrize(
@@ -242,11 +244,11 @@ def test_a_fault_is_one_line(rows: list[list[str]], says: str) -> None:
     assert says in str(fault.value) and "\n" not in str(fault.value)
 
 
-@pytest.mark.parametrize("text", ["1", "100", "five"])
-def test_a_number_of_outlets_is_tested(text: str, tmp_path: Path) -> None:
+@pytest.mark.parametrize("number", ["1", "100", "five"])
+def test_a_number_of_outlets_is_tested(number: str, tmp_path: Path) -> None:
     ini = tmp_path / "office.ini"
-    ini.write_text(f"[office]\nagency = NSO\narea = XX\noffice = Office\nleast_outlets = {text}\n")
-    with pytest.raises(BadConfig, match=f"least_outlets: {text} isn't 2 to 99"):
+    ini.write_text(f"[office]\nagency = NSO\narea = XX\noffice = Office\nleast_outlets = {number}\n")
+    with pytest.raises(BadConfig, match=f"least_outlets: {number} isn't 2 to 99"):
         read_config(ini)
 
 
@@ -267,8 +269,8 @@ class Pack(NamedTuple):
 
 def packed(published: list[Published], config: Config, folder: Path) -> Pack:
     publish(published, config, folder, None, quiet)
-    text = (folder / "data/quality.csv").read_text(encoding="utf-8")
-    return Pack(folder, [*csv.DictReader(io.StringIO(text))])
+    wrote = (folder / "data/quality.csv").read_text(encoding="utf-8")
+    return Pack(folder, [*csv.DictReader(io.StringIO(wrote))])
 
 
 def tables(published: list[Published]) -> list[tuple[str, int, int, bytes]]:
@@ -335,6 +337,11 @@ def test_time_lags_are_by_the_clock_of_the_office(published: list[Published], tm
         lags.append(out.values("time_lag", "month", "revision"))
         assert lags[-1] == wanted
     assert lags[0] != lags[1]
+    page = " ".join(Texts.of_page(tmp_path / "Asia-Tokyo/quality.html").of("p"))
+    days = [int(it) for (month, revision), it in lags[0].items() if revision == "1"]
+    assert f"The first table of May 2027 was published {-days[-1]:,} days before the month ended." in page
+    mean = Fraction(sum(days[-12:]), 12)
+    assert f"The mean of the last 12 first releases is {text(mean, 1)} days.".replace("-", "\u2212") in page
     assert days_after("2026-01", 1_772_267_400, zoneinfo.ZoneInfo("UTC")) == 28
 
 
@@ -403,7 +410,7 @@ def test_the_json_has_the_same_figures(pack: Pack) -> None:
     book = json.loads((pack.folder / "data/quality.json").read_text(encoding="utf-8"))
     assert (book["structure"], book["least_outlets"]) == ("SIMS 2.0", 5)
     rows = [{"section": part["section"], **row} for part in book["sections"] for row in part["figures"]]
-    assert rows == [{name: text for name, text in row.items() if text} for row in pack.rows]
+    assert rows == [{name: cell for name, cell in row.items() if cell} for row in pack.rows]
     numbers = [[int(it) for it in part["section"].split(".")[1:]] for part in book["sections"]]
     assert numbers == sorted(numbers)
 
@@ -461,7 +468,7 @@ def test_the_page_is_there_in_each_language(cpi: Cpi, survey: Survey, tmp_path: 
     folder = tmp_path / "public"
     publish(public, config, folder, None, quiet)
     own, english = (Texts.of_page(folder / name) for name in ("quality.html", "en/quality.html"))
-    assert any(says in text for text in own.of("h3")) and "%(" not in own.markup
+    assert any(says in heading for heading in own.of("h3")) and "%(" not in own.markup
     for element in ("h1", "h2", "h3", "caption", 'th scope="col" class="n"'):
         texts, sources = own.of(element), english.of(element)
         assert len(texts) == len(sources) and not {*texts} & {*sources} - {"Imputation"}, element
