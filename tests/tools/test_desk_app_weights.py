@@ -93,9 +93,10 @@ def test_what_prices_make_of_weights_is_shown_before_it_is_chosen(application: A
     assert "so nothing is moved" in shown
     # (only now it is chosen, and the page goes on to show it)
     assert ada.give(ada.form(f"{PAGE}?prices=2026-06", "/reference")).status_code == 303
-    assert "This draft says: at prices of 2026-06" in ada.words(PAGE) and "55.141 %" in ada.words(PAGE)
+    assert "This draft says: at prices of June 2026." in ada.words(PAGE) and "55.141 %" in ada.words(PAGE)
     assert ada.give(ada.form(f"{PAGE}?prices=", "/reference")).status_code == 303
     assert "55.141 %" not in ada.words(PAGE)
-    for month in ("2025-12", "2026-12", "2031-01"):
-        assert f"Weights can't be moved from {month}" in ada.words(f"{PAGE}?prices={month}")
+    assert "Use prices of June 2026" in shown
+    for month, name in (("2025-12", "December 2025"), ("2026-12", "December 2026"), ("2031-01", "January 2031")):
+        assert f"Weights can't be moved from {name}: " in ada.words(f"{PAGE}?prices={month}")
     assert ada.get(f"{PAGE}?prices=x").status_code == 200

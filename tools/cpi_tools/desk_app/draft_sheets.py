@@ -182,7 +182,7 @@ class Draft:
         rows were changed; None if nobody did. Raises Fault."""
         since = self.changes.since(version)
         if since is None:
-            return (*self.changed_last(ALL), [])
+            return (*self.changed_last(ALL), list[Pair]())
         key = key_of(name)
         keys = None if rows is None else {key(row) for row in rows}
         found = [it for it in since if it.name in names_with(name) and touches(it, keys, key)]

@@ -2,6 +2,7 @@
 
 from __future__ import annotations
 
+import re
 from collections.abc import Sequence
 from fractions import Fraction
 from typing import Any, NamedTuple, Optional
@@ -9,12 +10,15 @@ from typing import Any, NamedTuple, Optional
 import flask
 
 from ..exact import decimal, with_sign
+from ..others import of_others
 from ..stored import read_copy
 from ..terminal import month_text
 from .asked import desk
 from .draft_sheets import CLASSIFICATION, REFERENCE, Draft
 from .draft_weights import Before, Moved, Row, before, divisions, in_unit, months_to_move, moved, percent_text, table
 from .weight_forms import Given, shown_of
+
+MONTH = re.compile("2[01][0-9]{2}-(0[1-9]|1[0-2])")
 
 ROWS = 500
 """Weights on one page: those of most offices."""
@@ -41,10 +45,7 @@ def now(draft: Draft, month: int) -> Now:
 def month_asked(draft: Draft) -> int:
     """The month whose prices a page shows: that of its address, else the draft's reference month, else 0."""
     text = flask.request.values.get(PRICES, draft.reference())
-    year, _, month = text.partition("-")
-    if not (len(text) == 7 and text.isascii() and year.isdigit() and month.isdigit()):
-        return 0
-    return int(year) * 100 + int(month)
+    return int(text[:4]) * 100 + int(text[5:]) if MONTH.fullmatch(text) else 0
 
 
 def of_weights(draft: Draft, query: str, start: int, typed: Sequence[Given]) -> dict[str, Any]:
@@ -69,10 +70,16 @@ def of_weights(draft: Draft, query: str, start: int, typed: Sequence[Given]) -> 
         "shown_reference": draft.shown(REFERENCE),
         "shown_of": shown_of,
         "month_text": month_text,
+        "month_said": month_said,
         "percent_text": percent_text,
         "in_unit": in_unit,
         "price_text": price_text,
     }
+
+
+def month_said(text: str) -> str:
+    """A month in words; a text that is none as it is."""
+    return desk().teller.month(text) if MONTH.fullmatch(text) else of_others(text)
 
 
 def searched(rows: Sequence[Row], query: str) -> list[Row]:
