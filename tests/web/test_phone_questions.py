@@ -3,6 +3,7 @@ the price, whatever the line does."""
 
 from __future__ import annotations
 
+import json
 import os
 from collections.abc import Iterator
 from pathlib import Path
@@ -195,6 +196,30 @@ def test_a_question_that_is_withdrawn_meanwhile_takes_no_answer_away(
     browser.wait_text("#question-1", HOSTILE[3])
     assert faults_of_texts(browser, [HOSTILE[0], HOSTILE[3]]) == [] and "owned" not in browser.driver.title
     assert browser.faults() == []
+
+
+def test_once_the_window_has_closed_the_form_says_what_to_write(
+    pages: DeskPages, ada: Person, phone: Phone, stage: Stage
+) -> None:
+    """A price that is saved all the same is refused; its answer waits for it, with why, and goes once the desk has opened
+    the window again."""
+    browser = phone.browser
+    asked(stage, ada)
+    row = {"month": MONTH, "opens": 4000, "closes": 5000}
+    stage.calendar.write_text(json.dumps({"months": [row]}), encoding="utf-8")
+    signed_in(phone)
+    open_question(phone)
+    assert "window has closed, so the office takes no other price" in browser.text("#answer-about")
+    browser.type("#price", "2.16")
+    browser.click("#entry-save")
+    browser.wait_text("#questions", "Corrected to 2.16")
+    browser.wait_text("#questions", "The answer waits until the office has stored its price.")
+    browser.wait_text("#alarm", "1 refused")
+    assert len(kept(stage)) == 1
+    window(stage, FAR)
+    phone.send()
+    browser.wait_text("#line", "All sent")
+    assert kept(stage) == [] and [it[3] for it in stage.quotes(ANNA, MONTH) if it[0] == 1] == [216]
 
 
 def test_signing_out_asks_and_leaves_nothing_to_the_next_collector(
