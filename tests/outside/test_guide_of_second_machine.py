@@ -21,7 +21,8 @@ KEEP, GENERATION = indented(section(GUIDE, "## Generations"))
 (PROMOTE,) = indented(section(GUIDE, "## When the first machine is lost"))
 STOP, REPLACE, ASIDE, AGAIN = indented(section(GUIDE, "## Back again"))
 
-OFFICE, COPY = "/var/lib/cpi/office.db", "/var/lib/cpi-copy/office"
+OFFICE, COPY, DESK = "/var/lib/cpi/office.db", "/var/lib/cpi-copy/office", "/var/lib/cpi-desk"
+LOCK = "/var/lib/cpi-keep/repository/lock.exclusive"
 CLIENTS = f"{sys.executable} {Path(clients.__file__)} 8080"
 PRICES = 20
 INACTIVE = 3
@@ -103,23 +104,28 @@ def test_a_generation_outlives_both_copies(systems: tuple[System, System]) -> No
     first.run(f"runuser -u cpi -- cpi replay --db {OFFICE} > /dev/null << 'END'\n{records}\nEND")
     first.run("systemctl enable --quiet --now cpi.service cpi-backup.timer")
     before = sent(first, 210)
+    first.run(f"install -d -m 700 -o cpi -g cpi {DESK}; runuser -u cpi -- sh -c 'echo before > {DESK}/desk.log'")
     followed(first, second, "second.example")
     first.wait_for(PROBE)
+    second.wait_for(f"grep -qx before {COPY}/desk/1/desk.log")
     second.run(KEEP)
     first.wait_for(f"{PROBE.strip()} --prometheus | grep -q cpi_drilled_age_seconds")
     second.run('systemctl is-active cpi-keep.timer; test "$(stat -c %U /var/lib/cpi-keep/repository)" = cpi-keep')
     listed, take = GENERATION.splitlines()
-    first.run(f"systemctl stop cpi-follow cpi; rm -f {OFFICE} {OFFICE}-wal")
+    first.run(f"systemctl stop cpi-follow cpi; rm -f {OFFICE} {OFFICE}-wal; echo later >> {DESK}/desk.log")
     first.run(
         ANEW.replace("systemctl start cpi-follow.service", "").replace("runuser", "systemctl start cpi\nrunuser", 1)
     )
     second.run("systemctl start cpi-keep.service")
     second.run(f"runuser -u cpi-copy -- sh -c 'rm -f {COPY}/copy-1/* {COPY}/copy-2/*; ! rm -rf /var/lib/cpi-keep'")
     second.run("systemctl start cpi-keep.service", 1)
+    # a machine whose power goes while borg runs leaves a lock, which holds nobody up
+    second.run(f"runuser -u cpi-keep -- mkdir {LOCK}; runuser -u cpi-keep -- touch {LOCK}/cpi-keep@before-1.1-0")
     first.kill()
     name = second.run(f"{listed} || true").splitlines()[0]
-    second.run(take.replace("2026-01-31-090007", name))
+    told = second.run(take.replace("2026-01-31-090007", name))
     assert missing(second, before, 0) == 0
+    assert f"{DESK}: the desk's folder is that of 20" in told and second.run(f"cat {DESK}/desk.log") == "before\n"
 
 
 def lost_and_promoted(first: System, second: System, before: str) -> None:

@@ -193,8 +193,14 @@ def test_what_the_other_user_answers_is_looked_at(cpi: Cpi, place: Place, monkey
         "passed": 1,
         "removed": [],
         "copied": 1,
+        "desk": "",
+        "checked": 1,
+        "tried": 1,
+        "damaged": "",
     }
-    for change in ({}, {"generation": f"{PASSED}x"}, {"generation": "2026-01-01-000000", "failed": "a\nb"}):
+    name = "2026-01-01-000000"
+    lines = [{"generation": name, part: "a\nb"} for part in ("failed", "left", "desk", "damaged")]
+    for change in ({}, {"generation": f"{PASSED}x"}, *lines):
         monkeypatch.setattr("cpi_tools.keep._answer", lambda *_, change=change: {**answer, **change})
         ran = run(cpi, "keep", *place)
         assert (ran.status, ran.out) == (1, "") and "isn't of a generation" in ran.err

@@ -559,6 +559,17 @@ def test_the_age_of_the_last_drilled_generation_is_judged(kept: Path, capsys: py
         ),
         (GOOD._replace(fault="no room"), 1, "the last run of cpi-tools keep failed: no room"),
         (
+            GOOD._replace(checked=NOW - 8 * 24 * HOUR, tried=NOW, damaged="bad"),
+            2,
+            "the repository of the generations is damaged: bad | ",
+        ),
+        (
+            GOOD._replace(checked=NOW - 15 * 24 * HOUR, tried=NOW - HOUR),
+            1,
+            "the repository of the generations was last found whole 15 days ago | ",
+        ),
+        (GOOD._replace(tried=NOW), 2, "the repository of the generations was never found whole | "),
+        (
             LastDrill(fault="no room"),
             2,
             "no generation of the second copy has passed its drill; the last run of cpi-tools keep failed: no room",
@@ -575,6 +586,17 @@ def test_what_went_wrong_with_the_next_one_is_said(
         _, out = ran(capsys, "--url", url, "--copy", kept, "--prometheus")
     assert f"\ncpi_drill_failed {int(bool(last.failed))}\n" in out
     assert ("\ncpi_drilled_age_seconds 3600\n" in out) == bool(last.generation)
+
+
+def test_the_check_of_the_generations_is_judged(kept: Path, capsys: pytest.CaptureFixture[str]) -> None:
+    """The levels are 15 and 45 days."""
+    with answering(LIST) as url:
+        for days, wanted in ((0, 0), (14, 0), (15, 1), (44, 1), (45, 2)):
+            checked = NOW - days * 24 * HOUR
+            write_last_drill(kept, GOOD._replace(checked=checked, tried=checked))
+            status, out = ran(capsys, "--url", url, "--copy", kept)
+            assert status == wanted and f"repository_damaged=0 repository_checked_seconds={checked}" in out
+        assert ran(capsys, "--url", url, "--copy", kept, "--checked", "46,50")[0] == 0
 
 
 def test_a_note_on_generations_that_cant_be_read_hides_nothing(kept: Path, capsys: pytest.CaptureFixture[str]) -> None:

@@ -22,8 +22,10 @@ from cpi_tools.follow import Follower, mark_beside
 from cpi_tools.places import Folder
 from cpi_tools.program import Cpi
 from cpi_tools.second_copies import LOG, MARK, NAMES, NOTE, OFFICE, second_text, state_of
+from .desk_rooms import DeskRoom, files_of
 from .offices import LOAD_KEY, LOAD_MONTH
 from .ran import Ran, run
+from .second_machines import led_away
 
 OTHER = 65534
 """The number of a user who isn't root."""
@@ -256,3 +258,36 @@ def test_an_office_that_took_prices_since_is_put_aside_only_if_that_is_said(
     mark_beside(place).write_text("second was promoted\n")
     assert promoted(cpi, dest, place, "--replace").status == 0
     assert json.loads((dest / MARK).read_text())["machine"] == socket.gethostname()
+
+
+@pytest.mark.parametrize("how", ["link", "pipe", "folder", "endless"])
+def test_a_log_of_the_desk_that_is_no_file_holds_no_promotion_up(
+    how: str, cpi: Cpi, office: Path, tmp_path: Path
+) -> None:
+    """The office's user has put it there, whose folder it is: root waits for no pipe, and reads no other file."""
+    dest, there = tmp_path / "with-desk", tmp_path / "there"
+    dest.mkdir()
+    there.mkdir()
+    desk = DeskRoom(tmp_path / "cpi-desk")
+    follower = Follower(office, Folder(dest), desk=desk.path)
+    assert follower.round() == "" and follower.desk_round()
+    (there / "desk.log").write_bytes(desk.files["desk.log"])
+    if how == "endless":
+        (there / "desk.log").unlink()
+        (there / "desk.log").symlink_to("/dev/zero")
+    else:
+        led_away(there / "desk.log", tmp_path / "outside", how)
+    (tmp_path / "second").mkdir()
+    ran = run(cpi, "promote", dest, "--office", tmp_path / "second/office.db", "--desk", there)
+    assert (ran.status, ran.err) == (0, "") and f"{there}: the desk's folder is that of 20" in ran.out
+    assert {name: content for name, content in files_of(there).items() if "before" not in name} == desk.files
+    (aside,) = [path for path in there.iterdir() if path.name.startswith("before-")]
+    assert os.path.lexists(aside / "desk.log")
+
+
+def test_a_mark_that_is_a_pipe_holds_no_restore_up(cpi: Cpi, office: Path, tmp_path: Path) -> None:
+    backup, to = tmp_path / "backup.db", tmp_path / "to.db"
+    assert run(cpi, "backup", office, backup).status == 0
+    os.mkfifo(mark_beside(to))
+    ran = run(cpi, "restore", backup, "--office", to, "--yes")
+    assert ran.status == 1 and f"{mark_beside(to)}: another machine was promoted: " in ran.err

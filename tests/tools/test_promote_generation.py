@@ -3,7 +3,9 @@ generation is promoted with the marks and refusals of a copy."""
 
 from __future__ import annotations
 
+from collections.abc import Callable
 from pathlib import Path
+from typing import Optional
 
 import pytest
 
@@ -126,9 +128,11 @@ def test_what_comes_out_in_another_way_is_refused(
 ) -> None:
     take_out = Repository.take_out
 
-    def other(self: Repository, archive: str, to: dict[str, Path]) -> None:
-        take_out(self, archive, to)
-        to[OFFICE].write_bytes(to[OFFICE].read_bytes()[:-1])
+    def other(self: Repository, archive: str, to: Callable[[str], Optional[Path]]) -> set[str]:
+        written, office = take_out(self, archive, to), to(OFFICE)
+        assert office
+        office.write_bytes(office.read_bytes()[:-1])
+        return written
 
     monkeypatch.setattr(Repository, "take_out", other)
     ran = promoted(cpi, place, home, name)

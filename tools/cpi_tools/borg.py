@@ -2,22 +2,29 @@
 
 Borg runs as the user to whom the folder belongs, whoever runs the tool, so nothing in it ever belongs to another one.
 What is taken out comes through a pipe: borg writes no file for the tool, and gives none a name, an owner or a mode.
+
+Borg's locks are folders, which stay if a run is killed. Borg takes away those of processes of this host that are gone. But
+it knows a host by its network card, and a unit without a network has none; and once the machine started anew, another
+process may have that number. So a run is named by the start of the machine, and locks of earlier starts go first.
 """
 
 from __future__ import annotations
 
+import contextlib
 import os
 import re
 import shutil
 import subprocess
 import tarfile
-from collections.abc import Collection, Iterable, Mapping, Sequence
+from collections.abc import Callable, Collection, Iterable, Iterator, Sequence
 from datetime import datetime, timezone
 from pathlib import Path
 from typing import IO, Any, NoReturn, Optional
 
 from .access import User
-from .terminal import Fault, because_of
+from .held_folders import held
+from .plain_json import plain_json
+from .terminal import Fault, because_of, counted
 
 LOCK_WAIT = 120
 """Seconds for which borg waits until another one has done its work in the repository."""
@@ -32,11 +39,28 @@ CUT = ("--chunker-params", "fixed,16384", "--files-cache", "disabled", "--compre
 """How a file is cut and packed: an office's file changes page by page in its place, so pieces of four pages stay."""
 
 
+MOST_BYTES = 1 << 20
+"""Bytes of a file of borg's that are read here."""
+
+FOUND = 1
+"""The exit status of borg's check if it found something wrong; what it couldn't do has a greater one."""
+
+HOST = "cpi-keep@"
+"""How the name begins by which borg knows who has a lock; what follows is the start of the machine."""
+
+NO_LOCK = "Failed to create/acquire the lock"
+"""What borg says if another one works in the repository."""
+
+LOCKED, ROSTER = "lock.exclusive", "lock.roster"
+"""Borg's locks: a folder with a file of whoever has it alone, and a file on who has it alone or with others."""
+
+
 class Repository:
     """The repository in a folder, and the user to whom both belong."""
 
     def __init__(self, folder: Path, owner: User):
         self.path, self._own, self._owner = folder.absolute() / FOLDER, folder.absolute() / OWN, owner
+        self._is_free = False
 
     def is_there(self) -> bool:
         """Whether there is a repository. Raises OSError if that can't be seen."""
@@ -52,25 +76,27 @@ class Repository:
         return self._run("list", "--short", str(self.path)).decode(errors="replace").splitlines()
 
     def put(self, name: str, moment: int, folder: Path, files: Iterable[str]) -> None:
-        """Puts files of a folder into a new archive of a moment, in seconds since 1970 UTC. Raises Fault."""
+        """Puts files and folders of a folder into a new archive of a moment, in seconds since 1970 UTC. Raises Fault."""
         at = datetime.fromtimestamp(moment, timezone.utc).strftime("%Y-%m-%dT%H:%M:%S")
         self._run("create", *CUT, "--timestamp", at, self._at(name), *files, folder=folder)
 
-    def take_out(self, name: str, to: Mapping[str, Path]) -> None:
-        """Writes files of an archive to new files of mode 0600; other files of it are passed over. Raises Fault, also if
-        it lacks one, and OSError."""
-        words = self._words("export-tar", self._at(name), "-", *to)
+    def take_out(self, name: str, place: Callable[[str], Optional[Path]]) -> set[str]:
+        """Writes files of an archive to new files of mode 0600, each where `place` says by its name, or nowhere; which
+        ones. Raises Fault and OSError."""
+        self._free()
+        words = self._words("export-tar", self._at(name), "-")
         with subprocess.Popen(words, stdout=subprocess.PIPE, stderr=subprocess.PIPE, **self._how()) as process:
             assert process.stdout and process.stderr
             try:
-                written, cut = _written(process.stdout, to), ""
+                written, cut = _written(process.stdout, place), ""
             except tarfile.TarError as fault:
                 written, cut = set(), str(fault)
             finally:
                 process.stdout.close()
             said = process.stderr.read()
-        if process.returncode or written != set(to):
+        if process.returncode or cut:
             self._refuse(said or cut.encode())
+        return written
 
     def rename(self, name: str, to: str) -> None:
         """Gives an archive another name. Raises Fault."""
@@ -85,6 +111,17 @@ class Repository:
         some back each time: a repository that has much of it wants a large room at its next change.) Raises Fault."""
         self._run("prune", "--glob-archives", f"{begin}*", *keep, str(self.path))
         self._run("compact", str(self.path))
+
+    def damage(self, seconds: int) -> str:
+        """What is wrong with what lies in the repository: by all sums, by its index, and by the parts of each archive. Empty
+        if nothing is. Raises Fault, also if that isn't known after so many seconds."""
+        try:
+            ran = self._ran("check", str(self.path), seconds=seconds)
+        except subprocess.TimeoutExpired as fault:
+            raise Fault(f"{self.path}: its check wasn't done after {counted(seconds, 'second')}") from fault
+        if ran.returncode not in (0, FOUND):
+            self._refuse(ran.stderr)
+        return cause_in(ran.stderr.decode(errors="replace")) if ran.returncode else ""
 
     # ---- running borg
 
@@ -102,6 +139,7 @@ class Repository:
         """How borg is run: as the owner, with no setting of another one's, and with hours and days by UTC."""
         kept = {"PATH": os.environ.get("PATH", os.defpath), "LC_ALL": "C.UTF-8", "TZ": "UTC"}
         kept.update(BORG_BASE_DIR=str(self._own), HOME=str(self._own), PYTHONDONTWRITEBYTECODE="1")
+        kept["BORG_HOST_ID"] = f"{HOST}{this_start()}"
         # (it has no key, and is where its folder is)
         kept.update(BORG_UNKNOWN_UNENCRYPTED_REPO_ACCESS_IS_OK="yes", BORG_RELOCATED_REPO_ACCESS_IS_OK="yes")
         how: dict[str, Any] = {"env": kept, "stdin": subprocess.DEVNULL, "cwd": folder or "/", "umask": 0o077}
@@ -111,28 +149,76 @@ class Repository:
 
     def _run(self, *words: str, folder: Optional[Path] = None) -> bytes:
         """Runs borg; what it writes. Raises Fault with its cause in one line."""
-        try:
-            ran = subprocess.run(self._words(*words), capture_output=True, check=False, **self._how(folder))
-        except OSError as fault:
-            raise Fault(f"borg couldn't be started: {because_of(fault)}") from fault
+        ran = self._ran(*words, folder=folder)
         if ran.returncode:
             self._refuse(ran.stderr)
         written: bytes = ran.stdout
         return written
 
+    def _ran(
+        self, *words: str, folder: Optional[Path] = None, seconds: Optional[int] = None
+    ) -> "subprocess.CompletedProcess[bytes]":
+        """Runs borg, for so many seconds at most; how it ended. Raises subprocess.TimeoutExpired, and Fault if it can't be
+        started."""
+        self._free()
+        try:
+            how = self._how(folder)
+            return subprocess.run(self._words(*words), capture_output=True, check=False, timeout=seconds, **how)
+        except OSError as fault:
+            raise Fault(f"borg couldn't be started: {because_of(fault)}") from fault
+
+    def _free(self) -> None:
+        """Takes away the locks that runs of earlier starts of this machine left; none if anybody else has one. Raises
+        Fault."""
+        if self._is_free:
+            return
+        self._is_free = True
+        try:
+            who = {each for folder in (self.path, *self._own.glob(".cache/borg/*")) for each in _who_locks(folder)}
+        except OSError as fault:
+            raise Fault(because_of(fault)) from fault
+        if who and all(each.startswith(HOST) and each != f"{HOST}{this_start()}" for each in who):
+            self._run("break-lock", str(self.path))
+
     def _refuse(self, said: bytes) -> NoReturn:
         """Raises Fault with the line of borg that says why."""
-        raise Fault(f"{self.path}: {cause_in(said.decode(errors='replace'))}")
+        cause = cause_in(said.decode(errors="replace"))
+        told = " Is a run of cpi-keep.service not done? Stop it, if it can't be waited for." if NO_LOCK in cause else ""
+        raise Fault(f"{self.path}: {cause}{told}")
 
 
-def _written(stream: IO[bytes], to: Mapping[str, Path]) -> set[str]:
+def this_start() -> str:
+    """What names this start of the machine, or of a container; no other one has it."""
+    boot, first = Path("/proc/sys/kernel/random/boot_id"), Path("/proc/1/stat")
+    with contextlib.suppress(OSError):
+        # (the moment at which its first process began)
+        return f"{boot.read_text().strip()}-{first.read_text().rpartition(')')[2].split()[19]}"
+    return "unknown"
+
+
+def _who_locks(folder: Path) -> Iterator[str]:
+    """Who has a lock in a folder, as borg names hosts. What isn't borg's has no known name. Raises OSError."""
+    with contextlib.suppress(FileNotFoundError, NotADirectoryError), held(folder) as opened:
+        if opened.has(LOCKED):
+            with opened.folder(LOCKED) as locks:
+                yield from (name.rpartition("-")[0].rpartition(".")[0] for name in os.listdir(locks.number))
+        if opened.has(ROSTER):
+            try:
+                roster = plain_json(opened.text(ROSTER, MOST_BYTES))
+                yield from [str(host) for entries in roster.values() for host, *_ in entries]
+            except (ValueError, LookupError, TypeError, AttributeError):
+                yield ""
+
+
+def _written(stream: IO[bytes], place: Callable[[str], Optional[Path]]) -> set[str]:
     """Writes the files of an archive that borg sends; which ones. Raises tarfile.TarError and OSError."""
     written = set[str]()
     with tarfile.open(fileobj=stream, mode="r|") as tar:
         for member in tar:
-            source = tar.extractfile(member) if member.isreg() and member.name in to else None
-            if source and member.name not in written:
-                opened = os.open(to[member.name], os.O_WRONLY | os.O_CREAT | os.O_EXCL | os.O_CLOEXEC, 0o600)
+            source, to = tar.extractfile(member) if member.isreg() else None, place(member.name)
+            if source and to and member.name not in written:
+                to.parent.mkdir(mode=0o700, parents=True, exist_ok=True)
+                opened = os.open(to, os.O_WRONLY | os.O_CREAT | os.O_EXCL | os.O_CLOEXEC, 0o600)
                 with os.fdopen(opened, "wb") as file:
                     shutil.copyfileobj(source, file, 1 << 20)
                 written.add(member.name)

@@ -20,6 +20,7 @@ from collections.abc import Iterator
 from pathlib import Path
 from typing import NamedTuple, Optional
 
+from .held_folders import NotPlain, held
 from .mirrors import sum_of_bytes
 from .terminal import Fault, because_of
 
@@ -97,9 +98,11 @@ def is_name(name: str) -> bool:
 
 
 def lines_in(path: Path) -> bytes:
-    """The whole lines of a log; nothing if it isn't there. Raises OSError."""
+    """The whole lines of a log; nothing if it isn't there. Raises OSError, also if it is a link or no file: root reads the
+    folder of another user."""
     try:
-        data = path.read_bytes()
+        with held(path.parent) as folder, os.fdopen(folder.opened(path.name), "rb") as file:
+            data = file.read()
     except FileNotFoundError:
         return b""
     return data[: data.rfind(b"\n") + 1]
@@ -116,8 +119,12 @@ def goes_on(data: bytes, before: Optional[Sized]) -> bool:
 
 
 def is_later(folder: Path, other: Path) -> bool:
-    """Whether the logs of a folder go on from those of another one, or are the same. Raises OSError."""
-    return all(lines_in(folder / name).startswith(lines_in(other / name)) for name in LOGS)
+    """Whether the logs of a folder go on from those of another one, or are the same. What isn't a plain file doesn't. Raises
+    OSError."""
+    try:
+        return all(lines_in(folder / name).startswith(lines_in(other / name)) for name in LOGS)
+    except NotPlain:
+        return False
 
 
 class Notes(NamedTuple):

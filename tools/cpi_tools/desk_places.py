@@ -19,9 +19,9 @@ from collections.abc import Iterator
 from pathlib import Path
 from typing import NamedTuple, Optional
 
-from .desk_changes import Index, index_at
+from .desk_changes import Index, index_at, index_of
 from .desk_files import ASIDE, DATABASE, HERE, LOG, LOGS, is_later, seen_in
-from .held_folders import HeldFolder, held
+from .held_folders import HeldFolder, NotPlain, held
 from .mirrors import sum_of
 from .rooms import new_room, refuse_without_room
 from .second_copies import DESK, second_text
@@ -45,24 +45,34 @@ class Placed(NamedTuple):
 # ---- a second copy
 
 
-def promoted_desk(dest: Path, target: Path, like: Path) -> Iterator[str]:
-    """Puts the desk's folder of a second copy into its place, with the owner of the folder `like`; what is to be said.
-    Raises Fault."""
+def promoted_desk(dest: Path, target: Path, like: Path, kept: Optional[Path] = None) -> Iterator[str]:
+    """Puts the desk's folder of a second copy into its place, with the owner of the folder `like`: that of `dest`, or the one
+    that lies in `kept`, out of a generation. What is to be said. Raises Fault."""
     try:
         with new_room("cpi-desk-") as room:
             made = room / "files"
             made.mkdir(mode=0o700)
-            copied = copied_desk(dest, made)
+            copied = copied_desk(kept or dest, made)
             if copied is None:
                 yield f"{dest / DESK}: there is no copy of the desk's folder whose index can be read"
                 return
             index, faults = copied
             yield from (f"the desk's folder: {fault}" for fault in faults)
             yield _said(target, place_desk(made, target, like.stat()), f"that of {second_text(index.copied)}")
-            if index.number > 1:
-                yield f"{dest / DESK}: earlier ones that it doesn't go on from are in folders 1 to {index.number - 1}"
+            yield from _others(dest, index, kept is not None)
     except OSError as fault:
         raise Fault(because_of(fault)) from fault
+
+
+def _others(dest: Path, index: Index, is_kept: bool) -> Iterator[str]:
+    """Which other desk's folders stay with the copies, after one of them, or of a generation, took its place."""
+    if not is_kept and index.number > 1:
+        yield f"{dest / DESK}: earlier ones that it doesn't go on from are in folders 1 to {index.number - 1}"
+    last: Optional[Index] = None
+    with contextlib.suppress(OSError):
+        last = index_of(dest) if is_kept else None
+    if last and last.files != index.files:
+        yield f"{dest / DESK / str(last.number)}: the desk's folder as it was carried last, {second_text(last.copied)}"
 
 
 def _said(target: Path, placed: Placed, what: str) -> str:
@@ -141,7 +151,8 @@ def refuse_desk(made: Path, target: Path) -> bool:
 
 def refuse_held(target: Path) -> None:
     """Raises Fault if the desk's pages have a folder, and OSError."""
-    with contextlib.suppress(FileNotFoundError), (target / LOG).open("rb") as log:
+    # (a pipe would be waited for, and what isn't a file is put aside)
+    with contextlib.suppress(FileNotFoundError, NotPlain), held(target) as folder, os.fdopen(folder.opened(LOG)) as log:
         try:
             fcntl.flock(log, fcntl.LOCK_EX | fcntl.LOCK_NB)
         except BlockingIOError as fault:

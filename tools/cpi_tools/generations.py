@@ -9,6 +9,8 @@ only then it counts. One that failed is `failed-MOMENT`. The moment is that of t
 that carries can't choose which generations stay.
 
     DEST/drilled.json    which generation passed its drill last, next to the copies, where a follower reads it
+
+The repository itself is checked once a week (`CHECK_DAYS`): what only an old generation has is read by no drill.
 """
 
 from __future__ import annotations
@@ -23,6 +25,7 @@ from typing import NamedTuple, Optional
 from .access import user_of
 from .borg import Repository
 from .held_folders import held
+from .kept_desk import place_in
 from .plain_json import moment_of, plain_json, whole_number
 from .second_copies import DRILLED, LOG, MOST_BYTES, NOTE, OFFICE, CopyNote, Sum, fault_of, note_in
 from .terminal import Fault, because_of, is_line
@@ -31,7 +34,11 @@ KEPT = Path("/var/lib/cpi-keep")
 """The folder of the package for generations."""
 
 FILES = (OFFICE, LOG, NOTE)
-"""What a generation has: the office's file, its log, and the note of the copy that it was."""
+"""What a generation has: the office's file, its log, and the note of the copy that it was; and the desk's folder, if there
+is one (`kept_desk`)."""
+
+CHECK_DAYS = 7
+"""So many days after a check of the repository the next one begins."""
 
 NEW, PASSED, FAILED = "new-", "drilled-", "failed-"
 """How the name of an archive begins, by what its drill found."""
@@ -49,8 +56,10 @@ class Damaged(Fault):
 
 class LastDrill(NamedTuple):
     """What is known of the generations of a copy: the last one that passed its drill, empty if none did; the moment of
-    the latest copy that had its bytes, in seconds since 1970 UTC; their sums; and since then the generation that failed
-    its drill with its reason, and the fault of the last run, each empty if that isn't so."""
+    the latest copy that had its bytes, in seconds since 1970 UTC; their sums; since then the generation that failed its
+    drill with its reason, and the fault of the last run, each empty if that isn't so; the sum of the desk's folder; when
+    the repository was last found whole, and when a check of it last began, each 0 if never; and what that found wrong.
+    """
 
     generation: str = ""
     copied: int = 0
@@ -58,6 +67,10 @@ class LastDrill(NamedTuple):
     log: Optional[Sum] = None
     failed: str = ""
     fault: str = ""
+    desk: str = ""
+    checked: int = 0
+    tried: int = 0
+    damaged: str = ""
 
 
 # ---- the note on the last drill
@@ -82,9 +95,12 @@ def last_drill_in(text: str) -> LastDrill:
     fields = plain_json(text)
     file, log = (part and Sum(whole_number(part["size"]), str(part["sum"])) for part in (fields["file"], fields["log"]))
     generation, failed, fault = (str(fields[name]) for name in ("generation", "failed", "fault"))
-    if not is_line(generation + failed + fault):
+    # (an earlier version wrote no more)
+    desk, damaged = (str(fields.get(name, "")) for name in ("desk", "damaged"))
+    if not is_line("".join((generation, failed, fault, desk, damaged))):
         raise ValueError(text)
-    return LastDrill(generation, moment_of(fields["copied"]), file, log, failed, fault)
+    checked, tried = (moment_of(fields.get(name, 0)) for name in ("checked", "tried"))
+    return LastDrill(generation, moment_of(fields["copied"]), file, log, failed, fault, desk, checked, tried, damaged)
 
 
 def write_last_drill(dest: Path, last: LastDrill) -> None:
@@ -118,9 +134,11 @@ def drilled_in(names: list[str]) -> list[str]:
 
 
 def taken_generation(repository: Repository, archive: str, room: Path) -> CopyNote:
-    """Takes the files of an archive to a folder; the note of the copy that it was, of which file and log have the sums. A
-    log without a byte is none. Raises Damaged if it isn't whole, other Faults, and OSError."""
-    repository.take_out(archive, {name: room / name for name in FILES})
+    """Takes the files of an archive to a folder, as they lie at a place; the note of the copy that it was, of which file and
+    log have the sums. A log without a byte is none. Raises Damaged if it isn't whole, other Faults, and OSError."""
+    written = repository.take_out(archive, lambda name: room / name if name in FILES else place_in(room, name))
+    if lacks := sorted(set(FILES) - written):
+        raise Damaged(f"it isn't whole: it has no {lacks[0]}")
     note = note_in((room / NOTE).read_text(encoding="utf-8", errors="replace"))
     fault = fault_of(room / OFFICE, note) if note else f"{NOTE} isn't a note"
     if not note or fault:

@@ -20,6 +20,10 @@ PLAIN = os.O_NOFOLLOW | os.O_NONBLOCK | os.O_CLOEXEC
 """By this a link isn't followed, and a pipe isn't waited for."""
 
 
+LONGEST_LINE = 1000
+"""Bytes of a first line at most."""
+
+
 class NotPlain(OSError):
     """What isn't a plain file or a folder, such as a link or a pipe, stands where one has to be."""
 
@@ -162,6 +166,13 @@ def held(path: Path) -> Iterator[HeldFolder]:
     """A folder that somebody named, who may name a link to it. Raises OSError."""
     with _closing(path, os.open(path, FOLDER)) as found:
         yield found
+
+
+def first_line(path: Path, otherwise: str) -> str:
+    """The first line of a plain file in a folder of another user; something else of what is none, or is empty."""
+    with contextlib.suppress(OSError), held(path.parent) as folder:
+        return next(iter(folder.text(path.name, LONGEST_LINE).splitlines()), otherwise)
+    return otherwise
 
 
 @contextlib.contextmanager

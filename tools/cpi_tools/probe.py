@@ -158,8 +158,9 @@ journal of UNIT and without --output, nobody can know whether writes succeed: st
 Second copy: --copy names DEST of cpi-tools follow if that is a folder of this machine, or else the
 room of the follower, which has the note of the copy that was carried last. A copy or a backup that
 is dated ahead of this machine's clock is a warning. Where cpi-tools keep keeps generations of it,
-the last one that passed its drill has an age too (--drilled); one that failed its drill is critical
-until another one passes, and another fault of cpi-tools keep is a warning.
+the last one that passed its drill has an age too (--drilled), and so has the last check of their
+repository (--checked); one that failed its drill is critical until another one passes, and so is a
+repository that is damaged. Another fault of cpi-tools keep is a warning.
 
 Connections: the same lines say when few connections are left of the limit of `cpi serve`.
 """
@@ -195,6 +196,7 @@ LEVELS = (
     ("age", Levels(26, 50), "hours since the last backup"),
     ("copied", Levels(120, 600), "seconds since the second copy was made"),
     ("drilled", Levels(3, 26), "hours since the last copy that became a generation and passed its drill"),
+    ("checked", Levels(15, 45), "days since the repository of the generations was found whole"),
     ("left", Levels(10_000, 1000), "connections left of the limit, from which on downwards"),
     ("days", Levels(21, 7), "days until the certificate ends, from which on downwards"),
 )

@@ -127,8 +127,14 @@ def _of_generations(seen: Seen, chosen: argparse.Namespace) -> Iterator[Judgemen
         return
     if last.failed:
         yield CRITICAL, f"a generation of the second copy failed its drill: {last.failed}"
+    if last.damaged:
+        yield CRITICAL, f"the repository of the generations is damaged: {last.damaged}"
     if last.fault:
         yield WARNING, f"the last run of cpi-tools keep failed: {last.fault}"
+    if last.tried:
+        days = (seen.now - last.checked) // DAY
+        told = f"was last found whole {counted(days, 'day')} ago" if last.checked else "was never found whole"
+        yield state_of(days, chosen.checked), f"the repository of the generations {told}"
     if not last.generation:
         yield CRITICAL, "no generation of the second copy has passed its drill"
     elif last.copied > seen.now:
@@ -239,6 +245,11 @@ def _figures_of_generations(last: Optional[LastDrill], now: int) -> Iterator[Fig
         ), "Age of the last drilled generation, below 0 if a clock is wrong."
     if last:
         yield "drill_failed", str(int(bool(last.failed))), "Whether a later generation failed its drill."
+        yield "repository_damaged", str(int(bool(last.damaged))), "Whether a check found older generations damaged."
+    if last and last.checked:
+        yield "repository_checked_seconds", str(
+            last.checked
+        ), "When all generations were last found whole, seconds since 1970."
 
 
 def _figures_of_the_rest(seen: Seen) -> Iterator[Figure]:

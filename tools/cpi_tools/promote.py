@@ -40,6 +40,7 @@ from .mirrors import sync
 from .page_changes import drop_changes
 from .program import Cpi, add_program
 from .rooms import new_room, refuse_without_room
+from .second_copies import DESK as DESK_COPY
 from .second_copies import (
     NAMES,
     OFFICE,
@@ -67,12 +68,13 @@ SYSTEMD = Path("/run/systemd/system")
 
 
 class Wanted(NamedTuple):
-    """What is promoted: a copy by its folder, None for the newest one; or a generation by its name, and the folder in
-    which generations are kept."""
+    """What is promoted: a copy by its folder, None for the newest one; or a generation by its name, the folder in which
+    generations are kept, and where the desk's folder of one is put meanwhile."""
 
     copy: Optional[str] = None
     generation: Optional[str] = None
     kept: Path = KEPT
+    desk: Optional[Path] = None
 
 
 class Promoted(NamedTuple):
@@ -115,6 +117,8 @@ def promote(
             write_promotion(dest, note.copied)
             aside = _put_aside(office, home) if is_replacing else None
             _place(room / OFFICE, office, home)
+            if wanted.desk and (room / DESK_COPY).is_dir():
+                shutil.move(room / DESK_COPY, wanted.desk / DESK_COPY)
     except OSError as fault:
         raise Fault(because_of(fault)) from fault
     return Promoted(name, note, drilled, aside)
@@ -366,8 +370,8 @@ both are refused with the moment and the machine, unless --again is given.
 If both copies have what an accident left, --generation takes an earlier state, which cpi-tools keep
 kept; a NAME that isn't there, such as list, prints the names of all. It is drilled and marked like
 a copy.
-The desk's folder takes its place too, if DEST has a copy of it; one that is there is put aside in a
-folder in it, or stays, if its logs go on from those of the copy.
+The desk's folder takes its place too, that of the generation or else of DEST, if there is one; one
+that is there is put aside in a folder in it, or stays, if its logs go on from those of the copy.
 
 With --start it starts the office, else it prints the command for that:
 {' '.join(START)}
@@ -406,17 +410,12 @@ def run(chosen: argparse.Namespace) -> int:
         raise Fault("systemd doesn't run this machine, so --start can't start the office: start it by hand")
     if desk := desk_of(chosen.office, chosen.desk):
         refuse_held(desk)
-    with Progress("cpi-tools promote") as progress:
-        wanted = Wanted(chosen.copy, chosen.generation, chosen.kept)
-        how = (wanted, chosen.replace, chosen.again)
-        found = promote(Cpi(chosen.program), chosen.dest, chosen.office, *how, progress)
-        print(f"{chosen.office}: {_told(found)}")
-        if found.aside:
-            print(f"{found.aside}: what was at that place before")
-        if chosen.start:
-            progress.now("starting the office")
-            _start()
-    _place_desk(chosen)
+    try:
+        with new_room("cpi-desk-") as room:
+            found = _promoted(chosen, room)
+            _place_desk(chosen, found, room)
+    except OSError as fault:
+        raise Fault(because_of(fault)) from fault
     if not chosen.start:
         print(f"start it: {' '.join(START)}")
     moment = f"{second_text(found.note.copied)} ({found.note.copied})"
@@ -426,19 +425,41 @@ def run(chosen: argparse.Namespace) -> int:
     return 0
 
 
+def _promoted(chosen: argparse.Namespace, room: Path) -> Promoted:
+    """Promotes what was chosen, and starts it if that was; what it was. The desk's folder of a generation is in a room
+    then."""
+    with Progress("cpi-tools promote") as progress:
+        wanted = Wanted(chosen.copy, chosen.generation, chosen.kept, room)
+        how = (wanted, chosen.replace, chosen.again)
+        found = promote(Cpi(chosen.program), chosen.dest, chosen.office, *how, progress)
+        print(f"{chosen.office}: {_told(found)}")
+        if found.aside:
+            print(f"{found.aside}: what was at that place before")
+        if chosen.start:
+            progress.now("starting the office")
+            _start()
+    return found
+
+
 def desk_of(office: Path, named: Optional[Path]) -> Optional[Path]:
     """The desk's folder that belongs to an office's file: as it is named, or that of the package."""
     return named or (DESK if office.absolute() == HERE else None)
 
 
-def _place_desk(chosen: argparse.Namespace) -> None:
-    """Puts the copy of the desk's folder into its place. The office is in its own by then, whatever comes of this."""
-    if desk := desk_of(chosen.office, chosen.desk):
-        try:
-            for line in promoted_desk(chosen.dest, desk, chosen.office.parent):
-                print(line)
-        except Fault as fault:
-            print(f"cpi-tools promote: the desk's folder isn't in its place: {fault}", file=sys.stderr)
+def _place_desk(chosen: argparse.Namespace, found: Promoted, room: Path) -> None:
+    """Puts the copy of the desk's folder into its place: that of a generation, if one with it was promoted. The office is in
+    its own by then, whatever comes of this."""
+    desk = desk_of(chosen.office, chosen.desk)
+    if not desk:
+        return
+    is_kept = (room / DESK_COPY).is_dir()
+    if chosen.generation is not None and not is_kept:
+        print(f"{found.name} has no desk's folder: that of the copies is taken")
+    try:
+        for line in promoted_desk(chosen.dest, desk, chosen.office.parent, room if is_kept else None):
+            print(line)
+    except Fault as fault:
+        print(f"cpi-tools promote: the desk's folder isn't in its place: {fault}", file=sys.stderr)
 
 
 def _told(found: Promoted) -> str:

@@ -25,6 +25,7 @@ from .desk_backup import desk_beside, read_desk
 from .desk_places import add_desk, place_desk, refuse_desk
 from .drill import MOST_TOLD, Drilled, drill, told_line
 from .follow import mark_beside, restoring_beside
+from .held_folders import first_line
 from .holders import holders_of, is_held
 from .marks import Known, NotCarried, known_of
 from .mirrors import sync
@@ -71,7 +72,7 @@ def refuse(office: Path, backup: Path) -> None:
     if office.exists() and backup.samefile(office):
         raise Fault(f"{backup} is the office itself")
     if os.path.lexists(mark := mark_beside(office)):
-        told = (mark.read_text(encoding="utf-8", errors="replace").splitlines() or ["another machine was promoted"])[0]
+        told = first_line(mark, "another machine was promoted")
         raise Fault(f"{mark}: {told}: the office is on that machine, and a second one here would take prices too")
     _refuse_units(office)
     if office.exists() and is_held(office):
@@ -363,7 +364,7 @@ def _tell(office: Path, backup: Path, looked: Looked, folders: list[Path]) -> No
     for line in newer_lines(backup, looked, folders):
         print(line)
     if os.path.lexists(restoring := restoring_beside(office)):
-        print(f"{restoring}: {restoring.read_text(encoding='utf-8', errors='replace').strip()}")
+        print(f"{restoring}: {first_line(restoring, 'a restore')}")
 
 
 def _ask(office: Path, is_said: bool) -> None:
