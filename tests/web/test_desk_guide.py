@@ -1,4 +1,5 @@
-"""A December of the made-up country is closed in a browser by the steps of the guide, as it has them."""
+"""A December of the made-up country is closed by the steps of the guide, as it has them: one person prepares it in a
+browser, and another one confirms it in another."""
 
 from __future__ import annotations
 
@@ -65,16 +66,28 @@ def steps() -> list[tuple[str, str]]:
     return found
 
 
+@pytest.fixture
+def second(stage: Stage, tmp_path: Path) -> Iterator[Browser]:
+    """The browser of the second person."""
+    browser = Browser(stage.url, stage.folder / "ca.crt", tmp_path / "second")
+    browser.in_front()
+    yield browser
+    browser.close()
+
+
 class Follower:
     """Somebody who follows a step: opens the page in bold, and presses the buttons in italics, one after the other."""
 
-    def __init__(self, person: Person, browser: Browser):
-        self.person, self.browser = person, browser
+    def __init__(self, person: Person):
+        self.person, self.browser = person, person.browser
+
+    def begin(self, name: str) -> None:
+        """Signs in, and opens the month."""
+        self.person.sign_in(name)
+        self.person.open(f"/month/{MONTH}/")
 
     def follow(self, page: str, says: str) -> None:
-        if "another person signs in" in says:
-            self.person.sign_in("Ben")
-            self.person.open(f"/month/{MONTH}/")
+        """Does what a step says."""
         self.go("header nav a", page)
         self.seen(page)
         for button in re.findall(r"\*([^*]+)\*", says):
@@ -89,12 +102,16 @@ class Follower:
                 self.wait(tried, "the trial")
 
     def go(self, selector: str, name: str) -> None:
-        """Presses the one link, or the first button, of a name; the next page is there afterwards."""
+        """Presses the one link, or the first button, of a name; the next page is there afterwards. *Seen* marks its row
+        without one."""
         at = self.browser.run(NAMED, selector, name)
         assert at >= 0, f"{name} isn't on {self.browser.run('return location.pathname')}"
         self.browser.run("document.documentElement.dataset.before = 'yes'")
         self.browser.run("document.querySelectorAll(arguments[0])[arguments[1]].focus()", selector, at)
         self.person.type("\ue007")
+        if name == "Seen":
+            self.wait("return !!document.querySelector('tr.look[data-seen]')", "the mark")
+            return
         gone = "return !document.documentElement.dataset.before && document.readyState === 'complete'"
         self.wait(gone, f"a page after {name}")
 
@@ -123,22 +140,35 @@ class Follower:
         assert faults_for_keys(self.browser) == [], name
 
 
+def stays(browser: Browser, text: str) -> None:
+    """The receipt is there for longer than any page waits before it loads itself anew, and says the same."""
+    shown, address = browser.text("main"), browser.run("return location.href")
+    assert text in shown, shown
+    time.sleep(10)
+    assert browser.text("main") == shown and browser.run("return location.href") == address
+    assert f"/month/{MONTH}/" in address
+
+
 @pytest.mark.long
 def test_a_december_is_closed_by_the_steps_of_the_guide(
-    stage: Stage, browser: Browser, lived: tuple[Path, Path], tmp_path: Path
+    stage: Stage, browser: Browser, second: Browser, lived: tuple[Path, Path], tmp_path: Path
 ) -> None:
     office, published = lived
     stage.restore({stage.db: office.read_bytes()})
     more = ("--zone", ZONE, "--left-out", "0")
     with desk_pages(stage, tmp_path, f"{stage.url}{PREFIX}/", *more) as pages:
-        person = Person(browser, pages)
-        person.sign_in("Ada")
-        person.open(f"/month/{MONTH}/")
-        follower = Follower(person, browser)
+        at_work = ada, ben = [Follower(Person(it, pages)) for it in (browser, second)]
+        for follower, name in zip(at_work, ("Ada", "Ben")):
+            follower.begin(name)
+        follower = ada
         for page, says in steps():
+            if "another person signs in" in says:
+                follower = ben
             follower.follow(page, says)
-        person.open("/log")
-        browser.wait_text("main", "is frozen, with")
-        assert "confirmed: " in browser.text("main") and browser.faults() == []
+            if follower is ben and page == "Freeze":
+                stays(second, "is frozen, revision 1")
+        ben.person.open("/log")
+        second.wait_text("main", "is frozen, with")
+        assert "confirmed: " in second.text("main") and second.faults() == [] and browser.faults() == []
         table = stage.ask("GET", f"/api/table/{MONTH}/csv")
         assert table.status == 200 and table.body == published.read_bytes()
