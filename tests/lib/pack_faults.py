@@ -20,6 +20,7 @@ from .by_the_manual import Row as ByTheManual
 from .nation import published_at, revisions
 from .pack_figures import ALL, Figures, Given, Line, december_before, depth, lines_of_sets, months_of
 from .pack_forms import Attributes, px_cells, read_json_stat, read_sdmx_ml, read_sheets, rows_of_csv
+from .px_format import read_strictly
 from .pack_vintages import by_moment, reasons, rows_by_code
 
 Row = Mapping[str, str]
@@ -383,6 +384,7 @@ def cells(known: Figures) -> Cells:
 def cube_faults(site: Path, known: Figures) -> Iterator[str]:
     """JSON-stat with the statuses of levels, and PX, in which a break is a note."""
     wanted = cells(known)
+    read_strictly((site / "data/cpi.px").read_text(encoding="utf-8"))
     px: Cells = {key: Decimal(cell) for key, cell in px_cells(site / "data/cpi.px").items()}
     yield from apart("cpi.px", px, wanted)
     data, places = read_json_stat(site / "data/cpi.jsonstat.json")

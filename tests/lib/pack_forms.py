@@ -8,7 +8,7 @@ import itertools
 import json
 import re
 import zipfile
-from collections.abc import Iterable, Iterator
+from collections.abc import Iterator
 from decimal import Decimal
 from pathlib import Path
 from typing import IO, Any, Union
@@ -31,33 +31,6 @@ def read_json_stat(path: Path) -> tuple[dict[str, Any], dict[tuple[str, ...], in
     return data, {key: at for at, key in enumerate(itertools.product(*ids))}
 
 
-ORDER = """
-CHARSET AXIS-VERSION CODEPAGE LANGUAGE LANGUAGES CREATION-DATE NEXT-UPDATE PX-SERVER DIRECTORY-PATH UPDATE-FREQUENCY
-TABLEID SYNONYMS DEFAULT-GRAPH DECIMALS SHOWDECIMALS ROUNDING MATRIX AGGREGALLOWED AUTOPEN SUBJECT-CODE SUBJECT-AREA
-CONFIDENTIAL COPYRIGHT DESCRIPTION TITLE DESCRIPTIONDEFAULT CONTENTS UNITS STUB HEADING CONTVARIABLE VALUES TIMEVAL CODES
-DOUBLECOLUMN PRESTEXT DOMAIN VARIABLE-TYPE HIERARCHIES HIERARCHYLEVELS HIERARCHYLEVELSOPEN HIERARCHYNAMES MAP PARTITIONED
-ELIMINATION PRECISION LAST-UPDATED STOCKFA CFPRICES DAYADJ SEASADJ UNITS() CONTACT REFPERIOD BASEPERIOD DATABASE SOURCE
-SURVEY LINK INFOFILE FIRST-PUBLISHED META-ID OFFICIAL-STATISTICS INFO NOTEX NOTE VALUENOTEX VALUENOTE CELLNOTEX CELLNOTE
-""".split()
-"""The keywords of PX before the data (file format 2013) in the order of its list; a unit of a figure is among what else is
-said of figures."""
-
-KEYWORD = re.compile(
-    rf"({'|'.join(sorted((re.escape(it) for it in ORDER), key=len, reverse=True))})(\[[a-z-]+\])?(\(|$)"
-)
-
-
-def order_of_px(names: Iterable[str]) -> list[tuple[str, int]]:
-    """Of each keyword its language, empty for the file's own, and its place in the format's list."""
-    found = []
-    for name in names:
-        it = KEYWORD.match(name)
-        assert it, name
-        keyword = "UNITS()" if it[1] == "UNITS" and it[3] == "(" else it[1]
-        found.append((it[2] or "", ORDER.index(keyword)))
-    return found
-
-
 def read_px(path: Path) -> tuple[dict[str, list[str]], list[str]]:
     """The keywords of a file with their values, and the cells after DATA: a keyword ends with `;` outside of quotation
     marks, strings that follow each other without a comma are one, and a comma parts values."""
@@ -73,7 +46,7 @@ def read_px(path: Path) -> tuple[dict[str, list[str]], list[str]]:
         joined = re.sub(r'"\s*\n\s*"', "", value)
         values = re.findall(r'"([^"]*)"|([^\s",]+(?:\([^)]*\))?)', joined)
         name = " ".join(re.sub(r'"\s*\n\s*"', "", keyword).split())
-        assert name not in found and KEYWORD.match(name), name
+        assert name not in found, name
         found[name] = [one or other for one, other in values]
     return found, data.strip().removesuffix(";").split()
 

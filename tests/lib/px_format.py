@@ -1,0 +1,327 @@
+"""PX by the list of keywords of its format (PC-Axis file format 2013): their order, what each is, and which a file must have.
+
+The list was written from what is publicly known of the format, without the tool's own code; PxWeb itself wasn't there to
+try. `read_strictly` refuses a file that breaks a rule of the list, with a line that names the keyword.
+"""
+
+from __future__ import annotations
+
+import re
+from collections.abc import Callable, Iterable, Iterator, Mapping, Sequence
+from typing import NamedTuple, Optional
+
+TEXT, TEXTS, YES_NO, NUMBER, MOMENT, TIMES, NAMES = "text", "texts", "YES or NO", "number", "moment", "times", "names"
+"""What a value is: a text, several texts, one of two words, a whole number, `CCYYMMDD hh:mm`, a list of times, or names of
+variables."""
+
+
+class Keyword(NamedTuple):
+    """A keyword: its name, what its value is, the most letters or the greatest number, whether it is there once for each
+    language, and of what it is said: nothing, a variable (1), a variable and a value (2), or more (None: any number).
+    """
+
+    name: str
+    kind: str
+    most: int = 256
+    has_language: bool = False
+    of: Optional[int] = 0
+
+
+def _k(name: str, kind: str, most: int = 256, of: Optional[int] = 0) -> Keyword:
+    return Keyword(name, kind, most, False, of)
+
+
+def _l(name: str, kind: str, most: int = 256, of: Optional[int] = 0) -> Keyword:
+    return Keyword(name, kind, most, True, of)
+
+
+ORDER: Sequence[Keyword] = (
+    _k("CHARSET", TEXT, 20), _k("AXIS-VERSION", TEXT, 20), _k("CODEPAGE", TEXT, 20), _k("LANGUAGE", TEXT, 20),
+    _k("LANGUAGES", TEXTS, 120), _k("CREATION-DATE", MOMENT, 20), _k("NEXT-UPDATE", MOMENT, 20), _k("PX-SERVER", TEXT, 20),
+    _k("DIRECTORY-PATH", TEXT, 20), _k("UPDATE-FREQUENCY", TEXT, 20), _k("TABLEID", TEXT, 20), _k("SYNONYMS", TEXT),
+    _k("DEFAULT-GRAPH", TEXT, 20), _k("DECIMALS", NUMBER, 15), _k("SHOWDECIMALS", NUMBER, 6), _k("ROUNDING", NUMBER, 1),
+    _k("MATRIX", TEXT, 20), _k("AGGREGALLOWED", YES_NO), _k("AUTOPEN", YES_NO), _k("SUBJECT-CODE", TEXT, 20),
+    _l("SUBJECT-AREA", TEXT), _k("CONFIDENTIAL", NUMBER, 1), _k("COPYRIGHT", YES_NO), _l("DESCRIPTION", TEXT),
+    _l("TITLE", TEXT), _k("DESCRIPTIONDEFAULT", YES_NO), _l("CONTENTS", TEXT), _l("UNITS", TEXT), _l("STUB", NAMES),
+    _l("HEADING", NAMES), _l("CONTVARIABLE", TEXT), _l("VALUES", TEXTS, 256, 1), _l("TIMEVAL", TIMES, 256, 1),
+    _l("CODES", TEXTS, 256, 1), _l("DOUBLECOLUMN", YES_NO, 256, 1), _l("PRESTEXT", NUMBER, 3, 1), _l("DOMAIN", TEXT, 256, 1),
+    _l("VARIABLE-TYPE", TEXT, 20, 1), _l("HIERARCHIES", TEXTS, 256, 1), _l("HIERARCHYLEVELS", NUMBER, 99, 1),
+    _l("HIERARCHYLEVELSOPEN", NUMBER, 99, 1), _l("HIERARCHYNAMES", TEXTS, 256, 1), _l("MAP", TEXT, 256, 1),
+    _l("PARTITIONED", TEXT, 256, 1), _l("ELIMINATION", TEXT, 256, 1), _l("PRECISION", NUMBER, 6, 2),
+    _l("LAST-UPDATED", MOMENT, 20, 1), _l("STOCKFA", TEXT, 1, 1), _l("CFPRICES", TEXT, 1, 1), _l("DAYADJ", YES_NO, 256, 1),
+    _l("SEASADJ", YES_NO, 256, 1), _l("UNITS", TEXT, 256, 1), _l("CONTACT", TEXT, 10_000, 1), _l("REFPERIOD", TEXT, 20, 1),
+    _l("BASEPERIOD", TEXT, 20, 1), _l("DATABASE", TEXT), _l("SOURCE", TEXT), _l("SURVEY", TEXT), _l("LINK", TEXT),
+    _l("INFOFILE", TEXT), _k("FIRST-PUBLISHED", MOMENT, 20), _k("META-ID", TEXT), _k("OFFICIAL-STATISTICS", YES_NO),
+    _l("INFO", TEXT, 10_000), _l("NOTEX", TEXT, 10_000, None), _l("NOTE", TEXT, 10_000, None),
+    _l("VALUENOTEX", TEXT, 10_000, 2), _l("VALUENOTE", TEXT, 10_000, 2), _l("CELLNOTEX", TEXT, 10_000, None),
+    _l("CELLNOTE", TEXT, 10_000, None), _k("DATASYMBOL1", TEXT, 20), _k("DATASYMBOL2", TEXT, 20),
+)  # fmt: skip
+"""The keywords before the data, in the order of the list. UNITS is in it twice: of the file, and of a figure."""
+
+MANDATORY = ("DECIMALS", "MATRIX", "SUBJECT-CODE", "SUBJECT-AREA", "TITLE", "CONTENTS", "UNITS", "STUB", "HEADING",
+             "VALUES")  # fmt: skip
+"""What a file must have, besides DATA: of STUB and HEADING the format wants one, and our cube has both."""
+
+MOMENTS = re.compile(r"(19|20)[0-9]{2}(0[1-9]|1[0-2])(0[1-9]|[12][0-9]|3[01]) ([01][0-9]|2[0-3]):[0-5][0-9]")
+PERIODS: Mapping[str, str] = {
+    "A1": r"[12][0-9]{3}", "H1": r"[12][0-9]{3}[12]", "Q1": r"[12][0-9]{3}[1-4]",
+    "M1": r"[12][0-9]{3}(0[1-9]|1[0-2])", "W1": r"[12][0-9]{3}(0[1-9]|[1-4][0-9]|5[0-3])",
+}  # fmt: skip
+"""What a time is, by the letter of TLIST: `202401` is January 2024."""
+
+HEAD = re.compile(r"([A-Z][A-Z0-9-]*)(?:\[([a-zA-Z-]+)\])?(?:\((.*)\))?", re.DOTALL)
+LONGEST_LINE = 256
+
+
+class NotPx(Exception):
+    """A file that breaks a rule of the format."""
+
+
+class Said(NamedTuple):
+    """A keyword of a file: its name, its language (empty: the file's own), of what it is said, and its values."""
+
+    name: str
+    language: str
+    of: tuple[str, ...]
+    values: tuple[str, ...]
+
+
+class Px(NamedTuple):
+    """A file: what its keywords say, and its cells."""
+
+    said: Sequence[Said]
+    cells: Sequence[str]
+
+    def values(self, name: str, *of: str, language: str = "") -> tuple[str, ...]:
+        """The values of a keyword; none if it isn't there."""
+        found = (it.values for it in self.said if (it.name, it.language, it.of) == (name, language, of))
+        return next(found, ())
+
+
+def read_strictly(text: str) -> Px:
+    """A file by the format's rules. Raises NotPx."""
+    parts = [*_statements(text)]
+    if not parts or parts[-1][0] != "DATA":
+        raise NotPx("DATA: it isn't the last keyword")
+    said = [_said(head, value) for head, value in parts[:-1]]
+    found = Px(said, parts[-1][1].split())
+    for rule in (_test_lines, _test_once, _test_order, _test_mandatory, _test_languages, _test_variables, _test_cells):
+        rule(text, found)
+    return found
+
+
+# ---- reading
+
+
+def _statements(text: str) -> Iterator[tuple[str, str]]:
+    """Head and value of each keyword, which ends with `;` outside of quotation marks."""
+    at = begun = 0
+    quoted, equals = False, -1
+    while at < len(text):
+        letter = text[at]
+        if letter == '"':
+            quoted = not quoted
+        elif letter == "=" and not quoted and equals < 0:
+            equals = at
+        elif letter == ";" and not quoted:
+            if equals < 0:
+                raise NotPx(f"{text[begun:at][:40]!r}: there is no =")
+            yield text[begun:equals].strip(), text[equals + 1 : at].strip()
+            begun, equals = at + 1, -1
+        at += 1
+    if text[begun:].strip():
+        raise NotPx(f"{text[begun:].strip()[:40]!r}: it doesn't end with ;")
+
+
+def _texts(value: str) -> Optional[tuple[str, ...]]:
+    """Texts in quotation marks between commas, of which each may go on in further lines; None if it is anything else."""
+    found, rest = list[str](), value
+    while True:
+        it = re.match(r'\s*"([^"]*)"((?:\s*\n\s*"[^"]*")*)\s*', rest)
+        if not it:
+            return None
+        found.append(it[1] + "".join(re.findall(r'"([^"]*)"', it[2])))
+        rest = rest[it.end() :]
+        if not rest:
+            return tuple(found)
+        if not rest.startswith(","):
+            return None
+        rest = rest[1:]
+
+
+def _said(head: str, value: str) -> Said:
+    it = HEAD.fullmatch(head)
+    keyword = _keyword(it[1], bool(it[3])) if it else None
+    if it is None or keyword is None:
+        raise NotPx(f"{head.splitlines()[0] if head else 'nothing'}: the format has no such keyword")
+    of = _texts(it[3]) if it[3] is not None else ()
+    if of is None:
+        raise NotPx(f"{head}: what is in brackets isn't texts")
+    if keyword.of is not None and len(of) != keyword.of:
+        raise NotPx(f"{it[1]}: it is said of {len(of)}, wanted {keyword.of}")
+    if it[2] and not keyword.has_language:
+        raise NotPx(f"{it[1]}: it has no language")
+    return Said(it[1], it[2] or "", of, _values(keyword, value))
+
+
+def _keyword(name: str, has_brackets: bool) -> Optional[Keyword]:
+    """A keyword of the list by its name, and whether it is said of something."""
+    found = [it for it in ORDER if it.name == name]
+    apart = [it for it in found if it.of is None or (it.of != 0) == has_brackets]
+    return next(iter(apart or found), None)
+
+
+def _values(keyword: Keyword, value: str) -> tuple[str, ...]:
+    """The values of a keyword, which have to be what the list says."""
+    found = FORMS[keyword.kind](value)
+    if found is None:
+        raise NotPx(f"{keyword.name}: {value[:40]!r} isn't {keyword.kind}")
+    if keyword.kind == NUMBER:
+        if int(found[0]) > keyword.most:
+            raise NotPx(f"{keyword.name}: {found[0]} is more than {keyword.most}")
+    elif max(map(len, found)) > keyword.most:
+        raise NotPx(f"{keyword.name}: a text has more than {keyword.most} letters")
+    return found
+
+
+def _one_text(value: str) -> Optional[tuple[str, ...]]:
+    found = _texts(value)
+    return found if found and len(found) == 1 else None
+
+
+def _moment(value: str) -> Optional[tuple[str, ...]]:
+    found = _one_text(value)
+    return found if found and MOMENTS.fullmatch(found[0]) else None
+
+
+def _word(*words: str) -> Callable[[str], Optional[tuple[str, ...]]]:
+    return lambda value: (value,) if value in words else None
+
+
+def _number(value: str) -> Optional[tuple[str, ...]]:
+    return (value,) if re.fullmatch("[0-9]+", value) else None
+
+
+def _times(value: str) -> Optional[tuple[str, ...]]:
+    """`TLIST(M1),"202401","202402"`."""
+    it = re.match(r"TLIST\(([AHQMW]1)\)\s*,", value)
+    found = _texts(value[it.end() :]) if it else None
+    return found if it and found and all(re.fullmatch(PERIODS[it[1]], time) for time in found) else None
+
+
+FORMS: Mapping[str, Callable[[str], Optional[tuple[str, ...]]]] = {
+    TEXT: _one_text, TEXTS: _texts, NAMES: _texts, YES_NO: _word("YES", "NO"), NUMBER: _number, MOMENT: _moment,
+    TIMES: _times,
+}  # fmt: skip
+
+
+# ---- rules
+
+
+def _test_lines(text: str, _: Px) -> None:
+    for number, line in enumerate(text.split("\n"), 1):
+        if len(line) > LONGEST_LINE:
+            raise NotPx(f"line {number} has {len(line)} letters, more than {LONGEST_LINE}")
+
+
+def _test_once(_: str, found: Px) -> None:
+    seen = set[tuple[str, str, tuple[str, ...]]]()
+    for it in found.said:
+        if it[:3] in seen:
+            raise NotPx(f"{it.name}: it is there twice{_of(it)}")
+        seen.add(it[:3])
+
+
+def _test_order(_: str, found: Px) -> None:
+    """In each language keywords come in the order of the list."""
+    last: dict[str, tuple[int, str]] = {}
+    for it in found.said:
+        keyword = _keyword(it.name, bool(it.of))
+        assert keyword
+        place = ORDER.index(keyword)
+        before, name = last.get(it.language, (-1, ""))
+        if place < before:
+            raise NotPx(f"{it.name}: it comes behind {name}")
+        last[it.language] = place, it.name
+
+
+def _test_mandatory(_: str, found: Px) -> None:
+    for tag in _languages(found):
+        there = {it.name for it in found.said if it.language == tag and (it.name != "UNITS" or not it.of)}
+        for name in MANDATORY:
+            keyword = _keyword(name, False)
+            if name not in there and (not tag or keyword and keyword.has_language):
+                raise NotPx(f"{name}: it is missing{f' in {tag}' if tag else ''}")
+
+
+def _languages(found: Px) -> list[str]:
+    return [*dict.fromkeys(it.language for it in found.said)]
+
+
+def _test_languages(_: str, found: Px) -> None:
+    """The languages of keywords are those that LANGUAGES names."""
+    own, named = found.values("LANGUAGE"), found.values("LANGUAGES")
+    if named and own[:1] != named[:1]:
+        raise NotPx("LANGUAGES: the first one isn't that of LANGUAGE")
+    for tag in _languages(found):
+        if tag and tag not in named[1:]:
+            raise NotPx(f"LANGUAGES: it hasn't got {tag}")
+
+
+def _test_variables(_: str, found: Px) -> None:
+    """Each variable has its values, codes as many as values, and what is said of a value is of one that is there."""
+    for tag in _languages(found):
+        names = (*found.values("STUB", language=tag), *found.values("HEADING", language=tag))
+        values = {name: found.values("VALUES", name, language=tag) for name in names}
+        for name, own in values.items():
+            if not own or len({*own}) != len(own):
+                raise NotPx(f"VALUES: of {name} there are none, or two are the same")
+            for keyword in ("CODES", "TIMEVAL"):
+                more = found.values(keyword, name, language=tag)
+                if more and len(more) != len(own):
+                    raise NotPx(f"{keyword}: of {name} there are {len(more)}, and {len(own)} values")
+            if (default := found.values("ELIMINATION", name, language=tag)) and default[0] not in own:
+                raise NotPx(f"ELIMINATION: {name} has no value {default[0]}")
+        for it in found.said:
+            if it.language == tag:
+                _test_of(it, values, found)
+
+
+def _test_of(it: Said, values: Mapping[str, Sequence[str]], found: Px) -> None:
+    """Whether what a keyword is said of is there; by the value of a figure are said UNITS, LAST-UPDATED and so on."""
+    figure = found.values("CONTVARIABLE", language=it.language)
+    if it.name in ("VALUES", "CODES", "TIMEVAL", "ELIMINATION") and it.of[0] not in values:
+        raise NotPx(f"{it.name}: there is no variable {it.of[0]}")
+    if it.name in ("UNITS", "LAST-UPDATED", "CONTACT", "BASEPERIOD", "REFPERIOD") and it.of:
+        if not figure or it.of[0] not in values[figure[0]]:
+            raise NotPx(f"{it.name}: {it.of[0]} is no value of the variable of figures")
+    if it.name in ("PRECISION", "VALUENOTE", "VALUENOTEX") and it.of[1] not in values.get(it.of[0], ()):
+        raise NotPx(f"{it.name}: {it.of[0]} has no value {it.of[1]}")
+    if it.name == "PRECISION" and int(it.values[0]) <= int(found.values("SHOWDECIMALS")[0]):
+        raise NotPx("PRECISION: it isn't more than SHOWDECIMALS")
+
+
+def _test_cells(_: str, found: Px) -> None:
+    """As many cells as the values of all variables, each a number or a text of dots."""
+    wanted = 1
+    for name in (*found.values("STUB"), *found.values("HEADING")):
+        wanted *= len(found.values("VALUES", name))
+    if len(found.cells) != wanted:
+        raise NotPx(f"DATA: {len(found.cells)} cells, wanted {wanted}")
+    for cell in found.cells:
+        if not re.fullmatch(r'-?[0-9]+(\.[0-9]+)?|"(\.{1,6}|-)"', cell):
+            raise NotPx(f"DATA: {cell} is no cell")
+
+
+def _of(it: Said) -> str:
+    return f" for {', '.join(it.of)}" if it.of else ""
+
+
+def statements_of(text: str) -> list[str]:
+    """The keywords of a file as they stand there, for tests that change them."""
+    return [f"{head}={value};\n" for head, value in _statements(text)]
+
+
+def joined(statements: Iterable[str]) -> str:
+    """The file of some keywords."""
+    return "".join(statements)
