@@ -101,7 +101,10 @@ def csv_rows(known: Figures) -> dict[str, Iterator[Row]]:
 def part_faults(folder: Path, known: Figures, wanted: Observations) -> Iterator[str]:
     """The slices of SDMX, which are the whole together."""
     divisions = sorted({code[:2] for code in known.nodes} - {ALL})
-    parts: dict[str, Callable[[str], bool]] = {"headline": partial(is_headline, known)}
+    parts: dict[str, Callable[[str], bool]] = {
+        "headline": lambda code: len(code) == 2,
+        "aggregates": known.sets.__contains__,
+    }
     parts.update({each: partial(is_in_division, known, each) for each in divisions})
     names = {f"{part}.sdmx.{end}" for part in parts for end in ("csv", "xml")}
     if {path.name for path in folder.iterdir()} != names:

@@ -13,6 +13,7 @@ import io
 import json
 import os
 import re
+import shutil
 import subprocess
 import sys
 import zipfile
@@ -260,7 +261,7 @@ COMMON = "{http://www.sdmx.org/resources/sdmxml/schemas/v2_1/common}"
 
 
 def test_the_structure_has_each_id_that_the_data_use(pack: Path) -> None:
-    root = ElementTree.parse(pack / "data/structure.sdmx.xml")
+    root = ElementTree.parse(pack / "data/structure.sdmx.xml").getroot()
     codes = {it.get("id"): {code.get("id") for code in it} for it in root.iter(STRUCTURE + "Codelist")}
     listed = {it.get("id", "") for it in root.iter(STRUCTURE + "Dimension") if it.get("position")}
     attributes = {it.get("id", "") for it in root.iter(STRUCTURE + "Attribute")}
@@ -278,12 +279,39 @@ def test_the_structure_has_each_id_that_the_data_use(pack: Path) -> None:
     own = {(it.get("agencyID"), it.get("id"), it.get("version")) for it in root.iter(STRUCTURE + "Codelist")}
     assert lists == shared | own and len(own) == 5
     concepts = [it.get("id", "") for it in root.iter(STRUCTURE + "Concept")]
-    assert sorted(name for kind, name in named if kind == "Concept") == sorted(concepts) == sorted(head[3:])
+    assert sorted(concepts) == ["COICOP18", "IMPUTED_PRICES", "MEASURE", "REVISION", "TRANSFORMATION"]
+    assert sorted(name for kind, name in named if kind == "Concept") == sorted(head[3:])
+    schemes = {name: scheme_of(root, name) for name in head[3:]}
+    own_scheme = ("NSO", "CS_CPI", "1.0.0")
+    assert {name for name, scheme in schemes.items() if scheme == own_scheme} == {*concepts}
+    assert {*schemes.values()} == {own_scheme, ("SDMX", "CROSS_DOMAIN_CONCEPTS", "2.0")}
     for at, name in enumerate(head):
         used = {row[at] for row in rows} - {""}
         assert used <= codes.get(f"CL_{name}", used) and used, name
     titles = {it.get("id"): it.findtext(COMMON + "Name") for it in root.iter(STRUCTURE + "Code")}
     assert titles["CP01112-01"] == "Flour & <meal>"
+
+
+def scheme_of(root: ElementTree.Element, concept: str) -> tuple[str, ...]:
+    """The list of concepts in which a structure looks for a concept: its agency, id and version."""
+    names = ("agencyID", "maintainableParentID", "maintainableParentVersion")
+    (found,) = {
+        tuple(it.get(name, "") for name in names)
+        for it in root.iter("Ref")
+        if (it.get("class"), it.get("id")) == ("Concept", concept)
+    }
+    return found
+
+
+def test_a_renamed_dimension_keeps_the_concept_that_sdmx_has(published: list[Published], tmp_path: Path) -> None:
+    words = "[sdmx]\nFREQ = FREQUENCY\nMEASURE = WHAT\nCROSS_DOMAIN_CONCEPTS = SDMX:CROSS_DOMAIN_CONCEPTS(2.1)\n"
+    (tmp_path / "office.ini").write_text(INI + words)
+    publish(published[:2], read_config(tmp_path / "office.ini", KNOWN_IDS), tmp_path / "public", None, quiet)
+    root = ElementTree.parse(tmp_path / "public/data/structure.sdmx.xml").getroot()
+    dimensions = [(it.get("id"), next(it.iter("Ref")).get("id")) for it in root.iter(STRUCTURE + "Dimension")]
+    assert ("FREQUENCY", "FREQ") in dimensions and ("WHAT", "WHAT") in dimensions
+    assert scheme_of(root, "FREQ") == ("SDMX", "CROSS_DOMAIN_CONCEPTS", "2.1")
+    assert scheme_of(root, "WHAT") == ("NSO", "CS_CPI", "1.0.0")
 
 
 KINDS = ("Dataflow", "Codelist", "ConceptScheme", "DataStructure")
@@ -598,12 +626,13 @@ def test_a_chain_of_manifests(published: list[Published], tmp_path: Path) -> Non
     assert json.loads(one)["previous"] is None
     publish(first, CONFIG._replace(title="Prices"), out, None, quiet)
     assert (out / "manifest.json").read_bytes() == one
+    shutil.copytree(out, tmp_path / "kept")
     publish(published, CONFIG, out, None, quiet)
     two = (out / "manifest.json").read_bytes()
     assert json.loads(two)["previous"] == hashlib.sha256(one).hexdigest()
     assert again(published, out) == []
     (tmp_path / "kept.json").write_bytes(one)
-    publish(published, CONFIG, tmp_path / "elsewhere", tmp_path / "kept.json", quiet)
+    publish(published, CONFIG, tmp_path / "elsewhere", tmp_path / "kept/manifest.json", quiet)
     assert (tmp_path / "elsewhere/manifest.json").read_bytes() == two
     assert again(published, out, tmp_path / "kept.json") == []
     assert again(published, out, out / "manifest.json") == []

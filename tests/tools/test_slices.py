@@ -69,7 +69,7 @@ def whole(pack: Path) -> list[Attributes]:
 
 def test_all_slices_together_are_the_whole(pack: Path, whole: list[Attributes]) -> None:
     names = {path.name for path in (pack / "data/slices").iterdir()}
-    parts = ("headline", "01", "07", "08")
+    parts = ("headline", "aggregates", "01", "07", "08")
     assert names == {f"{part}.sdmx.{end}" for part in parts for end in ("csv", "xml")}
     together: Observations = set()
     for part in parts:
@@ -84,10 +84,11 @@ def test_all_slices_together_are_the_whole(pack: Path, whole: list[Attributes]) 
 BEFORE = ("STRUCTURE", "STRUCTURE_ID", "ACTION")
 
 
-def test_headline_has_all_items_divisions_and_special_aggregates(pack: Path) -> None:
+def test_headline_has_all_items_and_divisions(pack: Path) -> None:
     rows = rows_of(pack / "data/slices/headline.sdmx.csv")
-    assert {row["COICOP18"] for row in rows} == {"_T", "CP01", "CP07", "CP08", "FRUIT", "REST"}
+    assert {row["COICOP18"] for row in rows} == {"_T", "CP01", "CP07", "CP08"}
     assert {row["FREQ"] for row in rows} == {"M", "A"}
+    assert {row["COICOP18"] for row in rows_of(pack / "data/slices/aggregates.sdmx.csv")} == {"FRUIT", "REST"}
     items = {row["COICOP18"] for row in rows_of(pack / "data/slices/08.sdmx.csv")}
     assert items == {"CP08", "CP081", "CP0811", "CP08111", "CP08111-01"}
 

@@ -74,9 +74,10 @@ def anew(published: list[Published], config: Config, out: Path, manifest: Path) 
 
 
 def keep(pack: Path, to: Path) -> None:
-    """Keeps the manifest of a pack, and beside it the versions of its structure."""
-    (to.parent / "data").mkdir(exist_ok=True)
-    for name, path in (("manifest.json", to), ("data/artefacts.json", to.parent / "data/artefacts.json")):
+    """Keeps the manifest of a pack, and beside it the versions of its structure and its observations."""
+    shutil.rmtree(to.parent / "data", ignore_errors=True)
+    shutil.copytree(pack / "data", to.parent / "data")
+    for name, path in (("manifest.json", to), ("SHA256SUMS", to.parent / "SHA256SUMS")):
         path.write_bytes((pack / name).read_bytes())
 
 
@@ -233,7 +234,7 @@ def test_the_next_packs_are_the_packs_from_nothing(published: list[Published], t
         written(some, config, out)
         first = anew(some, config, tmp_path / f"first{number}" / "public", kept)
         assert [*differences(out, first)] == []
-        archives = [name for name in files_of(out) if name.endswith(".zip")]
+        archives = [name for name in files_of(out) if name.startswith("data/years/") and name.endswith(".zip")]
         assert sum((out / name).stat().st_ino == earlier.get(name) for name in archives) == taken
         tables_taken = [name for name in files_of(out / "data/tables") if f"data/tables/{name}" in earlier]
         for name in tables_taken:

@@ -10,6 +10,7 @@ import argparse
 import sys
 import time
 from collections.abc import Callable, Iterable, Sequence
+from functools import partial
 from pathlib import Path
 from typing import NamedTuple, Optional
 
@@ -22,12 +23,15 @@ from .pack.announced import announced_after, announced_in, write_announced
 from .pack.artefact_versions import Versions, versions_after
 from .pack.before import Before
 from .pack.cards import NO_CARDS, Cards, has_cards
+from .pack.changes import Earlier as EarlierChanges
+from .pack.changes import Made, earlier_changes, joined, write_changes
 from .pack.config import Config, read_config
 from .pack.figures import Known
 from .pack.item_files import ItemFiles
 from .pack.kept_lines import KeptLines
 from .pack.manifest import (
     MANIFEST,
+    Change,
     Manifest,
     changed_since,
     differences,
@@ -70,14 +74,19 @@ class CannotPublish(Fault):
     """A pack that can't be written; one line."""
 
 
+Previous = Callable[[Sequence[Change]], Optional[str]]
+"""The SHA-256 of the manifest before one that has some changes."""
+
+
 class Pack(NamedTuple):
     """What a pack is made of: its tables, who publishes, and of the pack before, if there is one, the SHA-256 of its manifest,
-    the versions of artefacts of SDMX, and the moments that were announced; what signs a manifest and what draws cards, if
-    anything does, and the special aggregates that the pack before has."""
+    what packs changed, the versions of artefacts of SDMX, and the moments that were announced; what signs a manifest and what
+    draws cards, if anything does, and the special aggregates that the pack before has."""
 
     series: Series
     config: Config
-    previous: Optional[str]
+    previous: Previous
+    changes: EarlierChanges
     versions: Versions
     moments: EarlierMoments
     sign: Sign = unsigned
@@ -96,7 +105,7 @@ def write_pack(pack: Pack, folder: Path, now: Now, before: Before) -> None:
     series = pack.series
     announced = announced_after(pack.moments, pack.config.planned, series)
     config = pack.config._replace(announced=announced)
-    signature, files = _write_manifest(pack, folder), NewFiles(folder)
+    files = NewFiles(folder)
     now("what each month is computed from")
     shown, data = Shown(series, config.reference, config.rates, config.provisional), folder / "data"
     sums = _write_tables(series, data / "tables", before)
@@ -120,6 +129,9 @@ def write_pack(pack: Pack, folder: Path, now: Now, before: Before) -> None:
         write_part(recent, structure, config, data, now, kept, also)
     write_slices(recent, structure, config, files, now)
     write_profiles(recent, structure, config, data)
+    now("what has changed")
+    made = Made(series, structure, config, Before(pack.changes.pack) if pack.changes.pack else None, before.taken)
+    signature = _write_manifest(pack, made, files)
     known = Known(series, contributions, shown, recent)
     items = ItemFiles(known, Notes(shown, config.provisional), before, archives.same_to, files)
     write_sites(known, recent, config, Shared(items, signature, pack.cards, files), now)
@@ -139,13 +151,15 @@ def _write_tables(series: Series, folder: Path, before: Before) -> dict[str, str
     return sums
 
 
-def _write_manifest(pack: Pack, folder: Path) -> Optional[Signature]:
-    """Writes the manifest, and its signature if it is signed."""
-    manifest = manifest_text(pack.series, pack.previous).encode()
-    (folder / MANIFEST).write_bytes(manifest)
+def _write_manifest(pack: Pack, made: Made, files: NewFiles) -> Optional[Signature]:
+    """Writes the changes since the pack before and the manifest, which names them, and its signature if it is signed."""
+    changes, sums = write_changes(pack.changes, made, files.folder)
+    files.sums.update(sums)
+    manifest = manifest_text(pack.series, pack.previous(changes), changes).encode()
+    (files.folder / MANIFEST).write_bytes(manifest)
     signature = pack.sign(manifest)
     if signature:
-        signature.write(folder)
+        signature.write(files.folder)
     return signature
 
 
@@ -185,7 +199,8 @@ def publish(
             raise CannotPublish(f"{out} is signed, and the new pack wouldn't be: --sign names the key")
         cards = cards_after(out) if config.address else NO_CARDS
         packs = [*([before.parent] if before else []), *([out] if standing else [])]
-        chain = previous_of(last, series), versions_after(packs), announced_in(packs)
+        changes = _changes_after(standing, out, last, before)
+        chain = partial(previous_of, last, series), changes, versions_after(packs), announced_in(packs)
         pack = Pack(series, config, *chain, signed_by(key, config.agency), cards, sets)
         write_pack(pack, new, now, Before(behind_link(out) if standing else None))
         _tell_uncounted(series, config, tell)
@@ -204,6 +219,14 @@ def _tell_uncounted(series: Series, config: Config, tell: Callable[[str], None])
             f"the counts of quality lack {counted(len(lacking), 'release')}, such as {last.month}, revision"
             f" {last.revision}: cpi-tools quality writes them anew"
         )
+
+
+def _changes_after(
+    standing: Optional[Manifest], out: Path, last: Optional[Manifest], before: Optional[Path]
+) -> EarlierChanges:
+    """What packs before changed: that which is replaced, and that of the manifest before, which the new one follows."""
+    replaced = earlier_changes(behind_link(out), standing) if standing else EarlierChanges()
+    return joined(earlier_changes(before.parent, last, is_whole=False), replaced) if before and last else replaced
 
 
 def _tell_changes(changed: Sequence[str], tell: Callable[[str], None]) -> None:
@@ -228,13 +251,18 @@ def check(published: Iterable[Published], config: Config, out: Path, before: Opt
     the key: that of the pack is taken, and has to hold for the manifest that is written now.
     """
     series = series_of(published, config.specials)
-    previous = previous_of(read_manifest(before), series) if before else read_manifest(out / MANIFEST).previous
+    standing = read_manifest(out / MANIFEST)
+    changes = earlier_changes(out, standing)._replace(pack=None)
+
+    def previous(changes: Sequence[Change]) -> Optional[str]:
+        return previous_of(read_manifest(before), series, changes) if before else standing.previous
+
     try:
         with new_room("cpi-pack-") as room:
             new = room / "pack"
             new.mkdir()
             with compared_only():
-                chain = previous, versions_after([out]), announced_in([out])
+                chain = previous, changes, versions_after([out]), announced_in([out])
                 pack = Pack(series, config, *chain, kept(out), cards_like(out), kept_sets(out))
                 write_pack(pack, new, now, Before())
             now(f"comparing with {out}")

@@ -3,7 +3,8 @@
 `artefact_versions` gives each its version. Nothing is final: items come and titles change, and SDMX lets a final artefact
 never change.
 
-Frequency, area and status are lists that agencies share: they are referred to by their own agency and version.
+Frequency, area and status are lists that agencies share: they are referred to by their own agency and version. So are the
+concepts that SDMX has for all domains.
 """
 
 from __future__ import annotations
@@ -26,10 +27,28 @@ SHARED = {
 }
 """The lists of other agencies, by the concept that takes its codes from them."""
 
+CROSS_DOMAIN = "CROSS_DOMAIN_CONCEPTS"
+SHARED_SCHEME = f"SDMX:{CROSS_DOMAIN}(2.0)"
+"""The list of the concepts that SDMX has for all domains."""
+
+SHARED_CONCEPTS = frozenset(
+    "FREQ REF_AREA UNIT_MEASURE OBS_STATUS TIME_PERIOD OBS_VALUE BASE_PER DECIMALS EMBARGO_TIME".split()
+)
+"""The concepts that it has of ours, by the same ids."""
+
 
 def shared(config: Config, concept: str) -> Reference:
     """The list of another agency that a concept has."""
-    found = REFERENCE.fullmatch(config.ids.get(f"CL_{concept}", SHARED[concept]))
+    return _reference(config.ids.get(f"CL_{concept}", SHARED[concept]))
+
+
+def shared_scheme(config: Config) -> Reference:
+    """The list of the concepts for all domains."""
+    return _reference(config.ids.get(CROSS_DOMAIN, SHARED_SCHEME))
+
+
+def _reference(text: str) -> Reference:
+    found = REFERENCE.fullmatch(text)
     assert found
     return Reference(*found.groups())
 

@@ -46,6 +46,13 @@ class Before:
                 return data
         return None
 
+    def whole(self, name: str) -> Optional[Path]:
+        """The path of a file by its name in the pack if it has the sum that it was written with, else None."""
+        path, wanted = self._path(name), self._sums.get(name)
+        with contextlib.suppress(OSError):
+            return path if path and wanted and sum_of(path) == wanted else None
+        return None
+
     def take_same(self, name: str, to: Path, content: bytes, sum_of_content: str) -> bool:
         """Takes a file if it has these bytes; whether it did."""
         path = self._path(name)

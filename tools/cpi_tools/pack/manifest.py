@@ -11,7 +11,7 @@ from __future__ import annotations
 import filecmp
 import hashlib
 import json
-from collections.abc import Iterator, Mapping
+from collections.abc import Iterable, Iterator, Mapping
 from pathlib import Path
 from typing import Any, NamedTuple, Optional
 
@@ -37,26 +37,45 @@ class SetSum(NamedTuple):
     sha256: str
 
 
+class Change(NamedTuple):
+    """What a pack changed of the one before: its name, the releases that were new, the SHA-256 of the manifest before, how
+    many observations are replaced and deleted (None: they can't be compared), and the SHA-256 of each file that has them, by
+    its name in the pack."""
+
+    name: str
+    releases: tuple[str, ...]
+    since: str
+    replaced: Optional[int]
+    deleted: Optional[int]
+    files: Mapping[str, str]
+
+
 class Manifest(NamedTuple):
-    """What stands in a manifest: moment and SHA-256 of each table, the SHA-256 of the manifest before, its own, and the
-    figures of special aggregates by their ids."""
+    """What stands in a manifest: moment and SHA-256 of each table, the SHA-256 of the manifest before, its own, the
+    figures of special aggregates by their ids, and what each pack changed."""
 
     tables: dict[TableId, tuple[str, str]]
     previous: Optional[str]
     sha256: str
     sets: Mapping[str, SetSum] = {}
+    changes: tuple[Change, ...] = ()
 
 
-def manifest_text(series: Series, previous: Optional[str]) -> str:
-    """A manifest of all tables and sets; `previous` is the SHA-256 of the one before."""
+def manifest_text(series: Series, previous: Optional[str], changes: Iterable[Change] = ()) -> str:
+    """A manifest of all tables and sets, and of changes; `previous` is the SHA-256 of the one before."""
     tables = [
         {"month": it.month, "revision": it.revision, "published": iso(it.moment), "sha256": it.sha256}
         for it in series.vintages
     ]
     found = {name: set_sum(it.rows, series.latest) for name, it in series.specials.items()}
     sets = [{"id": name, **it._asdict()} for name, it in found.items() if it]
-    parts = [f' "previous": {json.dumps(previous)}', _listed("tables", tables)]
-    return "{\n" + ",\n".join([*parts, *([_listed("sets", sets)] if sets else [])]) + "\n}\n"
+    lists: list[tuple[str, list[dict[str, Any]]]] = [
+        ("tables", tables),
+        ("sets", sets),
+        ("changes", [it._asdict() for it in changes]),
+    ]
+    parts = [f' "previous": {json.dumps(previous)}', *(_listed(name, rows) for name, rows in lists if rows)]
+    return "{\n" + ",\n".join(parts) + "\n}\n"
 
 
 def _listed(name: str, rows: list[dict[str, Any]]) -> str:
@@ -91,17 +110,25 @@ def manifest_of(data: bytes, name: str) -> Manifest:
         tables = {(row["month"], row["revision"]): (row["published"], row["sha256"]) for row in found["tables"]}
         previous = found["previous"]
         sets = {row["id"]: SetSum(row["first"], row["last"], row["sha256"]) for row in found.get("sets", ())}
+        changes = tuple(_change(row) for row in found.get("changes", ()))
     except (AttributeError, KeyError, TypeError, ValueError) as fault:
         raise NotAManifest(f"{name} is no manifest that cpi-tools publish wrote") from fault
-    return Manifest(tables, previous, hashlib.sha256(data).hexdigest(), sets)
+    return Manifest(tables, previous, hashlib.sha256(data).hexdigest(), sets, changes)
 
 
-def previous_of(before: Optional[Manifest], series: Series) -> Optional[str]:
-    """What a new manifest has as the one before, if `before` is the last: over the same figures it is the same."""
+def _change(row: Any) -> Change:
+    """A row of changes. Raises KeyError, TypeError or ValueError."""
+    counts = row["replaced"], row["deleted"]
+    return Change(row["name"], tuple(row["releases"]), row["since"], *counts, {**row["files"]})
+
+
+def previous_of(before: Optional[Manifest], series: Series, changes: Iterable[Change] = ()) -> Optional[str]:
+    """What a new manifest has as the one before, if `before` is the last: over the same figures and changes it is the
+    same."""
     if before is None:
         return None
-    now = manifest_of(manifest_text(series, None).encode(), "")
-    is_same = (before.tables, before.sets) == (now.tables, now.sets)
+    now = manifest_of(manifest_text(series, None, changes).encode(), "")
+    is_same = (before.tables, before.sets, before.changes) == (now.tables, now.sets, now.changes)
     return before.previous if is_same else before.sha256
 
 

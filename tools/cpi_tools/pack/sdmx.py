@@ -34,7 +34,7 @@ from typing import NamedTuple, Optional, Protocol, TextIO, Union
 from ..csv_files import line_of
 from ..speech import marked
 from . import figures
-from .artefacts import SHARED, Structure, item_id
+from .artefacts import CROSS_DOMAIN, SHARED, Structure, item_id
 from .config import SDMX_FORMS, Config, KnownIds
 from .figures import Figure, Known
 from .measures import average_change, full_years
@@ -117,7 +117,7 @@ KNOWN_IDS = KnownIds(
     names=frozenset({*CONCEPTS, FLOW, DEFINITION, SCHEME} - FIXED),
     codes=frozenset().union(*CODES),
     apart=(frozenset(CONCEPTS), *CODES),
-    lists=frozenset(f"CL_{concept}" for concept in SHARED),
+    lists=frozenset({*(f"CL_{concept}" for concept in SHARED), CROSS_DOMAIN}),
 )
 """The ids that an office can have otherwise."""
 
@@ -453,7 +453,7 @@ CONTACTS = (
 """What a contact is by its form, and the element that SDMX has for it."""
 
 
-def data_head(own: Structure, series: Series, config: Config, part: str = "") -> str:
+def data_head(own: Structure, series: Series, config: Config, part: str = "", action: str = "Information") -> str:
     """What is before the series: namespaces, header, and the beginning of the data set; the id of a part of all is in that
     of the message."""
     definition, version = own.definition.id, own.definition.version
@@ -470,6 +470,13 @@ def data_head(own: Structure, series: Series, config: Config, part: str = "") ->
         f' xmlns:ss="{SCHEMAS}data/structurespecific" xmlns:own="{space}"'
         ' xmlns:xsi="http://www.w3.org/2001/XMLSchema-instance">\n'
         f"{message_header(series, config, FLOW, structure, part)}"
-        f'<message:DataSet ss:structureRef="{definition}" xsi:type="own:DataSetType"'
-        ' ss:dataScope="DataStructure" action="Information">\n'
+        f"{data_set(own, action)}"
+    )
+
+
+def data_set(own: Structure, action: str) -> str:
+    """The beginning of a data set, with what is to be done with it."""
+    return (
+        f'<message:DataSet ss:structureRef="{own.definition.id}" xsi:type="own:DataSetType"'
+        f' ss:dataScope="DataStructure" action="{action}">\n'
     )

@@ -33,6 +33,7 @@ from .given import Given, lead_of, sorted_values, values_of, with_bars
 from .headline import headline
 from .item_files import ItemFiles
 from .logos import LOGO, Logo
+from .manifest import MANIFEST, read_manifest
 from .measures import reference_level
 from .month_rows import MonthRows
 from .new_files import NewFiles
@@ -70,6 +71,9 @@ HERE = Path(__file__).resolve().parent
 
 CLAUSE_DEPTH = 2
 """The calculator offers all items, divisions and groups, and special aggregates."""
+
+SHOWN_CHANGES = 12
+"""Packs whose changes the page of the data offers; the manifest has all."""
 
 MOST_CODES = 5
 """Elementary aggregates that a page names one by one where others belong to a special aggregate."""
@@ -225,7 +229,7 @@ class Site:
         first_year, years = self.recent.series.months[0][:4], self._years()
         says = file_says(self.speech, self.config)
         data = {"files": files, "file_says": says, "years": years, "first_year": first_year, "lacking": self._lacking()}
-        data["series_path"] = self._series_path()
+        data["series_path"], data["changes"] = self._series_path(), self._changes()
         self._page("data.html", **data, files_of_profile=files_of, dataset=self.releases.dataset(files, self.files))
         self._page("method.html", **own_words_of(self.config.about, self.speech, self.versions))
         if self.config.has_quality:
@@ -481,6 +485,12 @@ class Site:
         """The path of the index of all items, as SDMX-REST has it; empty if the pack has no such paths."""
         path = series_path(self.config, ALL_ITEMS)
         return path if (self.pack / path).is_file() else ""
+
+    def _changes(self) -> list[tuple[str, int]]:
+        """The files of the last changes with their sizes in bytes, the last first."""
+        rows = read_manifest(self.pack / MANIFEST).changes[-SHOWN_CHANGES:]
+        names = (Path(name) for row in reversed(rows) for name in row.files)
+        return [(it.name, (self.pack / it).stat().st_size) for it in names]
 
     def _years(self) -> list[tuple[str, int]]:
         """The archives of earlier years with their sizes in bytes, the last first."""

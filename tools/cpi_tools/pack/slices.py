@@ -2,14 +2,15 @@
 and each item by a path.
 
 - `data/newest/` has the newest month in each form, in files of the same names as those of `data/`.
-- `data/slices/headline.sdmx.xml` has all items, the divisions and special aggregates, and `data/slices/01.sdmx.xml` a
-  division with all below it. Together they are the whole.
+- `data/slices/headline.sdmx.xml` has all items and the divisions, `data/slices/aggregates.sdmx.xml` special aggregates, and
+  `data/slices/01.sdmx.xml` a division with all below it. Together they are the whole.
 - `data/sdmx/` is the base address of paths in the form of SDMX-REST, which any file server answers with a file:
   `data/DF_CPI/M.XX.CPI.IX._T.N` is a series by its key, `dataflow/NSO/DF_CPI/latest` the structure.
 - `data/json-stat/01.1.json` is the cube of one item, and `data/json-stat/index.json` the collection of them.
 
 What is small is there of each item: its index by a path, and its cube. The other series have a path only of what is in
-`headline`, since ten files for each of seven thousand items would be more than all other files of a pack together.
+`headline` and `aggregates`, since ten files for each of seven thousand items would be more than all other files of a pack
+together.
 """
 
 from __future__ import annotations
@@ -21,6 +22,7 @@ from collections.abc import Iterator
 from pathlib import Path
 from typing import Optional
 
+from ..exact import ALL_ITEMS
 from ..whole_files import link_or_copy
 from .artefacts import Structure, item_id
 from .config import JSON_STAT, SDMX_FORMS, SLICES, Config
@@ -33,8 +35,8 @@ from .sdmx import DATA_END, ENDS, FLOW, Form, Observed, data_head, form_of, open
 from .tables import Series, iso
 from .tongues import first_of
 
-HEADLINE = "headline"
-"""The slice of all items, the divisions and special aggregates."""
+HEADLINE, AGGREGATES = "headline", "aggregates"
+"""The slice of all items and the divisions, which R reads within seconds, and that of special aggregates."""
 
 NEWEST, ITEMS, PATHS = "newest", "json-stat", "sdmx"
 """The folders of the newest month, of the cubes of items, and of paths in the form of SDMX-REST."""
@@ -52,8 +54,10 @@ def series_path(config: Config, code: str) -> str:
 
 def slices_of(series: Series, code: str) -> tuple[str, ...]:
     """The slices that an item is in."""
-    division = () if code in series.specials or len(code) < 2 or code == "00" else (code[:2],)
-    return (HEADLINE, *division) if is_headline(series, code) else division
+    if code in series.specials:
+        return (AGGREGATES,)
+    division = () if code == ALL_ITEMS else (code[:2],)
+    return (HEADLINE, *division) if len(code) == 2 else division
 
 
 def is_headline(series: Series, code: str) -> bool:
@@ -63,7 +67,7 @@ def is_headline(series: Series, code: str) -> bool:
 
 def divisions_of(series: Series) -> list[str]:
     """The divisions that have an item."""
-    return sorted({code[:2] for code in series.titles} - {"00"})
+    return sorted({code[:2] for code in series.titles} - {ALL_ITEMS})
 
 
 # ---- SDMX
@@ -78,6 +82,7 @@ class SdmxSlices:
         self._series, self._config, self._files = known.series, config, files
         self._forms: dict[tuple[str, str], Form] = {}
         folder, names = files.folder / "data" / SLICES, (HEADLINE, *divisions_of(known.series))
+        names = (*names, AGGREGATES) if known.series.specials else names
         folder.mkdir()
         for form in filter(config.has, SDMX_FORMS):
             for name in names:

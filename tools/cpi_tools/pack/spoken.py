@@ -61,7 +61,7 @@ FILES: Mapping[str, str] = {
     "cpi.px": marked("PX (PC-Axis, PxWeb): the same cube"),
     "newest/cpi.csv": marked("The newest month; newest/ has it in the other forms too"),
     "slices/headline.sdmx.csv": marked(
-        "SDMX of all items, the divisions and special aggregates; slices/01.sdmx.csv has all of division 01"
+        "SDMX of all items and the divisions; slices/01.sdmx.csv has all of division 01"
     ),
     "slices/headline.sdmx.xml": marked("The same as SDMX-ML"),
     "json-stat/index.json": marked("JSON-stat 2.0: the list of the cubes of single items, such as json-stat/00.json"),

@@ -6,7 +6,7 @@ from pathlib import Path
 
 from ..speech import marked
 from .artefact_versions import Versions
-from .artefacts import SHARED, Reference, Structure, fixed, items, shared
+from .artefacts import SHARED, SHARED_CONCEPTS, Reference, Structure, fixed, items, shared, shared_scheme
 from .config import Config
 from .markup import attributes_of, is_address, text_of
 from .sdmx import (
@@ -165,6 +165,7 @@ def _concepts(own: Structure, config: Config) -> str:
     body = "".join(
         _named("str:Concept", title, others=named(config, title), id=config.id(name))
         for name, title in CONCEPTS.items()
+        if name not in SHARED_CONCEPTS
     )
     return _named(
         "str:ConceptScheme", CONCEPTS_NAME, body, others=named(config, CONCEPTS_NAME), **_kept(own.concepts), **CHANGES
@@ -172,9 +173,11 @@ def _concepts(own: Structure, config: Config) -> str:
 
 
 def _identity(own: Structure, config: Config, name: str) -> str:
-    """The concept of a component, and its code list or its form."""
-    scheme = {"maintainableParentID": own.concepts.id, "maintainableParentVersion": own.concepts.version}
-    kept = {"id": config.id(name), "agencyID": config.agency, **scheme, "package": "conceptscheme", "class": "Concept"}
+    """The concept of a component, of SDMX itself or of the office, and its code list or its form."""
+    is_shared = name in SHARED_CONCEPTS
+    its_id, concepts = (name, shared_scheme(config)) if is_shared else (config.id(name), own.concepts)
+    scheme = {"maintainableParentID": concepts.id, "maintainableParentVersion": concepts.version}
+    kept = {"id": its_id, "agencyID": concepts.agency, **scheme, "package": "conceptscheme", "class": "Concept"}
     identity = element("str:ConceptIdentity", element("Ref", **kept))
     if name in ENUMERATED:
         kept = _kept(_list_of(own, config, name))
