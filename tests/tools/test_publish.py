@@ -140,7 +140,7 @@ def test_each_table_can_be_made_of_vintages_and_the_latest_figures(pack: Path, p
 
 def test_tables_are_the_bytes_of_the_program(cpi: Cpi, public_office: Office, pack: Path) -> None:
     names = {f"{month}-r{revision}.csv": (month, revision) for month, revision in shown()}
-    assert {path.name for path in (pack / "data/tables").iterdir()} == {*names}
+    assert {path.name for path in (pack / "data/tables").glob("*.csv")} == {*names}
     for name, (month, revision) in names.items():
         text = cpi.table(public_office.file, month, "csv", public_office.at, revision)
         assert (pack / "data/tables" / name).read_bytes() == text
