@@ -25,6 +25,7 @@ from cpi_tools.desk_app.field_questions import (
     FieldQuestions,
     NoQuestion,
     Of,
+    Question,
     Said,
     TooManyAnswers,
     TooManyOpen,
@@ -56,7 +57,7 @@ class Asked(Phone):
     def questions(self) -> Any:
         return self.get("questions")
 
-    def answer(self, number: int, month: str = MONTH, **said: object) -> Any:
+    def answer(self, number: int, month: str = MONTH, /, **said: object) -> Any:
         address = f"/notes/{month}/questions/{number}"
         return self.client.post(address, data=said, headers=self.fields, base_url=f"http://{LISTEN}")
 
@@ -97,6 +98,12 @@ def corrected(application: Application, price: int) -> None:
     far = int(time.time()) + 86_400
     window = DESK_KEY, f"calendar,{MONTH},2000,{far},{far}\n"
     told_office(application, window, (BENO, f"quote,1,{MONTH},price,{price}\n"))
+
+
+def asked_of(application: Application) -> list[Question]:
+    """The month's questions."""
+    assert application.desk.questions
+    return application.desk.questions.of_month(202602)
 
 
 def steps(application: Application) -> list[tuple[str, str]]:
@@ -155,7 +162,7 @@ def test_a_price_that_is_withdrawn_says_why(application: Application, ada: Perso
     told_office(application, window, (BENO, f"quote,1,{MONTH},missing,gone\n"))
     assert beno.answer(1, what="corrected", receipt=4).json == {"answer": 1}
     assert "corrected to gone, receipt 4." in ada.words(LIST) or "corrected to" in ada.words(LIST)
-    assert [it.answers[0].said[2:4] for it in application.desk.questions.of_month(202602)] == [("gone", 0)]
+    assert [it.answers[0].said[2:4] for it in asked_of(application)] == [("gone", 0)]
 
 
 def test_an_answer_is_kept_once_however_often_it_is_sent(application: Application, ada: Person, beno: Asked) -> None:
@@ -191,7 +198,7 @@ def test_nobody_reads_the_question_of_another_collector(application: Application
     assert answers() == before
     assert beno.answer(1, what="confirmed", receipt=3, text="Weighed it.").status_code == 200
     assert answers() == before
-    assert [it.answers[0].said.text for it in application.desk.questions.of_month(202602)] == ["Weighed it."]
+    assert [it.answers[0].said.text for it in asked_of(application)] == ["Weighed it."]
     assert beno.answer(1, "2026-01", what="text", text="Another month's").status_code == 404
     assert ada.get("/notes/questions").status_code == 401
     stranger = application.app.test_client()
@@ -232,10 +239,10 @@ def test_who_was_quicker_is_told_and_what_was_typed_stays(application: Applicati
     answer = ben.give(late, text="Which brand?")
     assert answer.status_code == 409 and 'value="Which brand?"' in answer.text
     assert re.search(f"Ada asked this meanwhile, [^:]+:[0-9]+[^:]*: {re.escape(STILL)}", words_of(answer.text))
-    assert [it.text for it in application.desk.questions.of_month(202602)] == [STILL]
+    assert [it.text for it in asked_of(application)] == [STILL]
     # (the page that answered shows it: its form asks anew)
     assert asks(ben, "Which brand?").status_code == 303
-    assert [(it.text, it.state, it.next) for it in application.desk.questions.of_month(202602)] == [
+    assert [(it.text, it.state, it.next) for it in asked_of(application)] == [
         (STILL, WITHDRAWN, 2),
         ("Which brand?", OPEN, 0),
     ]
@@ -265,7 +272,7 @@ def test_a_question_that_was_answered_meanwhile_isn_t_withdrawn(
     for form in forms:
         answer = ada.give(form)
         assert answer.status_code == 409 and "Collector 8 answered this meanwhile" in words_of(answer.text)
-    assert [it.state for it in application.desk.questions.of_month(202602)] == [ANSWERED]
+    assert [it.state for it in asked_of(application)] == [ANSWERED]
 
 
 def test_the_desk_removes_one_for_good(application: Application, ada: Person, beno: Asked, tmp_path: Path) -> None:
@@ -287,7 +294,7 @@ def test_a_price_that_has_changed_isn_t_asked_about(application: Application, ad
     application.tried(application.person(BEN), MONTH)
     answer = ada.give(form, text=STILL)
     assert answer.status_code == 409 and f'value="{STILL}"' in answer.text
-    assert application.desk.questions.of_month(202602) == []
+    assert asked_of(application) == []
 
 
 def test_a_log_that_is_full_lets_nothing_be_asked_or_answered(
@@ -303,7 +310,7 @@ def test_a_log_that_is_full_lets_nothing_be_asked_or_answered(
     assert answer.status_code == 503 and 'value="Which brand?"' in answer.text
     assert beno.answer(1, what="text", text="No").status_code == 503
     assert ada.fill(LOOKS, "/withdraw").status_code == 503 and ada.fill(LIST, "/remove").status_code == 503
-    assert [(it.text, it.state) for it in application.desk.questions.of_month(202602)] == [(STILL, OPEN)]
+    assert [(it.text, it.state) for it in asked_of(application)] == [(STILL, OPEN)]
 
 
 # ---- what is taken

@@ -56,8 +56,8 @@ def ask(month: str) -> Response:
     typed: dict[str, Any] = {"of": price[1:3], "question": text}
     if changed := changed_since(number, [price]):
         return shown(month, form, 409, refused=changed, **typed)
-    if fault := fault_of(text):
-        return shown(month, form, 400, refused=fault, **typed)
+    if wrong := fault_of(text):
+        return shown(month, form, 400, refused=wrong, **typed)
     try:
         places = {"collector": price.collector, "slot": price.slot, "month": month}
         kept().ask(of_price(price), session().person, text, before, logged(ASKED, **places))
