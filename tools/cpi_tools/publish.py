@@ -45,7 +45,6 @@ from .pack.new_files import NewFiles
 from .pack.notes import Notes
 from .pack.part import Now, known_of, write_part
 from .pack.public import Published
-from .pack.quality_files import write_quality
 from .pack.profile_files import write_profiles
 from .pack.published_sets import NO_SETS, KeptSets, changed_sets, kept_sets, refuse_changed
 from .pack.reason_files import added_reasons, write_reasons
@@ -100,6 +99,7 @@ class Pack(NamedTuple):
 def write_pack(pack: Pack, folder: Path, now: Now, before: Before) -> None:
     """Writes all files of a pack into an empty folder; those that are the same in the pack before are taken from it."""
     # (here, since the packages of its pages needn't be there for the other tools)
+    from .pack.quality_files import write_quality
     from .pack.sites import Shared, write_sites
 
     series = pack.series

@@ -9,15 +9,15 @@ from __future__ import annotations
 
 from collections.abc import Iterator, Mapping, Sequence
 from pathlib import Path
-from typing import NamedTuple, Optional
-
-from markupsafe import Markup
+from typing import TYPE_CHECKING, NamedTuple, Optional
 
 from ..languages import known
 from ..speech import marked
 from ..terminal import Fault, because_of
 from .logos import LOGO, Logo, read_logo
-from .plain_markdown import read_markdown
+
+if TYPE_CHECKING:
+    from markupsafe import Markup
 
 FILE_END = ".md"
 
@@ -117,13 +117,15 @@ def read_own_words(folder: Path, tags: Sequence[str]) -> OwnWords:
 
 def _read_texts(folder: Path) -> dict[str, Markup]:
     """The sections of a language; none if its folder isn't there."""
+    # (here, since its packages needn't be there for the other tools)
+    from .plain_markdown import read_markdown
+
     files = {it.file: it.name for it in SECTIONS}
     found = dict[str, Markup]()
     for name in _names_in(folder) if folder.exists() else ():
         if name not in (*files, LOGO):
             raise BadOwnWords(f"{folder / name} is no section; they are {', '.join(files)}, and {LOGO}")
-        html = read_markdown(folder / name) if name != LOGO else Markup()
-        if html:
+        if name != LOGO and (html := read_markdown(folder / name)):
             found[files[name]] = html
     return found
 
