@@ -120,7 +120,8 @@ def test_a_generation_outlives_both_copies(systems: tuple[System, System]) -> No
     second.run(f"runuser -u cpi-copy -- sh -c 'rm -f {COPY}/copy-1/* {COPY}/copy-2/*; ! rm -rf /var/lib/cpi-keep'")
     second.run("systemctl start cpi-keep.service", 1)
     # a machine whose power goes while borg runs leaves a lock, which holds nobody up
-    second.run(f"runuser -u cpi-keep -- mkdir {LOCK}; runuser -u cpi-keep -- touch {LOCK}/cpi-keep@before-1.1-0")
+    lock = f"{LOCK}/cpi-keep@$(cat /etc/machine-id)_before_1.1-0"
+    second.run(f"runuser -u cpi-keep -- mkdir {LOCK}; runuser -u cpi-keep -- touch {lock}")
     first.kill()
     name = second.run(f"{listed} || true").splitlines()[0]
     told = second.run(take.replace("2026-01-31-090007", name))

@@ -11,7 +11,7 @@ import sqlite3
 import subprocess
 import sys
 import tempfile
-from collections.abc import Iterator
+from collections.abc import Callable, Iterator
 from pathlib import Path
 from typing import Optional
 
@@ -19,6 +19,7 @@ import pytest
 
 from cpi_tools import doctor
 from cpi_tools.copying import log_beside
+from cpi_tools.follow import restoring_beside
 from cpi_tools.holders import LOCK_BEGIN, Holder, holders_of, is_held, unit_in
 from cpi_tools.program import Cpi, CpiFailed
 from lib.places import ROOT
@@ -123,6 +124,23 @@ def test_what_is_not_there_or_is_no_file(cpi: Cpi, tmp_path: Path, quick: None) 
     said = told(cpi, tmp_path / "office.db")
     assert said.startswith("there is no such file, and cpi would make an empty office of that name. Check the name ")
     assert opens(cpi, tmp_path / "office.db")
+
+
+@pytest.mark.usefixtures("quick")
+def test_the_mark_of_a_restore_is_named_and_a_pipe_in_its_place_is_not_waited_for(
+    cpi: Cpi, office: Path, tmp_path: Path
+) -> None:
+    """Whoever has the office's folder put it there, and root looks."""
+    mark, outside = restoring_beside(office), tmp_path / "outside"
+    mark.write_text("the restore of a backup isn't done\nmore\n")
+    assert told(cpi, office) == "the restore of a backup isn't done. Run cpi-tools restore again."
+    mark.unlink()
+    outside.write_text("root's")
+    puts: list[Callable[[Path], object]] = [os.mkfifo, lambda path: path.symlink_to(outside), Path.touch]
+    for put in puts:
+        put(mark)
+        assert told(cpi, office) == "a restore isn't done. Run cpi-tools restore again."
+        mark.unlink()
 
 
 def test_a_log_that_lost_its_file_is_named(cpi: Cpi, tmp_path: Path, quick: None) -> None:

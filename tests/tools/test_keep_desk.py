@@ -2,11 +2,13 @@
 
 from __future__ import annotations
 
+import errno
 import json
 import os
 import resource
 import shutil
 from collections.abc import Callable, Iterator
+from contextlib import AbstractContextManager
 from pathlib import Path
 from typing import Optional
 
@@ -21,7 +23,8 @@ from cpi_tools.keep import FAILED_DRILL, keep
 from cpi_tools.kept_desk import kept_desk_in, open_desk, take_desk
 from cpi_tools.places import Folder
 from cpi_tools.program import Cpi
-from cpi_tools.second_copies import DESK, INDEX, second_text
+from cpi_tools.rooms import new_room
+from cpi_tools.second_copies import DESK, INDEX, MARK, second_text
 from .desk_rooms import DeskRoom, files_of
 from .generations import Place, made_place
 from .ran import Ran, run
@@ -97,6 +100,36 @@ def test_the_desk_comes_back_with_its_generation(cpi: Cpi, office: Path, desk: D
     shutil.rmtree(place.dest / DESK)
     ran, files = promoted(cpi, place, generation_of(NOW))
     assert (ran.status, ran.err, files) == (0, "", before) and "carried last" not in ran.out
+
+
+def test_a_desk_that_can_not_be_taken_is_refused_before_anything_is_promoted(
+    cpi: Cpi, place: Place, monkeypatch: pytest.MonkeyPatch
+) -> None:
+    """Its disk is full; or else a line would say that nothing was done, after the office had its place."""
+    kept_at(cpi, place, NOW)
+
+    def full(*_: object) -> None:
+        raise OSError(errno.ENOSPC, os.strerror(errno.ENOSPC))
+
+    monkeypatch.setattr("cpi_tools.promote.shutil.move", full)
+    ran, files = promoted(cpi, place, generation_of(NOW))
+    assert (ran.status, ran.out, files) == (1, "", {}) and os.strerror(errno.ENOSPC) in ran.err
+    assert not (place.dest / MARK).exists() and not [*place.dest.parent.glob("home-*/*")]
+
+
+def test_the_desk_waits_on_the_disk_of_the_office(cpi: Cpi, place: Place, monkeypatch: pytest.MonkeyPatch) -> None:
+    """The folder for temporary files may have no room for it."""
+    kept_at(cpi, place, NOW)
+    rooms = list[tuple[str, Optional[Path]]]()
+
+    def made(prefix: str, folder: Optional[Path] = None) -> AbstractContextManager[Path]:
+        rooms.append((prefix, folder))
+        return new_room(prefix, folder)
+
+    monkeypatch.setattr("cpi_tools.promote.new_room", made)
+    assert promoted(cpi, place, generation_of(NOW))[0].status == 0
+    home = rooms[0][1]
+    assert home and rooms == [(".cpi-promote-desk-", home), (".cpi-promote-", home)]
 
 
 def test_what_only_the_desk_did_is_a_generation_too(cpi: Cpi, office: Path, desk: DeskRoom, place: Place) -> None:

@@ -3,6 +3,7 @@ program has locked is waited for."""
 
 from __future__ import annotations
 
+import fcntl
 import json
 import os
 import shutil
@@ -16,8 +17,9 @@ import pytest
 
 from cpi_tools import borg
 from cpi_tools import keep as keeping
-from cpi_tools.borg import HOST, LOCKED, ROSTER, Repository, this_start
+from cpi_tools.borg import HOST, LOCKED, ROSTER, Repository, Start, this_start
 from cpi_tools.generations import LastDrill, last_drill_of, repository_of, write_last_drill
+from cpi_tools.held_folders import held
 from cpi_tools.kept_desk import OpenDesk
 from cpi_tools.program import Cpi
 from cpi_tools.terminal import Fault
@@ -137,19 +139,29 @@ def test_a_check_that_takes_long_is_ended(repository: Repository) -> None:
 # ---- locks
 
 
-OF_BEFORE, OF_NOW = f"{HOST}of-before-1", f"{HOST}{this_start()}"
-"""How an earlier start of the machine is called, and this one."""
+HERE = this_start()
+OF_NOW, OF_BEFORE = HERE.host, HERE._replace(kernel="before").host
+"""How this start of the machine is called, and an earlier one."""
+
+OTHERS = {
+    "another machine": HERE._replace(machine="another", kernel="before").host,
+    "a container on this kernel": HERE._replace(space="1").host,
+    "one who can't see the kernel's": HERE._replace(kernel="").host,
+    "an earlier version": f"{HOST}before-1",
+}
+"""Who may have it still, though this can't be known here."""
 
 WHO: dict[str, tuple[list[str], list[list[object]], bool]] = {
     "nobody": ([], [], False),
     "alone": ([f"{OF_BEFORE}.{os.getpid()}-0"], [], True),
     "with others": ([], [[OF_BEFORE, os.getpid(), 0]], True),
-    "both": ([f"{OF_BEFORE}.1-0"], [[f"{HOST}earlier", 1, 0]], True),
+    "both": ([f"{OF_BEFORE}.1-0"], [[HERE._replace(kernel="earlier").host, 1, 0]], True),
     "of this start": ([f"{OF_NOW}.{os.getpid()}-0"], [], False),
     "somebody else": ([f"somebody@1.{os.getpid()}-0"], [], False),
     "somebody else too": ([f"{OF_BEFORE}.1-0"], [["somebody@1", 1, 0]], False),
     "no name": (["x"], [], False),
     "no row": ([], [[]], False),
+    **{name: ([f"{host}.1-0"], [], False) for name, host in OTHERS.items()},
 }
 """Who has a repository alone, who has it with others, and whether these locks go."""
 
@@ -206,7 +218,7 @@ def test_a_borg_that_was_killed_holds_nobody_up(
     monkeypatch.setattr(borg, "LOCK_WAIT", 20)
     words = repository._words("with-lock", str(repository.path), "sh", "-c", "echo locked; sleep 1000")
     alone = ["unshare", "--net"] if os.geteuid() == 0 and shutil.which("unshare") else []
-    how = {**repository._how(), "stdout": subprocess.PIPE, "start_new_session": True}
+    how: dict[str, Any] = {**repository._how(), "stdout": subprocess.PIPE, "start_new_session": True}
     with subprocess.Popen([*alone, *words], **how) as holder:
         assert holder.stdout and holder.stdout.readline() == b"locked\n"
         os.killpg(holder.pid, signal.SIGKILL)
@@ -214,6 +226,29 @@ def test_a_borg_that_was_killed_holds_nobody_up(
     assert repository_of(tmp_path / "keep").names() == ["drilled-1"]
 
 
+def test_who_can_not_see_its_own_start_takes_no_lock_away() -> None:
+    """/proc may be hidden, and two machines can have one disk."""
+    assert HERE.is_after(OF_BEFORE)
+    for unseen in (HERE._replace(kernel=""), HERE._replace(machine="")):
+        assert not unseen.is_after(OF_BEFORE)
+        assert not unseen.is_after(unseen._replace(kernel="before").host)
+
+
+def test_a_lock_that_another_one_takes_away_meanwhile_is_left_to_that_one(
+    repository: Repository, tmp_path: Path
+) -> None:
+    """It is locked anew then, before this one would have broken it."""
+    (repository.path / LOCKED).mkdir()
+    (repository.path / LOCKED / f"{OF_BEFORE}.1-0").touch()
+    with held(repository.path) as other:
+        fcntl.flock(other.number, fcntl.LOCK_EX)
+        repository_of(tmp_path / "keep")._free()
+        assert (repository.path / LOCKED).exists()
+    repository_of(tmp_path / "keep")._free()
+    assert not (repository.path / LOCKED).exists()
+
+
 def test_a_start_of_the_machine_has_a_name_of_its_own() -> None:
-    assert this_start() == this_start() != "unknown"
-    assert "/" not in this_start()
+    """It is the same for root and for a user from whom processes of others are hidden."""
+    assert this_start() == HERE and "" not in HERE and "/" not in HERE.host
+    assert Start(*HERE.host.removeprefix(HOST).rsplit("_", 2)) == HERE

@@ -5,12 +5,15 @@ What is taken out comes through a pipe: borg writes no file for the tool, and gi
 
 Borg's locks are folders, which stay if a run is killed. Borg takes away those of processes of this host that are gone. But
 it knows a host by its network card, and a unit without a network has none; and once the machine started anew, another
-process may have that number. So a run is named by the start of the machine, and locks of earlier starts go first.
+process may have that number. So a run is named by its machine and the start of that, and locks of earlier starts of the
+same machine go first. Those of another machine stay, as on a disk that two have, and those of a container on the same
+kernel: their processes may run.
 """
 
 from __future__ import annotations
 
 import contextlib
+import fcntl
 import os
 import re
 import shutil
@@ -19,10 +22,10 @@ import tarfile
 from collections.abc import Callable, Collection, Iterable, Iterator, Sequence
 from datetime import datetime, timezone
 from pathlib import Path
-from typing import IO, Any, NoReturn, Optional
+from typing import IO, Any, NamedTuple, NoReturn, Optional
 
 from .access import User
-from .held_folders import held
+from .held_folders import HeldFolder, held
 from .plain_json import plain_json
 from .terminal import Fault, because_of, counted
 
@@ -46,7 +49,7 @@ FOUND = 1
 """The exit status of borg's check if it found something wrong; what it couldn't do has a greater one."""
 
 HOST = "cpi-keep@"
-"""How the name begins by which borg knows who has a lock; what follows is the start of the machine."""
+"""How the name begins by which borg knows who has a lock; what follows is the machine and its start."""
 
 NO_LOCK = "Failed to create/acquire the lock"
 """What borg says if another one works in the repository."""
@@ -139,7 +142,7 @@ class Repository:
         """How borg is run: as the owner, with no setting of another one's, and with hours and days by UTC."""
         kept = {"PATH": os.environ.get("PATH", os.defpath), "LC_ALL": "C.UTF-8", "TZ": "UTC"}
         kept.update(BORG_BASE_DIR=str(self._own), HOME=str(self._own), PYTHONDONTWRITEBYTECODE="1")
-        kept["BORG_HOST_ID"] = f"{HOST}{this_start()}"
+        kept["BORG_HOST_ID"] = this_start().host
         # (it has no key, and is where its folder is)
         kept.update(BORG_UNKNOWN_UNENCRYPTED_REPO_ACCESS_IS_OK="yes", BORG_RELOCATED_REPO_ACCESS_IS_OK="yes")
         how: dict[str, Any] = {"env": kept, "stdin": subprocess.DEVNULL, "cwd": folder or "/", "umask": 0o077}
@@ -174,11 +177,17 @@ class Repository:
             return
         self._is_free = True
         try:
-            who = {each for folder in (self.path, *self._own.glob(".cache/borg/*")) for each in _who_locks(folder)}
+            with contextlib.suppress(FileNotFoundError), held(self.path) as opened:
+                # (by who has done so meanwhile it is free, and may be locked anew)
+                if _is_alone(opened) and self._has_only_left():
+                    self._run("break-lock", str(self.path))
         except OSError as fault:
             raise Fault(because_of(fault)) from fault
-        if who and all(each.startswith(HOST) and each != f"{HOST}{this_start()}" for each in who):
-            self._run("break-lock", str(self.path))
+
+    def _has_only_left(self) -> bool:
+        """Whether there are locks, and all are of earlier starts of this machine. Raises OSError."""
+        who = {each for folder in (self.path, *self._own.glob(".cache/borg/*")) for each in _who_locks(folder)}
+        return bool(who) and all(map(this_start().is_after, who))
 
     def _refuse(self, said: bytes) -> NoReturn:
         """Raises Fault with the line of borg that says why."""
@@ -187,22 +196,57 @@ class Repository:
         raise Fault(f"{self.path}: {cause}{told}")
 
 
-def this_start() -> str:
-    """What names this start of the machine, or of a container; no other one has it."""
-    boot, first = Path("/proc/sys/kernel/random/boot_id"), Path("/proc/1/stat")
+class Start(NamedTuple):
+    """A start of a machine: what names the machine, the run of its kernel, and the space in which processes have numbers.
+    Empty is what this user can't see."""
+
+    machine: str
+    kernel: str
+    space: str
+
+    @property
+    def host(self) -> str:
+        """How borg names who has a lock."""
+        return HOST + "_".join(self)
+
+    def is_after(self, host: str) -> bool:
+        """Whether a host, as borg names it, is an earlier start of the same machine. What one can't see shows nothing."""
+        if not host.startswith(HOST) or host.count("_") < 2:
+            return False
+        was = Start(*host.removeprefix(HOST).rsplit("_", 2))
+        return was.machine == self.machine != "" and "" != was.kernel != self.kernel != ""
+
+
+def this_start() -> Start:
+    """This start of the machine."""
+    space = ""
     with contextlib.suppress(OSError):
-        # (the moment at which its first process began)
-        return f"{boot.read_text().strip()}-{first.read_text().rpartition(')')[2].split()[19]}"
-    return "unknown"
+        space = str(os.stat("/proc/self/ns/pid").st_ino)
+    machine = _text_of("/etc/machine-id") or os.uname().nodename
+    return Start(machine, _text_of("/proc/sys/kernel/random/boot_id"), space)
+
+
+def _text_of(path: str) -> str:
+    """What a file of the system says, in a line; empty if it isn't there, or is hidden."""
+    with contextlib.suppress(OSError):
+        return Path(path).read_text(encoding="ascii", errors="replace").strip()
+    return ""
+
+
+def _is_alone(folder: HeldFolder) -> bool:
+    """Whether no other process has a folder locked, as this one has then until it closes it."""
+    with contextlib.suppress(OSError):
+        fcntl.flock(folder.number, fcntl.LOCK_EX | fcntl.LOCK_NB)
+        return True
+    return False
 
 
 def _who_locks(folder: Path) -> Iterator[str]:
     """Who has a lock in a folder, as borg names hosts. What isn't borg's has no known name. Raises OSError."""
     with contextlib.suppress(FileNotFoundError, NotADirectoryError), held(folder) as opened:
-        if opened.has(LOCKED):
-            with opened.folder(LOCKED) as locks:
-                yield from (name.rpartition("-")[0].rpartition(".")[0] for name in os.listdir(locks.number))
-        if opened.has(ROSTER):
+        with contextlib.suppress(FileNotFoundError), opened.folder(LOCKED) as locks:
+            yield from (name.rpartition("-")[0].rpartition(".")[0] for name in os.listdir(locks.number))
+        with contextlib.suppress(FileNotFoundError):
             try:
                 roster = plain_json(opened.text(ROSTER, MOST_BYTES))
                 yield from [str(host) for entries in roster.values() for host, *_ in entries]

@@ -23,6 +23,7 @@ from typing import NamedTuple, Optional
 from .access import User, acting_as, may, owner_and_mode, this_user, user_of
 from .copying import has_frames, log_beside, private_copy
 from .follow import restoring_beside
+from .held_folders import first_line
 from .holders import holders_of, is_held
 from .other_logs import other_log_of
 from .program import LAST_MOMENT, Cpi, CpiFailed, add_program, record
@@ -136,9 +137,8 @@ def _first_that_is_no_folder(path: Path) -> Path:
 
 def of_restore(path: Path) -> Iterator[Cause]:
     """Whether a restore was cut off."""
-    with contextlib.suppress(OSError):
-        told = restoring_beside(path).read_text(encoding="utf-8", errors="replace").strip()
-        yield Cause(told or "a restore isn't done", "Run cpi-tools restore again")
+    if os.path.lexists(mark := restoring_beside(path)):
+        yield Cause(first_line(mark, "") or "a restore isn't done", "Run cpi-tools restore again")
 
 
 # ---- who may open it

@@ -113,12 +113,12 @@ def promote(
                 _compare(room / OFFICE, office, note)
             now("drilling it")
             drilled = _drilled(cpi, room / OFFICE, of)
+            if wanted.desk and (room / DESK_COPY).is_dir():
+                shutil.move(room / DESK_COPY, wanted.desk / DESK_COPY)
             drop_changes(dest)
             write_promotion(dest, note.copied)
             aside = _put_aside(office, home) if is_replacing else None
             _place(room / OFFICE, office, home)
-            if wanted.desk and (room / DESK_COPY).is_dir():
-                shutil.move(room / DESK_COPY, wanted.desk / DESK_COPY)
     except OSError as fault:
         raise Fault(because_of(fault)) from fault
     return Promoted(name, note, drilled, aside)
@@ -139,6 +139,8 @@ def _place_of_room(office: Path) -> Optional[Path]:
     """The nearest folder that only this user can change, for the copy until it has its place: that of the office, or
     the one above it, so that it needn't be copied once more; else None, for the folder of temporary files."""
     for folder in (office.parent, office.absolute().parent.parent):
+        if not folder.is_dir():
+            return None
         known = folder.stat()
         if known.st_uid == os.geteuid() and not known.st_mode & (stat.S_IWGRP | stat.S_IWOTH):
             return folder
@@ -411,7 +413,8 @@ def run(chosen: argparse.Namespace) -> int:
     if desk := desk_of(chosen.office, chosen.desk):
         refuse_held(desk)
     try:
-        with new_room("cpi-desk-") as room:
+        # (next to the copy's room, so that the desk's folder gets there by its name, and needs no further room)
+        with new_room(".cpi-promote-desk-", _place_of_room(chosen.office)) as room:
             found = _promoted(chosen, room)
             _place_desk(chosen, found, room)
     except OSError as fault:
