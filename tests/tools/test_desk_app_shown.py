@@ -261,6 +261,16 @@ def test_a_weight_that_somebody_put_stays(application: Application, ada: Person,
     assert [row[2:] for row in rows] == [["60.0000", "590000", "Ben's"], ["40.0000", "410000", "Ada's"]]
 
 
+def test_what_was_typed_in_a_row_that_is_found_no_more_is_on_the_page(
+    application: Application, ada: Person, ben: Person
+) -> None:
+    """It was found by its weight, which Ben changes: Ada has both weights before her all the same."""
+    drafted(application, ada)
+    form = with_row(ada.form(f"{YEAR}?query=600000", "/put"), RICE, weight="610000")
+    assert ben.give(with_row(ben.form(YEAR, "/put"), RICE, weight="590000")).status_code == 303
+    late(ada.give(form), BY_BEN, "here: 590000", 'value="610000"')
+
+
 def test_who_changed_what_is_on_the_page_and_in_a_file(application: Application, ada: Person, ben: Person) -> None:
     drafted(application, ada)
     assert ben.give(with_row(ben.form(YEAR, "/put"), RICE, weight="590000")).status_code == 303

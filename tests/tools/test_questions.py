@@ -161,7 +161,8 @@ def test_a_price_that_is_withdrawn_says_why(application: Application, ada: Perso
     window = DESK_KEY, f"calendar,{MONTH},2000,{far},{far}\n"
     told_office(application, window, (BENO, f"quote,1,{MONTH},missing,gone\n"))
     assert beno.answer(1, what="corrected", receipt=4).json == {"answer": 1}
-    assert "corrected to gone, receipt 4." in ada.words(LIST) or "corrected to" in ada.words(LIST)
+    words = ada.words(LIST)
+    assert "corrected to gone, receipt 4." in words, words
     assert [it.answers[0].said[2:4] for it in asked_of(application)] == [("gone", 0)]
 
 
@@ -295,6 +296,23 @@ def test_a_price_that_has_changed_isn_t_asked_about(application: Application, ad
     answer = ada.give(form, text=STILL)
     assert answer.status_code == 409 and f'value="{STILL}"' in answer.text
     assert asked_of(application) == []
+
+
+def test_a_price_whose_question_would_go_at_once_isn_t_asked_about(
+    cpi: Cpi, tmp_path: Path, monkeypatch: pytest.MonkeyPatch
+) -> None:
+    """One month is kept: by March 2026 a question about February would be gone within the hour."""
+    with applied(cpi, surveys.small(cpi, tmp_path), tmp_path / "room", 1) as application:
+        ada = application.person(ADA)
+        application.tried(ada, MONTH)
+        assert application.desk.questions
+        monkeypatch.setattr(application.desk.questions, "_clock", Clock(JANUARY + 45 * DAY))
+        answer = asks(ada)
+        assert answer.status_code == 409 and f'value="{STILL}"' in answer.text
+        assert "Questions about prices before March 2026 aren't kept, so nothing was asked." in words_of(answer.text)
+        assert asked_of(application) == [] and steps(application) == []
+        monkeypatch.setattr(application.desk.questions, "_clock", Clock(JANUARY + 44 * DAY))
+        assert asks(ada).status_code == 303
 
 
 def test_a_log_that_is_full_lets_nothing_be_asked_or_answered(

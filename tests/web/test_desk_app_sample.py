@@ -85,7 +85,10 @@ def test_a_draft_of_the_year_is_changed_judged_and_sent(stage: Stage, ada: Perso
     browser.wait(lambda: "/year/2012/" in browser.driver.current_url, "the draft")
     browser.wait_text("#sum", "1,000,000, which is all.")
     ada.reach("input[name=weight]")
+    asks = "const it = new Event('beforeunload', { cancelable: true }); dispatchEvent(it); return it.defaultPrevented;"
+    assert not browser.run(asks)
     browser.run("document.querySelector('input[name=weight]').value = '590000'")
+    assert browser.run(asks)
     ada.press("#weights button.main")
     browser.wait_text("#sum", "990,000, and should to 1,000,000.")
     ada.reach("#pasted")

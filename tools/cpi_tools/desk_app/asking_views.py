@@ -12,7 +12,9 @@ from ..others import of_others
 from ..stored import StoredOffice, read_copy
 from ..terminal import Fault, slot_text
 from ..told import Price as Amount
-from ..told import Told, moment_of, sentences, whole
+from ..told import Told, moment_of
+from ..told import month_of as month_words
+from ..told import sentences, whole
 from ..told import told as _
 from .asked import desk, field, month_of, page, session
 from .changes import NOTHING_DONE, changed_by, changed_by_step
@@ -58,6 +60,10 @@ def ask(month: str) -> Response:
         return shown(month, form, 409, refused=changed, **typed)
     if wrong := fault_of(text):
         return shown(month, form, 400, refused=wrong, **typed)
+    if number < (first := kept().first_month()):
+        # (it would go by itself within the hour, before anybody has read it)
+        past = _("Questions about prices before {month} aren't kept, so nothing was asked.", month=month_words(first))
+        return shown(month, form, 409, refused=past, **typed)
     try:
         places = {"collector": price.collector, "slot": price.slot, "month": month}
         kept().ask(of_price(price), session().person, text, before, logged(ASKED, **places))

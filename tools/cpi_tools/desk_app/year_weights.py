@@ -3,7 +3,7 @@
 from __future__ import annotations
 
 import re
-from collections.abc import Sequence
+from collections.abc import Collection, Sequence
 from fractions import Fraction
 from typing import Any, NamedTuple, Optional
 
@@ -56,11 +56,12 @@ def of_weights(draft: Draft, query: str, start: int, typed: Sequence[Given]) -> 
     found = searched(rows, query)
     first = min(start, max(0, (len(found) - 1) // ROWS * ROWS))
     titles = {code: title for code, title, _ in draft.rows(CLASSIFICATION)}
+    typed_rows = {it.code: it for it in typed if it.is_changed}
     return {
-        "weights": found[first : first + ROWS],
+        "weights": with_typed(rows, found[first : first + ROWS], typed_rows),
         "divisions": divisions(rows, {**office.before.titles, **titles}),
         "year_before": office.before.year,
-        "typed_rows": {it.code: it for it in typed if it.is_changed},
+        "typed_rows": typed_rows,
         "moved": office.moved,
         "months": [month_text(it) for it in office.months],
         "asked": month_text(asked) if asked else "",
@@ -87,6 +88,13 @@ def searched(rows: Sequence[Row], query: str) -> list[Row]:
     words = query.casefold().split()
     texts = (" ".join((it.code, it.title, it.weight, it.source)).casefold() for it in rows)
     return [it for it, text in zip(rows, texts) if all(word in text for word in words)]
+
+
+def with_typed(rows: Sequence[Row], shown: Sequence[Row], typed: Collection[str]) -> list[Row]:
+    """The rows of a page, and those that a person typed in and that the page would have no more, since others changed the
+    draft meanwhile."""
+    codes = {it.code for it in shown}
+    return [it for it in rows if it.code in codes or (it.code in typed and not it.is_gone)]
 
 
 def price_text(row: Row) -> str:

@@ -1,6 +1,8 @@
-// The table of weights: Enter and the arrows go from row to row, and a column that is pasted goes down from its field.
-// Without this script each field is filled in by itself, and Enter saves the table.
+// The table of weights: Enter and the arrows go from row to row, a column that is pasted goes down from its field, and
+// whoever leaves the page with changes that aren't saved is asked. Without this script each field is filled in by itself,
+// and Enter saves the table.
 const form = document.getElementById("weights");
+let isSaving = false;
 
 /** The fields of a column, from the top down. */
 const column = (name) => [...form.querySelectorAll(`input[type=text][name=${name}]`)];
@@ -31,7 +33,15 @@ function pasted(event) {
   go(all[at], lines.length - 1);
 }
 
+/** Whether something was typed that isn't saved, also in rows that were refused. */
+const isUnsaved = () => form.querySelector("tr.refused") !== null
+  || [...form.querySelectorAll("input[type=text]")].some((field) => field.value !== field.defaultValue);
+
 if (form) {
+  form.addEventListener("submit", () => { isSaving = true; });
+  addEventListener("beforeunload", (event) => {
+    if (!isSaving && isUnsaved()) event.preventDefault();
+  });
   form.addEventListener("keydown", pressed);
   form.addEventListener("paste", pasted);
 }
