@@ -93,7 +93,7 @@ def revision_sizes(tables: Iterable[Table], code: str, is_annual: bool) -> Optio
     moved = [max(own)[1] - min(own)[1] for own in known.values()]
     if not moved:
         return None
-    mean, absolute = Fraction(sum(moved)) / len(moved), Fraction(sum(map(abs, moved))) / len(moved)
+    mean, absolute = Fraction(sum(moved)) / len(moved), Fraction(sum(abs(it) for it in moved)) / len(moved)
     return str(len(moved)), str(sum(it != 0 for it in moved)), text(mean, 6), text(absolute, 6)
 
 

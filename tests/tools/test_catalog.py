@@ -8,7 +8,7 @@ from pathlib import Path
 import pytest
 import rdflib
 from rdflib import RDF, Literal, URIRef
-from rdflib.namespace import DCAT, DCTERMS, FOAF, XSD
+from rdflib.namespace import DCAT, DCTERMS, FOAF, XSD  # type: ignore[attr-defined]
 
 from cpi_tools.pack.cards import NO_CARDS
 from cpi_tools.pack.config import Config
@@ -23,8 +23,8 @@ CONFIG = Config(
     address=ADDRESS, years=1, doi="10.5072/cpi",
     speaks=OfficeLanguages(("en", "fr"), own={"fr": Own({"title": "Indice des prix"})}),
 )  # fmt: skip
-SPDX = rdflib.Namespace("http://spdx.org/rdf/terms#")
-VCARD = rdflib.Namespace("http://www.w3.org/2006/vcard/ns#")
+SPDX = rdflib.Namespace("http://spdx.org/rdf/terms#")  # type: ignore[no-untyped-call]
+VCARD = rdflib.Namespace("http://www.w3.org/2006/vcard/ns#")  # type: ignore[no-untyped-call]
 MEDIA = "https://www.iana.org/assignments/media-types/"
 
 
@@ -41,7 +41,13 @@ def pack(published: list[Published], tmp_path_factory: pytest.TempPathFactory) -
 @pytest.fixture(scope="module")
 def graph(pack: Path) -> rdflib.Graph:
     """What a reader takes from it, without a network."""
-    return rdflib.Graph().parse(pack / "data/catalog.jsonld", format="json-ld")
+    read: rdflib.Graph = rdflib.Graph().parse(pack / "data/catalog.jsonld", format="json-ld")
+    return read
+
+
+def value(graph: rdflib.Graph, subject: object, predicate: object) -> object:
+    """The one value of a subject's predicate."""
+    return graph.value(subject, predicate)  # type: ignore[no-untyped-call]
 
 
 def test_a_catalogue_has_the_data_set_and_its_publisher(graph: rdflib.Graph) -> None:
@@ -56,13 +62,13 @@ def test_a_catalogue_has_the_data_set_and_its_publisher(graph: rdflib.Graph) -> 
         (publisher,) = graph.objects(it, DCTERMS.publisher)
         assert (publisher, FOAF.name, Literal(OFFICE, lang="fr")) in graph
     (contact,) = graph.objects(dataset, DCAT.contactPoint)
-    assert graph.value(contact, VCARD.hasEmail) == URIRef("mailto:prices@prices.example")
-    assert graph.value(dataset, DCTERMS.identifier) == Literal("NSO:DF_CPI")
+    assert value(graph, contact, VCARD.hasEmail) == URIRef("mailto:prices@prices.example")
+    assert value(graph, dataset, DCTERMS.identifier) == Literal("NSO:DF_CPI")
     assert {*graph.objects(dataset, DCAT.landingPage)} == {URIRef(f"{ADDRESS}{it}data.html") for it in ("", "fr/")}
     (period,) = graph.objects(dataset, DCTERMS.temporal)
     # (the archives have the earlier years)
-    assert graph.value(period, DCAT.startDate) == Literal("2025-01", datatype=XSD.gYearMonth)
-    assert graph.value(period, DCAT.endDate) == Literal("2027-05", datatype=XSD.gYearMonth)
+    assert value(graph, period, DCAT.startDate) == Literal("2025-01", datatype=XSD.gYearMonth)
+    assert value(graph, period, DCAT.endDate) == Literal("2027-05", datatype=XSD.gYearMonth)
 
 
 def test_each_file_is_a_distribution_with_its_size_and_sum(pack: Path, graph: rdflib.Graph) -> None:
@@ -73,11 +79,11 @@ def test_each_file_is_a_distribution_with_its_size_and_sum(pack: Path, graph: rd
     assert {URIRef(ADDRESS + it.relative_to(pack).as_posix()) for it in wanted} <= found and len(wanted) > 12
     for it in found:
         path = pack / str(it).removeprefix(ADDRESS)
-        checksum = graph.value(it, SPDX.checksum)
-        assert graph.value(checksum, SPDX.algorithm) == SPDX.checksumAlgorithm_sha256
-        assert str(graph.value(checksum, SPDX.checksumValue)) == hashlib.sha256(path.read_bytes()).hexdigest()
-        assert str(graph.value(it, DCAT.byteSize)) == str(path.stat().st_size)
-        assert graph.value(it, DCAT.downloadURL) == graph.value(it, DCAT.accessURL) == it
+        checksum = value(graph, it, SPDX.checksum)
+        assert value(graph, checksum, SPDX.algorithm) == SPDX.checksumAlgorithm_sha256
+        assert str(value(graph, checksum, SPDX.checksumValue)) == hashlib.sha256(path.read_bytes()).hexdigest()
+        assert str(value(graph, it, DCAT.byteSize)) == str(path.stat().st_size)
+        assert value(graph, it, DCAT.downloadURL) == value(graph, it, DCAT.accessURL) == it
         assert {text.language for text in graph.objects(it, DCTERMS.description)} == {"en", "fr"}  # type: ignore[attr-defined]
 
 
@@ -89,13 +95,13 @@ def test_media_types_are_of_the_register(pack: Path, graph: rdflib.Graph) -> Non
         "cpi.xlsx": "application/vnd.openxmlformats-officedocument.spreadsheetml.sheet",
     }  # fmt: skip
     for name, media in wanted.items():
-        assert graph.value(URIRef(f"{ADDRESS}data/{name}"), DCAT.mediaType) == URIRef(MEDIA + media), name
+        assert value(graph, URIRef(f"{ADDRESS}data/{name}"), DCAT.mediaType) == URIRef(MEDIA + media), name
 
 
 def test_a_licence_is_an_address_or_a_name(published: list[Published], graph: rdflib.Graph, tmp_path: Path) -> None:
     (dataset,) = graph.subjects(RDF.type, DCAT.Dataset)
     (named,) = graph.objects(dataset, DCTERMS.license)
-    assert graph.value(named, rdflib.RDFS.label) == Literal("CC BY 4.0")
+    assert value(graph, named, rdflib.RDFS.label) == Literal("CC BY 4.0")
     licence = "https://creativecommons.org/licenses/by/4.0/"
     config = Config("NSO", "XX", "Office", address=ADDRESS, licence=licence)
     publish(published[:2], config, tmp_path / "public", None, lambda _: None)

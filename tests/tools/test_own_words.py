@@ -114,7 +114,7 @@ def test_what_looks_like_markup_stays_a_text() -> None:
         found = Elements(html_of(text)).found
         assert {tag for tag, _ in found} <= allowed, text
         assert {name for _, names in found for name in names} <= {"href", "title", "class", "tabindex"}, text
-        html5lib.HTMLParser(strict=True).parseFragment(html_of(text))
+        html5lib.HTMLParser(strict=True).parseFragment(html_of(text))  # type: ignore[no-untyped-call]
 
 
 def test_a_file_that_is_no_text_is_refused(tmp_path: Path) -> None:

@@ -59,7 +59,7 @@ def level(found: dict[str, dict[str, list[str]]], code: str, month: str) -> str:
     months = sorted(found)
     if not all(code in found[at] for at in [*YEAR, *months[months.index(YEAR[0]) : months.index(month) + 1]]):
         return ""
-    mean = sum(Fraction(found[at][code][3]) for at in YEAR) / 12
+    mean = sum((Fraction(found[at][code][3]) for at in YEAR), Fraction(0)) / 12
     return text(100 * Fraction(found[month][code][3]) / mean, 6)
 
 

@@ -347,7 +347,7 @@ def test_time_lags_are_by_the_clock_of_the_office(published: list[Published], tm
 
 def test_delays_are_against_what_was_announced(published: list[Published], tmp_path: Path) -> None:
     """By the pack before, by the calendar, and if a release moved, by what was announced before."""
-    out = {each.listed[:2]: each.listed.moment for each in published}
+    out = {(each.listed.month, each.listed.revision): each.listed.moment for each in published}
     names = [("2026-05", 1), ("2026-06", 1), ("2026-07", 1), ("2026-08", 1)]
     early, late, kept, moved = names
     announced = (Announced(*late, out[late] - 60), Announced(*kept, out[kept]))
