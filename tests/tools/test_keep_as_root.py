@@ -206,3 +206,10 @@ def test_what_the_other_user_answers_is_looked_at(cpi: Cpi, place: Place, monkey
         assert (ran.status, ran.out) == (1, "") and "isn't of a generation" in ran.err
     last = json.loads((place.dest / DRILLED).read_text())
     assert last["generation"] == "" and "isn't of a generation" in last["fault"]
+    # (a note with a moment that none has would be read by no later run)
+    sums = {"file": [1, "x"], "log": [0, "y"]}
+    wrong = {**answer, **sums, "generation": name, "checked": -1, "tried": 1 << 60}
+    monkeypatch.setattr("cpi_tools.keep._answer", lambda *_: wrong)
+    assert run(cpi, "keep", *place).status == 0
+    kept = last_drill_of(place.dest)
+    assert kept and (kept.generation, kept.checked, kept.tried) == (name, 0, 0)

@@ -211,6 +211,21 @@ def test_the_lock_of_a_machine_that_stopped_holds_nobody_up(
     assert repository_of(tmp_path / "keep").names() == ["drilled-1"]
 
 
+def test_what_frees_a_lock_whose_owner_nobody_knows_is_said(
+    repository: Repository, tmp_path: Path, monkeypatch: pytest.MonkeyPatch
+) -> None:
+    """An earlier version named each run in another way, and its machine lost its power."""
+    monkeypatch.setattr(borg, "LOCK_WAIT", 1)
+    (repository.path / LOCKED).mkdir()
+    (repository.path / LOCKED / "second.example@190285375488313.812-0").touch()
+    with pytest.raises(Fault, match="Is a run of cpi-keep.service not done?") as fault:
+        repository_of(tmp_path / "keep").names()
+    _, begin, words = str(fault.value).partition(" If none runs: runuser -u ")
+    assert begin
+    subprocess.run(words.split()[2:], check=True, capture_output=True)
+    assert repository_of(tmp_path / "keep").names() == ["drilled-1"]
+
+
 def test_a_borg_that_was_killed_holds_nobody_up(
     repository: Repository, tmp_path: Path, monkeypatch: pytest.MonkeyPatch
 ) -> None:

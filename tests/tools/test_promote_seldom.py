@@ -37,6 +37,12 @@ def test_a_place_that_can_t_be_written(cpi: Cpi, dest: Path) -> None:
     assert not (dest / MARK).exists()
 
 
+def test_a_desk_that_is_a_file(cpi: Cpi, dest: Path, place: Path, tmp_path: Path) -> None:
+    (tmp_path / "desk").write_text("a file")
+    assert refused(cpi, dest, place, f"{tmp_path / 'desk'}: Not a directory", "--desk", tmp_path / "desk") == ""
+    assert (tmp_path / "desk").read_text() == "a file"
+
+
 def test_a_copy_whose_note_is_gone(cpi: Cpi, dest: Path, place: Path) -> None:
     """A round was stopped at it. The other one is whole."""
     (dest / NAMES[1] / NOTE).unlink()

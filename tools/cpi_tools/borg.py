@@ -192,7 +192,11 @@ class Repository:
     def _refuse(self, said: bytes) -> NoReturn:
         """Raises Fault with the line of borg that says why."""
         cause = cause_in(said.decode(errors="replace"))
-        told = " Is a run of cpi-keep.service not done? Stop it, if it can't be waited for." if NO_LOCK in cause else ""
+        told = ""
+        if NO_LOCK in cause:
+            # (such as that of a machine that lost its power under an earlier version, which nobody can know)
+            free = f"runuser -u {self._owner.name} -- env BORG_BASE_DIR={self._own} borg break-lock {self.path}"
+            told = f" Is a run of cpi-keep.service not done? Stop it, if it can't be waited for. If none runs: {free}"
         raise Fault(f"{self.path}: {cause}{told}")
 
 

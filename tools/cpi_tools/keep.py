@@ -123,8 +123,8 @@ def _kept_in(answer: dict[str, Any], last: LastDrill, now: int) -> Kept:
     removed = tuple(map(str, answer["removed"]))
     if not is_generation(name) or not is_line("".join((failed, left, desk, damaged, *removed))):
         raise Fault("what the user of the generations answered isn't of a generation")
-    # (a moment of the future would never be old)
-    checked, tried = (moment if moment <= now else 0 for moment in (int(answer["checked"]), int(answer["tried"])))
+    # (a moment of the future would never be old, and one before 1970 isn't read)
+    checked, tried = (moment if 0 <= moment <= now else 0 for moment in (int(answer["checked"]), int(answer["tried"])))
     checks: dict[str, Any] = {"checked": checked, "tried": tried, "damaged": damaged}
     if failed:
         last = last._replace(failed=f"{name}: {failed}", fault=left, **checks)

@@ -410,9 +410,9 @@ def run(chosen: argparse.Namespace) -> int:
     """Runs the tool by its words; its exit status."""
     if chosen.start and not SYSTEMD.is_dir():
         raise Fault("systemd doesn't run this machine, so --start can't start the office: start it by hand")
-    if desk := desk_of(chosen.office, chosen.desk):
-        refuse_held(desk)
     try:
+        if desk := desk_of(chosen.office, chosen.desk):
+            refuse_held(desk)
         # (next to the copy's room, so that the desk's folder gets there by its name, and needs no further room)
         with new_room(".cpi-promote-desk-", _place_of_room(chosen.office)) as room:
             found = _promoted(chosen, room)
