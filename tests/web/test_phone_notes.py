@@ -40,7 +40,7 @@ def pages(stage: Stage, tmp_path: Path) -> Iterator[DeskPages]:
 def noting(pages: DeskPages, phone: Phone) -> Phone:
     """A collector who is signed in on a phone of such an office, which has kept the page's files."""
     phone.sign_in()
-    phone.browser.wait(lambda: phone.browser.run_until(FILES_ARE_KEPT) == 9, "the files of notes are kept")
+    phone.browser.wait(lambda: phone.browser.run_until(FILES_ARE_KEPT) == 10, "the files of notes are kept")
     return phone
 
 

@@ -172,6 +172,57 @@ def test_a_corrected_price_is_stored_first_and_others_read_nothing(
     assert "A slip" in browser.text("main")
 
 
+NOTE_TAKES_LONG = """
+const { notes } = await import("/collect/optional.js"), keep = notes.keep;
+notes.keep = async (...words) => {
+  await new Promise((go) => { globalThis.goOn = go; });
+  return keep(...words);
+};
+"""
+
+
+def test_an_answer_is_of_the_form_that_was_saved_whichever_is_open_by_then(
+    pages: DeskPages, ada: Person, phone: Phone, stage: Stage
+) -> None:
+    """A note with a photograph takes a while; meanwhile the collector opens the form of another row."""
+    browser = phone.browser
+    asked(stage, ada)
+    window(stage, FAR)
+    signed_in(phone)
+    browser.wait_text("#alarm", "1 question")
+    browser.run_until(NOTE_TAKES_LONG)
+    open_question(phone)
+    browser.type("#price", "2.16")
+    browser.type("#answer-text", "A slip")
+    browser.click("#entry-save")
+    browser.wait(lambda: browser.run("return Boolean(globalThis.goOn)"), "the note takes long")
+    phone.close()
+    phone.show("all")
+    phone.edit(2)
+    browser.run("globalThis.goOn()")
+    browser.wait_text("#line", "All sent")
+    browser.wait(lambda: kept(stage) == [], "the answer")
+    ada.sign_in("Ada")
+    ada.open(LIST)
+    browser.wait_text("main", "corrected to price 216, receipt")
+    assert "A slip" in browser.text("main")
+
+
+def test_a_phone_without_the_files_of_questions_takes_notes_all_the_same(
+    pages: DeskPages, phone: Phone, stage: Stage
+) -> None:
+    browser = phone.browser
+    browser.cdp("Network.enable")
+    browser.cdp("Network.setBlockedURLs", urls=["*/collect/questions.js"])
+    try:
+        phone.open()
+        browser.wait(lambda: browser.run("return Boolean(document.getElementById('note-text'))"), "the form of notes")
+        browser.wait_text("body", "isn’t on this phone yet")
+        assert not browser.run("return Boolean(document.getElementById('answer-text'))")
+    finally:
+        browser.cdp("Network.setBlockedURLs", urls=[])
+
+
 def test_a_question_that_is_withdrawn_meanwhile_takes_no_answer_away(
     pages: DeskPages, ada: Person, phone: Phone, stage: Stage
 ) -> None:

@@ -84,9 +84,11 @@ async function passed() {
 async function loadNotes() {
   const { notes: areTaken } = /** @type {{ notes?: boolean }} */ (office);
   if (areTaken !== true) return;
-  const parts = Promise.all([import("./notes.js"), import("./questions.js")]);
-  await parts.then((found) => found.forEach((it) => it.listen()), () =>
-    noticeUntilRead(() => t("The part of this page for notes isn’t on this phone yet. Open the page again with a line.")));
+  // (a phone that has had notes for long may not have the files of questions yet)
+  const parts = await Promise.allSettled([import("./notes.js"), import("./questions.js")]);
+  for (const { value } of /** @type {any[]} */ (parts)) value?.listen();
+  if (parts.every(({ status }) => status === "fulfilled")) return;
+  noticeUntilRead(() => t("The part of this page for notes isn’t on this phone yet. Open the page again with a line."));
 }
 
 /** An error that nothing else has reported: of a browser that keeps nothing, or of the page itself. */

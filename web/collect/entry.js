@@ -75,11 +75,11 @@ async function save(isConfirmed) {
 async function keep(choice) {
   const edited = editing, { month, slot, row, seen } = edited;
   form.showFault("");
-  const price = form.awaitTyping();
+  const price = form.awaitTyping(), said = questions.written(); // (another row's form may be open before the note is kept)
   isSaving = true;
   try {
     // (note and answer first: a price is sent at once, and they wait for it)
-    if (!(await notes.keep(edited, choice)) || !(await questions.keep(edited, choice))) {
+    if (!(await notes.keep(edited, choice)) || !(await questions.keep(edited, choice, said))) {
       if (editing === edited && isOpen()) find("price").value = price;
       return;
     }

@@ -8,20 +8,18 @@ import * as form from "./note-form.js";
 import * as left from "./note-list.js";
 import { send, sentOf } from "./note-send.js";
 import * as store from "./note-store.js";
+import { trying } from "./note-tries.js";
 import { needsLook, thrownAway, toBeSent, toLookAt } from "./note-words.js";
 import { notes } from "./optional.js";
 import { entryAt, state } from "./state.js";
 import { listOf } from "./store.js";
 import * as tabs from "./tabs.js";
 
-const LONGEST_WAIT = 900; // seconds between two tries
-
 const FILES = ["notes.css", "notes.js", "note-form.js", "note-limits.js", "note-list.js", "note-photo.js", "note-send.js",
-  "note-store.js", "note-words.js"];
+  "note-store.js", "note-tries.js", "note-words.js"];
 
 let kept = []; // the notes of the collector that aren't sent
 let sent = new Map(); // by month what the desk has, as far as it was asked for
-let isGoing = false, isAsked = false, tries = 0, timer = 0;
 
 const noteAt = (month, slot) => kept.find((note) => note.month === month && note.slot === slot);
 
@@ -55,36 +53,9 @@ async function keep({ month, slot, row }, { mark, value }) {
 
 // ---- Sending
 
-/** Tries now, however long the page meant to wait; one try at a time, of one tab. */
-async function again() {
-  tries = 0;
-  isAsked = true;
-  if (isGoing) return;
-  isGoing = true;
-  try {
-    while (isAsked && state.key) {
-      isAsked = false;
-      await navigator.locks.request("cpi-notes", sendAll);
-      await reload();
-    }
-  } finally {
-    isGoing = false;
-    wait();
-  }
-}
-
-/** Tries again by itself while something waits, less and less often. */
-function wait() {
-  clearTimeout(timer);
-  if (!kept.some(({ state: become }) => become === "waiting")) return;
-  const seconds = Math.min(LONGEST_WAIT, 2 ** (tries + 1)) * (0.75 + Math.random() / 2);
-  timer = setTimeout(async () => {
-    const before = tries + 1;
-    const going = again();
-    tries = before;
-    await going;
-  }, seconds * 1000);
-}
+/** (the page tries again by itself only while something waits) */
+const { again, rest } = trying(sendAll, reload,
+  (seconds) => (kept.some(({ state: become }) => become === "waiting") ? seconds : null));
 
 async function sendAll() {
   const { key, who } = state;
@@ -145,7 +116,7 @@ async function drop(note) {
 
 /** Leaves nothing of a collector in the page. */
 function clear() {
-  clearTimeout(timer);
+  rest();
   kept = [];
   sent = new Map();
   form.clear();

@@ -36,8 +36,13 @@ export const questions = {
   begin: async () => {},
   /** Fills the form in for an entry: { month, slot, entry, stored }. */
   fill: (edited) => {},
-  /** Keeps what the form answers with an entry and its choice; false if the entry waits. Throws the browser's error. */
-  keep: async (edited, choice) => true,
+  /** What the form answers now, or null. */
+  written: () => null,
+  /**
+   * Keeps what the form answered, as `written` gave it, with an entry and its choice; false if the entry waits. Throws the
+   * browser's error.
+   */
+  keep: async (edited, choice, said) => true,
   /** Entries were answered. */
   settled: () => {},
   /** Whether the desk asks about a slot of the month that is shown, and what its row says of that: no text for nothing. */

@@ -7,6 +7,7 @@ import * as entry from "./entry.js";
 import { showHead } from "./head.js";
 import * as line from "./line.js";
 import { touch } from "./list.js";
+import { LONGEST_WAIT, trying } from "./note-tries.js";
 import { questions } from "./optional.js";
 import * as form from "./question-form.js";
 import * as left from "./question-list.js";
@@ -18,8 +19,6 @@ import { entryAt, rowOf, state } from "./state.js";
 import { listOf } from "./store.js";
 import * as tabs from "./tabs.js";
 
-const LONGEST_WAIT = 900; // seconds between two tries
-
 /** Milliseconds after which the desk's machine is asked again. */
 const NEW = 15 * 60_000;
 
@@ -30,7 +29,6 @@ let asked = []; // the questions that wait for an answer, as they came last
 let kept = []; // the answers of the collector that aren't sent
 let rows = new Map(); // by month the rows of its work list, as far as the phone has them
 let askedAt = 0; // when they came, or were asked for in vain
-let isGoing = false, isAsked = false, tries = 0, timer = 0;
 
 const questionAt = (month, slot) => asked.find((it) => it.month === month && it.slot === slot);
 const answerAt = (month, slot) => kept.find((it) => it.month === month && it.slot === slot);
@@ -81,11 +79,11 @@ async function answered(question, said) {
 }
 
 /**
- * Keeps what the form answers with an entry: that the price is corrected, or what was written if it stays as it is. An
- * answer that waits for another price than this one is in its place no more.
+ * Keeps what the form answered with an entry, `said` as `written` gave it: that the price is corrected, or what was written
+ * if it stays as it is. An answer that waits for another price than this one is in its place no more.
  */
-async function keep({ month, slot, row, stored }, { mark, value }) {
-  const { question, text = "" } = form.written() ?? {}, before = answerAt(month, slot);
+async function keep({ month, slot, row, stored }, { mark, value }, said) {
+  const { question, text = "" } = said ?? {}, before = answerAt(month, slot);
   if (!question) return true;
   if (stored?.[2] !== mark || stored?.[3] !== value) {
     await keepAnswer(question, { what: "corrected", mark, value, receipt: 0, text }, row);
@@ -100,38 +98,11 @@ async function keep({ month, slot, row, stored }, { mark, value }) {
 
 // ---- Sending
 
-/** Tries now, however long the page meant to wait; one try at a time, of one tab. */
-async function again() {
-  tries = 0;
-  isAsked = true;
-  if (isGoing) return;
-  isGoing = true;
-  try {
-    while (isAsked && state.key) {
-      isAsked = false;
-      // (notes go the same way, and the front lets a phone ask two things at a time)
-      await navigator.locks.request("cpi-notes", exchanged);
-      await reload();
-    }
-  } finally {
-    isGoing = false;
-    wait();
-  }
-}
+const isWaiting = () => kept.some(({ state: become }) => become === "waiting");
 
-/** Tries again by itself while something waits, less and less often; asks for questions now and then. */
-function wait() {
-  clearTimeout(timer);
-  if (!state.key) return;
-  const isWaiting = kept.some(({ state: become }) => become === "waiting");
-  const seconds = isWaiting ? Math.min(LONGEST_WAIT, 2 ** (tries + 1)) * (0.75 + Math.random() / 2) : LONGEST_WAIT;
-  timer = setTimeout(async () => {
-    const before = tries + 1;
-    const going = again();
-    tries = before;
-    await going;
-  }, seconds * 1000);
-}
+/** (while nothing waits, the page asks for questions now and then) */
+const { again, rest } = trying(exchanged, reload,
+  (seconds) => (state.key ? isWaiting() ? seconds : LONGEST_WAIT : null));
 
 /** Sends the answers, and asks for the questions, if those that came are old. */
 async function exchanged() {
@@ -149,8 +120,9 @@ async function exchanged() {
 
 async function fetchQuestions({ key, who }) {
   const found = await questionsOf({ key });
+  if (state.who !== who) return; // (nothing was asked yet of whoever has signed in meanwhile)
   askedAt = Date.now();
-  if (!found || state.who !== who) return;
+  if (!found) return;
   await store.keepAsked(who, found);
   tabs.tell("entries");
 }
@@ -213,7 +185,7 @@ async function open({ month, slot }) {
 
 /** Leaves nothing of a collector in the page. */
 function clear() {
-  clearTimeout(timer);
+  rest();
   [asked, kept, rows, askedAt] = [[], [], new Map(), 0];
   form.clear();
   left.clear();
@@ -249,6 +221,7 @@ export function listen() {
   Object.assign(questions, {
     begin, keep, render, clear, isOpen, lineOf,
     fill: (edited) => form.fill(edited, questionAt(edited.month, edited.slot), answerAt(edited.month, edited.slot)),
+    written: form.written,
     settled: again,
     count: () => kept.length,
     told: () => ifAny(waiting(), toBeSent),
