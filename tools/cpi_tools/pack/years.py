@@ -149,7 +149,7 @@ class Archives:
         # (which has no part in these files: what only pages say, releases to come, and what earlier releases had)
         config = own._replace(
             without=frozenset(), years=None, address="", clock=UTC, planned=(), announced=(), reasons=(), references=(), all_rates=(),
-            all_provisional=(), about=OwnWords(), doi="", has_quality=False, counts=(), least_outlets=0,
+            all_provisional=(), about=OwnWords(), doi="", has_quality=False, counts=(), least_outlets=0, profiles=(),
         )  # fmt: skip
         content = (
             tool(),
