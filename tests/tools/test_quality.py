@@ -244,6 +244,13 @@ def test_a_fault_is_one_line(rows: list[list[str]], says: str) -> None:
     assert says in str(fault.value) and "\n" not in str(fault.value)
 
 
+def test_a_division_of_another_office_is_one_line(published: list[Published], tmp_path: Path) -> None:
+    cells = counts_of([[*HEAD], [*ALL[:2], "00", *GOOD[3:]], [*ALL[:2], "13", *GOOD[3:]]], 5)
+    with pytest.raises(BadCounts, match="have division 13 in 2026-01, revision 1, and no table has it"):
+        publish(published, CONFIG._replace(counts=cells), tmp_path / "public", None, quiet)
+    assert not (tmp_path / "public").exists()
+
+
 @pytest.mark.parametrize("number", ["1", "100", "five"])
 def test_a_number_of_outlets_is_tested(number: str, tmp_path: Path) -> None:
     ini = tmp_path / "office.ini"

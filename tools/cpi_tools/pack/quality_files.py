@@ -26,7 +26,7 @@ from ..speech import SPEAKS_ENGLISH
 from .config import Config
 from .quality import Quality, change_of, id_of
 from .releases import releases_of
-from .survey_counts import Cell, Figures
+from .survey_counts import BadCounts, Cell, Figures
 from .tables import Series, iso
 from .tidy import write_rows
 
@@ -62,9 +62,17 @@ class Figure(NamedTuple):
 
 
 def write_quality(series: Series, config: Config, folder: Path) -> None:
-    """Writes both files into the folder `data` if the office wants them."""
+    """Writes both files into the folder `data` if the office wants them. Raises BadCounts if the counts have a division
+    that no table has."""
     if config.has_quality:
-        figures = sorted(_figures(Quality(series, config, releases_of(series, config, SPEAKS_ENGLISH))), key=_section)
+        quality = Quality(series, config, releases_of(series, config, SPEAKS_ENGLISH))
+        strange = next((cell for cell in quality.counts if cell.division not in series.titles), None)
+        if strange:
+            raise BadCounts(
+                f"the counts of quality have division {strange.division} in {strange.month}, revision {strange.revision},"
+                " and no table has it: make the file anew by cpi-tools quality, from this office"
+            )
+        figures = sorted(_figures(quality), key=_section)
         write_rows(folder / CSV, Figure._fields, figures)
         (folder / JSON).write_text(_json(figures, config), encoding="utf-8")
 
