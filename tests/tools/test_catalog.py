@@ -11,6 +11,7 @@ from rdflib import RDF, Literal, URIRef
 from rdflib.namespace import DCAT, DCTERMS, FOAF, XSD  # type: ignore[attr-defined]
 
 from cpi_tools.pack.cards import NO_CARDS
+from cpi_tools.pack.catalog import MAILBOX
 from cpi_tools.pack.config import Config
 from cpi_tools.pack.office_languages import OfficeLanguages, Own
 from cpi_tools.pack.public import Published
@@ -114,3 +115,17 @@ def test_a_licence_is_an_address_or_a_name(published: list[Published], graph: rd
 def test_without_an_address_there_is_none(published: list[Published], tmp_path: Path) -> None:
     publish(published[:2], Config("NSO", "XX", "Office"), tmp_path / "public", None, lambda _: None)
     assert not (tmp_path / "public/data/catalog.jsonld").exists()
+
+
+@pytest.mark.parametrize(
+    "text, mailbox",
+    [
+        ("Write to prices@prices.example, or call.", "prices@prices.example"),
+        ("prices.desk+cpi@prices.example.", "prices.desk+cpi@prices.example"),
+        ("Desk (prices@prices.example); telephone 5", "prices@prices.example"),
+        ("Room 5 @ the office, o'neil@prices.example", ""),
+    ],
+)
+def test_a_mailbox_ends_before_the_signs_of_a_sentence(text: str, mailbox: str) -> None:
+    found = MAILBOX.search(text)
+    assert (found[0] if found else "") == mailbox

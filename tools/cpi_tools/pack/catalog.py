@@ -43,7 +43,8 @@ MEDIA_TYPES = "https://www.iana.org/assignments/media-types/"
 OF_SDMX: Mapping[str, str] = {"csv": "text/csv", "xml": "application/xml"}
 """The media types of SDMX that are in the register of media types, by the ends of names."""
 
-MAILBOX = re.compile(r"[^\s@<>]+@[^\s@<>]+\.[^\s@<>]+")
+MAILBOX = re.compile(r"(?<![^\s(<:,;])[\w.+-]+@\w[\w-]*(\.\w[\w-]*)+")
+"""A mailbox in a text, without the comma or the point that ends a sentence."""
 
 Node = dict[str, object]
 
