@@ -30,7 +30,7 @@ import pytest
 from cpi_tools.command_line import main
 from cpi_tools.folders import NotPlaced, written_folder
 from cpi_tools.pack.config import BadConfig, Config, read_config
-from cpi_tools.pack.manifest import manifest_text, previous_of, read_manifest
+from cpi_tools.pack.manifest import Change, manifest_text, previous_of, read_manifest
 from cpi_tools.pack.public import Listed, Published, from_file
 from cpi_tools.pack.sdmx import KNOWN_IDS
 from cpi_tools.pack.tables import Series
@@ -868,9 +868,11 @@ def test_what_is_not_there_is_one_line(cpi: Cpi, capsys: pytest.CaptureFixture[s
 
 
 def test_what_is_no_manifest_is_one_line(published: list[Published], tmp_path: Path) -> None:
-    (tmp_path / "no.json").write_text("[]")
-    with pytest.raises(Exception, match="no.json is no manifest that cpi-tools publish wrote"):
-        read_manifest(tmp_path / "no.json")
+    change = Change("2025-01-r1", (), "a" * 64, 1, 0, {"data/../../office.db": "b" * 64})
+    for text in ("[]", manifest_text(Series(published), None, [change])):
+        (tmp_path / "no.json").write_text(text)
+        with pytest.raises(Exception, match="no.json is no manifest that cpi-tools publish wrote"):
+            read_manifest(tmp_path / "no.json")
     with pytest.raises(Exception, match="manifest.json: No such file"):
         again(published, tmp_path / "nowhere")
     series = Series(published)

@@ -11,6 +11,7 @@ from __future__ import annotations
 import filecmp
 import hashlib
 import json
+import re
 from collections.abc import Iterable, Iterator, Mapping
 from pathlib import Path
 from typing import Any, NamedTuple, Optional
@@ -20,6 +21,9 @@ from ..terminal import Fault, because_of
 from .tables import Row, Series, Table, iso
 
 MANIFEST, SUMS = "manifest.json", "SHA256SUMS"
+
+CHANGES_FILE = re.compile("data/changes/[0-9A-Za-z][0-9A-Za-z.-]*")
+"""The name of a file of changes in a pack."""
 
 TableId = tuple[str, int]
 """Month and revision of a table."""
@@ -118,8 +122,11 @@ def manifest_of(data: bytes, name: str) -> Manifest:
 
 def _change(row: Any) -> Change:
     """A row of changes. Raises KeyError, TypeError or ValueError."""
-    counts = row["replaced"], row["deleted"]
-    return Change(row["name"], tuple(row["releases"]), row["since"], *counts, {**row["files"]})
+    counts, files = (row["replaced"], row["deleted"]), {**row["files"]}
+    # (their bytes are taken over, so a name leads nowhere else)
+    if not all(CHANGES_FILE.fullmatch(name) for name in files):
+        raise ValueError(files)
+    return Change(row["name"], tuple(row["releases"]), row["since"], *counts, files)
 
 
 def previous_of(before: Optional[Manifest], series: Series, changes: Iterable[Change] = ()) -> Optional[str]:
