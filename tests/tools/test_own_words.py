@@ -78,6 +78,7 @@ def test_links_lead_to_the_web_or_to_a_mailbox() -> None:
         "- a\n  - b\n    - c\n      - d",
         "a\x00b",
         "a\x1bb",
+        "a&#12;b",
         "a\ufffe",
     ],
 )

@@ -112,6 +112,18 @@ def test_all_items_are_in_the_structure_of_the_imf(published: list[Published], t
     assert '<message:Sender id="NSO"/>' in message and message.index("DATA_DOMAIN") < message.index("REF_AREA")
 
 
+def test_the_place_of_a_profile_writes_no_archive_anew(published: list[Published], tmp_path: Path) -> None:
+    """A configuration may be named from another folder, and archives have nothing of profiles."""
+    sums = []
+    for path in (ECOFIN, tmp_path / "ecofin.toml"):
+        if path != ECOFIN:
+            path.write_bytes(ECOFIN.read_bytes())
+        config = CONFIG._replace(profiles=(read_profile(path),), years=1)
+        written(published, config, tmp_path / "public")
+        sums.append((tmp_path / "public/data/years/made.json").read_bytes())
+    assert sums[0] == sums[1]
+
+
 def profile(tmp_path: Path, *changes: tuple[str, str], of: Path = HICP) -> Profile:
     """One of the ready profiles with other words."""
     own = of.read_text(encoding="utf-8")
@@ -167,6 +179,7 @@ SYNTAX = ('id = "HICP"', 'id = "HICP')
         (('"COICOP", "GEO"]', '"COICOP", "GEO", "GEO"]'), "dimensions", "GEO is no id of a dimension, or is there twice"),
         (('_T = "CP00"', '_T = "CP 00"'), "_T", "'CP 00' is no code"),
         (('others = "same"', 'others = "all"'), "others", "wanted same, or no line"),
+        (('others = "same"', 'others = "a\\nb"'), "others", "others is a b: wanted same"),
         (('others = "same"', 'other = "same"'), "other", "other is no word of [dimension.COICOP]"),
         (('at = "observation"', 'at = "group"'), "at", "wanted series or observation"),
         (('[dimension.GEO]\nof = "REF_AREA"', "[dimension.GEO]"), "[dimension.GEO]", "wanted constant, or of"),

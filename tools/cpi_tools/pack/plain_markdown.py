@@ -74,13 +74,18 @@ def html_of(text: str) -> Markup:
     from markdown_it import MarkdownIt  # (its package is needed by offices only that have such texts)
 
     for number, line in enumerate(text.split("\n"), 1):
-        found = FORBIDDEN.search(line)
-        if found:
-            raise BadMarkdown(f"line {number}: the character U+{ord(found[0]):04X}, which no text has")
+        _test_signs(line, number)
     reader = MarkdownIt("commonmark").enable("table")
     # (else it would leave a link that it doesn't take as a text, without a word; here such a link is refused)
     reader.validateLink = lambda address: True  # type: ignore[assignment]
     return Markup("").join(_parts(reader.parse(text)))
+
+
+def _test_signs(text: str, line: int) -> None:
+    """Raises BadMarkdown if a text has what none can have."""
+    found = FORBIDDEN.search(text)
+    if found:
+        raise BadMarkdown(f"line {line}: the character U+{ord(found[0]):04X}, which no text has")
 
 
 def _parts(tokens: Sequence[Any]) -> Iterator[Markup]:
@@ -102,6 +107,8 @@ def _part(token: Any, line: int) -> Markup:
     kind, _, way = token.type.rpartition("_")
     if way in ("open", "close"):
         return _edge(token, kind, way == "open", line)
+    # (a sign may be there by its number, such as &#12;)
+    _test_signs(token.content, line)
     if token.type == "text":
         return Markup.escape(token.content)
     if token.type == "softbreak":

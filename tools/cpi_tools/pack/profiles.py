@@ -80,8 +80,8 @@ class Profile(NamedTuple):
         return self.lines.get(key, 1)
 
     def refuse(self, line: int, says: str) -> NoReturn:
-        """Raises BadProfile with a line of the file."""
-        raise BadProfile(f"{self.path}, line {line}: {says}")
+        """Raises BadProfile with a line of the file; a value of several lines is said in one."""
+        raise BadProfile(f"{self.path}, line {line}: {' '.join(says.split())}")
 
 
 # ---- lines
