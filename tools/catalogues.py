@@ -242,7 +242,10 @@ def faults_of_text(message: Message, found: Optional[Message], count: int) -> It
     if len(wanted) > 1:
         needed -= COUNT  # (a form of one count may say it in words)
     tags = sorted(TAG.findall(wanted[-1]))
-    is_joined = not any(place.startswith("web/") for place, _ in message.locations)
+    # (a script has no such places, and neither has a count in a template, which Jinja fills in)
+    is_joined = not any(place.startswith("web/") for place, _ in message.locations) and (
+        len(wanted) == 1 or "%(" not in wanted[-1]
+    )
     for form in forms:
         if not needed <= (_parted(form, allowed) if is_joined else places(form)) <= allowed:
             yield f"{told(message)}: its places are {sorted(allowed)}, and the translation has {sorted(places(form))}"

@@ -297,6 +297,9 @@ def test_what_is_wrong_with_a_catalogue_is_said() -> None:
         "'{count} found': 3 plural forms, the language has 2"
     ]
     assert spoiled("{count} found", ("un", "{count}")) == []
+    assert spoiled("One line.", ("Une ligne.", "La liste %(of_lines)s lignes.")) == [
+        "'One line.': its places are ['lines'], and the translation has ['of_lines']"
+    ]
     link = 'The office signed it: <a href="check.html">how to check that</a>.'
     assert spoiled(link, "L’office l’a signé.") == [
         f"{link!r}: its tags are ['</a>', '<a href=\"check.html\">'], and the translation has []"
