@@ -13,10 +13,12 @@ from lib.causes import (
     Place,
     find_growths,
     find_held_books,
+    find_made_failures,
     find_made_faults,
     find_made_tokens,
     find_named_faults,
     find_renamed,
+    find_streams,
     find_tokens_of_callers,
 )
 from lib.places import ROOT
@@ -41,15 +43,25 @@ OTHER_REASONS = {
         Place("printed_table::records", "return Err(AllocError);"),
     ): "the list of a table's lines can't grow",
     ("cpi_wire", Place("answers::is_failure", "matches!(reply, Reply::Refused(Refusal::Unavailable))")): "only asks",
+    (
+        "cpi_wire",
+        Place("answers::answer_one", "reply: Reply::Refused(Refusal::Unavailable),"),
+    ): "the office gave a cause",
     ("cpi_wire", Place("input::next_row", "Err(_) => Err(AllocError),")): "a row couldn't be copied",
     ("cpi_wire", Place("values::name_of", "Err(NameFault::NoMemory) => Err(AllocError),")): "a name had no memory",
+    ("cpi_http", Place("routes::Routes::new", "Err(_) => Err(AllocError),")): "the router had no memory",
     (
         "cpi_http",
         Place("statuses::status_of_refusal", "Refusal::Unavailable => StatusCode::SERVICE_UNAVAILABLE,"),
     ): "its status",
+    ("cpi_app", Place("connection::serve_front", "return Err(Failure::from(AllocError));")): "no room for the buffer",
     (
         "cpi_app",
-        Place("shake::shake_of", "Ok(Served::Answered(_, true)) => Some(Shake::Unavailable),"),
+        Place("replay::replay_over_book", "return (book, Err(Failure::from(AllocError)));"),
+    ): "no room for the buffer",
+    (
+        "cpi_app",
+        Place("shake::shake_of_served", "Served::Answered(_, true) => Some(Shake::Unavailable),"),
     ): "a 90 was sent",
     (
         "cpi_app",
@@ -57,6 +69,17 @@ OTHER_REASONS = {
     ): "its line",
 }
 """The same of the crates that store, read and write: an error of memory, or a word for a 90."""
+
+FAILURES = {
+    Place("input::failure_of", "ErrorKind::OutOfMemory => Failure::of(WireFault::NoMemory),"): "a record had no memory",
+    Place("input::failure_of", "_ => Failure::of(WireFault::Read),"): "the reader of records failed",
+    Place("read_note::ReadNote::new", "ReadNote {"): "nothing was read yet",
+    Place("read_note::ReadNote::read_some", "Err(Failure::of(WireFault::Read))"): "a read failed, or none is left",
+    Place("records::answer_records", "return Err(Failure::of(WireFault::Read));"): "there are too many records",
+    Place("write_note::WriteNote::new", "WriteNote {"): "nothing was written yet",
+    Place("write_note::WriteNote::write_whole", "Err(Failure::of(fault))"): "a write failed",
+}
+"""Each place of `cpi_wire` that makes a failure, or a note of reading or of writing, and why it may."""
 
 SIGHTS = ["public", "own_parts", "published", "latest_published", "published_table", "put_own_quote"]
 """What one may ask of a sight."""
@@ -125,6 +148,18 @@ def test_no_function_with_a_sight_has_a_book(office: Crate) -> None:
     assert sum("S: Sight" in item.text for item in office.items) == 16
 
 
+def test_only_the_wire_makes_a_failure_and_each_has_its_reason() -> None:
+    crates = [read_crate(ROOT / "crates" / name) for name in ("cpi_wire", "cpi_http", "cpi_app", "cpi_files", "cpi")]
+    found = [(crate.name, place) for crate in crates for place in find_made_failures(crate)]
+    assert sorted(found) == sorted(("cpi_wire", place) for place in FAILURES)
+
+
+def test_nothing_that_gives_up_a_message_has_a_stream_of_its_own() -> None:
+    assert find_streams(read_crate(ROOT / "crates/cpi_http")) == []
+    assert find_streams(read_crate(ROOT / "crates/cpi_wire")) == ["CallCountingReader"]
+    assert find_streams(read_crate(ROOT / "crates/cpi_app")) == ["Offered", "Timed", "Timed"]
+
+
 @pytest.mark.parametrize(
     "body",
     [
@@ -181,3 +216,14 @@ def test_a_token_that_another_file_makes_is_found() -> None:
 def test_a_book_beside_a_sight_is_found() -> None:
     assert find_held_books(make_crate("book.own(first)")) == ["items::items"]
     assert find_held_books(make_crate("sight.own_parts(bearer) // no book")) == []
+
+
+@pytest.mark.parametrize("body", ["Err(Failure::of(WireFault::Read))", "Err(Failure { fault: WireFault::Read })"])
+def test_a_failure_that_another_file_makes_is_found(body: str) -> None:
+    assert find_made_failures(make_crate(body)) == [Place("items::items", body)]
+    assert find_made_failures(make_crate(body, "src/failure.rt")) == []
+
+
+def test_a_stream_is_found() -> None:
+    texts = {"src/a.rt": "impl<R> Read for Broken<R> {}\n// impl Write for None\nimpl io::Write for Lost {}\n"}
+    assert find_streams(Crate("small", texts, [])) == ["Broken", "Lost"]

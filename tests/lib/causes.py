@@ -1,7 +1,7 @@
-"""What the types leave open of a reply 90 and of what a caller sees: found in the sources of `cpi_office`.
+"""What the types leave open of a reply 90, of what a caller sees, and of giving up: found in the sources.
 
 A reply 90 has its cause by the contracts, but for a fault that a body makes by hand; and only `callers.rt` may make the
-tokens by which a function sees an office.
+tokens by which a function sees an office. A message is given up only by a `Failure`, which only `cpi_wire` makes.
 
 `find_made_faults`    the faults that a body makes by hand, and each reply that says that the office is unavailable.
 `find_named_faults`   the same in any crate: errors of memory, and what says that the office is unavailable.
@@ -9,6 +9,8 @@ tokens by which a function sees an office.
 `find_renamed`        the lines that give a fault, a token or what one sees another name, and those of a macro.
 `find_made_tokens`    the places that make a token; `callers.rt` may.
 `find_held_books`     the functions that answer from a sight and also name a book.
+`find_made_failures`  the places that make a `Failure`, by which an input, a line or a message is given up.
+`find_streams`        the readers and writers that a crate writes itself.
 """
 
 from __future__ import annotations
@@ -37,6 +39,8 @@ RENAMED = re.compile(
 
 TOKEN = re.compile(r"\b(?:Present|Bearer) \{")
 TOKEN_OR_SELF = re.compile(r"\b(?:Present|Bearer|Self) \{")
+FAILURE = re.compile(r"\bFailure::of\b|\b(?:Failure|ReadNote|WriteNote) \{")
+STREAM = re.compile(r"^impl.*\b(?:Read|Write) for (\w+)", re.M)
 SIGHT, BOOK = re.compile(r"\bS: Sight\b"), re.compile(r"\b[Bb]ook\b")
 
 CALLERS = "src/callers.rt"
@@ -95,6 +99,17 @@ def find_held_books(crate: Crate) -> list[str]:
     """The names of these functions."""
     functions = (item for item in crate.items if item.kind == "fn")
     return [item.name for item in functions if SIGHT.search(item.text) and BOOK.search(drop_comments(item.text))]
+
+
+def find_made_failures(crate: Crate) -> list[Place]:
+    """Those outside the file that has the type."""
+    return find_places(crate, FAILURE, lambda file: file != "src/failure.rt")
+
+
+def find_streams(crate: Crate) -> list[str]:
+    """Their names."""
+    texts = (drop_comments(text) for path, text in sorted(crate.texts.items()) if path.endswith(".rt"))
+    return [found[1] for text in texts for found in STREAM.finditer(text)]
 
 
 def drop_comments(text: str) -> str:

@@ -1,4 +1,5 @@
 pub mod Beginning
+pub mod Fronts
 pub mod Numbers
 pub mod Served
 pub mod Tabled

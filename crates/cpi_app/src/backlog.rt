@@ -3,8 +3,8 @@
 use crate::listener::{Listener, NoClock};
 use crate::service::Service;
 use cpi_codes::Moment;
-use cpi_http::Served;
-use cpi_wire::WireFault;
+use cpi_http::Ended;
+use cpi_wire::Failure;
 
 /// A connection that waits to be accepted, or did.
 #[derive(Drop)]
@@ -36,7 +36,7 @@ impl Listener for Backlog {
     fn serve_next<S: Service>(
         &mut self,
         service: &mut S,
-    ) -> Result<Option<Result<Served, WireFault>>, NoClock> {
+    ) -> Result<Option<Result<Ended, Failure>>, NoClock> {
         let Some(next) = self.queued.get_mut(self.taken) else {
             return Ok(None);
         };

@@ -1,5 +1,5 @@
 //! One connection: its message is read and answered by the office at a desk.
-ghost use Rattle.std.specs.Prelude.{◌≡◌, IfOk, IfErr};
+ghost use Rattle.std.specs.Prelude.{◌≡◌, IfOk, IfErr, true};
 ghost use Rattle.cpi_http.specs.Message.{setting};
 ghost use Rattle.cpi_http.specs.Served.{messages, served_change};
 ghost use Rattle.cpi_app.specs.Connection.{ServesFront, GivesUpFront};
@@ -7,39 +7,92 @@ ghost use Rattle.cpi_app.specs.Connection.{ServesFront, GivesUpFront};
 use crate::desk::Desk;
 use crate::service::Service;
 use cpi_codes::Moment;
-use cpi_http::{Routes, Served, serve_one, serve_one_by};
+use cpi_http::{Ended, Routes, serve_noted};
 use cpi_office::Office;
 use cpi_store::Book;
-use cpi_wire::WireFault;
-use std::alloc::Global;
+use cpi_wire::{Failure, ReadNote, WireFault, WriteNote};
+use std::alloc::{AllocError, Global};
 use std::io::{BufReader, Read, Write};
 
-/// Serves one message of the reader, which it reads through a buffer: bytes after the message may have been read too,
-/// and are thrown away. Without routes it makes them for this message, which takes memory. The errors are those of
-/// `serve_one` of `cpi_http`, and a lack of memory for the buffer.
-pub fn serve_front<R: Read, W: Write, B: Book>(
+// Serves one message of the reader, which may read ahead of the message.
+fn serve_buffered<R: Read, W: Write, B: Book>(
     alloc: Global,
-    routes: Option<&Routes>,
+    routes: &Routes,
     reader: &mut R,
     writer: &mut W,
+    note: &mut WriteNote<W>,
     now: Moment,
     desk: &Desk,
     office: &mut Office<B>,
-) -> Result<Served, WireFault>
+) -> Result<Ended, Failure>
     ensures ok { IfOk result (ServesFront B.state (messages (setting now desk.now.zone desk.now.key))
         (R.remaining reader.old)
         (served_change office.old.book office.new.book (W.contents writer.old) (W.contents writer.new))) }
     ensures err { IfErr result (GivesUpFront B.state (messages (setting now desk.now.zone desk.now.key))
         (R.remaining reader.old)
         (served_change office.old.book office.new.book (W.contents writer.old) (W.contents writer.new))) }
+    ensures noted { IfErr result (λ e. e ≡ WireFault.Write → note.new.has_failed ≡ true) }
+{
+    let mut read_note = ReadNote::new();
+    serve_noted(
+        alloc,
+        routes,
+        reader,
+        &mut read_note,
+        writer,
+        note,
+        now,
+        &desk.zone,
+        desk.key,
+        office,
+    )
+}
+
+/// Serves one message of the reader, which it reads through a buffer: bytes after the message may have been read too,
+/// and are thrown away. Without routes it makes them for this message, which takes memory. The failures are those of
+/// `serve_noted` of `cpi_http`, and a lack of memory for the buffer. After `Write` the note says that writing failed.
+pub fn serve_front<R: Read, W: Write, B: Book>(
+    alloc: Global,
+    routes: Option<&Routes>,
+    reader: &mut R,
+    writer: &mut W,
+    note: &mut WriteNote<W>,
+    now: Moment,
+    desk: &Desk,
+    office: &mut Office<B>,
+) -> Result<Ended, Failure>
+    ensures ok { IfOk result (ServesFront B.state (messages (setting now desk.now.zone desk.now.key))
+        (R.remaining reader.old)
+        (served_change office.old.book office.new.book (W.contents writer.old) (W.contents writer.new))) }
+    ensures err { IfErr result (GivesUpFront B.state (messages (setting now desk.now.zone desk.now.key))
+        (R.remaining reader.old)
+        (served_change office.old.book office.new.book (W.contents writer.old) (W.contents writer.new))) }
+    ensures noted { IfErr result (λ e. e ≡ WireFault.Write → note.new.has_failed ≡ true) }
 {
     let Ok(mut buffered) = BufReader::new(alloc, reader) else {
-        return Err(WireFault::NoMemory);
+        return Err(Failure::from(AllocError));
     };
-    let (reader, zone, key) = (&mut buffered, &desk.zone, desk.key);
     match routes {
-        Some(routes) => serve_one_by(alloc, routes, reader, writer, now, zone, key, office),
-        None => serve_one(alloc, reader, writer, now, zone, key, office),
+        Some(routes) => serve_buffered(
+            alloc,
+            routes,
+            &mut buffered,
+            writer,
+            note,
+            now,
+            desk,
+            office,
+        ),
+        None => serve_buffered(
+            alloc,
+            &Routes::new(alloc)?,
+            &mut buffered,
+            writer,
+            note,
+            now,
+            desk,
+            office,
+        ),
     }
 }
 
@@ -63,9 +116,10 @@ impl<B: Book> Service for OfficeAtDesk<'_, B> {
         now: Moment,
         reader: &mut R,
         writer: &mut W,
-    ) -> Result<Served, WireFault> {
+    ) -> Result<Ended, Failure> {
         let (desk, routes) = (self.desk, self.routes.as_ref());
         let office = &mut self.office;
-        serve_front(self.alloc, routes, reader, writer, now, desk, office)
+        let (alloc, mut note) = (self.alloc, WriteNote::new());
+        serve_front(alloc, routes, reader, writer, &mut note, now, desk, office)
     }
 }

@@ -3,7 +3,7 @@ ghost use Rattle.std.specs.Prelude.{◌≡◌};
 ghost use Rattle.cpi_app.specs.Fault.{status_of_fault, open_line};
 
 use cpi_store::OpenFault;
-use cpi_wire::WireFault;
+use cpi_wire::{Failure, WireFault};
 use std::alloc::AllocFailed;
 use std::fmt;
 
@@ -61,6 +61,17 @@ impl From<WireFault> for RunFault {
 
     fn from(fault: WireFault) -> RunFault {
         RunFault::Wire(fault)
+    }
+}
+
+impl From<Failure> for RunFault {
+    ghost use Rattle.cpi_app.specs.declared.fault.RunFault.TheVariants.{Wire};
+    ghost use Rattle.std.specs.Prelude.{◌≡◌};
+
+    ghost from_gives = { λ failure e. e ≡ Wire failure };
+
+    fn from(failure: Failure) -> RunFault {
+        RunFault::Wire(failure.fault())
     }
 }
 

@@ -5,8 +5,8 @@ ghost use Rattle.cpi_app.specs.Visits.{IsTurn};
 
 use crate::fault::RunFault;
 use crate::service::Service;
-use cpi_http::Served;
-use cpi_wire::WireFault;
+use cpi_http::Ended;
+use cpi_wire::Failure;
 
 /// The clock shows no moment.
 #[derive(Clone, Copy, Debug, PartialEq, Eq)]
@@ -22,7 +22,7 @@ pub trait Listener {
     fn serve_next<S: Service>(
         &mut self,
         service: &mut S,
-    ) -> Result<Option<Result<Served, WireFault>>, NoClock>
+    ) -> Result<Option<Result<Ended, Failure>>, NoClock>
         ensures { IsTurn meets S.serves self.old self.new service.old service.new result };
 }
 

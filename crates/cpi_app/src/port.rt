@@ -11,8 +11,8 @@ use crate::peer::{MESSAGE_SECONDS, bound_waits, hang_up};
 use crate::service::Service;
 use crate::timed::Timed;
 use crate::wall_clock::WallClock;
-use cpi_http::Served;
-use cpi_wire::WireFault;
+use cpi_http::{Ended, Served};
+use cpi_wire::{Failure, WireFault};
 use std::io;
 use std::net::{Ipv4Addr, Net, SocketAddrV4, TcpListener, TcpStream};
 use std::time::{Clock, Duration};
@@ -65,6 +65,14 @@ where
     }
 }
 
+// Whether a message was answered.
+fn is_answered(outcome: &Result<Ended, Failure>) -> bool {
+    match outcome {
+        Ok(ended) => matches!(ended.served, Served::Answered(_, _)),
+        Err(_) => false,
+    }
+}
+
 impl<R> OpenPort<'_, R> {
     // The next connection. Each wait for its peer is bounded.
     fn accept(&self) -> io::Result<TcpStream> {
@@ -86,7 +94,7 @@ impl<R: Clock + WallClock> Listener for OpenPort<'_, R> {
     fn serve_next<S: Service>(
         &mut self,
         service: &mut S,
-    ) -> Result<Option<Result<Served, WireFault>>, NoClock> {
+    ) -> Result<Option<Result<Ended, Failure>>, NoClock> {
         let Ok(stream) = self.accept() else {
             return Ok(None);
         };
@@ -96,12 +104,10 @@ impl<R: Clock + WallClock> Listener for OpenPort<'_, R> {
         let time = Duration::from_secs(MESSAGE_SECONDS);
         let mut reader = Timed::new(self.rt, &stream, time);
         let mut writer = Offered::new(Timed::new(self.rt, &stream, time));
-        let served = service.serve(now, &mut reader, &mut writer);
-        if let Ok(Served::Answered(_, _)) = served {
-            if writer.is_taken() {
-                let _ = hang_up(self.rt, &stream);
-            }
+        let ended = service.serve(now, &mut reader, &mut writer);
+        if is_answered(&ended) && writer.is_taken() {
+            let _ = hang_up(self.rt, &stream);
         }
-        Ok(Some(served))
+        Ok(Some(ended))
     }
 }

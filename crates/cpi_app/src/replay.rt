@@ -8,13 +8,31 @@ use crate::fault::RunFault;
 use cpi_codes::{Zone, zone_of};
 use cpi_office::Office;
 use cpi_store::{Book, VecBook};
-use cpi_wire::{WireFault, replay};
-use std::alloc::Global;
+use cpi_wire::{Failure, WriteNote, replay_noted};
+use std::alloc::{AllocError, Global};
 use std::io::{BufReader, Read, Write};
+
+// Answers the records of the reader in an office, as `replay_noted` of `cpi_wire` does, and passes over the causes.
+fn replay_over_office<R: Read + Drop, W: Write, B: Book>(
+    alloc: Global,
+    zone: &Zone,
+    office: &mut Office<B>,
+    reader: R,
+    writer: &mut W,
+) -> Result<(), Failure>
+    ensures ok { OnOk result (AnsweredInput zone.now B.state (R.remaining reader)
+        office.old.book office.new.book (W.contents writer.old) (W.contents writer.new)) }
+    ensures err { IfErr result (GaveUp zone.now B.state (R.remaining reader)
+        office.old.book office.new.book (W.contents writer.old) (W.contents writer.new)) }
+{
+    let mut note = WriteNote::new();
+    replay_noted(alloc, reader, writer, &mut note, zone, office)?;
+    Ok(())
+}
 
 /// Answers the records of the reader in the office of a book, each by its line before the next one is carried out. It
 /// hands the book back even after an error, and then the book contains all that was carried out. The clock of the zone
-/// reads civil times, and a buffer reads the input. The errors are those of the input and of the output, and a lack of
+/// reads civil times, and a buffer reads the input. The failures are those of the input and of the output, and a lack of
 /// memory.
 pub fn replay_over_book<R: Read, W: Write, B: Book>(
     alloc: Global,
@@ -22,17 +40,17 @@ pub fn replay_over_book<R: Read, W: Write, B: Book>(
     book: B,
     reader: &mut R,
     writer: &mut W,
-) -> (B, Result<(), WireFault>)
+) -> (B, Result<(), Failure>)
     ensures ok { OnOk result.1 (AnsweredInput zone.now B.state (R.remaining reader.old)
         book result.0 (W.contents writer.old) (W.contents writer.new)) }
     ensures err { IfErr result.1 (GaveUp zone.now B.state (R.remaining reader.old)
         book result.0 (W.contents writer.old) (W.contents writer.new)) }
 {
     let Ok(records) = BufReader::new(alloc, reader) else {
-        return (book, Err(WireFault::NoMemory));
+        return (book, Err(Failure::from(AllocError)));
     };
     let mut office = Office::new(alloc, book);
-    let outcome = replay(alloc, records, writer, zone, &mut office);
+    let outcome = replay_over_office(alloc, zone, &mut office, records, writer);
     (office.into_book(), outcome)
 }
 

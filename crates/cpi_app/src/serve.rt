@@ -47,7 +47,7 @@ pub fn serve_each<R: Eprint, L: Listener, S: Service>(
         };
         let left = limit - served - 1;
         report_left(rt, left);
-        if let Some(shake) = shake_of(outcome) {
+        if let Some(shake) = shake_of(&outcome) {
             report_shake(rt, shake, left);
             return Ok(left);
         }

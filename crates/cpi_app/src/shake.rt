@@ -1,9 +1,9 @@
 //! The reasons to open a book again.
 ghost use Rattle.std.specs.Prelude.{◌≡◌};
-ghost use Rattle.cpi_app.specs.Connection.{shake_of};
+ghost use Rattle.cpi_app.specs.Connection.{shake_of, shake_of_served, shake_of_fault};
 
-use cpi_http::Served;
-use cpi_wire::WireFault;
+use cpi_http::{Ended, Served};
+use cpi_wire::{Failure, WireFault};
 use std::fmt;
 
 /// The reason to open a book again after a connection. It prints as its words in a line on standard error.
@@ -17,15 +17,34 @@ pub enum Shake {
     NoMemory,
 }
 
-/// The reason to open the book again after a connection. `None` if it can stay open.
-pub fn shake_of(served: Result<Served, WireFault>) -> Option<Shake>
-    ensures { result ≡ shake_of served }
+// The reason to open the book again after a message that ended so.
+fn shake_of_served(served: Served) -> Option<Shake>
+    ensures { result ≡ shake_of_served served }
 {
     match served {
-        Ok(Served::Answered(_, true)) => Some(Shake::Unavailable),
-        Ok(Served::Answered(_, false)) | Ok(Served::Cut) | Err(WireFault::Read) => None,
-        Err(WireFault::Write) => Some(Shake::Unwritten),
-        Err(WireFault::NoMemory) => Some(Shake::NoMemory),
+        Served::Answered(_, true) => Some(Shake::Unavailable),
+        Served::Answered(_, false) | Served::Cut => None,
+    }
+}
+
+// The reason to open the book again after this fault.
+fn shake_of_fault(fault: WireFault) -> Option<Shake>
+    ensures { result ≡ shake_of_fault fault }
+{
+    match fault {
+        WireFault::Read => None,
+        WireFault::Write => Some(Shake::Unwritten),
+        WireFault::NoMemory => Some(Shake::NoMemory),
+    }
+}
+
+/// The reason to open the book again after a connection. `None` if it can stay open.
+pub fn shake_of(outcome: &Result<Ended, Failure>) -> Option<Shake>
+    ensures { result ≡ shake_of outcome.now }
+{
+    match outcome {
+        Ok(ended) => shake_of_served(ended.served),
+        Err(failure) => shake_of_fault(failure.fault()),
     }
 }
 

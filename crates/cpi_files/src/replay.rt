@@ -9,7 +9,7 @@ use crate::taken::job_in_cabinet;
 use cpi_app::{RunFault, replay_over_book};
 use cpi_codes::{Zone, zone_of};
 use cpi_store::Book;
-use cpi_wire::WireFault;
+use cpi_wire::Failure;
 use std::alloc::Global;
 use std::io::{Read, Write, sink};
 
@@ -22,7 +22,7 @@ struct ReplayByClock {
 impl BookJob for ReplayByClock {
     ghost use Rattle.cpi_files.specs.Replay.{Replays};
 
-    type Told = Result<(), WireFault>;
+    type Told = Result<(), Failure>;
 
     ghost does = { λ job. Replays job.clock };
 
@@ -33,7 +33,7 @@ impl BookJob for ReplayByClock {
         reader: &mut R,
         out: &mut W,
         _err: &mut E,
-    ) -> (B, Result<(), WireFault>) {
+    ) -> (B, Result<(), Failure>) {
         replay_over_book(alloc, &self.clock, book, reader, out)
     }
 }

@@ -1,5 +1,5 @@
 -- From the bytes that were read and sent to the effect of one call.
-use Rattle.std.proofs.Common.{◌≡◌, ◌<◌, ℕ, Bool, List, [], ◌++◌, Option, Result, Ok, Err, IfOk, IfErr, OnOk, refl, sym}
+use Rattle.std.proofs.Common.{◌≡◌, ◌<◌, ℕ, Bool, true, List, [], ◌++◌, Option, Result, Ok, Err, IfOk, IfErr, OnOk, refl, sym}
 use Rattle.std.proofs.Common.{ap, ap₂, ◌∙◌, subst, inl, inr, length, take, append-nil}
 use Rattle.std.specs.Io.KnownBytes.{Consumes, Keeps, Appends}
 use Rattle.std.proofs.KnownBytes.{Consumes-nil, Consumes-trans}
@@ -7,6 +7,7 @@ use Rattle.httparse.specs.Grammar.{RequestHead, print_request}
 use Rattle.cpi_codes.specs.Zone.{ZoneRule}
 use Rattle.cpi_release.specs.State.{State}
 use Rattle.cpi_store.specs.Office.{Office}
+use Rattle.cpi_office.specs.declared.cause.Cause.{Cause}
 use Rattle.cpi_wire.specs.declared.asks.Ask.{Ask}
 use Rattle.cpi_wire.specs.declared.asks.Ask.TheVariants as ask
 use Rattle.cpi_wire.specs.declared.fault.WireFault.{WireFault}
@@ -15,8 +16,10 @@ use Rattle.cpi_wire.specs.Answer.{Answer}
 use Rattle.cpi_wire.specs.Answer as answer
 use Rattle.cpi_wire.specs.Answers.{Answers, Begins, some_fails}
 use Rattle.cpi_wire.specs.Lines.{all_replies}
+use Rattle.cpi_wire.specs.Causes.{IsCaused}
 use Rattle.cpi_wire.proofs.Importing.{one_begun}
 use Rattle.cpi_http.specs.declared.responses.Response.{Response}
+use Rattle.cpi_http.specs.declared.serve.Ended.{Ended}
 use Rattle.cpi_http.specs.declared.serve.Served.{Served}
 use Rattle.cpi_http.specs.declared.serve.Served.TheVariants.{Answered, Cut}
 use Rattle.cpi_http.specs.Bytes.{http_of}
@@ -29,6 +32,7 @@ use Rattle.cpi_http.specs.Message.{MessageAsks, Setting, headers_of, asked_by, I
 use Rattle.cpi_http.specs.Message.{headed, malformed, of_body}
 use Rattle.cpi_http.specs.Response.{Said, SaysResponse, ask_in, response_to, body_bytes}
 use Rattle.cpi_http.specs.Served.{Framing, ServedChange, StreamGives, IsServed, GaveUp, SendFails, bodies, messages}
+use Rattle.cpi_http.specs.Served.{is_failed, IsNoted}
 
 -- the bytes of a response
 pub said_bytes : (said : Said) (failed : Bool) (r : Response) → SaysResponse said failed r
@@ -54,14 +58,14 @@ module _ {B : Type 0} (state : B → State Office) where
   }
 
   module _ (f : Framing) (old new : Option (List ℕ)) (c : ServedChange B) where
-    pub sent_ok : (m : MessageAsks) (answered : Answer) (r : Result Served WireFault) (bytes : List ℕ) (status : ℕ)
+    pub sent_ok : (m : MessageAsks) (answered : Answer) (r : Result Ended WireFault) (bytes : List ℕ) (status : ℕ)
         (failed : Bool)
         → StreamGives f old new m → Answers state c.before (ask_in m) answered c.now
         → bytes ≡ body_bytes (response_to m answered) → status ≡ (response_to m answered).status
         → failed ≡ some_fails (all_replies answered)
-        → IfOk r (λ served. served ≡ Answered status failed) → OnOk r (Appends c.written c.writing bytes)
-        → IfOk r (IsServed state f old new c)
-    sent_ok m answered (Ok served) bytes status failed gives answers same st fa is sent =
+        → IfOk r (λ ended. ended.served ≡ Answered status failed) → OnOk r (Appends c.written c.writing bytes)
+        → IfOk r (λ ended. IsServed state f old new c ended.served)
+    sent_ok m answered (Ok ended) bytes status failed gives answers same st fa is sent =
         subst (IsServed state f old new c) (sym is) (record {
           asked = m;
           answered = answered;
@@ -90,11 +94,11 @@ module _ {B : Type 0} (state : B → State Office) where
     send_failed m answered bytes fault.NoMemory gives answers same h =
         (inr (m, gives, answered_begun c.before c.now (ask_in m) answered answers), h)
 
-    pub sent_err : (m : MessageAsks) (answered : Answer) (r : Result Served WireFault) (bytes : List ℕ)
+    pub sent_err : (m : MessageAsks) (answered : Answer) (r : Result Ended WireFault) (bytes : List ℕ)
         → StreamGives f old new m → Answers state c.before (ask_in m) answered c.now
         → bytes ≡ body_bytes (response_to m answered)
         → IfErr r (SendFails c.written c.writing bytes) → IfErr r (GaveUp state f old new c)
-    sent_err m answered (Ok served) bytes gives answers same h = tt
+    sent_err m answered (Ok ended) bytes gives answers same h = tt
     sent_err m answered (Err e) bytes gives answers same h = send_failed m answered bytes e gives answers same h
 
     -- memory ran out while the message was carried out
@@ -104,11 +108,11 @@ module _ {B : Type 0} (state : B → State Office) where
     gave_up_memory m gives begun kept = (inr (m, gives, begun), kept)
 
     -- a fault of reading
-    pub gave_up_reading : (e : WireFault) → IsFaultOfReading e → c.now ≡ c.before → Keeps c.written c.writing
-        → GaveUp state f old new c e
-    gave_up_reading fault.Read is same kept = (same, kept)
-    gave_up_reading fault.Write is same kept = absurd is
-    gave_up_reading fault.NoMemory is same kept = (inl same, kept)
+    pub gave_up_reading : (noted : Bool) (e : WireFault) → IsFaultOfReading noted e → c.now ≡ c.before →
+        Keeps c.written c.writing → GaveUp state f old new c e
+    gave_up_reading noted fault.Read is same kept = (same, kept)
+    gave_up_reading noted fault.Write is same kept = absurd is
+    gave_up_reading noted fault.NoMemory is same kept = (inl same, kept)
 
 -- a head that is refused before its body
 pub gives_refused : (now : ℕ) (zone : ZoneRule) (size : Result ℕ ℕ) (called : Called) (path : List ℕ) (status : ℕ)
@@ -213,14 +217,40 @@ module _ (s : Setting) (head : List ℕ) (h : RequestHead) (size : Result ℕ �
     gave_up_headed fault.NoMemory (inl same, kept) = (inl same, kept)
     gave_up_headed fault.NoMemory (inr begun, kept) = (inr (begun.0, gives_headed begun.0 begun.1, begun.2), kept)
 
-    pub headed_ok : (r : Result Served WireFault)
-        → IfOk r (IsServed state (bodies s.now s.zone size called path) mid new c)
-        → IfOk r (IsServed state (messages s) old new c)
-    headed_ok (Ok x) is = served_headed x is
+    pub headed_ok : (r : Result Ended WireFault)
+        → IfOk r (λ ended. IsServed state (bodies s.now s.zone size called path) mid new c ended.served)
+        → IfOk r (λ ended. IsServed state (messages s) old new c ended.served)
+    headed_ok (Ok x) is = served_headed x.served is
     headed_ok (Err e) is = tt
 
-    pub headed_err : (r : Result Served WireFault)
+    pub headed_err : (r : Result Ended WireFault)
         → IfErr r (GaveUp state (bodies s.now s.zone size called path) mid new c)
         → IfErr r (GaveUp state (messages s) old new c)
     headed_err (Ok x) is = tt
     headed_err (Err e) is = gave_up_headed e is
+
+-- ---- the notes, and the cause of a reply that is 90
+
+pub noted_reading : (reading writing : Bool) (e : WireFault) → IsFaultOfReading reading e → IsNoted reading writing e
+noted_reading reading writing fault.Read is = is
+noted_reading reading writing fault.Write is = absurd is
+noted_reading reading writing fault.NoMemory is = tt
+
+-- a response wasn't written whole
+pub noted_writing : (reading writing : Bool) (r : Result Ended WireFault) (old new : Option (List ℕ)) (bytes : List ℕ)
+    → IfErr r (SendFails old new bytes) → IfErr r (λ e. e ≡ fault.Write → writing ≡ true)
+    → IfErr r (IsNoted reading writing)
+noted_writing reading writing (Ok ended) old new bytes fails noted = tt
+noted_writing reading writing (Err fault.Read) old new bytes fails noted = absurd fails
+noted_writing reading writing (Err fault.Write) old new bytes fails noted = noted refl
+noted_writing reading writing (Err fault.NoMemory) old new bytes fails noted = tt
+
+-- the cause is that of the response
+pub sent_caused : (old new : State Office) (status : ℕ) (failed : Bool) (cause : Option Cause) (r : Result Ended WireFault)
+    → IsCaused old new failed cause → IfOk r (λ ended. ended.served ≡ Answered status failed)
+    → IfOk r (λ ended. ended.cause ≡ cause)
+    → IfOk r (λ ended. IsCaused old new (is_failed ended.served) ended.cause)
+sent_caused old new status failed cause (Ok ended) caused served is =
+    subst (λ s. IsCaused old new (is_failed s) ended.cause) (sym served)
+    (subst (λ c. IsCaused old new failed c) (sym is) caused)
+sent_caused old new status failed cause (Err e) caused served is = tt

@@ -1,5 +1,5 @@
 -- How reading the head of a request ended.
-use Rattle.std.specs.Prelude.{⊤, ℕ, List, [], Option}
+use Rattle.std.specs.Prelude.{◌≡◌, ⊤, ℕ, Bool, true, List, [], Option}
 use Rattle.std.specs.Io.KnownBytes.{IsAtEnd}
 use Rattle.httparse.specs.Grammar.{RequestHead}
 use Rattle.httparse.specs.declared.spans.HeaderSpan.{HeaderSpan}
@@ -17,8 +17,8 @@ HeadEndIs taken fields left (Whole spans) =
 HeadEndIs taken fields left Malformed = NeverHasHead taken
 HeadEndIs taken fields left Cut = HasNoHead taken × MayGoOn taken × IsAtEnd left
 
--- a fault of reading, or lack of memory
-abbrev pub IsFaultOfReading : WireFault → Type 0
-IsFaultOfReading fault.Read = ⊤
-IsFaultOfReading fault.Write = ⊥
-IsFaultOfReading fault.NoMemory = ⊤
+-- a fault of reading, which was noted, or lack of memory
+abbrev pub IsFaultOfReading : Bool → WireFault → Type 0
+IsFaultOfReading noted fault.Read = noted ≡ true
+IsFaultOfReading noted fault.Write = ⊥
+IsFaultOfReading noted fault.NoMemory = ⊤

@@ -1,5 +1,5 @@
--- The effect of one call of `serve_one`.
-use Rattle.std.specs.Prelude.{◌≡◌, ◌⊎◌, ◌<◌, ℕ, Bool, List, length, take, Option, Result, Ok}
+-- The effect of one call of `serve_one`, and of `serve_noted`.
+use Rattle.std.specs.Prelude.{◌≡◌, ◌⊎◌, ◌<◌, ⊤, ℕ, Bool, true, false, List, length, take, Option, Result, Ok}
 use Rattle.std.specs.Io.KnownBytes.{Consumes, IsAtEnd, Keeps, Appends}
 use Rattle.cpi_codes.specs.Zone.{ZoneRule}
 use Rattle.cpi_release.specs.State.{State}
@@ -48,6 +48,17 @@ pub record ServedChange (B : Type 0) : Type 0 where
 
 abbrev pub served_change : {B : Type 0} → B → B → Option (List ℕ) → Option (List ℕ) → ServedChange B
 served_change before now written writing = record { before = before; now = now; written = written; writing = writing }
+
+-- whether one of the replies was that the office was unavailable
+abbrev pub is_failed : Served → Bool
+is_failed (served.Answered status failed) = failed
+is_failed served.Cut = false
+
+-- the notes of reading and of writing say that it failed, if that is the fault
+abbrev pub IsNoted : Bool → Bool → WireFault → Type 0
+IsNoted reading writing fault.Read = reading ≡ true
+IsNoted reading writing fault.Write = writing ≡ true
+IsNoted reading writing fault.NoMemory = ⊤
 
 -- the reason why a response wasn't written whole
 abbrev pub SendFails : Option (List ℕ) → Option (List ℕ) → List ℕ → WireFault → Type 0

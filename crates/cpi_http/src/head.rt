@@ -5,7 +5,7 @@ ghost use Rattle.cpi_http.specs.HeadEnd.{HeadEndIs, IsFaultOfReading};
 
 use crate::limits::{MOST_FIELDS, MOST_HEAD_BYTES};
 use crate::read::read_byte;
-use cpi_wire::WireFault;
+use cpi_wire::{Failure, ReadNote};
 use httparse::Status;
 use httparse::spans::{HeaderSpan, RequestSpans, parse_request};
 use std::alloc::AllocError;
@@ -30,21 +30,21 @@ fn push_byte(buf: &mut Vec<u8>, byte: u8) -> Result<(), AllocError>
     Ok(())
 }
 
-/// Reads the head of a request, and no byte after it. The errors are `Read` and `NoMemory`.
+/// Reads the head of a request, and no byte after it. The failures are `Read` and `NoMemory`.
 pub fn read_head<R: Read>(
     reader: &mut R,
-    calls_left: &mut u32,
+    note: &mut ReadNote<R>,
     buf: &mut Vec<u8>,
     fields: &mut [HeaderSpan],
-) -> Result<HeadEnd, WireFault>
+) -> Result<HeadEnd, Failure>
     requires empty { buf.old.items ≡ [] }
     requires room { length fields.old ≡ MOST_FIELDS }
     ensures bytes { OnOk result (Consumes (R.remaining reader.old) (R.remaining reader.new) buf.new.items) }
-    ensures fault { IfErr result IsFaultOfReading }
+    ensures fault { IfErr result (IsFaultOfReading note.new.has_failed) }
     ensures head { IfOk result (HeadEndIs buf.new.items fields.new (R.remaining reader.new)) }
 {
     'bytes: while buf.len() < MOST_HEAD_BYTES {
-        let Some(byte) = read_byte(reader, calls_left)? else {
+        let Some(byte) = read_byte(reader, note)? else {
             return Ok(HeadEnd::Cut);
         };
         push_byte(buf, byte)?;

@@ -20,6 +20,6 @@ mod statuses;
 
 pub use bytes::Content;
 pub use laws::{messages_are_a_run, one_message, responses_are_alike, tables_are_sent};
-pub use limits::{MOST_BODY_BYTES, MOST_BYTES_WITH_HEAD, MOST_CALLS, MOST_FIELDS, MOST_HEAD_BYTES};
+pub use limits::{MOST_BODY_BYTES, MOST_BYTES_WITH_HEAD, MOST_FIELDS, MOST_HEAD_BYTES};
 pub use routes::{Route, Routes, examples};
-pub use serve::{Served, serve_one, serve_one_by};
+pub use serve::{Ended, Served, serve_noted, serve_one};

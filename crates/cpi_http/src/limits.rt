@@ -9,8 +9,5 @@ pub const MOST_FIELDS: usize = 64;
 /// The most bytes of the body of a request.
 pub const MOST_BODY_BYTES: usize = 65_536;
 
-/// The most calls of `read` for one message, so that a slow or endless stream is given up.
-pub const MOST_CALLS: u32 = 80_000;
-
 /// The most bytes of a response's body that are written together with its head.
 pub const MOST_BYTES_WITH_HEAD: usize = 65_536;

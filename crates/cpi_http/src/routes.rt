@@ -1,12 +1,10 @@
 //! The routes: a method and a path each.
-ghost use Rattle.std.specs.Prelude.{◌≡◌, IfOk, IfErr, IsUtf8, Some, None, codes};
-ghost use Rattle.cpi_wire.specs.declared.fault.WireFault.TheVariants.{NoMemory};
+ghost use Rattle.std.specs.Prelude.{◌≡◌, IfOk, IsUtf8, Some, None, codes};
 ghost use Rattle.cpi_http.specs.Routes.{all_routes, method_of, word_of_route, route_of};
 
-use cpi_wire::WireFault;
 use http::Method;
 use matchit::{InsertError, Router};
-use std::alloc::Global;
+use std::alloc::{AllocError, Global};
 use std::marker::Model;
 use std::str;
 
@@ -88,13 +86,11 @@ impl Model for Routes {
 }
 
 impl Routes {
-    /// Makes the router. The error is `NoMemory`.
-    pub fn new(alloc: Global) -> Result<Routes, WireFault>
-        ensures { IfErr result (λ fault. fault ≡ NoMemory) }
-    {
+    /// Makes the router. The error is that memory ran out: no two routes conflict.
+    pub fn new(alloc: Global) -> Result<Routes, AllocError> {
         match all_routes(alloc) {
             Ok(router) => Ok(Routes { router }),
-            Err(_) => Err(WireFault::NoMemory),
+            Err(_) => Err(AllocError),
         }
     }
 

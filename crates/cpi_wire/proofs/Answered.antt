@@ -1,6 +1,6 @@
 -- One record more is answered, and the effect of a replay that is given up.
 use Rattle.std.proofs.Common.{◌≡◌, ◌≢◌, ◌∙◌, sym, ap, refl, ◌<◌, ◌≤◌, ℕ, List, [], ◌∷◌, ◌++◌, length, map, take, Option}
-use Rattle.std.proofs.Common.{Some, None, IfSome, arith, append_assoc, append-nil, length-append}
+use Rattle.std.proofs.Common.{Bool, Some, None, IfSome, arith, append_assoc, append-nil, length-append}
 use Rattle.std.proofs.lemmas.List.{map-append}
 use Rattle.std.specs.List.{concat}
 use Rattle.std.specs.Io.KnownBytes.{Appends}
@@ -114,12 +114,13 @@ module _ {B : Type 0} (zone : ZoneRule) (state : B → State Office) where
 
   -- given up in the line of a record
   pub gave_up_at : (input : Option (List ℕ)) (old mid new : B) (was so_far is : Option (List ℕ))
-      (rows : List Record) (replies : List Answer) (row : Record) (line : List ℕ) (count : ℕ)
+      (rows : List Record) (replies : List Answer) (row : Record) (line : List ℕ)
+      (failed : Bool) (count : ℕ)
       → length rows < MOST_RECORDS → IfSome input (AreFirst (rows ++ row ∷ []))
       → AnswersAll zone state old rows replies mid → LinesAreWritten replies was so_far
-      → AnswersWithLine state mid (ask_of zone row) line new → count < length line → Appends so_far is (take count line)
+      → AnswersWithLine state mid (ask_of zone row) line failed new → count < length line → Appends so_far is (take count line)
       → GaveUp zone state input old new was is fault.Write
-  gave_up_at input old mid new was so_far is rows replies row line n few first answers written one short part = record {
+  gave_up_at input old mid new was so_far is rows replies row line failed n few first answers written one short part = record {
     rows = rows ++ row ∷ [];
     replies = replies ++ one.answered ∷ [];
     mid = new;

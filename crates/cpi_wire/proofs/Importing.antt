@@ -1,6 +1,6 @@
 -- The rows of an import, carried out one after the other, and the line of their replies so far.
 use Rattle.std.proofs.Common.{◌≡◌, ◌∙◌, refl, sym, ap, ap₂, ℕ, List, [], ◌∷◌, ◌++◌, Bool, true, false, ◌||◌, codes, map}
-use Rattle.std.proofs.Common.{Option, Some, Result, Ok, Err, OnErr, append_assoc, append-nil}
+use Rattle.std.proofs.Common.{Option, Some, Result, Ok, Err, IfOk, OnErr, append_assoc, append-nil}
 use Rattle.serde_json.specs.View.{items_of}
 use Rattle.serde_json.specs.Written.{comma_if, compact_text, items_text}
 use Rattle.serde_json.proofs.OnLiterals.{serde_json_on_literals}
@@ -11,6 +11,7 @@ use Rattle.cpi_office.specs.declared.request.Request.{Request}
 use Rattle.cpi_office.specs.declared.reply.Reply.{Reply}
 use Rattle.cpi_office.specs.declared.reply.Reply.TheVariants.{Refused}
 use Rattle.cpi_office.specs.declared.refusal.Refusal.TheVariants.{BadRequest}
+use Rattle.cpi_wire.specs.declared.answers.AnswerLine.{AnswerLine}
 use Rattle.cpi_wire.specs.declared.asks.Ask.{Ask}
 use Rattle.cpi_wire.specs.declared.asks.Ask.TheVariants as ask
 use Rattle.cpi_wire.specs.Answer as answer
@@ -20,6 +21,7 @@ use Rattle.cpi_wire.specs.Answers.{some_fails}
 use Rattle.cpi_wire.specs.Line.{data_of, line_of_reply}
 use Rattle.cpi_wire.specs.Rows.{added_text, rows_line}
 use Rattle.cpi_wire.proofs.Answered.{in_turn_more}
+use Rattle.cpi_wire.proofs.Causes.{any_more}
 
 -- ---- the line
 
@@ -63,15 +65,6 @@ ended rs =
 line_joined : (rs : List Reply) → (codes "{\"rows\":[" ++ joined false rs) ++ codes "]}\n" ≡ rows_line rs
 unfolding serde_json_on_literals
 line_joined rs = ap (λ ys. codes "{\"rows\":[" ++ ys) (ended rs)
-
--- whether some reply fails, and one more
-fails_more : (rs : List Reply) (r : Reply) → some_fails (rs ++ r ∷ []) ≡ (some_fails rs || is_failure_of r)
-fails_more [] r = elim (is_failure_of r) as (λ b. (b || false) ≡ b) [ true ↦ refl | false ↦ refl ]
-fails_more (x ∷ rs) r =
-    ap (λ b. is_failure_of x || b) (fails_more rs r)
-    ∙ elim (is_failure_of x) as (λ b. (b || (some_fails rs || is_failure_of r)) ≡
-    ((b || some_fails rs) || is_failure_of r))
-    [ true ↦ refl | false ↦ refl ]
 
 -- ---- the rows
 
@@ -130,7 +123,7 @@ module _ {B : Type 0} (state : B → State Office) (now : ℕ) (caller : Caller)
     answers =
         in_turn_more (RowAnswers state now caller) old mid new so_far.front so_far.replies row reply so_far.answers one;
     first = none_more so_far.replies reply;
-    fails = ap₂ (λ a b. a || b) so_far.fails same ∙ sym (fails_more so_far.replies reply);
+    fails = ap₂ (λ a b. a || b) so_far.fails same ∙ sym (any_more is_failure_of so_far.replies reply);
     written =
         text ∙ ap₂ (λ ys first. ys ++ added_text first reply) so_far.written so_far.first
         ∙ ap (λ ys. codes "{\"rows\":[" ++ ys) (sym (joined_more so_far.replies reply));
@@ -172,24 +165,31 @@ module _ {B : Type 0} (state : B → State Office) (now : ℕ) (caller : Caller)
     answers = (new, one, refl);
   }
 
-  pub line_of_one : (old new : B) (request : Request) (reply : Reply) (line : List ℕ)
-      → IsServed state now caller old request reply new → line ≡ line_of_reply reply
-      → AnswersWithLine state old (ask.One now caller request) line new
-  line_of_one old new request reply line one text =
-      record { answered = answer.One reply; answers = one; line_is = text }
+  pub one_line : {E : Type 0} (old new : B) (request : Request) (reply : Reply) (r : Result AnswerLine E)
+      → IsServed state now caller old request reply new
+      → IfOk r (λ answered. answered.line.items ≡ line_of_reply reply)
+      → IfOk r (λ answered. answered.failed ≡ is_failure_of reply)
+      → IfOk r (λ answered.
+      AnswersWithLine state old (ask.One now caller request) answered.line.items answered.failed new)
+  one_line old new request reply (Ok answered) one text fails =
+      record { answered = answer.One reply; answers = one; line_is = text; failed_is = fails }
+  one_line old new request reply (Err e) one text fails = tt
 
   pub line_of_rows : (old new : B) (rows : List (Option Request)) (line : List ℕ) (failed : Bool)
       → ((replies : List Reply) × RowsAnswer state now caller old rows replies new × (line ≡ rows_line replies)
       × (failed ≡ some_fails replies))
-      → AnswersWithLine state old (ask.Import now caller rows) line new
+      → AnswersWithLine state old (ask.Import now caller rows) line failed new
   line_of_rows old new rows line failed whole =
-      record { answered = answer.Rows whole.0; answers = whole.1; line_is = whole.2 }
+      record { answered = answer.Rows whole.0; answers = whole.1; line_is = whole.2; failed_is = whole.3 }
 
 module _ {B : Type 0} (state : B → State Office) where
-  pub line_of_bad : (old : B) (line : List ℕ) → line ≡ line_of_reply (Refused BadRequest)
-      → AnswersWithLine state old ask.Bad line old
-  line_of_bad old line text =
-      record { answered = answer.One (Refused BadRequest); answers = (refl, refl); line_is = text }
+  pub bad_line : {E : Type 0} (old : B) (r : Result AnswerLine E)
+      → IfOk r (λ answered. answered.line.items ≡ line_of_reply (Refused BadRequest))
+      → IfOk r (λ answered. answered.failed ≡ false)
+      → IfOk r (λ answered. AnswersWithLine state old ask.Bad answered.line.items answered.failed old)
+  bad_line old (Ok answered) text fails =
+      record { answered = answer.One (Refused BadRequest); answers = (refl, refl); line_is = text; failed_is = fails }
+  bad_line old (Err e) text fails = tt
 
   -- nothing was carried out
   pub none_begun : (old : B) (asked : Ask) → Begins state old asked old

@@ -2,6 +2,7 @@ pub mod Alike
 pub mod Answered
 pub mod Asked
 pub mod Carried
+pub mod Causes
 pub mod Coded
 pub mod Counted
 pub mod Floats

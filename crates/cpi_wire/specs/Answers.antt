@@ -28,6 +28,14 @@ InTurn {B} step old (x ∷ xs) (y ∷ ys) new = (mid : B) × step old x y mid ×
 abbrev pub some_fails : List Reply → Bool
 some_fails replies = list_any is_failure_of replies
 
+-- one of the replies of an answer does, or of some answers
+abbrev pub answer_fails : Answer → Bool
+answer_fails (answer.One reply) = is_failure_of reply
+answer_fails (answer.Rows replies) = some_fails replies
+
+abbrev pub some_answer_fails : List Answer → Bool
+some_answer_fails answers = list_any answer_fails answers
+
 -- over a book of this state
 module _ {B : Type 0} (state : B → State Office) where
   -- a record of no form is a bad request and changes nothing
@@ -58,11 +66,13 @@ module _ {B : Type 0} (state : B → State Office) where
   Answers old (ask.Import now caller rows) (answer.One reply) new = ⊥
   Answers old (ask.Import now caller rows) (answer.Rows replies) new = RowsAnswer now caller old rows replies new
 
-  -- the record is answered, and this is the line of its answer
-  pub record AnswersWithLine (old : B) (asked : Ask) (line : List ℕ) (new : B) : Type 0 where
+  -- the record is answered, this is the line of its answer, and whether one of the replies says that the office is
+  -- unavailable
+  pub record AnswersWithLine (old : B) (asked : Ask) (line : List ℕ) (failed : Bool) (new : B) : Type 0 where
     pub answered : Answer
     pub answers : Answers old asked answered new
     pub line_is : line ≡ answer_line answered
+    pub failed_is : failed ≡ answer_fails answered
 
   -- the first rows were carried out, each answered in turn, and no others
   pub record FirstRowsAnswer (now : ℕ) (caller : Caller) (old : B) (rows : List (Option Request))

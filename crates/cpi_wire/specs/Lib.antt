@@ -1,6 +1,7 @@
 pub mod Answer
 pub mod Answers
 pub mod Arguments
+pub mod Causes
 pub mod Examples
 pub mod Fault
 pub mod Import

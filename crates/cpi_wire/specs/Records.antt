@@ -6,11 +6,13 @@ use Rattle.std.specs.Io.KnownBytes.{Appends}
 use Rattle.cpi_codes.specs.Zone.{ZoneRule}
 use Rattle.cpi_release.specs.State.{State}
 use Rattle.cpi_store.specs.Office.{Office}
+use Rattle.cpi_office.specs.declared.cause.Cause.{Cause}
 use Rattle.cpi_wire.specs.Answer.{Answer}
 use Rattle.cpi_wire.specs.declared.fault.WireFault.{WireFault}
 use Rattle.cpi_wire.specs.declared.fault.WireFault.TheVariants as fault
 use Rattle.cpi_wire.specs.declared.limits.TheConstants.{MOST_RECORDS}
-use Rattle.cpi_wire.specs.Answers.{Answers, Begins, InTurn}
+use Rattle.cpi_wire.specs.Answers.{Answers, Begins, InTurn, some_answer_fails}
+use Rattle.cpi_wire.specs.Causes.{IsCaused}
 use Rattle.cpi_wire.specs.Input.{Record, AreFirst, records_of}
 use Rattle.cpi_wire.specs.Record.{ask_of}
 use Rattle.cpi_wire.specs.Rows.{answer_line}
@@ -49,6 +51,12 @@ module _ {B : Type 0} (zone : ZoneRule) (state : B → State Office) where
     pub few : length rows ≤ MOST_RECORDS
     pub answers : AnswersAll old rows replies new
     pub written : LinesAreWritten replies was is
+
+  -- the same, and the cause of the first reply that says that the office is unavailable
+  pub record CausedInput (input : Option (List ℕ)) (old new : B) (was is : Option (List ℕ)) (cause : Option Cause)
+      : Type 0 where
+    pub answered : AnsweredInput input old new was is
+    pub caused : IsCaused (state old) (state new) (some_answer_fails answered.replies) cause
 
   -- one record more after a fault: if memory ran out, it may have been begun, and otherwise there is none
   abbrev pub BegunUntil : WireFault → B → Option Record → B → Type 0

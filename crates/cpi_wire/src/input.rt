@@ -3,6 +3,7 @@ ghost use Rattle.std.specs.Prelude.{◌≡◌, ◌≢◌, [], IfOk, IfErr};
 ghost use Rattle.csv.specs.Records.{fields_of};
 ghost use Rattle.cpi_wire.specs.Input.{IsAt, TakesRecord};
 
+use crate::failure::Failure;
 use crate::fault::WireFault;
 use csv::{ByteRecord, Error, ErrorKind, Reader, ReaderBuilder};
 use std::alloc::{AllocError, Global};
@@ -18,28 +19,28 @@ pub(crate) fn record_reader<R: Read>(alloc: Global, input: R) -> Reader<R>
         .from_reader(alloc, input)
 }
 
-// The fault that an error of the reader is for a replay.
-fn fault_of(error: &Error) -> WireFault
+// The failure that an error of the reader is for a replay.
+fn failure_of(error: &Error) -> Failure
     ensures { result ≢ WireFault.Write }
 {
     match error.kind() {
-        ErrorKind::OutOfMemory => WireFault::NoMemory,
-        _ => WireFault::Read,
+        ErrorKind::OutOfMemory => Failure::of(WireFault::NoMemory),
+        _ => Failure::of(WireFault::Read),
     }
 }
 
-/// Takes the next record of an input into `row`, and returns whether there was one. The errors are `Read` and
-/// `NoMemory`.
+/// Takes the next record of an input into `row`, and returns whether there was one. The failures are `Read`
+/// and `NoMemory`.
 pub(crate) fn next_record<R: Read>(
     reader: &mut Reader<R>,
     row: &mut ByteRecord,
-) -> Result<bool, WireFault>
+) -> Result<bool, Failure>
     ensures ok { IfOk result (λ found. TakesRecord R.remaining reader.old reader.new (fields_of row.new) found) }
     ensures err { IfErr result (λ e. e ≢ WireFault.Write) }
 {
     match reader.read_byte_record(row) {
         Ok(found) => Ok(found),
-        Err(error) => Err(fault_of(&error)),
+        Err(error) => Err(failure_of(&error)),
     }
 }
 

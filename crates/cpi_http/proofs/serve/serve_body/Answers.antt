@@ -6,7 +6,9 @@ use Rattle.cpi_office.specs.declared.reply.Reply.TheVariants.{Refused}
 use Rattle.cpi_wire.specs.Answer.{One}
 use Rattle.cpi_http.specs.Message.{asked_by}
 use Rattle.cpi_http.specs.Served.{bodies}
-use Rattle.cpi_http.proofs.Serving.{sent_ok, sent_err, gives_refused, gives_whole, said_bytes, gave_up_memory}
+use Rattle.cpi_wire.proofs.Causes.{none_caused}
+use Rattle.cpi_http.proofs.Serving.{sent_ok, sent_err, sent_caused, gives_refused, gives_whole, said_bytes}
+use Rattle.cpi_http.proofs.Serving.{gave_up_memory, noted_writing}
 use Rattle.cpi_http.proofs.serve.serve_body.Goals as goal
 
 pub returns-in-Err-clause-ok : goal.returns-in-Err-clause-ok
@@ -62,3 +64,20 @@ returns-in_err-response-clause-err g c =
     let p = err_from_is_err_and c.from_residual-in_err-response.result c.from_residual-in_err-response.ensures.1 in
     rw (p.1, p.2) (gave_up_memory g.B.Book.state (bodies a.now a.zone.now a.size a.called a.path.now) _ _ _
     (asked_by a.now a.zone.now a.called a.path.now c.in-Some.body.items) gives begun (Keeps-refl _))
+
+pub returns-in-Err-clause-caused : goal.returns-in-Err-clause-caused
+returns-in-Err-clause-caused g c =
+    sent_caused _ _ _ _ _ c.refuse.result (none_caused (g.B.Book.state c.args.office.now.book)) c.refuse.ensures.ok
+    c.refuse.ensures.cause
+
+pub returns-in-Err-clause-noted : goal.returns-in-Err-clause-noted
+returns-in-Err-clause-noted g c =
+    noted_writing _ _ c.refuse.result _ _ _ c.refuse.ensures.err c.refuse.ensures.noted
+
+pub returns-clause-caused : goal.returns-clause-caused
+returns-clause-caused g c =
+    sent_caused _ _ _ _ _ c.send.result c.in_ok-response.ensures.caused c.send.ensures.ok c.send.ensures.cause
+
+pub returns-clause-noted : goal.returns-clause-noted
+returns-clause-noted g c =
+    noted_writing _ _ c.send.result _ _ _ c.send.ensures.err c.send.ensures.noted

@@ -1,5 +1,7 @@
 use Rattle.std.proofs.Common.{◌≡◌, ℕ, List, [], Option, length}
 use Rattle.cpi_wire.specs.Answer.{Answer}
+use Rattle.cpi_wire.specs.Answers.{some_answer_fails}
+use Rattle.cpi_wire.specs.Causes.{IsCaused}
 use Rattle.cpi_wire.specs.Input.{Record}
 use Rattle.cpi_wire.specs.Records.{AnswersAll, LinesAreWritten}
 use Rattle.cpi_wire.specs.Input.{IsAt}
@@ -13,3 +15,4 @@ invariant-loop g l = (rows : List Record) × (replies : List Answer)
     × AnswersAll l.fn.zone g.B.Book.state l.fn.office.book rows replies l.office.book
     × LinesAreWritten replies (g.W.Write.contents l.fn.writer) (g.W.Write.contents l.writer)
     × (length rows ≡ l.counter)
+    × IsCaused (g.B.Book.state l.fn.office.book) (g.B.Book.state l.office.book) (some_answer_fails replies) l.cause

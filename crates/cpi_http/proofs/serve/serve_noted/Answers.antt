@@ -4,8 +4,10 @@ use Rattle.cpi_office.specs.declared.reply.Reply.TheVariants.{Refused}
 use Rattle.cpi_wire.specs.Answer.{One}
 use Rattle.cpi_http.specs.Message.{setting}
 use Rattle.cpi_http.specs.Served.{messages}
-use Rattle.cpi_http.proofs.Serving.{sent_ok, sent_err, gives_malformed, are_parts, headed_ok, headed_err}
-use Rattle.cpi_http.proofs.serve.serve_one_by.Goals as goal
+use Rattle.cpi_wire.proofs.Causes.{none_caused}
+use Rattle.cpi_http.proofs.Serving.{sent_ok, sent_err, sent_caused, gives_malformed, are_parts, headed_ok, headed_err}
+use Rattle.cpi_http.proofs.Serving.{noted_writing}
+use Rattle.cpi_http.proofs.serve.serve_noted.Goals as goal
 
 pub returns-in-Malformed-clause-ok : goal.returns-in-Malformed-clause-ok
 returns-in-Malformed-clause-ok g c =
@@ -46,3 +48,12 @@ returns-clause-err g c =
     (c.of-path.ensures ∙ rw c.deref.ensures.value said.2.path) (rw c.deref-2.ensures.value at c.framing-size.ensures)
     (rw c.deref-3.ensures.value at c.called_of-called.ensures))
     c.in_ok-spans.ensures.bytes g.B.Book.state _ c.serve_body.result c.serve_body.ensures.err
+
+pub returns-in-Malformed-clause-caused : goal.returns-in-Malformed-clause-caused
+returns-in-Malformed-clause-caused g c =
+    sent_caused _ _ _ _ _ c.refuse.result (none_caused (g.B.Book.state c.args.office.now.book)) c.refuse.ensures.ok
+    c.refuse.ensures.cause
+
+pub returns-in-Malformed-clause-noted : goal.returns-in-Malformed-clause-noted
+returns-in-Malformed-clause-noted g c =
+    noted_writing _ _ c.refuse.result _ _ _ c.refuse.ensures.err c.refuse.ensures.noted
