@@ -7,6 +7,8 @@ rounding of docs/reference/OFFICE.md, in fractions. It looks at the table of eac
 its carry list, and at these:
 
 - one seed gives the same quotes twice, and another seed gives others;
+- the box of docs/develop/THEOREM.md, line by line in whole numbers (lib/box.py), gives each table too, from the frozen
+  quotes and the plans that were sent;
 - prices move the weights of the last year from its reference month to its link month; those of the second and of the
   third are what was spent in the year before, moved to the link month by the mean of that year; those of the first stand;
 - two months are revised after prices that came late, and later months are computed from the revisions;
@@ -40,6 +42,7 @@ from typing import Any, NamedTuple, Optional
 
 import pytest
 
+from lib import box
 from lib.by_the_manual import coming_and_going, latest, moving, printed, tables
 from lib.cases import content
 from lib.nation import CALENDAR, EXAMPLE, ZONE, Survey, revisions
@@ -189,6 +192,30 @@ def test_the_tables_are_those_of_all_months_and_their_revisions(ran: Ran) -> Non
 def test_each_figure_of_a_table(ran: Ran, month: str, revision: int) -> None:
     wrote = rows_of(content(ran.folder, "tables", table_name(month, revision)).decode())
     rows = [printed(row) for row in ran.tables[month, revision].rows]
+    assert len(wrote) == len(rows) > 0
+    assert first_of(f"wrote {own}, wanted {row}" for own, row in zip(wrote, rows) if own != row) is None
+
+
+@pytest.fixture(scope="module")
+def boxed(ran: Ran) -> dict[tuple[str, int], list[list[str]]]:
+    """The rows of each table by the box: of the quotes that stood when it was frozen, and the plan that was sent."""
+    plans = {record[3]: box.plan_of(rows_of(record[4])) for record in ran.sent if record[2] == "plan"}
+    given = {place: box.Given(item, box.month_of(last)) for place, (item, _, last) in ran.survey.series.items()}
+    index, found = box.Index(given), dict[tuple[str, int], list[list[str]]]()
+    for month in ran.survey.months:
+        for revision in revisions(month):
+            frozen = {place: box.Price(*it) for place, it in ran.survey.of_revision(month, revision).items()}
+            made = index.release(box.month_of(month), plans.get(month[:4]), frozen)
+            found[month, revision] = [box.printed(row) for _, row in sorted(made.levels.items())]
+    return found
+
+
+@pytest.mark.parametrize(("month", "revision"), TABLES)
+def test_a_table_is_that_of_the_box(
+    ran: Ran, boxed: dict[tuple[str, int], list[list[str]]], month: str, revision: int
+) -> None:
+    wrote = rows_of(content(ran.folder, "tables", table_name(month, revision)).decode())
+    rows = boxed[month, revision]
     assert len(wrote) == len(rows) > 0
     assert first_of(f"wrote {own}, wanted {row}" for own, row in zip(wrote, rows) if own != row) is None
 
