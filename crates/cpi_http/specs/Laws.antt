@@ -5,17 +5,19 @@ use Rattle.cpi_release.specs.declared.form.Form.{Form}
 use Rattle.cpi_store.specs.Office.{Office}
 use Rattle.cpi_store.specs.Sound.{IsSound}
 use Rattle.cpi_office.specs.ComputedTables.{computed_reply, IsKnown, TellTables}
-use Rattle.cpi_office.specs.Runs.{trace}
+use Rattle.cpi_office.specs.Runs.{replies, trace}
 use Rattle.cpi_office.specs.Served.{RunOverBook, all_served, NoneFails}
 use Rattle.cpi_office.specs.ProjectedChanges.{Sight, sights_of}
 use Rattle.cpi_office.specs.Projections.{view}
 use Rattle.cpi_office.specs.declared.caller.Caller.{Caller}
 use Rattle.cpi_office.specs.declared.caller.Caller.TheVariants.{Desk}
+use Rattle.cpi_office.specs.declared.reply.Reply.{Reply}
 use Rattle.cpi_office.specs.declared.request.Request.TheVariants.{Table}
 use Rattle.cpi_wire.specs.Answer.{Answer}
 use Rattle.cpi_wire.specs.Answers.{Answers, InTurn}
-use Rattle.cpi_wire.specs.Laws.{requests_of_asks, replies_of_asks}
+use Rattle.cpi_wire.specs.Laws.{requests_of_record, requests_of_asks, replies_of_asks}
 use Rattle.cpi_wire.specs.Lines.{IsFrom, all_replies, moment_of}
+use Rattle.cpi_wire.specs.Printed.{answer_with}
 use Rattle.cpi_wire.specs.declared.asks.Ask.{Ask}
 use Rattle.cpi_wire.specs.declared.asks.Ask.TheVariants as ask
 use Rattle.cpi_http.specs.Message.{MessageAsks, Setting, IsMessage}
@@ -60,6 +62,20 @@ abbrev pub AreMessagesOfARun : {B : Type 0} → (B → State Office) → Type 0
 AreMessagesOfARun {B} state =
     (old new : B) (asks : List Ask) (answers : List Answer) → CarriedOut state old asks answers new →
     RunOverBook (state old) (state new) (requests_of_asks asks) (replies_of_asks asks answers)
+
+-- the response to a message, with these replies to its requests
+abbrev pub printed_response : MessageAsks → List Reply → List ℕ
+printed_response m rs = body_bytes (response_to m (answer_with (ask_in m) rs))
+
+-- A message of any caller, the desk too, that a sound office answers without a 90: its response is what the office's
+-- replies to its requests print. The store is clean once it is answered.
+abbrev pub ResponsesArePrinted : {B : Type 0} → (B → State Office) → Type 0
+ResponsesArePrinted {B} state =
+    (m : MessageAsks) (answered : Answer) (old new : B) →
+    Answers state old (ask_in m) answered new → (state new).is_clean → IsSound (state old).held →
+    NoneFails (all_replies answered) →
+    body_bytes (response_to m answered)
+    ≡ printed_response m (replies (requests_of_record (ask_in m)) (state old).held)
 
 -- In two runs under one zone and one desk key, over books of any two kinds: if they show a collector, or the public,
 -- the same at the moment of a message, at the start and of the changes accepted since, then the same message of that

@@ -1,6 +1,6 @@
 //! Theorems about the definitions.
 ghost use Rattle.cpi_http.specs.Laws.{AreMessagesOfARun, OneMessage, ResponsesAreAlike, TableResponsesAreComputed};
-ghost use Rattle.cpi_http.specs.Laws.{MessagesReportTables};
+ghost use Rattle.cpi_http.specs.Laws.{MessagesReportTables, ResponsesArePrinted};
 
 use cpi_store::Book;
 
@@ -13,6 +13,15 @@ pub fn one_message()
 /// refused before a request was made, and the answers to these.
 pub fn messages_are_a_run<B: Book>()
     ensures { AreMessagesOfARun B.state }
+{}
+
+/// The response to a message, whoever sends it, is what the replies of the office to its requests print: those of
+/// [`cpi_office::main_theorem`].
+///
+/// The office is sound, the store is clean once the message is answered, and no reply says that the office is
+/// unavailable.
+pub fn responses_are_printed<B: Book>()
+    ensures { ResponsesArePrinted B.state }
 {}
 
 /// The response to a message of a collector, or of the public, is the same, byte for byte, in two runs under one zone

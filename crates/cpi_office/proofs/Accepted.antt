@@ -48,7 +48,7 @@ Stood (PutsItem i) o = row_by_number (λ i. i.code) i.code o.items ≡ Some i
 Stood (PutsPlan p) o = row_by_number (λ y. y.year) p.year o.plans ≡ Some p
 Stood (PutsCalendar r) o = row_by_number (λ r. r.month) r.month o.calendar ≡ Some r
 Stood (Registers b) o = row_by_number (λ b. b.number) b.number o.collectors ≡ Some b
-Stood (PutsOutlet u) o = ⊤
+Stood (PutsOutlet u) o = row_by_number (λ u. u.number) u.number o.outlets ≡ Some u
 Stood (Assigns b a) o =
     (row_by_number (λ g. g.assignment.slot) a.assignment.slot (held_by b.number o.assignments)
     ≡ Some (first_of_series b.number a.assignment))

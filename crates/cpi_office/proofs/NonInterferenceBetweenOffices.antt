@@ -4,7 +4,7 @@ use Rattle.std.proofs.lemmas.Bool.{false≢true}
 use Rattle.cpi_store.specs.Office.{Office}
 use Rattle.cpi_office.specs.Projections.{view}
 use Rattle.cpi_office.specs.Answers.{answer}
-use Rattle.cpi_office.specs.Runs.{reply_to, after_one, after}
+use Rattle.cpi_office.specs.Runs.{request_verdict, reply_to, after_one, after}
 use Rattle.cpi_release.specs.State.{State}
 use Rattle.cpi_office.specs.Calls.{IsServed, is_failure_of}
 use Rattle.cpi_office.specs.Served.{all_served}
@@ -14,7 +14,9 @@ use Rattle.cpi_office.specs.declared.reply.Reply.{Reply}
 use Rattle.cpi_office.specs.declared.caller.Caller.{Caller}
 use Rattle.cpi_office.specs.declared.caller.Caller.TheVariants.{Desk}
 use Rattle.cpi_office.specs.declared.request.Request.{Request}
-use Rattle.cpi_office.proofs.RebuiltProjections.{alike, told}
+use Rattle.cpi_office.proofs.Fit.{judged_fit, sound_orderly}
+use Rattle.cpi_office.proofs.Isolation.{answers_are_alike, from_view}
+use Rattle.cpi_office.proofs.IsolationOfMessages.{replied_by_view}
 use Rattle.cpi_office.proofs.Served.{run_sound}
 
 module _ (old mid new : State Office) (asks : List Ask) (rs : List Reply) (t : ℕ) (k : Caller) (r : Request)
@@ -26,7 +28,7 @@ module _ (old mid new : State Office) (asks : List Ask) (rs : List Reply) (t : �
       let before = asked.serves.was_clean asked.clean in
       let run = asked.ran.run before asked.sound in
       cases (asked.serves.served asked.clean (run_sound old.held mid.held asks rs run asked.sound))
-      ∙ told t k r mid.held other ∙ ap (λ o. answer t k r (view k t o)) run.office
+      ∙ from_view answer reply_to replied_by_view t k r mid.held other ∙ ap (λ o. answer t k r (view k t o)) run.office
     where
       cases : IsServed reply (reply_to t k r mid.held) mid.held new.held (after_one t k r mid.held) →
           reply ≡ reply_to t k r mid.held
@@ -37,6 +39,7 @@ pub replies_are_alike : {B C : Type 0} (state : B → State Office) (state' : C 
     RepliesAreAlike state state'
 replies_are_alike state state' t k r asks others rs ss reply reply' old mid new old' mid' new' other one two same sees =
     reply_is (state old) (state mid) (state new) asks rs t k r reply other one
-    ∙ alike (all_served asks rs) (all_served others ss) (state old).held
-    (state' old').held k t r one.sound two.sound same sees
+    ∙ answers_are_alike answer request_verdict request_verdict judged_fit judged_fit (all_served asks rs)
+    (all_served others ss) (state old).held (state' old').held k t r (sound_orderly (state old).held one.sound)
+    (sound_orderly (state' old').held two.sound) same sees
     ∙ sym (reply_is (state' old') (state' mid') (state' new') others ss t k r reply' other two)

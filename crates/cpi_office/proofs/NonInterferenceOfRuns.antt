@@ -4,29 +4,29 @@ use Rattle.std.proofs.Common.{false}
 use Rattle.std.specs.Prelude.{IsFalse, if◌then◌else◌}
 use Rattle.std.proofs.lemmas.Bool.{false≢true}
 use Rattle.cpi_store.specs.Office.{Office}
-use Rattle.cpi_office.specs.Runs.{replies, reply_to, next, trace}
+use Rattle.cpi_office.specs.Answers.{answer}
+use Rattle.cpi_office.specs.Runs.{replies, request_verdict, reply_to, next}
 use Rattle.cpi_release.specs.State.{State}
 use Rattle.cpi_office.specs.Calls.{ServesWhere, IsServed, is_failure_of}
 use Rattle.cpi_store.specs.Sound.{IsSound}
-use Rattle.cpi_office.specs.Served.{served_requests, all_served, all_told, NoneFails, IsRun}
-use Rattle.cpi_office.specs.NonInterference.{has_this_key, collector_replies, requests_without, NonePassesOn}
-use Rattle.cpi_office.specs.NonInterference.{OthersMayDiffer}
-use Rattle.cpi_office.specs.NonInterferenceOfRuns.{replies_to, IsNonInterfering, IsWholeRun, RunsTellAlike}
+use Rattle.cpi_office.specs.Served.{all_served, all_told, NoneFails, IsRun}
+use Rattle.cpi_office.specs.NonInterference.{has_this_key, requests_without, NonePassesOn}
+use Rattle.cpi_office.specs.NonInterferenceOfRuns.{collector_replies, replies_to, IsNonInterfering, IsWholeRun}
+use Rattle.cpi_office.specs.NonInterferenceOfRuns.{RunsTellAlike}
 use Rattle.cpi_office.specs.declared.request.Ask.{Ask}
 use Rattle.cpi_office.specs.declared.reply.Reply.{Reply}
-use Rattle.cpi_office.specs.RebuiltProjections.{IsRebuilt}
-use Rattle.cpi_office.specs.ProjectedChanges.{sights_of, build}
 use Rattle.cpi_office.specs.ComputedTables.{TellsTable, computed_reply}
-use Rattle.cpi_office.specs.Projections.{view}
-use Rattle.cpi_office.proofs.Failures.{never_failure}
-use Rattle.cpi_office.proofs.RebuiltProjections.{next_sound, rebuilt}
+use Rattle.cpi_office.proofs.Fit.{judged_fit, sound_orderly}
+use Rattle.cpi_office.proofs.RebuiltProjections.{next_sound}
 use Rattle.cpi_office.proofs.ComputedTables.{tables_are_told}
-use Rattle.cpi_office.proofs.NonInterference.{others_do_not_matter}
+use Rattle.cpi_office.proofs.IsolationOfMessages.{replied_by_view}
+use Rattle.cpi_office.proofs.IsolationOfRequests as requests
 
-pub others_may_differ : OthersMayDiffer
-others_may_differ key asks others o s none none' same =
-    others_do_not_matter key asks o s none ∙ ap (λ xs. collector_replies key xs o) same
-    ∙ sym (others_do_not_matter key others o s none')
+-- of the office under its own rules
+others_do_not_matter : (key : ℕ) (asks : List Ask) (o : Office) → IsSound o → NonePassesOn asks →
+    collector_replies key asks o ≡ collector_replies key (requests_without key asks) o
+others_do_not_matter key asks o s none = requests.others_do_not_matter answer reply_to request_verdict judged_fit
+    requests.judged_apart replied_by_view key asks o (sound_orderly o s) none
 
 -- the replies of a run, beside its requests
 told_is : (key : ℕ) (asks : List Ask) (o : Office) → replies_to key asks (replies asks o) ≡ collector_replies key asks o
@@ -91,21 +91,6 @@ serves_sound old new reply wanted a serves clean s = cases (serves.served clean 
     cases : IsServed reply wanted old.held new.held (next a old.held) → IsSound new.held
     cases (inl done) = rw done.1 (next_sound a old.held s)
     cases (inr failed) = rw failed.1 s
-
--- a request that is served shows to each caller what was accepted of it
-pub serves_views : (old new : State Office) (reply : Reply) (a : Ask) →
-    ServesWhere old new (IsSound old.held) reply (reply_to a.now a.caller a.request old.held) (next a old.held) →
-    new.is_clean →
-    IsSound old.held → IsRebuilt old.held a reply new.held
-serves_views old new reply a serves clean s k t = cases (serves.served clean s)
-  where
-    cases : IsServed reply (reply_to a.now a.caller a.request old.held) old.held new.held (next a old.held)
-        → view k t new.held ≡ build (view k t old.held) (sights_of k t (trace (served_requests a reply) old.held))
-    cases (inl done) =
-        let fair : is_failure_of reply ≡ false = ap is_failure_of done.0 ∙ never_failure a.now a.caller a.request
-        old.held in
-        rw fair (ap (view k t) done.1 ∙ rebuilt (a ∷ []) old.held k t s)
-    cases (inr failed) = rw failed.0 (ap (view k t) failed.1)
 
 -- a request for a table that is served is told the one that is computed
 pub serves_table : (old new : State Office) (reply : Reply) (a : Ask) →

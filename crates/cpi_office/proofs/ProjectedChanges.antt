@@ -21,7 +21,8 @@ use Rattle.cpi_office.specs.ProjectedChanges.{Sight, IsAssigned, HasEnded, HasQu
 use Rattle.cpi_office.specs.ProjectedChanges.{is_registration_of}
 use Rattle.cpi_office.specs.ProjectedChanges.{with_assigned}
 use Rattle.cpi_office.specs.ProjectedChanges.{with_end, with_quote}
-use Rattle.cpi_store.specs.Sound.{IsSound, HasItsRows, HaveOwnKeys}
+use Rattle.cpi_store.specs.Sound.{HaveOwnKeys}
+use Rattle.cpi_office.specs.Isolation.{IsOrderly, HasCollector, HasOutlet}
 use Rattle.cpi_plan.specs.declared.items.Item.{Item}
 use Rattle.cpi_plan.specs.Plan.{Plan}
 use Rattle.cpi_plan.specs.Calendar.{CalendarPart}
@@ -41,7 +42,6 @@ use Rattle.cpi_release.specs.FrozenMonths.{release_cmp, release_key}
 use Rattle.cpi_release.specs.PublishedTables.{PublishedTable, published_table, published_key, published_until}
 use Rattle.cpi_release.specs.declared.release.Release.{Release}
 use Rattle.cpi_office.proofs.Registrations.{numbers_apart, registration_put_own, registration_put_other, none_held}
-use Rattle.cpi_office.proofs.Registrations.{none_quoted}
 use Rattle.cpi_office.proofs.Registrations.{names_stay}
 
 -- a view with another own part
@@ -212,13 +212,13 @@ module _ (key t : ℕ) (o : Office) (sorted : IsInOrder nat_cmp (λ b. b.number)
       others c apart =
           own_part_is rows c _ (ap with_names (held_ended_other c.number b.number slot last o.assignments apart))
 
-pub shows_quote : (k : Caller) (t : ℕ) (o : Office) → IsSound o → (b : Registration) (q : QuoteRow) →
+pub shows_quote : (k : Caller) (t : ℕ) (o : Office) → IsOrderly o → (b : Registration) (q : QuoteRow) →
     row_by_number (λ b. b.number) b.number o.collectors ≡ Some b → Shows k t o (Quotes b q)
 shows_quote Public t o s b q found = refl
 shows_quote (Collector key) t o s b q found = shows_own_quote key t o s.collectors s.keys b found q
 shows_quote Desk t o s b q found = refl
 
-pub shows_assignment : (k : Caller) (t : ℕ) (o : Office) → IsSound o → (b : Registration) (a : Assigned) →
+pub shows_assignment : (k : Caller) (t : ℕ) (o : Office) → IsOrderly o → (b : Registration) (a : Assigned) →
     row_by_number (λ b. b.number) b.number o.collectors ≡ Some b → a ≡ with_name o.outlets a.assignment → Shows k t o
     (Assigns b a)
 shows_assignment Public t o s b a found named = refl
@@ -231,7 +231,7 @@ build_append v [] ys = refl
 build_append v (x ∷ xs) ys = build_append (view_with x v) xs ys
 
 -- the end of the former slot shows first, and then the new one
-shows_own_handover : (key t : ℕ) (o : Office) → IsSound o → (h : SeriesMove) →
+shows_own_handover : (key t : ℕ) (o : Office) → IsOrderly o → (h : SeriesMove) →
     row_by_number (λ b. b.number) h.former.number o.collectors ≡ Some h.former →
     row_by_number (λ b. b.number) h.taker.number o.collectors ≡ Some h.taker →
     h.assigned ≡ with_name o.outlets h.assigned.assignment → Shows (Collector key) t o (HandsOver h)
@@ -254,7 +254,7 @@ shows_own_handover key t o s h former taker named =
     begins : List Sight
     begins = seen_if (is_registration_of (Collector key) h.taker) (IsAssigned h.assigned)
 
-pub shows_handover : (k : Caller) (t : ℕ) (o : Office) → IsSound o → (h : SeriesMove) →
+pub shows_handover : (k : Caller) (t : ℕ) (o : Office) → IsOrderly o → (h : SeriesMove) →
     row_by_number (λ b. b.number) h.former.number o.collectors ≡ Some h.former →
     row_by_number (λ b. b.number) h.taker.number o.collectors ≡ Some h.taker →
     h.assigned ≡ with_name o.outlets h.assigned.assignment → Shows k t o (HandsOver h)
@@ -264,19 +264,19 @@ shows_handover Desk t o s h former taker named = refl
 
 -- ---- an outlet that is added shows to nobody
 
-own_names : (o : Office) (s : IsSound o) (u : Outlet) → row_by_number (λ u. u.number) u.number o.outlets ≡ None →
+own_names : (o : Office) (s : IsOrderly o) (u : Outlet) → row_by_number (λ u. u.number) u.number o.outlets ≡ None →
     (c : Registration) →
     own_view (office_with (PutsOutlet u) o) c ≡ own_view o c
 own_names o s u new c =
     ap (λ rows. record { number = c.number; part = record { assignments = rows; quotes = held_by c.number o.quotes } })
-    (names_stay c.number u o.outlets o.assignments s.outlets new (known o.assignments s.assigned))
+    (names_stay c.number u o.outlets o.assignments s.outlets new (known o.assignments s.given))
   where
-    known : (rows : List (ℕ × Given)) → AllByRecursion (HasItsRows o) rows →
+    known : (rows : List (ℕ × Given)) → AllByRecursion (λ row. HasCollector row.0 o × HasOutlet row.1.assignment.outlet o) rows →
         AllByRecursion (λ row. IsSome (row_by_number (λ u. u.number) row.1.assignment.outlet o.outlets)) rows
     known [] all = tt
     known (r ∷ rows) all = (all.0.1, known rows all.1)
 
-pub shows_outlet : (k : Caller) (t : ℕ) (o : Office) → IsSound o → (u : Outlet) →
+pub shows_outlet : (k : Caller) (t : ℕ) (o : Office) → IsOrderly o → (u : Outlet) →
     row_by_number (λ u. u.number) u.number o.outlets ≡ None → Shows k t o (PutsOutlet u)
 shows_outlet Public t o s u new = refl
 shows_outlet Desk t o s u new = refl
@@ -290,20 +290,20 @@ shows_outlet (Collector key) t o s u new = ap (with_own (view (Collector key) t 
 
 -- ---- a collector who is registered
 
-module _ (o : Office) (s : IsSound o) (b : Registration)
+module _ (o : Office) (s : IsOrderly o) (b : Registration)
     (new : row_by_number (λ b. b.number) b.number o.collectors ≡ None) where
   no_assignments : held_by b.number o.assignments ≡ []
-  no_assignments = none_held b.number o.collectors o.assignments (known o.assignments s.assigned) new
+  no_assignments = none_held b.number o.collectors o.assignments (known o.assignments s.given) new
     where
-      known : (rows : List (ℕ × Given)) → AllByRecursion (HasItsRows o) rows →
+      known : (rows : List (ℕ × Given)) → AllByRecursion (λ row. HasCollector row.0 o × HasOutlet row.1.assignment.outlet o) rows →
           AllByRecursion (λ row. IsSome (row_by_number (λ b. b.number) row.0 o.collectors)) rows
       known [] all = tt
       known (r ∷ rows) all = (all.0.0, known rows all.1)
 
   no_quotes : held_by b.number o.quotes ≡ []
-  no_quotes = none_quoted b.number o.assignments o.quotes no_assignments s.quoted
+  no_quotes = none_held b.number o.collectors o.quotes s.quoted new
 
-pub shows_registered : (k : Caller) (t : ℕ) (o : Office) → IsSound o → (b : Registration) →
+pub shows_registered : (k : Caller) (t : ℕ) (o : Office) → IsOrderly o → (b : Registration) →
     row_by_number (λ b. b.number) b.number o.collectors ≡ None → registration_of b.key o.collectors ≡ None → Shows k t o
     (Registers b)
 shows_registered Public t o s b new free = refl
@@ -331,29 +331,33 @@ same_own Public o rs = refl
 same_own (Collector key) o rs = refl
 same_own Desk o rs = refl
 
-module _ (t : ℕ) (o : Office) (s : IsSound o) (r : Release)
-    (new : row_at release_cmp release_key (release_key r) o.releases ≡ None) where
-  tables_published : nat_le r.publishes t ≡ true →
-      published_until t (put_release r o.releases) ≡ with_row release_cmp published_key (published_table r)
-      (published_until t o.releases)
-  tables_published e =
-      ap (map published_table) (filter_put release_cmp release_key (λ r. nat_le r.publishes t) r o.releases e)
-      ∙ map_put release_cmp published_key published_table r (filter (λ r. nat_le r.publishes t) o.releases)
+tables_published : (t : ℕ) (o : Office) (r : Release) → nat_le r.publishes t ≡ true →
+    published_until t (put_release r o.releases) ≡ with_row release_cmp published_key (published_table r)
+    (published_until t o.releases)
+tables_published t o r e =
+    ap (map published_table) (filter_put release_cmp release_key (λ r. nat_le r.publishes t) r o.releases e)
+    ∙ map_put release_cmp published_key published_table r (filter (λ r. nat_le r.publishes t) o.releases)
 
-  tables_embargoed : nat_le r.publishes t ≡ false →
-      published_until t (put_release r o.releases) ≡ published_until t o.releases
-  tables_embargoed e = ap (map published_table)
-      (filter_put_out release_total release_key (λ r. nat_le r.publishes t) r o.releases s.releases new e)
+tables_embargoed : (t : ℕ) (o : Office) → IsOrderly o → (r : Release) →
+    row_at release_cmp release_key (release_key r) o.releases ≡ None → nat_le r.publishes t ≡ false →
+    published_until t (put_release r o.releases) ≡ published_until t o.releases
+tables_embargoed t o s r new e = ap (map published_table)
+    (filter_put_out release_total release_key (λ r. nat_le r.publishes t) r o.releases s.releases new e)
 
-pub shows_release : (k : Caller) (t : ℕ) (o : Office) → IsSound o → (r : Release) →
+abbrev with_tables : Office → Option OwnView → List PublishedTable → View
+with_tables o w is = record { public = public_part o; own = w; tables = is }
+
+-- a release that is published, new or not
+pub shows_published : (k : Caller) (t : ℕ) (o : Office) (r : Release) → nat_le r.publishes t ≡ true →
+    Shows k t o (Freezes r)
+shows_published k t o r e = rw e (ap (λ w. with_tables o w (published_until t (put_release r o.releases)))
+    (same_own k o (put_release r o.releases)) ∙ ap (with_tables o (own k o)) (tables_published t o r e))
+
+pub shows_release : (k : Caller) (t : ℕ) (o : Office) → IsOrderly o → (r : Release) →
     row_at release_cmp release_key (release_key r) o.releases ≡ None → Shows k t o (Freezes r)
 shows_release k t o s r new = cases (nat_le r.publishes t) refl
   where
-    with_tables : Option OwnView → List PublishedTable → View
-    with_tables w is = record { public = public_part o; own = w; tables = is }
-
     cases : (w : Bool) → nat_le r.publishes t ≡ w → Shows k t o (Freezes r)
-    cases true e = rw e (ap (λ w. with_tables w (published_until t (put_release r o.releases)))
-        (same_own k o (put_release r o.releases)) ∙ ap (with_tables (own k o)) (tables_published t o s r new e))
-    cases false e = rw e (ap (λ w. with_tables w (published_until t (put_release r o.releases)))
-        (same_own k o (put_release r o.releases)) ∙ ap (with_tables (own k o)) (tables_embargoed t o s r new e))
+    cases true e = shows_published k t o r e
+    cases false e = rw e (ap (λ w. with_tables o w (published_until t (put_release r o.releases)))
+        (same_own k o (put_release r o.releases)) ∙ ap (with_tables o (own k o)) (tables_embargoed t o s r new e))

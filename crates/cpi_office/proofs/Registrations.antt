@@ -12,11 +12,10 @@ use Rattle.cpi_rows.specs.Keyed.{IsInOrder, row_by_number, put_by}
 use Rattle.cpi_rows.specs.Held.{held_by}
 use Rattle.cpi_store.specs.Registration.{registration_of}
 use Rattle.cpi_store.specs.Outlet.{with_name}
-use Rattle.cpi_store.specs.Sound.{HaveOwnKeys, HasItsAssignment}
+use Rattle.cpi_store.specs.Sound.{HaveOwnKeys}
 use Rattle.cpi_store.specs.declared.registration.Registration.{Registration}
 use Rattle.cpi_store.specs.declared.outlet.Outlet.{Outlet}
 use Rattle.cpi_store.specs.declared.given.Given.{Given}
-use Rattle.cpi_survey.specs.Quote.{QuoteRow}
 use Rattle.cpi_store.proofs.Added.{registration_new, registration_passed}
 use Rattle.cpi_rows.proofs.Puts.{parted, first_apart, at_put_found_row, at_put_other, row_at_put_same}
 
@@ -108,22 +107,6 @@ none_held n bs (r ∷ rows) all none = cases (eqb_tells r.0 n) (none_held n bs r
     cases : ((eqb r.0 n ≡ true) × (r.0 ≡ n)) ⊎ ((eqb r.0 n ≡ false) × (r.0 ≢ n)) → held_by n rows ≡ [] →
         held_by n (r ∷ rows) ≡ []
     cases (inl same) rest = absurd (false≢true (subst IsSome (ap (λ k. row_by_number number k bs) same.1 ∙ none) all.0))
-    cases (inr apart) rest = rw apart.0 rest
-
--- a collector without assignments has no quotes
-pub none_quoted : (n : ℕ) (given : List (ℕ × Given)) (rows : List (ℕ × QuoteRow)) → held_by n given ≡ [] →
-    AllByRecursion (HasItsAssignment given) rows → held_by n rows ≡ []
-none_quoted n given [] none all = refl
-none_quoted n given (r ∷ rows) none all = cases (eqb_tells r.0 n) (none_quoted n given rows none all.1)
-  where
-    cases : ((eqb r.0 n ≡ true) × (r.0 ≡ n)) ⊎ ((eqb r.0 n ≡ false) × (r.0 ≢ n)) → held_by n rows ≡ [] →
-        held_by n (r ∷ rows) ≡ []
-    cases (inl same) rest =
-        let has = all.0 in
-        let no : None ≡ Some has.0 = sym (ap (λ k. row_by_number (λ g. g.assignment.slot) r.1.slot
-        (held_by k given)) same.1
-        ∙ ap (row_by_number (λ g. g.assignment.slot) r.1.slot) none) ∙ has.1 in
-        cc
     cases (inr apart) rest = rw apart.0 rest
 
 -- an outlet that is added gives no other name to an assignment whose outlet is known

@@ -3,21 +3,19 @@ use Rattle.std.proofs.Common.{◌≡◌, ℕ, zero, suc, Bool, true, false, List
 use Rattle.std.specs.Prelude.{IsFalse, slice_get}
 use Rattle.std.proofs.lemmas.Bool.{false≢true}
 use Rattle.cpi_store.specs.Office.{Office}
-use Rattle.cpi_office.specs.Projections.{view}
 use Rattle.cpi_office.specs.Answers.{answer}
 use Rattle.cpi_office.specs.Runs.{replies, reply_to, after, next}
 use Rattle.cpi_store.specs.Sound.{IsSound}
 use Rattle.cpi_office.specs.Calls.{is_failure_of}
 use Rattle.cpi_office.specs.Served.{all_served, all_told, IsRun}
-use Rattle.cpi_office.specs.RebuiltProjections.{AreRebuilt, AreFromViews}
+use Rattle.cpi_office.specs.RebuiltProjections.{AreFromViews}
 use Rattle.cpi_office.specs.declared.request.Ask.{Ask}
 use Rattle.cpi_office.specs.declared.reply.Reply.{Reply}
 use Rattle.cpi_office.specs.Releases.{KeepsReleases}
-use Rattle.cpi_office.proofs.RebuiltProjections.{rebuilt, told, releases_stay}
-
-pub run_rebuilt : (o u : Office) (asks : List Ask) (rs : List Reply) → IsSound o → IsRun o asks rs u →
-    AreRebuilt o asks rs u
-run_rebuilt o u asks rs s run k t = ap (view k t) run.office ∙ rebuilt (all_served asks rs) o k t s
+use Rattle.cpi_office.proofs.Isolation.{from_view}
+use Rattle.cpi_office.proofs.IsolationOfMessages.{replied_by_view}
+use Rattle.cpi_office.proofs.OneChange.{changes_rows}
+use Rattle.cpi_office.proofs.RebuiltProjections.{releases_stay}
 
 pub run_stays : (o u : Office) (asks : List Ask) (rs : List Reply) → IsSound o → IsRun o asks rs u → KeepsReleases o u
 run_stays o u asks rs s run key r there = rw run.office (releases_stay (all_served asks rs) o s key r there)
@@ -67,7 +65,9 @@ reply_in o (b ∷ asks) (s ∷ rs) run n a r asked said fine = cases (is_failure
 pub run_from_views : (o u : Office) (asks : List Ask) (rs : List Reply) → IsSound o → IsRun o asks rs u →
     AreFromViews o asks rs
 run_from_views o u asks rs s run n a r asked said fine other =
-    let front = all_served (take n asks) (take n rs) in
-    reply_in o asks rs run.answers n a r asked said fine
-    ∙ told a.now a.caller a.request (after front o) other
-    ∙ ap (answer a.now a.caller a.request) (rebuilt front o a.caller a.now s)
+    let front = all_served (take n asks) (take n rs) in (
+      after front o,
+      changes_rows front o s,
+      reply_in o asks rs run.answers n a r asked said fine
+          ∙ from_view answer reply_to replied_by_view a.now a.caller a.request (after front o) other,
+    )

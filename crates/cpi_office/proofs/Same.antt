@@ -1,5 +1,5 @@
 -- Rows that are the same are equal.
-use Rattle.std.proofs.Common.{◌≡◌, ℕ, true, false, List, Some, None, Option, refl, ap}
+use Rattle.std.proofs.Common.{◌≡◌, ℕ, true, List, Some, None, Option, refl, ap}
 use Rattle.std.specs.Prelude.{◌&&◌, ◌==◌}
 use Rattle.std.specs.Cmp.Lexicographic.{bytes_decides}
 use Rattle.std.proofs.lemmas.Bool.{eqb-true, false≢true}
@@ -8,6 +8,8 @@ use Rattle.cpi_codes.specs.Text.{same_text}
 use Rattle.cpi_plan.specs.Items.{same_item}
 use Rattle.cpi_plan.specs.Calendar.{same_calendar, CalendarPart}
 use Rattle.cpi_store.specs.Registration.{same_registration}
+use Rattle.cpi_store.specs.Outlet.{same_outlet}
+use Rattle.cpi_store.specs.declared.outlet.Outlet.{Outlet}
 use Rattle.cpi_survey.specs.Assignment.{same_assignment, same_price}
 use Rattle.cpi_survey.specs.Mark.{is_same_mark, is_same_reason}
 use Rattle.cpi_plan.specs.declared.items.Item.{Item}
@@ -90,6 +92,11 @@ calendar_equal a b e =
           same_of_equal a.closes b.closes i.1 n;
       publishes = same_of_equal a.publishes b.publishes h.1 n;
     }
+
+pub outlet_equal : (a b : Outlet) → same_outlet a b ≡ true → a ≡ b
+outlet_equal a b e =
+    let h = and_both (a.number == b.number) (same_text a.name b.name) e in
+    λ n. record { number = same_of_equal a.number b.number h.0 n; name = text_equal a.name b.name h.1 n }
 
 pub registration_equal : (a b : Registration) → same_registration a b ≡ true → a ≡ b
 registration_equal a b e =

@@ -6,7 +6,7 @@ use Rattle.std.specs.Ordering.{nat_cmp}
 use Rattle.std.proofs.lemmas.Bool.{false≢true, leb-true, ltb-true, eqb-true}
 use Rattle.std.proofs.lemmas.Map.Lookups.{exact_pairs, exact_unsigned}
 use Rattle.cpi_rows.proofs.Truth.{and_both, not_false}
-use Rattle.cpi_rows.specs.Keyed.{row_by_number, row_at}
+use Rattle.cpi_rows.specs.Keyed.{row_by_number, row_at, IsInOrder}
 use Rattle.cpi_rows.specs.Held.{held_by}
 use Rattle.cpi_rows.proofs.Found.{row_key, at_key, at_map}
 use Rattle.cpi_survey.specs.Quote.{QuoteRow, quote_cmp, quote_key}
@@ -48,7 +48,7 @@ use Rattle.cpi_release.specs.FrozenMonths.{lacks_plan}
 use Rattle.cpi_release.specs.Releasing.{fault_of}
 use Rattle.cpi_office.specs.Freezing.{has_unweighed, row_judged, frozen_with, judged_release, release_verdict}
 use Rattle.cpi_office.specs.Freezing.{freeze_verdict, verdict_of_freeze}
-use Rattle.cpi_store.specs.Sound.{IsWellMade, HasNodesInOrder, IsSound}
+use Rattle.cpi_store.specs.Sound.{IsWellMade, HasNodesInOrder}
 use Rattle.cpi_plan.proofs.PlanNodes.{planned_nodes}
 use Rattle.cpi_office.specs.declared.request.NewAssignment.{NewAssignment}
 use Rattle.cpi_office.specs.declared.request.HandOver.{HandOver}
@@ -77,7 +77,7 @@ use Rattle.cpi_office.proofs.Failures.{if_holds}
 use Rattle.cpi_store.proofs.Released.{none_follows}
 use Rattle.cpi_office.proofs.Registrations.{registration_listed}
 use Rattle.cpi_office.proofs.Same.{item_equal, calendar_equal, registration_equal, given_equal, series_equal}
-use Rattle.cpi_office.proofs.Same.{mark_equal}
+use Rattle.cpi_office.proofs.Same.{mark_equal, outlet_equal}
 
 module _ (o : Office) where
   abbrev Fair : Verdict → Type 0
@@ -97,7 +97,7 @@ module _ (o : Office) where
   outlet_fair u (Some old) e = cases (same_outlet old u) refl
     where
       cases : (t : Bool) → same_outlet old u ≡ t → Fair (outlet_put u (Some old))
-      cases true f = rw f tt
+      cases true f = rw f (e ∙ ap Some (outlet_equal old u f))
       cases false f = rw f tt
 
   -- what may be put unless it was frozen
@@ -441,7 +441,7 @@ module _ (o : Office) where
             ∙ ap (option_map (with_name o.outlets)) (at_map (λ (g : Given). g.assignment)
             (λ (a : Assignment). a.slot) entry.slot (held_by b.number o.assignments))
 
-entered_holds : (o : Office) → IsSound o → (key now : ℕ) (entry : EntryRow) →
+entered_holds : (o : Office) → IsInOrder nat_cmp (λ b. b.number) o.collectors → (key now : ℕ) (entry : EntryRow) →
     Holds (of_collector key now (request.Submit entry) (view (caller.Collector key) now o)) o
 entered_holds o s key now entry = cases (registration_of key o.collectors) refl
   where
@@ -449,7 +449,7 @@ entered_holds o s key now entry = cases (registration_of key o.collectors) refl
         Holds (entry_verdict key now entry (view (caller.Collector key) now o) (option_map (own_view o) w)) o
     cases None e = tt
     cases (Some b) e =
-        let listed = registration_listed key b o.collectors s.collectors e in
+        let listed = registration_listed key b o.collectors s e in
         subst (λ k. Holds (Some (decision_verdict (record { number = b.number; key = k }) entry
         (entry_decision now entry (public_part o) (own_part b.number o)))) o) listed.key_is
         (decided_meets o b listed.found now entry)
@@ -473,7 +473,7 @@ module _ (now : ℕ) (o : Office) where
   command_holds (request.Quotes first last) = tt
   command_holds (request.Submit entry) = tt
 
-  collector_holds : IsSound o → (key : ℕ) (r : Request) →
+  collector_holds : IsInOrder nat_cmp (λ b. b.number) o.collectors → (key : ℕ) (r : Request) →
       Holds (of_collector key now r (view (caller.Collector key) now o)) o
   collector_holds s key (request.Submit entry) = entered_holds o s key now entry
   collector_holds s key (request.PutItem i) = tt
@@ -490,7 +490,7 @@ module _ (now : ℕ) (o : Office) where
   collector_holds s key (request.Work month) = tt
   collector_holds s key (request.Quotes first last) = tt
 
-  pub verdict_holds : IsSound o → (k : Caller) (r : Request) → Holds (request_verdict now k r o) o
+  pub verdict_holds : IsInOrder nat_cmp (λ b. b.number) o.collectors → (k : Caller) (r : Request) → Holds (request_verdict now k r o) o
   verdict_holds s caller.Public r = tt
   verdict_holds s caller.Desk r = command_holds r
   verdict_holds s (caller.Collector key) r = collector_holds s key r

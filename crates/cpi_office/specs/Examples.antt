@@ -11,7 +11,7 @@ use Rattle.cpi_store.specs.Office.{Office, empty_office}
 use Rattle.cpi_store.specs.Series.{first_of_series}
 use Rattle.cpi_store.specs.declared.given.Given.{Given}
 use Rattle.cpi_office.specs.Runs.{replies}
-use Rattle.cpi_office.specs.NonInterference.{collector_replies}
+use Rattle.cpi_office.specs.NonInterferenceOfRuns.{collector_replies}
 use Rattle.cpi_office.specs.Assigning.{assignment_sent}
 use Rattle.cpi_office.specs.declared.caller.Caller.TheVariants.{Public, Collector, Desk}
 use Rattle.cpi_office.specs.declared.request.Request.{Request}

@@ -4,9 +4,15 @@ use Rattle.cpi_release.specs.State.{State}
 use Rattle.cpi_store.specs.Office.{Office}
 use Rattle.cpi_store.specs.Sound.{IsSound}
 use Rattle.cpi_office.specs.Served.{all_served, all_told, NoneFails, RunOverBook}
-use Rattle.cpi_office.specs.NonInterference.{has_this_key, collector_replies, requests_without, NonePassesOn}
+use Rattle.cpi_office.specs.IsolationOfRequests.{replies_to_key}
+use Rattle.cpi_office.specs.NonInterference.{has_this_key, requests_without, NonePassesOn}
+use Rattle.cpi_office.specs.Runs.{request_verdict, reply_to}
 use Rattle.cpi_office.specs.declared.request.Ask.{Ask}
 use Rattle.cpi_office.specs.declared.reply.Reply.{Reply}
+
+-- the replies of the office to the requests that come with the key, in order
+abbrev pub collector_replies : ℕ → List Ask → Office → List Reply
+collector_replies key asks o = replies_to_key reply_to request_verdict key asks o
 
 -- the replies to the requests that come with the key
 abbrev pub replies_to : ℕ → List Ask → List Reply → List Reply

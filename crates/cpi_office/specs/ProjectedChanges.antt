@@ -17,7 +17,6 @@ use Rattle.cpi_release.specs.PublishedTables.{PublishedTable, published_table, p
 use Rattle.cpi_office.specs.Projections.{View, OwnView}
 use Rattle.cpi_office.specs.declared.caller.Caller.{Caller}
 use Rattle.cpi_office.specs.declared.caller.Caller.TheVariants as caller
-use Rattle.cpi_office.specs.Runs.{changes}
 
 -- a row that a caller sees
 pub data Sight : Type 0 where

@@ -7,9 +7,10 @@ use Rattle.cpi_office.specs.declared.caller.Caller.TheVariants as caller
 use Rattle.cpi_office.specs.declared.request.Request.{Request}
 use Rattle.cpi_office.specs.declared.request.Ask.{Ask}
 use Rattle.cpi_office.specs.declared.reply.Reply.{Reply}
-use Rattle.cpi_office.specs.Verdicts.{Verdict, verdict_reply, after_verdict, accepted_changes, new_changes}
+use Rattle.cpi_office.specs.Verdicts.{Verdict, verdict_reply, after_verdict, new_changes}
 use Rattle.cpi_office.specs.Desk.{command_verdict}
 use Rattle.cpi_office.specs.Entries.{of_collector}
+use Rattle.cpi_office.specs.Isolation.{office_next, office_after, replies_in_turn, accepted}
 use Rattle.cpi_office.specs.Answers.{answer}
 
 -- the verdict on a request; None for one that changes nothing
@@ -34,20 +35,17 @@ abbrev pub after_one : ℕ → Caller → Request → Office → Office
 after_one now k r o = after_verdict (request_verdict now k r o) o
 
 abbrev pub next : Ask → Office → Office
-next a o = after_one a.now a.caller a.request o
+next a o = office_next request_verdict a o
 
 abbrev pub replies : List Ask → Office → List Reply
-replies [] o = []
-replies (a ∷ asks) o = reply_to a.now a.caller a.request o ∷ replies asks (next a o)
+replies asks o = replies_in_turn reply_to request_verdict asks o
 
 abbrev pub after : List Ask → Office → Office
-after [] o = o
-after (a ∷ asks) o = after asks (next a o)
+after asks o = office_after request_verdict asks o
 
 -- the accepted changes of a run, in order
 abbrev pub trace : List Ask → Office → List Change
-trace [] o = []
-trace (a ∷ asks) o = accepted_changes (request_verdict a.now a.caller a.request o) ++ trace asks (next a o)
+trace asks o = accepted request_verdict asks o
 
 -- the changes that a run made, in order
 abbrev pub changes : List Ask → Office → List Change

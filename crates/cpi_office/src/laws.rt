@@ -1,19 +1,23 @@
-//! The laws of the office: non-interference between collectors, projections of runs, and the tables of the index.
+//! The laws of the office: the main theorem, what follows from it for runs of the program, and the tables of the index.
 //!
-//! Each law is a function without a body, and its clauses are the theorems. Non-interference is
-//! [`others_do_not_matter`] over the definitions, [`runs_tell_alike`] over the program, and [`replies_are_alike`]
-//! between two offices.
+//! Each law is a function without a body, and its clauses are the theorems. Non-interference is [`main_theorem`] under
+//! any rules, [`runs_tell_alike`] over the program, and [`replies_are_alike`] between two offices.
 ghost use Rattle.cpi_store.specs.Office.{empty_office};
 ghost use Rattle.cpi_store.specs.Sound.{IsSound};
-ghost use Rattle.cpi_office.specs.Laws.{StaysSound, ViewsAreRebuilt, ChangesAreEnough};
-ghost use Rattle.cpi_office.specs.Laws.{AnswersAreAlike, RepliesAreFromViews};
+ghost use Rattle.cpi_store.specs.Theorem.{TablesAreTheBox};
+ghost use Rattle.cpi_release.specs.Theorem.{BasesAreTheBox};
+ghost use Rattle.cpi_office.specs.Laws.{StaysSound, ChangesAreEnough};
 ghost use Rattle.cpi_office.specs.Causes.{CausesAreAll};
+ghost use Rattle.cpi_office.specs.Isolation as isolation;
+ghost use Rattle.cpi_office.specs.IsolationOfMessages.{ResponsesAreAlike};
+ghost use Rattle.cpi_office.specs.IsolationOfRequests.{OthersDoNotMatter};
+ghost use Rattle.cpi_office.specs.OneChange.{OfficesChangeOneRow};
+ghost use Rattle.cpi_office.specs.Theorem.{TheProgramIsTheOffice, ACrashLeavesIt, OwnRulesAreFit};
 ghost use Rattle.cpi_office.specs.Releases.{ReleasesStay};
 ghost use Rattle.cpi_office.specs.ComputedTables.{TablesAreTold};
 ghost use Rattle.cpi_office.specs.FreezePreconditions.{JudgedMeetsPreconditions};
 ghost use Rattle.cpi_store.specs.Stored.{FrozenAreStored};
 ghost use Rattle.cpi_store.specs.History.{ReleasesAreComputed, ReleasesAreSound, SourcesAreFit};
-ghost use Rattle.cpi_office.specs.NonInterference.{OthersDoNotMatter, OthersMayDiffer};
 ghost use Rattle.cpi_office.specs.NonInterferenceOfRuns.{RunsTellAlike};
 ghost use Rattle.cpi_office.specs.NonInterferenceBetweenOffices.{RepliesAreAlike};
 
@@ -24,14 +28,36 @@ pub fn empty_is_sound()
     ensures { IsSound empty_office }
 {}
 
-/// The projection of a run: after any list of requests, a caller's view is the view before, with the accepted rows that
-/// the caller sees. So a reply to a collector or to the public depends on nothing else.
-pub fn views_are_rebuilt()
+/// The main theorem, in the order of docs/develop/THEOREM.md. Statements 1 and 6 are of runs over a book. Statements 2 to
+/// 4 hold under any rules that are fit, whatever the desk decides, whatever an answer makes of a view, and whatever the
+/// parser and the printer of messages do; the rules of the office are fit.
+///
+/// It doesn't say that a collector can't notice another: an answer may take longer, a request may be answered
+/// [`crate::Refusal::Unavailable`] because another took the memory, and freezes and hand-overs pass prices on.
+pub fn main_theorem<B: Book>()
+    ensures program_is_office { TheProgramIsTheOffice B.state }
+    ensures isolation { isolation.ViewsAreRebuilt }
+    ensures replies_are_from_views { isolation.RepliesAreFromViews }
+    ensures offices_answer_alike { isolation.AnswersAreAlike }
+    ensures responses_are_alike { ResponsesAreAlike }
+    ensures causes_are_all { CausesAreAll }
+    ensures others_do_not_matter { OthersDoNotMatter }
+    ensures own_rules_are_fit { OwnRulesAreFit }
+    ensures tables_are_the_index { TablesAreTheBox }
+    ensures bases_are_the_index { BasesAreTheBox }
+    ensures releases_are_computed { ReleasesAreComputed }
+    ensures frozen_are_stored { FrozenAreStored }
+    ensures releases_stay { ReleasesStay }
+    ensures tables_are_told { TablesAreTold }
+    ensures one_change { OfficesChangeOneRow }
+    ensures crash { ACrashLeavesIt B.state }
+{}
+
+/// Of the office under its own rules: it stays sound, and a caller's view is the view before, with the rows that changed
+/// something and that the caller sees.
+pub fn changes_are_enough()
     ensures sound { StaysSound }
-    ensures views { ViewsAreRebuilt }
     ensures changes { ChangesAreEnough }
-    ensures answers { AnswersAreAlike }
-    ensures replies { RepliesAreFromViews }
 {}
 
 /// Each table of a sound office is the index of the quotes and weights that were frozen with it and before it. The
@@ -47,21 +73,6 @@ pub fn tables_are_computed()
     ensures releases { ReleasesStay }
     ensures fit { SourcesAreFit }
     ensures preconditions { JudgedMeetsPreconditions }
-{}
-
-/// Non-interference: the replies to a collector don't depend on the requests of other collectors, if neither a freeze
-/// nor a hand-over is among the requests. (The table of a frozen month is computed from the quotes of all collectors,
-/// so a published table may differ; and the collector who takes a series over gets its last price.)
-///
-/// From a sound office the replies to a collector are the same, one by one, if all requests of all other collectors
-/// are left out of the list. So two lists that differ only in other collectors' requests give the same replies,
-/// whether these are added, dropped, changed or moved.
-///
-/// The law doesn't say that a collector can't notice another: an answer may take longer, or a request may be answered
-/// 90 because another took the memory.
-pub fn others_do_not_matter()
-    ensures without_others { OthersDoNotMatter }
-    ensures differ { OthersMayDiffer }
 {}
 
 /// Non-interference of the program: the replies of `Office::run` to a collector don't depend on the requests of other

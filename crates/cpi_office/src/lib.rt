@@ -10,6 +10,7 @@ mod cause;
 mod collectors;
 mod edition;
 mod examples;
+mod formula_examples;
 mod freeze;
 mod freeze_examples;
 mod handover;
@@ -36,11 +37,12 @@ pub use caller::Caller;
 pub use cause::Cause;
 pub use edition::Edition;
 pub use examples::worked_runs;
+pub use formula_examples::worked_formulas;
 pub use freeze_examples::worked_freezes;
 pub use handover_examples::worked_handovers;
 pub use laws::{
-    causes_are_all, empty_is_sound, others_do_not_matter, replies_are_alike, runs_tell_alike,
-    tables_are_computed, views_are_rebuilt,
+    causes_are_all, changes_are_enough, empty_is_sound, main_theorem, replies_are_alike,
+    runs_tell_alike, tables_are_computed,
 };
 pub use office::Office;
 pub use plan_examples::worked_plans;

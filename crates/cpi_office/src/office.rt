@@ -2,7 +2,7 @@
 ghost use Rattle.std.specs.Prelude.{◌≡◌, ◌<◌, IsFalse, IfOk, IfErr, true};
 ghost use Rattle.cpi_office.specs.Runs.{reply_to, after_one};
 ghost use Rattle.cpi_office.specs.Calls.{ServesWhere, is_failure_of, reply_of};
-ghost use Rattle.cpi_office.specs.RebuiltProjections.{IsRebuilt};
+ghost use Rattle.cpi_office.specs.OneChange.{ChangesOneRow};
 ghost use Rattle.cpi_office.specs.ComputedTables.{TellsTable};
 ghost use Rattle.cpi_store.specs.Sound.{IsSound};
 ghost use Rattle.cpi_office.specs.Authorization.{TurnsAway};
@@ -51,10 +51,11 @@ impl<B: Book> Office<B> {
     /// [`Refusal::NotForCaller`], and a collector gets it in place of that one or of [`Refusal::UnknownKey`] only if a
     /// look-up of the book failed during the call.
     ///
-    /// Each caller's view at each moment is then the view before, with the accepted rows that the caller sees. If a
-    /// caller who isn't turned away asks for a table, the reply, unless it is [`Refusal::Unavailable`], is the printed
-    /// form of the one that the definitions of the index give over the frozen quotes and weights, in the revision that
-    /// is named or the latest that is published, or [`Refusal::NoTable`] if they give none.
+    /// A request changes at most one row, which it asked for, and each caller's view at each moment is then the view
+    /// before, with that row if the caller sees it. If a caller who isn't turned away asks for a table, the reply,
+    /// unless it is [`Refusal::Unavailable`], is the printed form of the one that the definitions of the index give over
+    /// the frozen quotes and weights, in the revision that is named or the latest that is published, or
+    /// [`Refusal::NoTable`] if they give none.
     ///
     /// Over a book that keeps its rows, a crash at the end of the call leaves the office as it could be left before, or
     /// the office after the request; once the reply isn't [`Refusal::Unavailable`], the office after it.
@@ -66,10 +67,9 @@ impl<B: Book> Office<B> {
             (reply_to now caller request (B.state self.old.book).held) }
         ensures sound { (B.state self.new.book).is_clean →
             IsSound (B.state self.old.book).held → IsSound (B.state self.new.book).held }
-        ensures views { let before = (B.state self.old.book).held in
+        ensures one_row { let before = (B.state self.old.book).held in
             (B.state self.new.book).is_clean → IsSound before →
-            IsRebuilt before (record { now = now; caller = caller; request = request }) result
-            (B.state self.new.book).held }
+            ChangesOneRow caller request before (B.state self.new.book).held }
         ensures tables { let before = (B.state self.old.book).held in
             (B.state self.new.book).is_clean → IsSound before → IsFalse (is_failure_of result) →
             TellsTable (record { now = now; caller = caller; request = request }) before result }

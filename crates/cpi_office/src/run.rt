@@ -1,11 +1,12 @@
 //! A list of requests, answered in order.
 ghost use Rattle.std.specs.Prelude.{◌≡◌, ◌++◌, List, IfOk, OnErr, length};
-ghost use Rattle.cpi_office.specs.Served.{RunOverBook};
+ghost use Rattle.cpi_office.specs.OneChange.{ChangesRows};
+ghost use Rattle.cpi_office.specs.Served.{RunOverBook, all_served};
 ghost use Rattle.cpi_store.specs.Sound.{IsSound};
 ghost use Rattle.cpi_store.specs.History.{HasComputedTables};
 ghost use Rattle.cpi_office.specs.NonInterferenceOfRuns.{IsNonInterfering};
 ghost use Rattle.cpi_office.specs.Releases.{KeepsReleases};
-ghost use Rattle.cpi_office.specs.RebuiltProjections.{AreRebuilt, AreFromViews};
+ghost use Rattle.cpi_office.specs.RebuiltProjections.{AreFromViews};
 ghost use Rattle.cpi_office.specs.ComputedTables.{TellTables};
 ghost use Rattle.cpi_office.specs.declared.request.Ask.{Ask as TheAsk};
 ghost use Rattle.cpi_office.specs.declared.reply.Reply.{Reply as TheReply};
@@ -20,9 +21,9 @@ impl<B: Book> Office<B> {
     /// Answers requests in order, each reply in the place of its request. Requests that are answered
     /// [`Refusal::Unavailable`] change nothing, and the others are answered as if these had not been sent.
     ///
-    /// From a sound office, for any requests of any callers: each caller's view at each moment is the view before, with
-    /// the accepted rows that the caller sees; and each reply to a collector or to the public is the answer from that
-    /// view as it was then. Each release of the office afterwards has the table that the definitions of the index give
+    /// From a sound office, for any requests of any callers: each request changes at most one row, which it asked for;
+    /// each caller's view at each moment is the view before, with those rows that the caller sees; and each reply to a
+    /// collector or to the public is the answer from that view as it was then. Each release of the office afterwards has the table that the definitions of the index give
     /// over the quotes and weights frozen with it and before it, and no earlier release has changed. Each reply to a
     /// request for a table is the printed form of the one that these definitions give over the quotes frozen by then.
     ///
@@ -42,9 +43,9 @@ impl<B: Book> Office<B> {
         ensures non_interference { let before = (B.state self.old.book).held in
             IfOk result (λ rs. (B.state self.new.book).is_clean →
             IsSound before → IsNonInterfering before asks.items rs.items) }
-        ensures views { let before = (B.state self.old.book).held in let after = (B.state self.new.book).held in
+        ensures rows { let before = (B.state self.old.book).held in
             IfOk result (λ rs. (B.state self.new.book).is_clean → IsSound before →
-            AreRebuilt before asks.items rs.items after) }
+            ChangesRows (all_served asks.items rs.items) before (B.state self.new.book).held) }
         ensures answers { let before = (B.state self.old.book).held in
             IfOk result (λ rs. (B.state self.new.book).is_clean →
             IsSound before → AreFromViews before asks.items rs.items) }

@@ -14,3 +14,5 @@ pub mod Walks
 pub mod Late
 pub mod LatestRows
 pub mod Texts
+pub mod Theorem
+pub mod TheoremBases

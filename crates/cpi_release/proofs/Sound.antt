@@ -43,7 +43,7 @@ module _ (releases : List Release) (ordered : (month : ℕ) (r : Release) → la
       cases None e = refl
       cases (Some r) e = (ordered month r e).frozen
 
-  bases_in_order : (plan : Plan) (month : ℕ) → are_by_series carried_serial (bases_in plan releases month) ≡ true
+  pub bases_in_order : (plan : Plan) (month : ℕ) → are_by_series carried_serial (bases_in plan releases month) ≡ true
   bases_in_order plan month = bases_rise plan (carried_of releases (link_month month))
       (frozen_of releases (link_month month)) (carried_in_order (link_month month)) (frozen_in_order (link_month month))
 

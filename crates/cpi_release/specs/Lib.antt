@@ -17,3 +17,4 @@ pub mod Examples
 pub mod HistoryExamples
 pub mod FrozenMonths
 pub mod PublishedTables
+pub mod Theorem

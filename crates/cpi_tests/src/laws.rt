@@ -1,22 +1,28 @@
 //! Generic laws, at the types that the office has.
 use cpi_codes::CollectorId;
-use cpi_http::{messages_are_a_run, one_message, responses_are_alike, tables_are_sent};
+use cpi_http::{
+    messages_are_a_run, one_message, responses_are_alike, responses_are_printed, tables_are_sent,
+};
 use cpi_index::CarriedPrice;
 use cpi_office::{
-    empty_is_sound, others_do_not_matter, replies_are_alike, runs_tell_alike, tables_are_computed,
-    views_are_rebuilt,
+    changes_are_enough, empty_is_sound, main_theorem, replies_are_alike, runs_tell_alike,
+    tables_are_computed,
 };
 use cpi_plan::{CalendarRow, Item};
 use cpi_release::Release;
 use cpi_rows::{gathered_put, gathered_rows, put_same, puts_other, puts_own};
 use cpi_store::{FailBook, VecBook};
-use cpi_wire::{lines_are_alike, records_are_a_run, replays_answer_alike, tables_are_reported};
+use cpi_wire::{
+    lines_are_alike, lines_are_printed, records_are_a_run, replays_answer_alike,
+    tables_are_reported,
+};
 
 #[test]
 fn the_laws_hold_of_books_and_rows() {
     runs_tell_alike::<VecBook, FailBook<VecBook>>();
     replies_are_alike::<VecBook, FailBook<VecBook>>();
     records_are_a_run::<FailBook<VecBook>>();
+    lines_are_printed::<FailBook<VecBook>>();
     lines_are_alike::<VecBook, FailBook<VecBook>>();
     replays_answer_alike::<VecBook, FailBook<VecBook>>();
     puts_own::<Item>();
@@ -33,12 +39,13 @@ fn the_laws_hold_of_tables_and_messages() {
     tables_are_sent::<FailBook<VecBook>>();
     one_message();
     messages_are_a_run::<FailBook<VecBook>>();
+    responses_are_printed::<FailBook<VecBook>>();
     responses_are_alike::<VecBook, FailBook<VecBook>>();
 }
 
 #[test]
 fn the_laws_hold_of_offices() {
     empty_is_sound();
-    views_are_rebuilt();
-    others_do_not_matter();
+    changes_are_enough();
+    main_theorem::<FailBook<VecBook>>();
 }

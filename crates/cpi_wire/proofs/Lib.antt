@@ -9,6 +9,7 @@ pub mod Floats
 pub mod Importing
 pub mod OwnAnswers
 pub mod PlanRead
+pub mod Printed
 pub mod Reading
 pub mod RowLimits
 pub mod Runs

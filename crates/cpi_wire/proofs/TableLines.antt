@@ -18,7 +18,8 @@ use Rattle.cpi_wire.specs.Lines.{all_replies}
 use Rattle.cpi_wire.specs.Rows.{answer_line}
 use Rattle.cpi_wire.specs.TableLines.{TableLinesAreComputed, ReplaysReportTables}
 use Rattle.cpi_wire.specs.declared.asks.Ask.TheVariants as ask
-use Rattle.cpi_wire.proofs.Alike.{is_served, meets}
+use Rattle.cpi_wire.proofs.Alike.{meets}
+use Rattle.cpi_wire.proofs.Printed.{is_served}
 use Rattle.cpi_wire.proofs.Runs.{records_are_a_run}
 
 module _ {B : Type 0} (state : B → State Office) where

@@ -13,6 +13,7 @@ pub mod Lines
 pub mod OnlyRows
 pub mod PlanBody
 pub mod PlanRows
+pub mod Printed
 pub mod Record
 pub mod Records
 pub mod Refusals

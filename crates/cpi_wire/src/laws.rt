@@ -1,6 +1,7 @@
 //! Theorems about the definitions.
 ghost use Rattle.cpi_wire.specs.Laws.{AreRecordsOfARun};
 ghost use Rattle.cpi_wire.specs.Lines.{LinesAreAlike, ReplaysAnswerAlike};
+ghost use Rattle.cpi_wire.specs.Printed.{LinesArePrinted};
 ghost use Rattle.cpi_wire.specs.TableLines.{TableLinesAreComputed, ReplaysReportTables};
 
 use cpi_store::Book;
@@ -9,6 +10,15 @@ use cpi_store::Book;
 /// the answers to these.
 pub fn records_are_a_run<B: Book>()
     ensures { AreRecordsOfARun B.state }
+{}
+
+/// The line of a record, whoever sends it, is what the replies of the office to its requests print: those of
+/// [`cpi_office::main_theorem`], in their order, with a refusal for each row of no form.
+///
+/// The office is sound, the store is clean once the record is answered, and no reply says that the office is
+/// unavailable.
+pub fn lines_are_printed<B: Book>()
+    ensures { LinesArePrinted B.state }
 {}
 
 /// The answer to a record of a collector, or of the public, is the same bytes in two replays under one zone, over books

@@ -35,7 +35,10 @@ pub use failure::Failure;
 pub use fault::WireFault;
 pub use fields::field_list;
 pub use import::import_rows;
-pub use laws::{lines_are_alike, records_are_a_run, replays_answer_alike, tables_are_reported};
+pub use laws::{
+    lines_are_alike, lines_are_printed, records_are_a_run, replays_answer_alike,
+    tables_are_reported,
+};
 pub use limits::{MOST_CALLS, MOST_MESSAGE_CALLS, MOST_RECORDS, MOST_ROWS};
 pub use line::reply_line;
 pub use only_rows::only_row;

@@ -1,14 +1,13 @@
-use Rattle.std.proofs.Common.{◌≡◌, ◌≤◌, IfOk, Option, sym, true, ap, ◌∙◌, subst, arith}
+use Rattle.std.proofs.Common.{◌≡◌, IfOk, Option, sym, ap, ◌∙◌, subst, arith}
 use Rattle.std.proofs.lemmas.Result.{IfErr-weaker}
 use Rattle.std.specs.Option.{option_copied}
-use Rattle.cpi_index.specs.Series.{are_by_series, frozen_serial}
 use Rattle.cpi_plan.specs.Plan.{Plan}
 use Rattle.cpi_release.specs.CachedSamples.{IsFit}
-use Rattle.cpi_release.specs.FrozenMonths.{frozen_months, revision_to_give, plan_for}
+use Rattle.cpi_release.specs.FrozenMonths.{frozen_months, plan_for}
 use Rattle.cpi_release.specs.declared.release.Release.{Release}
 use Rattle.cpi_release.specs.GroupCalls.{Sources}
 use Rattle.cpi_release.specs.Releasing.{Freeze, fault_of, release_of_month}
-use Rattle.cpi_store.specs.Office.{Office, quotes_of_month}
+use Rattle.cpi_store.specs.Office.{quotes_of_month}
 use Rattle.cpi_store.specs.Sources.{office_sources}
 use Rattle.cpi_store.proofs.History.{quotes_by_series, sources_fit}
 use Rattle.cpi_release.proofs.PassLemmas.{keeps_more, stays_more}

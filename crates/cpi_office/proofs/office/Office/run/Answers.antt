@@ -7,12 +7,14 @@ use Rattle.cpi_store.specs.Office.{Office}
 use Rattle.cpi_office.specs.Runs.{reply_to, next}
 use Rattle.cpi_office.specs.Calls.{ServesWhere}
 use Rattle.cpi_store.specs.Sound.{IsSound}
-use Rattle.cpi_office.specs.RebuiltProjections.{AreRebuilt, AreFromViews}
+use Rattle.cpi_office.specs.RebuiltProjections.{AreFromViews}
 use Rattle.cpi_store.proofs.History.{releases_computed}
 use Rattle.cpi_office.specs.ComputedTables.{TellTables}
-use Rattle.cpi_office.proofs.RunViews.{run_rebuilt, run_from_views, run_stays}
+use Rattle.cpi_office.proofs.RunViews.{run_from_views, run_stays}
 use Rattle.cpi_office.proofs.ComputedTables.{run_tables}
-use Rattle.cpi_office.specs.Served.{RunOverBook}
+use Rattle.cpi_office.specs.Served.{RunOverBook, all_served}
+use Rattle.cpi_office.specs.OneChange.{ChangesRows}
+use Rattle.cpi_office.proofs.OneChange.{run_rows}
 use Rattle.cpi_office.specs.declared.request.Ask.{Ask}
 use Rattle.cpi_office.specs.declared.reply.Reply.{Reply}
 use Rattle.cpi_office.proofs.Served.{ran_more, run_sound}
@@ -84,18 +86,18 @@ returns-clause-non_interference g c = λ clean s.
     (run_is_non_interfering (state c.args.self.now.book).held (state c.loop-ask.self.book).held n.0
     c.loop-ask.told.items s (n.3.run clean s))
 
-pub returns-clause-views : goal.returns-clause-views
-returns-clause-views g c = λ clean s.
+pub returns-clause-rows : goal.returns-clause-rows
+returns-clause-rows g c = λ clean s.
     let n = c.loop-ask.invariant in
     let state = g.B.Book.state in
     let none_left : into_iter_items c.next.new.self ≡ [] = nil_from_length (into_iter_items c.next.new.self)
     (sym c.next.new.self.rest.ok.0 ∙ c.in_default.ensures.cases.1) in
     let whole : c.args.asks.items ≡ n.0 = n.1 ∙ ap (λ ys. n.0 ++ ys) (c.in_default.ensures.items ∙ none_left)
     ∙ append-nil n.0 in
-    subst (λ asks. AreRebuilt (state c.args.self.now.book).held asks c.loop-ask.told.items
+    subst (λ asks. ChangesRows (all_served asks c.loop-ask.told.items) (state c.args.self.now.book).held
     (state c.loop-ask.self.book).held) (sym whole)
-    (run_rebuilt (state c.args.self.now.book).held (state c.loop-ask.self.book).held n.0 c.loop-ask.told.items s
-    (n.3.run clean s))
+    (run_rows (state c.args.self.now.book).held (state c.loop-ask.self.book).held n.0 c.loop-ask.told.items
+    s (n.3.run clean s))
 
 pub returns-clause-answers : goal.returns-clause-answers
 returns-clause-answers g c = λ clean s.
