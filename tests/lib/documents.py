@@ -92,11 +92,13 @@ MOST_WORDS, MOST_OF_ALL = 5000, 49500
 """Words as `wc -w` counts them: of a document, and of the English pages of docs/ together."""
 
 SHORT = {"docs/develop/THEOREM.md": 1500}
-"""Documents with a bound of their own: two pages of paper."""
+"""Documents with a bound of their own: two pages of paper, beside what is printed from the specs."""
+
+PRINTED = re.compile(r"^```antt .*\n(?:.*\n)*?```$", re.M)
 
 
 def length_faults(name: str, text: str) -> Iterator[str]:
-    most, count = SHORT.get(name, MOST_WORDS), len(text.split())
+    most, count = SHORT.get(name, MOST_WORDS), len(PRINTED.sub("", text).split())
     if name.startswith("docs/") and count > most:
         yield f"{count} words, over {most}"
 

@@ -3,9 +3,10 @@
 `definitions_of`  all definitions of crates/*/specs, each with those that its text names.
 `rests_on`        those that a statement leads to, itself among them.
 `theorem_faults`  THEOREM says of each statement in its tables as many as there are.
+`import_faults`   no file of specs/ imports a definition of which it has only the name, as that of an argument.
 
 A definition is named by its crate, its file and its own name. A name in a text is one of the same file or one that the
-file imports; an argument with the name of a definition counts as that definition. What the code declares (types,
+file imports; an argument with the name of a definition that the file imports counts as that definition. What the code declares (types,
 variants) and what the library defines isn't counted.
 """
 
@@ -23,6 +24,10 @@ HEAD = re.compile(r"^\s*(?:pub )?(?:abbrev|unfoldable|record|data) (?:pub )?([\w
 CONSTRUCTOR = re.compile(r"^\s+(?:pub )?([A-Z]\w*) :")
 IMPORT = re.compile(r"^use Rattle\.(\w+)\.specs\.(\w+)(?:\.\{([^}]*)\}| as (\w+))$", re.M)
 WORD = re.compile(r"(?:\b(\w+)\.)?\b([A-Za-z_]\w*)")
+ARGUMENTS = re.compile(r"[({]((?:[\w'-]+ )+): ")
+PARAMETERS = re.compile(r"λ ([^.(]*)\.")
+VALUE = re.compile(r"\blet ([\w'-]+)")
+PLAIN = re.compile(r"(?<![\w.])[a-z][\w'-]*(?![\w.])")
 ROW = re.compile(r"^\| `(\w+)` in `(\w+)/specs/(\w+)\.antt` \|.*\| (\d+) \|$", re.M)
 ALL = re.compile(r"^\| all of these \|.*\| (\d+) \|$", re.M)
 
@@ -102,8 +107,26 @@ def rests_on(*statements: Name) -> set[Name]:
     return reached
 
 
+def bound_in(name: str, text: str) -> set[str]:
+    """The names that the text of a definition binds: its arguments, those of functions within it, and values."""
+    patterns = re.findall(rf"^ *{re.escape(name)}( [^=\n]*)=(?=\s)", text, re.M)
+    groups = [*ARGUMENTS.findall(text), *PARAMETERS.findall(text), *VALUE.findall(text), *patterns]
+    return {name for group in groups for name in PLAIN.findall(group)}
+
+
+def import_faults(path: Path) -> Iterator[str]:
+    """The definitions that a file imports, and whose names it only binds: so counts would have what nothing rests on."""
+    texts = {it.name: "\n".join(lines) for it, lines in texts_of(path, {}).items()}
+    for name, meant in imports_of(path).items():
+        users = {own for own, text in texts.items() if re.search(rf"(?<![\w.]){re.escape(name)}(?!\w)", text)}
+        if meant in definitions_of() and users and all(name in bound_in(own, texts[own]) for own in users):
+            yield f"{'/'.join(path.parts[-3:])} imports {meant.name} of {meant.file}, and has only an argument of that name"
+
+
 def theorem_faults(text: str) -> Iterator[str]:
-    """The rows of THEOREM whose number is another one, and the last row, if it is."""
+    """The rows of THEOREM whose number is another one, and the last row, if it is; and the imports that count too much."""
+    for path in sorted(ROOT.glob("crates/*/specs/*.antt")):
+        yield from import_faults(path)
     statements = list[Name]()
     for name, crate, file, told in ROW.findall(text):
         statement = Name(crate, file, name)
