@@ -116,7 +116,7 @@ class System:
         until = time.monotonic() + PATIENCE
         while time.monotonic() < until and self._booted.poll() is None:
             for child in children.read_text().split():
-                with contextlib.suppress(FileNotFoundError):
+                with contextlib.suppress(FileNotFoundError, ProcessLookupError):
                     if Path(f"/proc/{child}/comm").read_text() == "systemd\n":
                         return int(child)
             time.sleep(0.05)
