@@ -129,7 +129,9 @@ def test_one_that_fails_its_drill_is_kept_aside_and_pushes_nothing_out(cpi: Cpi,
     good, bad = sorted(place.archives())
     assert (good, bad[: len(FAILED)]) == (f"{PASSED}{generation_of(NOW)}", FAILED)
     after = last_drill_of(place.dest)
-    assert before and after and after._replace(failed="") == before
+    # (by the clock of now its last check was in the future, so it is checked anew)
+    assert before and after
+    assert after._replace(failed="", checked=before.checked, tried=before.tried) == before
     assert after.failed.startswith(f"{bad.removeprefix(FAILED)}: 2025-02 revision 1: ")
     # the next good one counts again, and the one that failed stays aside
     carried(office, place, 2)
