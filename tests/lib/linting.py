@@ -18,8 +18,8 @@ from .places import TOP
 WORDS = "tests/linters/words.txt"
 """Words that codespell would change, and that are right."""
 
-IN_ANOTHER_LANGUAGE = re.compile(r"docs/desk/[a-z]{2,3}/")
-"""Guides that are translated."""
+IN_ANOTHER_LANGUAGE = re.compile(r"(docs/desk|examples/national/about)/(?!en/)[a-z]{2,3}/")
+"""Guides, and an office's own words, that are translated."""
 
 WORKER = "web/collect/sw.js"
 """The one script that runs in no page."""

@@ -34,6 +34,9 @@ from .pack_forms import px_cells, read_json_stat, read_sdmx_ml, read_sheets, row
 
 AREA, FLOW = "XX", "DF_CPI"
 
+DESCRIBED = "csv-metadata.json"
+"""What describes the CSV files of a folder."""
+
 INDEX = ("M", "CPI", "IX", "N")
 """Frequency, measure, unit and transformation of the series that each item has at a path."""
 
@@ -107,8 +110,9 @@ def part_faults(folder: Path, known: Figures, wanted: Observations) -> Iterator[
     }
     parts.update({each: partial(is_in_division, known, each) for each in divisions})
     names = {f"{part}.sdmx.{end}" for part in parts for end in ("csv", "xml")}
-    if {path.name for path in folder.iterdir()} != names:
-        yield f"the slices are {sorted(path.name for path in folder.iterdir())}, wanted {sorted(names)}"
+    wrote = {path.name for path in folder.iterdir()} - {DESCRIBED}
+    if wrote != names:
+        yield f"slices: {sorted(wrote ^ names)[:5]} are there, or wanted"
     together: Observations = {}
     for part, is_in in parts.items():
         ids = {item_id(code) for code in known.lines if is_in(code)}

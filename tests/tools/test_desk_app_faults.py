@@ -254,7 +254,7 @@ def test_a_draft_that_cannot_be_made_or_read_is_told(application: Application, a
     ada.post("/year/make", year="2027")
     waited(lambda: not drafts.running)
     for text in ('"x', "a;b;c;d"):
-        assert told(ada.fill("/year/2027/", "/put", 2, pasted=text), 400) == []
+        assert told(ada.fill("/year/2027/", "/put", 1, pasted=text), 400) == []
     for form in ({"code": "09", "weight": "1"}, {"code": "", "weight": ""}):
         assert told(ada.fill("/year/2027/", "/put", shown=sum_of(None), **form), 400) == []
     ada.fill("/year/2027/", "/put", weight="many")

@@ -215,6 +215,8 @@ def test_a_carrying_that_never_ends_is_given_up(office: Path, tmp_path: Path, mo
 
 def test_a_carrier_that_can_t_be_started_is_told(office: Path, tmp_path: Path, monkeypatch: pytest.MonkeyPatch) -> None:
     stand_in(tmp_path, "#!/nowhere/python\n", monkeypatch)
+    # (else one that is installed would be taken)
+    monkeypatch.setenv("PATH", str(tmp_path / "bin"))
     ran = run(None, "follow", office, "rclone:store:a", "--once")
     assert (ran.status, ran.out, ran.err.count("\n")) == (1, "", 1)
     assert ran.err.startswith("cpi-tools follow: rclone couldn't be started: ")

@@ -92,7 +92,7 @@ def test_it_is_two_years_with_a_revision(runs: list[Run]) -> None:
 
 def test_no_address_is_lost(runs: list[Run]) -> None:
     for before, now in pairs(runs):
-        assert before.files.keys() <= now.files.keys()
+        assert [*before.files.keys() - now.files.keys()] == []
         assert mapped(before) <= mapped(now)
 
 

@@ -166,7 +166,7 @@ def test_each_language_says_what_it_lacks(tmp_path: Path) -> None:
     [
         ({"coverage.md": "x"}, "coverage.md is neither logo.png nor the folder of a language: "),
         ({"xx/coverage.md": "x"}, "xx is neither"),
-        ({"en/coverge.md": "x"}, "en/coverge.md is no section; they are coverage.md, weights.md, "),
+        ({"en/cover.md": "x"}, "en/cover.md is no section; they are coverage.md, weights.md, "),
         ({"en/coverage.md": "a\n\n<b>"}, "en/coverage.md: line 3: HTML isn't taken"),
         ({"fr/coverage.md": "<b>"}, "fr/coverage.md: line 1: HTML isn't taken"),
         ({".hidden": "x"}, "about has neither a folder such as en nor logo.png"),
