@@ -58,10 +58,13 @@ class Offices:
         calls = [(0, 0), *((low[at], high[at]) for at in places)]
         return [(name, counts), *((f"{name}, calls {at}", self.compare(asked, at)) for at in calls)]
 
-    def find_more(self, asked: Asked, sample: Sample) -> Iterator[tuple[object, Fault]]:
-        """What differs with other calls refused, in an order that is drawn."""
+    def find_more(self, asked: Asked, sample: Sample, before: int) -> Iterator[tuple[object, Fault]]:
+        """What differs with other calls refused, in an order that is drawn, until more than so many answers were 90."""
         low, high = self.low.calls(asked), self.high.calls(asked)
-        for at in sample.drawn(f"{asked}, others").sample(range(len(low)), len(low)):
+        count = min(len(low), len(high))
+        for at in sample.drawn(f"{asked}, others").sample(range(count), count):
+            if self.unavailable > before:
+                return
             yield f"{asked}, call {at}", self.compare(asked, (low[at], high[at]))
 
 
@@ -82,8 +85,7 @@ def test_a_refused_call_tells_nothing_of_others(offices: Offices, sample: Sample
     asked = [it for it in list_asked() if it.request.decode() == f"{request_}\n"]
     before = offices.unavailable
     tried = itertools.chain(
-        (one for it in asked for one in offices.find(it, sample)),
-        itertools.takewhile(lambda _: offices.unavailable == before, offices.find_more(asked[1], sample)),
+        (one for it in asked for one in offices.find(it, sample)), offices.find_more(asked[1], sample, before)
     )
     fault = fault_in(tried)
     assert fault is None, fault
@@ -152,3 +154,30 @@ def test_a_90_by_what_is_hidden_is_found(
     asked = [it for it in list_asked() if it.request == ASKED[ENTRY][0]]
     found = [it for it in asked if fault_in(offices.find(it, sample)) is not None]
     assert found == (asked if wrong is not ByPriceWithoutDisk else asked[2:])
+
+
+class Scripted(Office):
+    """An office that answers a request by the line of the call that is refused."""
+
+    def __init__(self, *lines: bytes) -> None:
+        self.lines = lines
+
+    def calls(self, asked: Asked) -> range:
+        return range(len(self.lines))
+
+    def answer(self, asked: Asked, number: int) -> Ran:
+        return Ran(0, self.lines[number], b"")
+
+
+class ScriptedOffices(Offices):
+    """Two of these."""
+
+    def __init__(self, low: Office, high: Office) -> None:
+        self.low, self.high, self.unavailable = low, high, 0
+
+
+def test_the_call_that_gives_the_first_90_is_compared_too(sample: Sample) -> None:
+    offices = ScriptedOffices(Scripted(UNAVAILABLE), Scripted(b"{}"))
+    assert fault_in(offices.find_more(next(list_asked()), sample, 0)) is not None
+    offices = ScriptedOffices(Scripted(*[UNAVAILABLE] * 3), Scripted(*[UNAVAILABLE] * 3))
+    assert len(list(offices.find_more(next(list_asked()), sample, 0))) == 1

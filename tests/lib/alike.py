@@ -98,30 +98,32 @@ class Office:
         """A replay of records by the program."""
         return self.program.replay(given, db, seconds=SECONDS, env=env)
 
-    def run_asked(self, asked: Asked, request: bytes, env: dict[str, str]) -> Ran:
+    def run_asked(self, asked: Asked, env: dict[str, str]) -> Ran:
         """The run of a request, over a copy of the file, or after all records in memory."""
         if not asked.is_filed:
-            return self.run(self.hidden.records() + request, env=env)
+            return self.run(self.hidden.records() + asked.request, env=env)
         with tempfile.TemporaryDirectory() as room:
             for name in os.listdir(self.room.name):
                 shutil.copy(f"{self.room.name}/{name}", room)
-            return self.run(request, f"{room}/office.db", env)
+            return self.run(asked.request, f"{room}/office.db", env)
 
     @functools.lru_cache(None)
-    def count(self, asked: Asked, request: bytes) -> int:
+    def count(self, asked: Asked) -> int:
         """How many calls of the kind a run with this request makes."""
-        return self.library.counted(asked.kind, lambda env: self.run_asked(asked, request, env).status)
+        return self.library.counted(asked.kind, lambda env: self.run_asked(asked, env).status)
 
     def calls(self, asked: Asked) -> range:
         """The numbers of the calls that come with a request. Over a file they are all calls of the disk; and of the
         growths of memory as many before the request too, since a few of those that it adds come at the close."""
-        before, count = self.count(asked, b""), self.count(asked, asked.request)
-        first = before + 1 if not asked.is_filed else 2 * before - count if asked.kind == "memory" else 1
-        return range(max(1, first), count + 1)
+        count = self.count(asked)
+        if asked.kind != "memory":
+            return range(1, count + 1)
+        before = self.count(asked._replace(request=b""))
+        return range(max(1, 2 * before - count if asked.is_filed else before + 1), count + 1)
 
     def answer(self, asked: Asked, number: int) -> Ran:
         """What a request is answered, and how the run ends, if the call of that number is refused; none if it is 0."""
-        ran = self.run_asked(asked, asked.request, self.library.environment(asked.kind, number))
+        ran = self.run_asked(asked, self.library.environment(asked.kind, number))
         lines = ran.out.split(b"\n")[0 if asked.is_filed else len(self.made.lines()) :]
         return ran._replace(out=b"\n".join(lines))
 
