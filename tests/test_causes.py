@@ -17,6 +17,7 @@ from lib.causes import (
     find_made_faults,
     find_made_tokens,
     find_named_faults,
+    find_notes,
     find_renamed,
     find_streams,
     find_tokens_of_callers,
@@ -81,6 +82,47 @@ FAILURES = {
 }
 """Each place of `cpi_wire` that makes a failure, or a note of reading or of writing, and why it may."""
 
+NOTES = {
+    ("cpi_wire", Place("records::answer_records", "note.write_whole(writer, &answer.line)?;")): "a line",
+    ("cpi_wire", Place("records::replay", "let mut note = WriteNote::new();")): "of the caller's writer",
+    (
+        "cpi_http",
+        Place("body::read_body", "let n = note.read_some(reader, &mut body[at..])?;"),
+    ): "what is left of a body",
+    ("cpi_http", Place("read::read_byte", "if note.read_some(reader, &mut byte)? == 0 {")): "one byte",
+    ("cpi_http", Place("serve::write_both", "note.write_whole(writer, front)?;")): "the front of a response",
+    ("cpi_http", Place("serve::write_both", "note.write_whole(writer, rest)")): "the rest of it",
+    (
+        "cpi_http",
+        Place("serve::serve_one", "let (mut read_note, mut write_note) = (ReadNote::new(), WriteNote::new());"),
+    ): "of the caller's streams",
+    ("cpi_app", Place("connection::serve_buffered", "let mut read_note = ReadNote::new();")): "of the peer's reader",
+    (
+        "cpi_app",
+        Place("connection::OfficeAtDeskService::serve", "let (alloc, mut note) = (self.alloc, WriteNote::new());"),
+    ): "of the peer's writer",
+    ("cpi_app", Place("replay::replay_over_office", "let mut note = WriteNote::new();")): "of the caller's writer",
+}
+"""Each place that makes a note of reading or writing, or uses one, and for what."""
+
+MESSAGES = ("cpi_wire", "cpi_http", "cpi_app")
+"""The crates that carry a message."""
+
+GROWTHS = {
+    ("cpi_wire", Place("fields::field_list", "let mut fields = Vec::with_capacity(alloc, row.len())?;")): "its fields",
+    ("cpi_wire", Place("line::work_row_value", "let mut fields = Vec::with_capacity(alloc, 9)?;")): "its nine values",
+    ("cpi_wire", Place("line::work_value", "let mut values = Vec::with_capacity(alloc, rows.len())?;")): "its rows",
+    ("cpi_wire", Place("line::quotes_value", "let mut rows = Vec::with_capacity(alloc, quotes.len())?;")): "the quotes",
+    ("cpi_wire", Place("line::items_value", "let mut rows = Vec::with_capacity(alloc, items.len())?;")): "the items",
+    (
+        "cpi_wire",
+        Place("line::tables_value", "let mut rows = Vec::with_capacity(alloc, frozen_months.len())?;"),
+    ): "the tables",
+    ("cpi_http", Place("body::receive_body", "let mut body = vec![in alloc; 0; n]?;")): "its length, up to the limit",
+    ("cpi_http", Place("bytes::head_text", "format!(in alloc;")): "a head",
+}
+"""Each place of these that asks for memory by a size, and of what. A larger one could be refused at will."""
+
 SIGHTS = ["public", "own_parts", "published", "latest_published", "published_table", "put_own_quote"]
 """What one may ask of a sight."""
 
@@ -126,6 +168,17 @@ def test_no_fault_or_token_has_another_name(office: Crate) -> None:
     assert find_renamed(office) == []
 
 
+def test_no_fault_of_a_message_has_another_name() -> None:
+    crates = [read_crate(ROOT / "crates" / name) for name in MESSAGES]
+    assert [(crate.name, line) for crate in crates for line in find_renamed(crate)] == []
+
+
+def test_no_message_asks_for_memory_by_another_size() -> None:
+    crates = [read_crate(ROOT / "crates" / name) for name in MESSAGES]
+    found = [(crate.name, place) for crate in crates for place in find_growths(crate)]
+    assert sorted(found) == sorted(GROWTHS)
+
+
 def test_no_body_asks_for_memory_by_a_size(office: Crate) -> None:
     assert find_growths(office) == []
 
@@ -152,6 +205,17 @@ def test_only_the_wire_makes_a_failure_and_each_has_its_reason() -> None:
     crates = [read_crate(ROOT / "crates" / name) for name in ("cpi_wire", "cpi_http", "cpi_app", "cpi_files", "cpi")]
     found = [(crate.name, place) for crate in crates for place in find_made_failures(crate)]
     assert sorted(found) == sorted(("cpi_wire", place) for place in FAILURES)
+
+
+def test_notes_are_made_and_used_only_for_the_peers_streams() -> None:
+    crates = [read_crate(ROOT / "crates" / name) for name in (*MESSAGES, "cpi_files", "cpi")]
+    found = [(crate.name, place) for crate in crates for place in find_notes(crate)]
+    assert sorted(found) == sorted(NOTES)
+
+
+@pytest.mark.parametrize("body", ["ReadNote::<Empty>::new()", "read_note.read_some(reader, &mut [0u8; 0])?;"])
+def test_a_note_that_is_used_up_is_found(body: str) -> None:
+    assert find_notes(make_crate(body)) == [Place("items::items", body)]
 
 
 def test_nothing_that_gives_up_a_message_has_a_stream_of_its_own() -> None:
@@ -194,6 +258,8 @@ def test_the_name_of_a_fault_is_none(body: str) -> None:
         "type Full = AllocError;",
         "static NONE: Refusal = Refusal::NoTable;",
         "macro_rules! full {",
+        "crate::failure::Failure as Full",
+        "type Note = crate::WriteNote<Lost>;",
     ],
 )
 def test_another_name_of_a_fault_is_found(line: str) -> None:

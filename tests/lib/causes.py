@@ -10,6 +10,7 @@ tokens by which a function sees an office. A message is given up only by a `Fail
 `find_made_tokens`    the places that make a token; `callers.rt` may.
 `find_held_books`     the functions that answer from a sight and also name a book.
 `find_made_failures`  the places that make a `Failure`, by which an input, a line or a message is given up.
+`find_notes`          the places that make a note of reading or of writing, or read or write by one.
 `find_streams`        the readers and writers that a crate writes itself.
 """
 
@@ -30,7 +31,8 @@ NAMED = re.compile(r"\bAllocError\b(?!\s*>)|\bUnavailable\b")
 GROWTH = re.compile(r"\b(?:with_capacity\w*|reserve\w*|resize\w*|repeat\w*)\b|\[in |format!|vec!")
 
 RENAMED = re.compile(
-    r"\b(?:AllocError|StoreFault|Cause|Refusal|Present|Bearer|Book|Sight) as \w+"
+    r"\b(?:AllocError|StoreFault|Cause|Refusal|Present|Bearer|Book|Sight|Failure|ReadNote|WriteNote) as \w+"
+    r"|^\s*(?:pub(?:\([a-z]+\))? )?type \w+ = (?:\w+::)*(?:Failure|ReadNote|WriteNote)\b.*"
     r"|^\s*(?:pub(?:\([a-z]+\))? )?(?:type|const|static)\b"
     r".*\b(?:AllocError|StoreFault|Cause|Refusal|Present|Bearer)\b.*"
     r"|macro_rules!.*",
@@ -40,6 +42,7 @@ RENAMED = re.compile(
 TOKEN = re.compile(r"\b(?:Present|Bearer) \{")
 TOKEN_OR_SELF = re.compile(r"\b(?:Present|Bearer|Self) \{")
 FAILURE = re.compile(r"\bFailure::of\b|\b(?:Failure|ReadNote|WriteNote) \{")
+NOTE = re.compile(r"\b(?:ReadNote|WriteNote)\b(?:::<.*?>)?::new\b|\.(?:read_some|write_whole)\(")
 STREAM = re.compile(r"^impl.*\b(?:Read|Write) for (\w+)", re.M)
 SIGHT, BOOK = re.compile(r"\bS: Sight\b"), re.compile(r"\b[Bb]ook\b")
 
@@ -104,6 +107,11 @@ def find_held_books(crate: Crate) -> list[str]:
 def find_made_failures(crate: Crate) -> list[Place]:
     """Those outside the file that has the type."""
     return find_places(crate, FAILURE, lambda file: file != "src/failure.rt")
+
+
+def find_notes(crate: Crate) -> list[Place]:
+    """A reader that never fails uses a note up, which is a failure too."""
+    return find_places(crate, NOTE)
 
 
 def find_streams(crate: Crate) -> list[str]:
