@@ -15,7 +15,6 @@ from typing import Any, NoReturn
 import pytest
 
 from . import surveys
-from cpi_tools.desk_app.freezes import sum_of
 from cpi_tools.program import Cpi
 from cpi_tools.speech import Speech, speech_of
 from .desk_apps import ADA, BEN, Application, Person, applied
@@ -253,10 +252,8 @@ def test_a_draft_that_cannot_be_made_or_read_is_told(application: Application, a
         assert told(ada.get("/year"), 200, says) == []
     ada.post("/year/make", year="2027")
     waited(lambda: not drafts.running)
-    for text in ('"x', "a;b;c;d"):
+    for text in ('"x', "a;b;c;d", "09;1", ";"):
         assert told(ada.fill("/year/2027/", "/put", 1, pasted=text), 400) == []
-    for form in ({"code": "09", "weight": "1"}, {"code": "", "weight": ""}):
-        assert told(ada.fill("/year/2027/", "/put", shown=sum_of(None), **form), 400) == []
     ada.fill("/year/2027/", "/put", weight="many")
     ada.post("/year/2027/check")
     waited(lambda: not drafts.running)

@@ -121,7 +121,7 @@ def _read_texts(folder: Path) -> dict[str, Markup]:
     from .plain_markdown import read_markdown
 
     files = {it.file: it.name for it in SECTIONS}
-    found = dict[str, Markup]()
+    found: dict[str, Markup] = {}
     for name in _names_in(folder) if folder.exists() else ():
         if name not in (*files, LOGO):
             raise BadOwnWords(f"{folder / name} is no section; they are {', '.join(files)}, and {LOGO}")
