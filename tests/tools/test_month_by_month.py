@@ -198,7 +198,8 @@ def test_what_is_written_month_by_month_is_what_is_written_at_once(
     at_once = {it.relative_to(site).as_posix(): it.read_bytes() for it in site.rglob("*") if it.is_file()}
     # (what changed with a release is known only from the pack before)
     apart = {name for name in at_once.keys() | last.keys() if at_once.get(name) != last.get(name)}
-    assert {name for name in apart if not name.startswith("data/changes/")} == {"manifest.json", "SHA256SUMS"}
+    described = {"manifest.json", "SHA256SUMS", "data.html"}
+    assert {name for name in apart if not name.startswith("data/changes/")} == described
 
 
 def test_a_reason_that_is_added_changes_one_page(runs: list[Run], published: list[Published], tmp_path: Path) -> None:

@@ -791,11 +791,14 @@ def test_a_pack_may_be_without_a_form(
     ends = tuple(name.removeprefix("data/cpi") for name in left_out if "/cpi." in name)
     gone = (name for name in whole if name.count("/") > 1)
     is_xml_out = ".sdmx.xml" in ends
-    assert {name for name in whole - found if name.count("/") > 1} == {
+    is_csv_out = ".sdmx.csv" in ends
+    described = {"data/slices/csv-metadata.json"} if is_csv_out else set()
+    assert {name for name in whole - found if name.count("/") > 1} == described | {
         name for name in gone if name.endswith(ends) or is_xml_out and name.startswith("data/sdmx/")
     }
     differing = {name for name in found if (out / name).read_bytes() != (pack / name).read_bytes()}
-    assert differing == {"index.html", "data.html", "SHA256SUMS"}
+    describing = {"data/csv-metadata.json", "data/newest/csv-metadata.json"} if is_csv_out else set()
+    assert differing == {"index.html", "data.html", "SHA256SUMS"} | describing
     for name in left_out:
         assert not [page.name for page in out.rglob("*.html") if name in page.read_text(encoding="utf-8")]
 

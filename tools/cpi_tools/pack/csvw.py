@@ -8,7 +8,6 @@ from __future__ import annotations
 
 import csv
 import json
-import os
 from collections.abc import Mapping, Sequence
 from pathlib import Path
 from typing import NamedTuple, Union
@@ -191,7 +190,7 @@ def write_items(columns: Columns, files: NewFiles, heads: Mapping[str, Sequence[
     files first."""
     (_, head), *others = heads.items()
     tables, ends = list[dict[str, str]](), set[str]()
-    for name in sorted(it for it in os.listdir(files.folder / "node") if it.endswith(".csv")):
+    for name in sorted(path.name for path in (files.folder / "node").glob("*.csv")):
         end = next((end for end, _ in others if name.endswith(end)), "")
         tables.append({"url": name, **({"tableSchema": _schema_name(end)} if end else {})})
         ends.add(end)
