@@ -239,7 +239,7 @@ def test_packs_that_cannot_be_compared_say_so(published: list[Published], tmp_pa
             file.write("\n")
     manifest = (out / "manifest.json").read_bytes()
     written(published[:14], CONFIG, out)
-    wanted = {
+    wanted: dict[str, object] = {
         "name": "2026-01-r1", "releases": ["2026-01-r1"], "since": hashlib.sha256(manifest).hexdigest(),
         "replaced": None, "deleted": None, "files": {},
     }  # fmt: skip
