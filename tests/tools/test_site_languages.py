@@ -202,7 +202,8 @@ def test_what_is_written_again_is_the_same(site: Path, published: list[Published
 
 OURS = re.compile(r"<(bdi|code|pre|script|style)\b.*?</\1>|\u2068.*?\u2069|&[a-z]+;", re.S)
 OF_ALL = re.compile(
-    r"[\w.-]*\.(?:csv|xlsx|xml|json|px|ics|html|zip|png)\b|\b(?:SDMX|CSV|ML|SVG|SHA|UTC|StructureSpecificData)\b|[0-9a-f]{16,}"
+    r"[\w./-]*\.(?:csv|xlsx|xml|json|px|ics|html|zip|png)\b|[0-9a-f]{16,}"
+    r"|\b(?:SDMX|CSV|ML|SVG|SHA|UTC|StructureSpecificData|BibTeX|RIS)\b"
 )
 HEADS = re.compile(r"<title>.*?</title>|<meta [^>]*>|<option.*?</option>", re.S)
 COLUMNS = re.compile(r'<th scope="row">[a-z_, ]+</th>')

@@ -68,7 +68,7 @@ def whole(pack: Path) -> list[Attributes]:
 
 
 def test_all_slices_together_are_the_whole(pack: Path, whole: list[Attributes]) -> None:
-    names = {path.name for path in (pack / "data/slices").iterdir()}
+    names = {path.name for path in (pack / "data/slices").iterdir()} - {"csv-metadata.json"}
     parts = ("headline", "aggregates", "01", "07", "08")
     assert names == {f"{part}.sdmx.{end}" for part in parts for end in ("csv", "xml")}
     together: Observations = set()

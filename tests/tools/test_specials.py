@@ -341,9 +341,14 @@ def test_a_file_with_a_fault_is_one_line(text: str, because: str, tmp_path: Path
 
 
 def test_the_command_tells_what_no_table_has(
-    cpi: Cpi, public_office: Office, tmp_path: Path, capsys: pytest.CaptureFixture[str]
+    cpi: Cpi,
+    public_office: Office,
+    tmp_path: Path,
+    capsys: pytest.CaptureFixture[str],
+    monkeypatch: pytest.MonkeyPatch,
 ) -> None:
     """A code may come with a later table, or be a slip; a set without an aggregate is left out."""
+    monkeypatch.setattr("cpi_tools.publish.SHOWN_DIFFERENCES", 10_000)
     (tmp_path / "sets.csv").write_text(
         "\ufeffid,title,in,out\n\nTEA,Tea,01.2.1,\nFOOD,Food,01 01.3,\n", encoding="utf-8"
     )

@@ -65,13 +65,13 @@ def test_the_lines_of_a_process_that_is_killed(notes: Path, tmp_path: Path) -> N
 def test_a_copy_counts_if_it_has_the_same_bytes(notes: Path, tmp_path: Path) -> None:
     copies = tmp_path / "copies/cpi_tools"
     copies.mkdir(parents=True)
-    for name in ("__init__.py", "rooms.py", "exact.py"):
+    for name in ("__init__.py", "check_character.py", "exact.py"):
         shutil.copy(SOURCES / name, copies / name)
     with (copies / "exact.py").open("a", encoding="utf-8") as file:
         file.write("# another one\n")
-    assert run(notes, copies.parent, "import cpi_tools.rooms, cpi_tools.exact") == 0
+    assert run(notes, copies.parent, "import cpi_tools.check_character, cpi_tools.exact") == 0
     found = lines_of(str(notes))
-    assert "rooms.py" in found and "exact.py" not in found
+    assert "check_character.py" in found and "exact.py" not in found
 
 
 def test_a_process_that_reads_no_tools_notes_nothing(notes: Path) -> None:
