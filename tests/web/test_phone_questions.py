@@ -320,6 +320,7 @@ def test_it_reads_from_right_to_left(stage: Stage, phone: Phone, tmp_path: Path)
             found += [*faults_of_page(browser), *faults_for_keys(browser)]
             browser.type("#answer-text", "نعم")
             browser.click("#answer-send")
+            browser.wait(lambda: not browser.find("#questions").is_displayed(), "the answer is with the desk")
             browser.wait_text("#line", phone.said("All sent"))
         ada.open(f"{LOOKS}?show=all")
         browser.wait_text("#look-7-1 .notes", "نعم")
