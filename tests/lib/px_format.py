@@ -63,11 +63,11 @@ MANDATORY = ("DECIMALS", "MATRIX", "SUBJECT-CODE", "SUBJECT-AREA", "TITLE", "CON
 """What a file must have, besides DATA: of STUB and HEADING the format wants one, and our cube has both."""
 
 MOMENTS = re.compile(r"(19|20)[0-9]{2}(0[1-9]|1[0-2])(0[1-9]|[12][0-9]|3[01]) ([01][0-9]|2[0-3]):[0-5][0-9]")
-PERIODS: Mapping[str, str] = {
-    "A1": r"[12][0-9]{3}", "H1": r"[12][0-9]{3}[12]", "Q1": r"[12][0-9]{3}[1-4]",
-    "M1": r"[12][0-9]{3}(0[1-9]|1[0-2])", "W1": r"[12][0-9]{3}(0[1-9]|[1-4][0-9]|5[0-3])",
-}  # fmt: skip
-"""What a time is, by the letter of TLIST: `202401` is January 2024."""
+WITHIN_YEAR = {"A": "", "H": "[12]", "Q": "[1-4]", "M": "(0[1-9]|1[0-2])", "W": "(0[1-9]|[1-4][0-9]|5[0-3])"}
+"""What follows the year of a time: nothing, or the half, the quarter, the month or the week."""
+
+PERIODS: Mapping[str, str] = {f"{letter}1": f"[12][0-9]{{3}}{within}" for letter, within in WITHIN_YEAR.items()}
+"""What a time is, by the scale that TLIST names: `202401` is January 2024."""
 
 HEAD = re.compile(r"([A-Z][A-Z0-9-]*)(?:\[([a-zA-Z-]+)\])?(?:\((.*)\))?", re.DOTALL)
 LONGEST_LINE = 256

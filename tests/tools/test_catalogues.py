@@ -152,7 +152,8 @@ NOT_YET = set[str]()
 """Templates whose texts are in no catalogue yet: a list that only shrinks."""
 
 OF_NO_LANGUAGE = re.compile(
-    r"<(pre|script|style)\b.*?</\1>|<[^>]*>|&[a-z]+;|[\w.-]*\.(?:csv|xlsx|xml|json|px|html|zip)|https://doi\.org/|\b(?:SDMX|CSV|ML|SVG|SHA|DataCite)\b",
+    r"<(pre|script|style)\b.*?</\1>|<[^>]*>|&[a-z]+;|[\w.-]*\.(?:csv|xlsx|xml|json|px|html|zip)|https://doi\.org/"
+    r"|\b(?:SDMX|CSV|ML|SVG|SHA|DataCite)\b",
     re.S,
 )
 """What every language has: tags, what a machine reads, names of files and of forms of data."""

@@ -1,4 +1,7 @@
-"""What a note of the field, and a question to a collector, may have at most. `web/collect/note-limits.js` has the same names for the phone."""
+"""What a note of the field, and a question to a collector, may have at most.
+
+`web/collect/note-limits.js` has the same names for the phone.
+"""
 
 from __future__ import annotations
 
