@@ -502,9 +502,10 @@ def test_what_isnt_as_it_was_written_is_made_anew(published: list[Published], tm
     written(published, CONFIG, out)
     now = {each: (out / each).read_bytes() for each in files_of(out)}
     apart = {each for each in before.keys() | now.keys() if before.get(each) != now.get(each)}
-    # (an archive that can't be read is taken for one that had nothing, so its observations are told as replaced)
-    told = {"manifest.json", "SHA256SUMS", "data.html"} if name in ARCHIVES else set()
-    assert {each for each in apart if not (told and each.startswith("data/changes/"))} == told
+    # (what changed can't be known without the archive, which a row says)
+    assert apart == ({"manifest.json", "SHA256SUMS"} if name in ARCHIVES else set())
+    if name in ARCHIVES:
+        assert json.loads(now["manifest.json"])["changes"][-1]["replaced"] is None
     assert check(published, CONFIG, out, None, quiet) == []
 
 

@@ -53,6 +53,10 @@ class Before:
             return path if path and wanted and sum_of(path) == wanted else None
         return None
 
+    def is_lost(self, name: str) -> bool:
+        """Whether the pack had a file of this name that isn't as it was written any more."""
+        return name in self._sums and not self.whole(name)
+
     def take_same(self, name: str, to: Path, content: bytes, sum_of_content: str) -> bool:
         """Takes a file if it has these bytes; whether it did."""
         path = self._path(name)

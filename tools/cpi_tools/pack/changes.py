@@ -169,7 +169,8 @@ class _Pair:
         self._new = [folder / "data" / OBSERVATIONS, *now]
         archived = {year: found for year in changed if (found := before.whole(_archive(year)))}
         earlier = (_member(found, room / f"old-{year}.csv") for year, found in archived.items())
-        self._old = [whole, *earlier] if whole else []
+        is_lost = any(before.is_lost(_archive(year)) for year in changed)
+        self._old = [whole, *earlier] if whole and not is_lost else []
         self._taken = {path.stem for path in archives} - {*changed}
 
     @property
