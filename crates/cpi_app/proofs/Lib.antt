@@ -1,5 +1,7 @@
 pub mod Beginning
 pub mod Fronts
+pub mod Losing
 pub mod Numbers
 pub mod Served
+pub mod ServedRuns
 pub mod Tabled

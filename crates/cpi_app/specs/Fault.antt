@@ -1,5 +1,6 @@
 -- The line of an error on standard error, and the exit status.
-use Rattle.std.specs.Prelude.{ℕ, List, ◌++◌, codes}
+use Rattle.std.specs.Prelude.{◌≡◌, ◌⊎◌, ℕ, Bool, true, List, [], ◌∷◌, ◌++◌, Option, codes}
+use Rattle.std.specs.Io.KnownBytes.{Appends}
 use Rattle.cpi_wire.specs.Fault.{fault_text}
 use Rattle.cpi_app.specs.declared.fault.RunFault.{RunFault}
 use Rattle.cpi_app.specs.declared.fault.RunFault.TheVariants.{BadWord, BadZone, BadKey, BadMonth, Database}
@@ -28,3 +29,12 @@ line_of_fault (Wire fault) = codes "cpi: " ++ fault_text fault
 abbrev pub status_of_fault : RunFault → ℕ
 status_of_fault BadWord = 2
 status_of_fault _ = 1
+
+-- the line of a fault was written, with its end, unless a write failed
+abbrev pub IsReported : RunFault → Bool → Option (List ℕ) → Option (List ℕ) → Type 0
+IsReported fault failed was is = (failed ≡ true) ⊎ Appends was is (line_of_fault fault ++ 10 ∷ [])
+
+-- the job ended well; or with a fault that is so, whose line was written to standard error and whose status it has
+abbrev pub EndsWithLine : (RunFault → Type 0) → ℕ → Bool → Option (List ℕ) → Option (List ℕ) → Type 0
+EndsWithLine IsSo status failed was is = (status ≡ 0)
+    ⊎ ((fault : RunFault) × IsSo fault × (status ≡ status_of_fault fault) × IsReported fault failed was is)

@@ -5,6 +5,11 @@ pub mod Connection
 pub mod Desk
 pub mod Fault
 pub mod Listener
+pub mod LocalAddress
+pub mod LostBytes
+pub mod MetPeers
 pub mod Replay
+pub mod ServedPeers
+pub mod ServedRuns
 pub mod Table
 pub mod Visits

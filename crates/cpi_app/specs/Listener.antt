@@ -1,5 +1,5 @@
 -- Where connections come from.
-use Rattle.std.specs.Prelude.{◌≡◌, ◌⊎◌, ⊤, ℕ, Option, Some, None}
+use Rattle.std.specs.Prelude.{◌≡◌, ◌⊎◌}
 use Rattle.cpi_wire.specs.declared.fault.WireFault.TheVariants as fault
 use Rattle.cpi_app.specs.declared.fault.RunFault.{RunFault}
 use Rattle.cpi_app.specs.declared.fault.RunFault.TheVariants.{NoPort, Wire}
@@ -15,13 +15,6 @@ pub data Arrival : Type 0 where
 -- the listener before a wait, what it met, and the listener after
 abbrev pub Meeting : Type 0 → Type 1
 Meeting L = L → Arrival → L → Type 0
-
--- a connection comes at a moment that the clock may show, or is closed if it may show none; and nobody knows the bytes
--- of a connection beforehand
-abbrev pub IsByClock : (Option ℕ → Type 0) → Arrival → Type 0
-IsByClock Shows (Came c) = Shows (Some c.moment) × (c.sent ≡ None) × (c.written ≡ None) × (c.writing ≡ None)
-IsByClock Shows Missed = ⊤
-IsByClock Shows Timeless = Shows None
 
 -- nobody can be listened to: the port is taken, or it couldn't be reported that somebody listens
 abbrev pub IsUnheard : RunFault → Type 0

@@ -6,9 +6,11 @@ ghost use Rattle.cpi_release.specs.PublishedTables.{PublishedTable};
 ghost use Rattle.cpi_release.specs.State.{Keeps, StaysClean};
 ghost use Rattle.cpi_store.specs.Tables.{table_until};
 ghost use Rattle.cpi_office.specs.Answers.{table_bytes};
+ghost use Rattle.cpi_app.specs.Fault.{EndsWithLine};
 ghost use Rattle.cpi_app.specs.Table.{IsTable, IsWritten, IsNotWritten, IsPrinted, IsTooLate, AsksForNone};
 
 use crate::fault::RunFault;
+use crate::offer_note::OfferNote;
 use cpi_codes::{Moment, Month};
 use cpi_release::{Form, PrintedTable, Revision, printed};
 use cpi_store::{Book, OpenFault};
@@ -98,23 +100,27 @@ pub fn write_table<B: Book, W: Write>(
 }
 
 /// Prints the table of the month, in the revision that is asked for, as it was published by the moment, or the line of
-/// the error to `err`, and answers the exit status.
+/// the error to `err`, and answers the exit status. The note says whether a write of that line failed.
 pub fn print_table<B: Book, W: Write, E: Write>(
     alloc: Global,
     book: &mut B,
     asked: AskedTable,
     out: &mut W,
     err: &mut E,
+    note: &mut OfferNote<E>,
 ) -> u8
     ensures keeps { Keeps (B.state book.old) (B.state book.new) }
     ensures printed { (B.state book.new).is_clean →
         IsPrinted asked (B.state book.old).held (W.contents out.old) (W.contents out.new) result }
+    ensures reported { EndsWithLine (λ fault. (B.state book.new).is_clean →
+        IsNotWritten asked (B.state book.old).held (W.contents out.old) (W.contents out.new) fault)
+        result note.new.has_failed (E.contents err.old) (E.contents err.new) }
     ensures quiet { result ≡ 0 → err.new ≡ err.old }
 {
     match write_table(alloc, book, asked, out) {
         Ok(()) => 0,
         Err(fault) => {
-            let _ = writeln!(err, "{fault}");
+            note.write_line(err, fault);
             fault.status()
         }
     }

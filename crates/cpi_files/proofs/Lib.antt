@@ -1,2 +1,3 @@
+pub mod Reopened
 pub mod Serving
 pub mod Answered

@@ -6,7 +6,7 @@ ghost use Rattle.cpi_files.specs.Taken.{IsRefusedAs};
 use crate::cabinet::Cabinet;
 use crate::job::BookJob;
 use crate::taken::job_in_cabinet;
-use cpi_app::{AskedTable, RunFault, print_table};
+use cpi_app::{AskedTable, OfferNote, RunFault, print_table};
 use cpi_store::Book;
 use std::alloc::Global;
 use std::io::{Read, Write, empty};
@@ -34,7 +34,8 @@ impl BookJob for Print {
         err: &mut E,
     ) -> (B, u8) {
         let mut book = book;
-        let status = print_table(alloc, &mut book, self.asked, out, err);
+        let mut note = OfferNote::new();
+        let status = print_table(alloc, &mut book, self.asked, out, err, &mut note);
         (book, status)
     }
 }

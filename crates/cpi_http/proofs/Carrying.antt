@@ -43,7 +43,8 @@ module _ {B : Type 0} (state : B → State Office) where
 
 -- the cause is that of the reply
 pub said_caused : {E : Type 0} (old new : State Office) (said : Said) (failed : Bool) (cause : Option Cause)
-    (r : Result Response E) → IsCaused old new failed cause → IfOk r (SaysResponse said failed) → IfOk r (λ response. response.cause ≡ cause)
+    (r : Result Response E) → IsCaused old new failed cause → IfOk r (SaysResponse said failed)
+    → IfOk r (λ response. response.cause ≡ cause)
     → IfOk r (λ response. IsCaused old new response.failed response.cause)
 said_caused old new said failed cause (Ok response) caused says is =
     subst (λ f. IsCaused old new f response.cause) (sym says.3)

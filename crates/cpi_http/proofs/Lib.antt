@@ -1,5 +1,6 @@
 pub mod Alike
 pub mod Carrying
+pub mod ChangedRows
 pub mod FieldValues
 pub mod Front
 pub mod Serving

@@ -5,6 +5,7 @@ use Rattle.cpi_release.specs.declared.form.Form.{Form}
 use Rattle.cpi_store.specs.Office.{Office}
 use Rattle.cpi_store.specs.Sound.{IsSound}
 use Rattle.cpi_office.specs.ComputedTables.{computed_reply, IsKnown, TellTables}
+use Rattle.cpi_office.specs.OneChange.{ChangesRows}
 use Rattle.cpi_office.specs.Runs.{replies, trace}
 use Rattle.cpi_office.specs.Served.{RunOverBook, all_served, NoneFails}
 use Rattle.cpi_office.specs.ProjectedChanges.{Sight, sights_of}
@@ -62,6 +63,15 @@ abbrev pub AreMessagesOfARun : {B : Type 0} → (B → State Office) → Type 0
 AreMessagesOfARun {B} state =
     (old new : B) (asks : List Ask) (answers : List Answer) → CarriedOut state old asks answers new →
     RunOverBook (state old) (state new) (requests_of_asks asks) (replies_of_asks asks answers)
+
+-- Messages that were carried out in turn, from a sound office, changed only rows that their requests asked for, at most
+-- one each, of a hand-over two; and each caller's view is the view before, with what the caller sees of those rows. A
+-- request that was answered 90 changed nothing. The store is clean once the messages are carried out.
+abbrev pub MessagesChangeRows : {B : Type 0} → (B → State Office) → Type 0
+MessagesChangeRows {B} state =
+    (old new : B) (asks : List Ask) (answers : List Answer) → CarriedOut state old asks answers new →
+    (state new).is_clean → IsSound (state old).held →
+    ChangesRows (all_served (requests_of_asks asks) (replies_of_asks asks answers)) (state old).held (state new).held
 
 -- the response to a message, with these replies to its requests
 abbrev pub printed_response : MessageAsks → List Reply → List ℕ

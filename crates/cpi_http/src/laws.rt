@@ -1,6 +1,6 @@
 //! Theorems about the definitions.
 ghost use Rattle.cpi_http.specs.Laws.{AreMessagesOfARun, OneMessage, ResponsesAreAlike, TableResponsesAreComputed};
-ghost use Rattle.cpi_http.specs.Laws.{MessagesReportTables, ResponsesArePrinted};
+ghost use Rattle.cpi_http.specs.Laws.{MessagesChangeRows, MessagesReportTables, ResponsesArePrinted};
 
 use cpi_store::Book;
 
@@ -13,6 +13,15 @@ pub fn one_message()
 /// refused before a request was made, and the answers to these.
 pub fn messages_are_a_run<B: Book>()
     ensures { AreMessagesOfARun B.state }
+{}
+
+/// Messages that were carried out in turn changed only rows that their requests asked for, at most one each, of a
+/// hand-over two. Each caller's view at each moment is the view before, with what the caller sees of those rows.
+///
+/// The office is sound, and the store is clean once the messages are carried out. A request that is answered
+/// [`cpi_office::Refusal::Unavailable`] changes nothing.
+pub fn messages_change_rows<B: Book>()
+    ensures { MessagesChangeRows B.state }
 {}
 
 /// The response to a message, whoever sends it, is what the replies of the office to its requests print: those of

@@ -20,7 +20,8 @@ mod statuses;
 
 pub use bytes::Content;
 pub use laws::{
-    messages_are_a_run, one_message, responses_are_alike, responses_are_printed, tables_are_sent,
+    messages_are_a_run, messages_change_rows, one_message, responses_are_alike,
+    responses_are_printed, tables_are_sent,
 };
 pub use limits::{MOST_BODY_BYTES, MOST_BYTES_WITH_HEAD, MOST_FIELDS, MOST_HEAD_BYTES};
 pub use routes::{Route, Routes, examples};

@@ -38,7 +38,7 @@ pub enum Served {
     Cut,
 }
 
-/// How the message of a connection ended, and the cause of the first reply that says that the office was unavailable.
+/// How the message of a connection ended, and a cause if a reply says that the office was unavailable.
 #[derive(Clone, Copy)]
 pub struct Ended {
     pub served: Served,
@@ -212,8 +212,8 @@ pub fn serve_one<R: Read, W: Write, B: Book>(
 }
 
 /// Does what [`serve_one`] does, by routes that are kept from message to message, and says why if the message isn't
-/// answered: with a reply that is 90 comes its cause, and it gives up only by a [`Failure`]. After `Read` the first note
-/// says that reading failed, and after `Write` the second one says that writing did.
+/// answered: if a reply is 90, a cause comes with it, and it gives up only by a [`Failure`]. After `Read` the first
+/// note says that reading failed, and after `Write` the second one says that writing did.
 pub fn serve_noted<R: Read, W: Write, B: Book>(
     alloc: Global,
     routes: &Routes,

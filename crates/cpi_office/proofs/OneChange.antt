@@ -1,7 +1,10 @@
 -- What a request changes is one row that it asked for.
 use Rattle.std.proofs.Common.{◌≡◌, ℕ, ◌≤◌, Bool, true, false, List, [], length, Some, None, Option, Result, Ok, Err}
 use Rattle.std.proofs.Common.{refl, sym, ap, subst, arith, inl, inr}
-use Rattle.std.specs.Prelude.{nat_lt, nat_le, is_none, option_map, not}
+use Rattle.std.specs.Prelude.{nat_lt, nat_le, is_none, option_map, not, ◌&&◌, ◌==◌, ◌+◌}
+use Rattle.std.proofs.lemmas.Bool.{eqb-true}
+use Rattle.cpi_rows.proofs.Truth.{and_both}
+use Rattle.cpi_store.specs.Series.{same_series}
 use Rattle.std.specs.List.{AllByRecursion}
 use Rattle.cpi_rows.specs.Keyed.{row_by_number}
 use Rattle.cpi_rows.specs.Held.{held_by}
@@ -151,14 +154,17 @@ module _ (o : Office) (h : HandOver) where
   module _ (b c : Registration) (from : row_by_number (λ b. b.number) h.from o.collectors ≡ Some b)
       (to : row_by_number (λ b. b.number) h.to o.collectors ≡ Some c) where
     judged_asked : (former : Given) → in_slot_of b.number h.slot ≡ Some former → (w : Result Assignment Refusal) →
-        ((a : Assignment) → w ≡ Ok a → a.slot ≡ h.new_slot) → Handed-by (over.over_judged h o b c former w)
-    judged_asked former has (Err f) slot = tt
-    judged_asked former has (Ok a) slot = (
+        ((a : Assignment) → w ≡ Ok a → (a.slot ≡ h.new_slot) × (a.first_month ≡ h.month)) →
+        Handed-by (over.over_judged h o b c former w)
+    judged_asked former has (Err f) asked = tt
+    judged_asked former has (Ok a) asked = (
       (
         number_is o h.from b from,
         at_key (λ (g : Given). g.assignment.slot) h.slot former (held_by b.number o.assignments) has,
+        refl,
         number_is o h.to c to,
-        slot a refl,
+        (asked a refl).0,
+        (asked a refl).1,
       ),
       tt,
     )
@@ -171,16 +177,25 @@ module _ (o : Office) (h : HandOver) where
           (
             number_is o h.from b from,
             at_key (λ (g : Given). g.assignment.slot) h.slot former (held_by b.number o.assignments) has,
+            refl,
             number_is o h.to c to,
             at_key (λ (g : Given). g.assignment.slot) h.new_slot new (held_by c.number o.assignments) there,
+            first_is e,
           ),
           tt,
         )) (λ e. tt)
+      where
+        first_is : over.stands_over h former new ≡ true → new.assignment.first_month ≡ h.month
+        first_is e =
+            let first = and_both (same_series new.series former.series && new.assignment.first_month == h.month)
+            (former.assignment.last_month + 1 == h.month) e in
+            eqb-true new.assignment.first_month h.month
+            (and_both (same_series new.series former.series) (new.assignment.first_month == h.month) first.0).1
     slots_asked (Some former) None has there = if_holds Judged (not (over.is_handed_within h former.assignment)) _ _
         (λ e. tt) (λ e. if_holds Judged (over.is_not_after h.month (last_frozen (frozen_months o.releases))) _ _
         (λ e. tt) (λ e. if_holds Judged (has_quotes_since h.slot h.month (held_by b.number o.quotes)) _ _ (λ e. tt)
         (λ e. judged_asked former has (Ok (over.taken_on h former.assignment (held_by b.number o.quotes)))
-        (λ a is. ap (λ (a : Assignment). a.slot) (sym (ok_is is))))))
+        (λ a is. (ap (λ (a : Assignment). a.slot) (sym (ok_is is)), ap (λ (a : Assignment). a.first_month) (sym (ok_is is)))))))
       where
         Judged : Result Assignment Refusal → Type 0
         Judged w = Handed-by (over.over_judged h o b c former w)

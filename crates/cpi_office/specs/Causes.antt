@@ -11,8 +11,9 @@ use Rattle.cpi_office.specs.declared.cause.Cause.{Cause}
 use Rattle.cpi_office.specs.declared.reply.Reply.{Reply}
 use Rattle.cpi_office.specs.declared.request.Request.{Request}
 
--- Over two offices of which a caller sees the same, a request of the caller is told the same, refusal 90 included, if
--- both calls gave an answer or neither did.
+-- Let two calls, over two offices of which a caller but the desk sees the same, each give the office's reply to a
+-- request of the caller, or a cause. If both gave a reply or neither did, the caller is told the same, refusal 90
+-- included.
 abbrev pub CausesAreAll : Type 0
 CausesAreAll =
     (now : ℕ) (k : Caller) (r : Request) (o u : Office) (a b : Result Reply Cause) → k ≢ Desk →

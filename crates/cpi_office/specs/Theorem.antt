@@ -1,6 +1,7 @@
 -- The main theorem, in the order and the letters of THEOREM. An office runs under rules: a verdict on each request, and
--- an answer from a view. Statement 1 says that the program is the office under its own rules; statements 2 to 4 hold
--- under any rules that are fit, and the office's own are; 5 speaks of the index, 6 of a crash.
+-- an answer from a view. Statement 1 says that the program is the office under its own rules. 2 holds under any fit
+-- rules; 3 too, but of messages if collectors are judged by their views (JudgesByView); 4 if the rules keep collectors
+-- apart (KeepsApart). The office's own are all of these. 5 speaks of the index, 6 of a crash.
 use Rattle.std.specs.Prelude.{◌≡◌, List}
 use Rattle.cpi_release.specs.State.{State}
 use Rattle.cpi_store.specs.Office.{Office}

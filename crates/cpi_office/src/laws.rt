@@ -28,9 +28,11 @@ pub fn empty_is_sound()
     ensures { IsSound empty_office }
 {}
 
-/// The main theorem, in the order of docs/develop/THEOREM.md. Statements 1 and 6 are of runs over a book. Statements 2 to
-/// 4 hold under any rules that are fit, whatever the desk decides, whatever an answer makes of a view, and whatever the
-/// parser and the printer of messages do; the rules of the office are fit.
+/// The main theorem, in the order of docs/develop/THEOREM.md. Statements 1 and 6 are of runs over a book. Statement 2
+/// holds under any fit rules, whatever the desk decides and whatever an answer makes of a view. Statement 3 does so of
+/// answers, and of messages if collectors are judged by their views (`JudgesByView`), whatever their parser and printer
+/// do; what it says of 90 is of the office's own replies. Statement 4 holds under fit rules that keep collectors apart
+/// (`KeepsApart`). The rules of the office are all of these.
 ///
 /// It doesn't say that a collector can't notice another: an answer may take longer, a request may be answered
 /// [`crate::Refusal::Unavailable`] because another took the memory, and freezes and hand-overs pass prices on.
@@ -98,8 +100,9 @@ pub fn replies_are_alike<B: Book, C: Book>()
     ensures { RepliesAreAlike B.state C.state }
 {}
 
-/// Over two offices of which a caller sees the same, a request is told the same, [`crate::Refusal::Unavailable`]
-/// included, if both calls gave an answer or neither did. The premises are what `answered` says of `Office::answer`.
+/// Over two offices of which a caller, but not the desk, sees the same, a request is told the same,
+/// [`crate::Refusal::Unavailable`] included, if both calls gave an answer or neither did. The premises are what
+/// `answered` says of `Office::answer`.
 pub fn causes_are_all()
     ensures { CausesAreAll }
 {}

@@ -51,10 +51,10 @@ impl<B: Book> Office<B> {
     /// [`Refusal::NotForCaller`], and a collector gets it in place of that one or of [`Refusal::UnknownKey`] only if a
     /// look-up of the book failed during the call.
     ///
-    /// A request changes at most one row, which it asked for, and each caller's view at each moment is then the view
-    /// before, with that row if the caller sees it. If a caller who isn't turned away asks for a table, the reply,
-    /// unless it is [`Refusal::Unavailable`], is the printed form of the one that the definitions of the index give over
-    /// the frozen quotes and weights, in the revision that is named or the latest that is published, or
+    /// A request changes at most one row, of a hand-over two, which it asked for, and each caller's view at each moment
+    /// is then the view before, with what the caller sees of that. If a caller who isn't turned away asks for a table,
+    /// the reply, unless it is [`Refusal::Unavailable`], is the printed form of the one that the definitions of the
+    /// index give over the frozen quotes and weights, in the revision that is named or the latest that is published, or
     /// [`Refusal::NoTable`] if they give none.
     ///
     /// Over a book that keeps its rows, a crash at the end of the call leaves the office as it could be left before, or

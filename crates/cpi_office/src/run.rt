@@ -21,11 +21,12 @@ impl<B: Book> Office<B> {
     /// Answers requests in order, each reply in the place of its request. Requests that are answered
     /// [`Refusal::Unavailable`] change nothing, and the others are answered as if these had not been sent.
     ///
-    /// From a sound office, for any requests of any callers: each request changes at most one row, which it asked for;
-    /// each caller's view at each moment is the view before, with those rows that the caller sees; and each reply to a
-    /// collector or to the public is the answer from that view as it was then. Each release of the office afterwards has the table that the definitions of the index give
-    /// over the quotes and weights frozen with it and before it, and no earlier release has changed. Each reply to a
-    /// request for a table is the printed form of the one that these definitions give over the quotes frozen by then.
+    /// From a sound office, for any requests of any callers: each request changes at most one row, of a hand-over two,
+    /// which it asked for; each caller's view at each moment is the view before, with what the caller sees of those
+    /// rows; and each reply to a collector or to the public is the answer from that view as it was then. Each release
+    /// of the office afterwards has the table that the definitions of the index give over the quotes and weights frozen
+    /// with it and before it, and no earlier release has changed. Each reply to a request for a table is the printed
+    /// form of the one that these definitions give over the quotes frozen by then.
     ///
     /// Non-interference: if neither a freeze nor a hand-over is among the requests, each collector gets the replies
     /// that a run without the requests of all other collectors would give. A freeze publishes a table that is computed

@@ -4,7 +4,8 @@ use Rattle.std.proofs.Common.{◌∙◌}
 use Rattle.std.specs.Prelude.{OnOk}
 use Rattle.std.specs.Result.{IsErr, is_ok}
 use Rattle.sqlite.specs.Effect.{Database}
-use Rattle.sqlite.specs.State.{State, HasCleanDisk}
+use Rattle.sqlite.specs.State.{State, HasCleanDisk, Survives}
+use Rattle.sqlite.proofs.StateLemmas.{survives_weaker}
 use Rattle.cpi_release.specs.State.{State as BookState, Keeps, Reads}
 use Rattle.cpi_release.proofs.PassLemmas.{keeps_more, stays_more}
 use Rattle.cpi_store.specs.Office.{Change, Office, office_with}
@@ -12,9 +13,10 @@ use Rattle.cpi_store.specs.Calls.{Writes}
 use Rattle.cpi_sql_rows.specs.Finding.{IsSettled}
 use Rattle.cpi_sql_rows.specs.Lists.{office_in}
 use Rattle.cpi_sql_rows.specs.Making.{IsOfficeDatabase}
-use Rattle.cpi_sql_rows.specs.Shelf.{HasTables, IsCleanBook, IsDone, IsLook, Looks, office_state}
+use Rattle.cpi_sql_rows.specs.Shelf.{HasTables, IsCleanBook, IsLook, Looks, office_state}
+use Rattle.cpi_sql_writes.specs.Rest.{LeavesOnly, MakesOnly}
 use Rattle.cpi_sql_writes.specs.Written.{Written}
-use Rattle.cpi_sql.specs.Calls.{IsCounted}
+use Rattle.cpi_sql.specs.Calls.{IsCounted, WritesTables}
 use Rattle.cpi_sql.proofs.Counted.{on_err, on_ok}
 
 -- ---- a read
@@ -62,8 +64,14 @@ module _ {change : Change} {fits : Office → Type 0} {A E : Type 0} (old new : 
       → (office_state old n).may_leave o ⊎ (o ≡ office_with change (office_in old.now.trees))
   left r written tables owed was disk o may = elim (written.crash.crash disk may.0 may.1) [
     | inl before ↦ inl (may.0, before, may.2)
-    | inr made ↦ let it = made (tables was) (owed was) in inr (may.2 it.0 ∙ it.1.office)
+    | inr made ↦ let it = made (tables was) (owed was) in inr (may.2 it.office ∙ it.made.office)
   ]
+
+  rows_left : (put : Result A E) → Written change fits old new put → (IsCleanBook old → HasTables old)
+      → (IsCleanBook old → fits (office_in old.now.trees))
+      → Survives old new (λ db. IsCleanBook old → LeavesOnly change old.now.trees db)
+  rows_left put written tables owed =
+      survives_weaker old new _ _ (λ _ db made was. made (tables was) (owed was)) written.crash
 
   module _ {F : Type 0} (put : Result A E) (m : ℕ) (written : Written change fits old new put)
       (tables : IsCleanBook old → HasTables old) (owed : IsCleanBook old → fits (office_in old.now.trees)) where
@@ -73,22 +81,39 @@ module _ {change : Change} {fits : Office → Type 0} {A E : Type 0} (old new : 
         → Writes (office_state old n) (office_state new m) {T = A} {F = F} (Ok u)
         (office_with change (office_in old.now.trees))
     puts counted opens settled =
-        let done : IsCleanBook new → IsDone change old new = λ clean. let was = written.clean clean in
+        let only : IsCleanBook new → MakesOnly change old new = λ clean. let was = written.clean clean in
         on_ok put counted (written.done clean (tables was) (owed was)) in
         record {
           was_kept = λ disk. omega (arith, disk, written.crash.clean);
           was_clean = written.clean;
           stays = λ was disk. record { disk = disk; is_open = on_ok put counted (opens disk (tables was).alone) };
-          done = λ clean. (done clean).made.office;
+          done = λ clean. (only clean).done.made.office;
           kept = λ clean. tt;
           count = omega (arith, on_ok put counted counted.same);
           fault = tt;
           crash = left put written tables owed;
           answered = λ clean o may.
-              let is = settled clean.is_open (done clean).tables.alone may.0 may.1 in
-              may.2 (subst IsOfficeDatabase (sym is) (done clean).tables.office) ∙ ap office_in is
-              ∙ (done clean).made.office;
+              let is = settled clean.is_open (only clean).done.tables.alone may.0 may.1 in
+              may.2 (subst IsOfficeDatabase (sym is) (only clean).done.tables.office) ∙ ap office_in is
+              ∙ (only clean).done.made.office;
         }
+
+    -- and nothing else is done in the tables
+    pub rows_put : {u : A} → IsCounted {F = F} put (Ok u) n m → WritesTables {T = A} {F = F} change old new (Ok u)
+    rows_put counted = record {
+      done = λ clean. let was = written.clean clean in on_ok put counted (written.done clean (tables was) (owed was));
+      kept = λ clean. tt;
+      crash = rows_left put written tables owed;
+    }
+
+    pub rows_kept : {T G : Type 0} {f : F} (r : Result T G) → IsErr r → IsCounted put (Err f) n m
+        → WritesTables change old new r
+    rows_kept (Ok x) is_err counted = absurd (let no = is_err in cc)
+    rows_kept (Err e) is_err counted = record {
+      done = λ clean. tt;
+      kept = λ clean. on_err put counted (written.kept clean (tables (written.clean clean)));
+      crash = rows_left put written tables owed;
+    }
 
     pub put_fails : {T G : Type 0} {f : F} (r : Result T G) → IsErr r → IsCounted put (Err f) n m
         → Writes (office_state old n) (office_state new m) r (office_with change (office_in old.now.trees))

@@ -19,9 +19,10 @@ use Rattle.cpi_sql_rows.specs.Texts.{is_release}
 use Rattle.cpi_sql_writes.specs.ReleaseSteps.{IsNewRevision, ListsStand}
 use Rattle.cpi_sql_rows.specs.Lists.{office_in, releases_in, release_number}
 use Rattle.cpi_sql_rows.specs.Making.{IsOfficeDatabase}
-use Rattle.cpi_sql_rows.specs.Shelf.{AllStand, AllStandFor, AreTaken, HasTables, IsCleanBook, IsDone}
+use Rattle.cpi_sql_rows.specs.Shelf.{AllStand, AllStandFor, AreTaken, HasTables, IsCleanBook}
 use Rattle.cpi_sql_rows.specs.Shelf.{IsLook, IsPlanTaken, Takes, WritesTaken, survey_of}
 use Rattle.cpi_sql_rows.proofs.Kept.{kept_tables}
+use Rattle.cpi_sql_writes.specs.Rest.{MakesOnly}
 use Rattle.cpi_sql_writes.specs.Written.{Written}
 use Rattle.cpi_sql_reads.specs.Headers.{AreHeadersOf}
 use Rattle.cpi_sql_reads.specs.CachedLists.{AreListsCached, IsThere}
@@ -164,7 +165,8 @@ module _ {change : Change} {fits : Office → Type 0} {A E F : Type 0} {u : A} {
   survey_sound is_read survey passes still follows = λ clean.
       let was = written.clean clean in
       let st = sound was in
-      let done : IsDone change old new = on_ok put counted (written.done clean st.tables (owed was)) in
+      let only : MakesOnly change old new = on_ok put counted (written.done clean st.tables (owed was)) in
+      let done = only.done in
       let same : releases_in new.now.trees ≡ releases_in old.now.trees =
       ap (λ (o : Office). o.releases) done.made.office ∙ still (office_in old.now.trees) in
       record {
@@ -199,7 +201,8 @@ release_sound {put = put} r old new c written counted owed stands sound headers 
     let was = written.clean clean in
     let st = sound was in
     let none = owed was in
-    let done : IsDone (Freezes r) old new = on_ok put counted (written.done clean st.tables none) in
+    let only : MakesOnly (Freezes r) old new = on_ok put counted (written.done clean st.tables none) in
+    let done = only.done in
     let stand : ListsStand r new.now.trees = on_ok put counted (stands clean st.tables none) in
     let put_in = ap (λ (o : Office). o.releases) done.made.office in
     let still = put_still old.now.trees new.now.trees r none put_in in

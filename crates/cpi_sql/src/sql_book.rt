@@ -3,15 +3,18 @@ ghost use Rattle.std.specs.Borrow.{sem};
 ghost use Rattle.std.specs.Option.{option_copied};
 ghost use Rattle.std.specs.Prelude.{◌≡◌, MatchResult};
 ghost use Rattle.cpi_codes.specs.Month.{year_of};
+ghost use Rattle.cpi_rows.specs.Keyed.{IsInOrder, row_at};
 ghost use Rattle.cpi_index.specs.Series.{frozen_serial, are_by_series};
-ghost use Rattle.cpi_release.specs.FrozenMonths.{frozen_months};
+ghost use Rattle.cpi_release.specs.FrozenMonths.{frozen_months, release_cmp, release_key};
 ghost use Rattle.cpi_release.specs.GroupCalls.{IsAfterFrozen, group_of};
 ghost use Rattle.cpi_release.specs.CachedSamples.{IsFit};
 ghost use Rattle.cpi_release.specs.PublishedTables.{frozen_month_of, published_until};
 ghost use Rattle.cpi_release.specs.Releases.{level_at_month};
 ghost use Rattle.cpi_store.specs.Calls.{EndsAs};
 ghost use Rattle.cpi_store.specs.Registration.{registration_of, collector_key, collector_of};
-ghost use Rattle.cpi_store.specs.Office.{Office, quotes_of_month, own_part, public_part};
+ghost use Rattle.cpi_store.specs.Office.{Assigns, Freezes, HandsOver, Office, PutsCalendar, PutsItem, PutsOutlet};
+ghost use Rattle.cpi_store.specs.Office.{PutsPlan, Quotes, Registers, given_until, own_part, public_part};
+ghost use Rattle.cpi_store.specs.Office.{quotes_of_month};
 ghost use Rattle.cpi_store.specs.Sources.{office_sources};
 ghost use Rattle.cpi_store.specs.Tables.{table_until};
 ghost use Rattle.cpi_sql_rows.specs.Common.{⊤, AreTaken, IsTrue, None, OnErr, OnOk, row_by_number, book_state, false};
@@ -21,7 +24,8 @@ ghost use Rattle.cpi_sql_rows.specs.Lists.{level_in_row};
 ghost use Rattle.cpi_sql_rows.specs.Tables.{table_of_levels_2};
 ghost use Rattle.cpi_sql_reads.specs.Headers.{LatestStands};
 ghost use Rattle.cpi_sql_reads.specs.Samples.{SamplesTaken};
-ghost use Rattle.cpi_sql.specs.Calls.{Finds, HeadersTaken, IsCounted, IsTableTaken, KeepsRows, ReadsOffice, RestsOn};
+ghost use Rattle.cpi_sql.specs.Calls.{Finds, HeadersTaken, IsCounted, IsTableTaken, KeepsRows, Owes, ReadsOffice};
+ghost use Rattle.cpi_sql.specs.Calls.{RestsOn, WritesOffice, WritesRows};
 ghost use Rattle.cpi_sql.specs.Opens.{IsOpenedOffice, IsUnopened};
 ghost use Rattle.cpi_sql.specs.contracts.sql_book.SqlBook.{the_row};
 
@@ -468,28 +472,43 @@ impl<S: Alter> Book for SqlBook<S> {
         Ok(self.lists.table(month, revision))
     }
 
-    fn put_item(&mut self, item: Item) -> Result<(), StoreFault> {
+    fn put_item(&mut self, item: Item) -> Result<(), StoreFault>
+        requires new { Owes S.Store self.old (λ office. row_by_number (λ i. i.code) item.code office.items ≡ None) }
+        ensures writes { WritesOffice S.Store self.old self.new result (PutsItem item) }
+        ensures rows { WritesRows S.Store self.old self.new result (PutsItem item) }
+    {
         let put = put_item(&mut self.conn, self.alloc, &item);
         stored(put, &self.conn, &mut self.samples, &mut self.failed)?;
         follow_item(&mut self.survey, &mut self.is_read, item);
         Ok(())
     }
 
-    fn put_plan(&mut self, plan: YearPlan) -> Result<(), StoreFault> {
+    fn put_plan(&mut self, plan: YearPlan) -> Result<(), StoreFault>
+        ensures writes { WritesOffice S.Store self.old self.new result (PutsPlan plan) }
+        ensures rows { WritesRows S.Store self.old self.new result (PutsPlan plan) }
+    {
         let put = put_plan(&mut self.conn, self.alloc, &plan);
         stored(put, &self.conn, &mut self.samples, &mut self.failed)?;
         follow_plan(&mut self.survey, &mut self.is_read, plan);
         Ok(())
     }
 
-    fn put_calendar(&mut self, row: CalendarRow) -> Result<(), StoreFault> {
+    fn put_calendar(&mut self, row: CalendarRow) -> Result<(), StoreFault>
+        ensures writes { WritesOffice S.Store self.old self.new result (PutsCalendar row) }
+        ensures rows { WritesRows S.Store self.old self.new result (PutsCalendar row) }
+    {
         let put = put_calendar(&mut self.conn, row);
         stored(put, &self.conn, &mut self.samples, &mut self.failed)?;
         follow_calendar(&mut self.survey, &mut self.is_read, row);
         Ok(())
     }
 
-    fn put_collector(&mut self, registration: Registration) -> Result<(), StoreFault> {
+    fn put_collector(&mut self, registration: Registration) -> Result<(), StoreFault>
+        requires number { Owes S.Store self.old (λ office.
+            row_by_number (λ b. b.number) registration.number office.collectors ≡ None) }
+        ensures writes { WritesOffice S.Store self.old self.new result (Registers registration) }
+        ensures rows { WritesRows S.Store self.old self.new result (Registers registration) }
+    {
         // the borrow checker follows a struct that is passed by value once, so the second call takes a copy
         let copy = registration;
         let put = put_collector(&mut self.conn, self.alloc, registration);
@@ -498,7 +517,11 @@ impl<S: Alter> Book for SqlBook<S> {
         Ok(())
     }
 
-    fn put_outlet(&mut self, outlet: Outlet) -> Result<(), StoreFault> {
+    fn put_outlet(&mut self, outlet: Outlet) -> Result<(), StoreFault>
+        requires new { Owes S.Store self.old (λ office. row_by_number (λ u. u.number) outlet.number office.outlets ≡ None) }
+        ensures writes { WritesOffice S.Store self.old self.new result (PutsOutlet outlet) }
+        ensures rows { WritesRows S.Store self.old self.new result (PutsOutlet outlet) }
+    {
         let put = put_outlet(&mut self.conn, &outlet);
         stored(put, &self.conn, &mut self.samples, &mut self.failed)?;
         follow_outlet(&mut self.survey, &mut self.is_read, outlet);
@@ -509,7 +532,12 @@ impl<S: Alter> Book for SqlBook<S> {
         &mut self,
         registration: Registration,
         assigned: Assigned,
-    ) -> Result<(), StoreFault> {
+    ) -> Result<(), StoreFault>
+        requires new { Owes S.Store self.old (λ office. row_by_number (λ g. g.assignment.slot) assigned.assignment.slot
+            (held_by registration.number office.assignments) ≡ None) }
+        ensures writes { WritesOffice S.Store self.old self.new result (Assigns registration assigned) }
+        ensures rows { WritesRows S.Store self.old self.new result (Assigns registration assigned) }
+    {
         // the borrow checker follows a struct that is passed by value once, so the second call takes a copy
         let copy = registration;
         let put = put_assignment(&mut self.conn, self.alloc, registration, &assigned);
@@ -518,14 +546,25 @@ impl<S: Alter> Book for SqlBook<S> {
         Ok(())
     }
 
-    fn put_handover(&mut self, handover: SeriesMove) -> Result<(), StoreFault> {
+    fn put_handover(&mut self, handover: SeriesMove) -> Result<(), StoreFault>
+        requires stands { Owes S.Store self.old (λ office. option_map (given_until handover.ended.assignment.last_month)
+            (row_by_number (λ g. g.assignment.slot) handover.ended.assignment.slot
+            (held_by handover.former.number office.assignments)) ≡ Some handover.ended) }
+        requires new { Owes S.Store self.old (λ office. row_by_number (λ g. g.assignment.slot)
+            handover.assigned.assignment.slot (held_by handover.taker.number office.assignments) ≡ None) }
+        ensures writes { WritesOffice S.Store self.old self.new result (HandsOver handover) }
+        ensures rows { WritesRows S.Store self.old self.new result (HandsOver handover) }
+    {
         let put = put_handover(&mut self.conn, self.alloc, &handover);
         stored(put, &self.conn, &mut self.samples, &mut self.failed)?;
         follow_handover(&mut self.survey, &mut self.is_read, handover);
         Ok(())
     }
 
-    fn put_quote(&mut self, registration: Registration, quote: Quote) -> Result<(), StoreFault> {
+    fn put_quote(&mut self, registration: Registration, quote: Quote) -> Result<(), StoreFault>
+        ensures writes { WritesOffice S.Store self.old self.new result (Quotes registration quote) }
+        ensures rows { WritesRows S.Store self.old self.new result (Quotes registration quote) }
+    {
         // the borrow checker follows a struct that is passed by value once, so the second call takes a copy
         let copy = registration;
         let put = put_quote(&mut self.conn, registration, quote);
@@ -534,7 +573,12 @@ impl<S: Alter> Book for SqlBook<S> {
         Ok(())
     }
 
-    fn put_release(&mut self, release: Release) -> Result<(), StoreFault> {
+    fn put_release(&mut self, release: Release) -> Result<(), StoreFault>
+        requires new { Owes S.Store self.old (λ office. IsInOrder release_cmp release_key office.releases →
+            row_at release_cmp release_key (release.month, release.revision) office.releases ≡ None) }
+        ensures writes { WritesOffice S.Store self.old self.new result (Freezes release) }
+        ensures rows { WritesRows S.Store self.old self.new result (Freezes release) }
+    {
         let put = put_release(&mut self.conn, self.alloc, &release);
         stored(put, &self.conn, &mut self.samples, &mut self.failed)?;
         self.has_headers = false;

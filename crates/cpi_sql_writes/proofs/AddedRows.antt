@@ -16,6 +16,7 @@ use Rattle.cpi_rows.specs.Keyed.{IsInOrder}
 use Rattle.cpi_rows.specs.Held.{held_cmp, held_key}
 use Rattle.cpi_sql_rows.proofs.FoundTables.{on_ok_implies}
 use Rattle.cpi_sql_rows.specs.Steps.{IsRowStep}
+use Rattle.cpi_sql_writes.specs.Rest.{KeepsBut}
 use Rattle.cpi_sql_rows.specs.Shelf.{AllStandFor, IsKeyed, Takes}
 use Rattle.cpi_sql_writes.specs.Within.{Adds, AddsTo, Changes, Drops, Inside, IsReady, Replaces, Within}
 use Rattle.cpi_sql_writes.proofs.Replaced.{Replaced, replaced}
@@ -131,6 +132,16 @@ module _ {X : Type 0} (entry : Row → Option (ℕ × X)) where
   all_stand holder is_of GoesBy number named each xs old new p r h e = elim ((p.2 number named).others r h) [
     | inl was ↦ absurd (true≢false (sym (each r e) ∙ ((p.1 r).0 was).1))
     | inr it ↦ ap is_some it.2
+  ]
+
+  -- Each row that isn't the holder's is there.
+  pub list_kept : (is_of : Row → Bool) (GoesBy : ℕ → Type 0) (number : ℕ) → GoesBy number → (Of : Row → Type 0)
+      → ((r : Row) → is_of r ≡ true → Of r) → (xs : List X) (old new : List Row)
+      → Replaces entry is_of GoesBy xs old new → KeepsBut Of old new
+  unfolding KeepsBut
+  list_kept is_of GoesBy number named Of of xs old new p r h = elim (cases_Bool (is_of r)) [
+    | inl hit ↦ inr (of r hit)
+    | inr miss ↦ inl ((p.2 number named).kept r ((p.1 r).1 (h, miss)))
   ]
 
   -- The rows of the holder are those with its number, so the list takes their place.

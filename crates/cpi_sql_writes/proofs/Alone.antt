@@ -8,16 +8,16 @@ use Rattle.sqlite.proofs.StateLemmas.{survives_weaker}
 use Rattle.cpi_store.specs.Office.{Change, Office}
 use Rattle.cpi_sql_rows.proofs.FoundTables.{on_ok_implies}
 use Rattle.cpi_sql_rows.specs.Lists.{office_in}
-use Rattle.cpi_sql_rows.specs.Making.{IsOfficeDatabase}
-use Rattle.cpi_sql_rows.specs.Shelf.{HasTables, IsChangedBy, IsDone}
+use Rattle.cpi_sql_rows.specs.Shelf.{HasTables}
 use Rattle.cpi_sql_rows.proofs.Change.{IsChange}
+use Rattle.cpi_sql_writes.specs.Rest.{LeavesOnly, MakesOnly}
 use Rattle.cpi_sql_writes.specs.Within.{RunsAlone}
 use Rattle.cpi_sql_writes.specs.Written.{Written}
 
 module _ (text : List ℕ) (params : Row) (Made : Trees → Database → Type 0) (makes : IsChange text params Made)
     (change : Change) (fits : Office → Type 0)
     (done : (old new : State) → HasTables old → fits (office_in old.now.trees) → Made old.now.trees new.now
-    → new.in_transaction ≡ false → IsDatabase new.now → IsDone change old new) where
+    → new.in_transaction ≡ false → IsDatabase new.now → MakesOnly change old new) where
   pub alone_written : {A E : Type 0} (old new : State) (result : Result A E) → RunsAlone text params old new result
       → Written change fits old new result
   alone_written old new result runs = record {
@@ -29,6 +29,9 @@ module _ (text : List ℕ) (params : Row) (Made : Trees → Database → Type 0)
     crash = survives_weaker old new _ _ (λ _ db may has fit.
         let it = makes.commits old db has.schema may in
         let after = done old (record old { now = it.0 }) has fit it.1 has.alone it.3 in
-        subst (λ trees. IsOfficeDatabase trees × IsChangedBy change old.now.trees trees) (sym it.2)
-        (after.tables.office, after.made)) runs.crash;
+        subst (LeavesOnly change old.now.trees) (sym it.2) (record {
+          office = after.done.tables.office;
+          made = after.done.made;
+          rest = after.rest;
+        })) runs.crash;
   }

@@ -11,8 +11,9 @@ use Rattle.sqlite.specs.Tree.{Trees}
 use Rattle.cpi_rows.specs.Keyed.{with_row}
 use Rattle.cpi_store.specs.Office.{Change, office_with}
 use Rattle.cpi_sql_rows.specs.Lists.{rows_in_key_order, office_in}
-use Rattle.cpi_sql_rows.specs.Shelf.{HasTables, IsDone, IsKeyed}
+use Rattle.cpi_sql_rows.specs.Shelf.{HasTables, IsKeyed}
 use Rattle.cpi_sql_rows.specs.Frames.{SameBut, is_beside, written_by}
+use Rattle.cpi_sql_writes.specs.Rest.{KeepsRest, MakesOnly}
 use Rattle.cpi_sql_rows.specs.Making.{HasAllTables}
 use Rattle.cpi_sql_rows.specs.Tables.{office_schema}
 use Rattle.cpi_sql_rows.proofs.Frame.{OfficeTable, Writes, Written, row_written, table_written, tree_of}
@@ -37,10 +38,13 @@ module _ (change : Change) (old new : State) (has : HasTables old) (schema : new
       → AllByRecursion (λ t. Written t (old.now.trees (tree_of t)) (new.now.trees (tree_of t))) tables
       → office_in (beside (map tree_of tables) old.now.trees new.now.trees)
       ≡ office_with change (office_in old.now.trees)
-      → IsDone change old new
-  tables_written tables writes others written office =
-      table_written tables change old new writes schema alone all others written
-      (office_beside (map tree_of tables) old.now.trees new.now.trees others ∙ office) has
+      → KeepsRest change old.now.trees new.now.trees
+      → MakesOnly change old new
+  tables_written tables writes others written office rest = record {
+    done = table_written tables change old new writes schema alone all others written
+        (office_beside (map tree_of tables) old.now.trees new.now.trees others ∙ office) has;
+    rest = rest;
+  }
 
   -- one row is put into one table
   pub row_done : {X K : Type 0} {R : K → K → Ordering} (t : OfficeTable)
@@ -53,7 +57,8 @@ module _ (change : Change) (old new : State) (has : HasTables old) (schema : new
       → (rows_in_key_order R key entry (new.now.trees (tree_of t))
       ≡ with_row R key x (rows_in_key_order R key entry (old.now.trees (tree_of t)))
       → office_in (beside (tree_of t ∷ []) old.now.trees new.now.trees) ≡ office_with change (office_in old.now.trees))
-      → IsDone change old new
+      → KeepsRest change old.now.trees new.now.trees
+      → MakesOnly change old new
   row_done t writes others o key entry x keyed puts written office =
       tables_written (t ∷ []) writes others (written (row_written o key entry x _ _ puts), tt)
       (office (listed_put o key entry x _ _ keyed puts))

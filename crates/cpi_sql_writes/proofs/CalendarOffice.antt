@@ -12,8 +12,10 @@ use Rattle.sqlite.specs.Order.{Row, column}
 use Rattle.cpi_codes.specs.declared.limits.TheConstants.{LAST_MOMENT}
 use Rattle.cpi_plan.specs.Calendar.{CalendarPart}
 use Rattle.cpi_sql_rows.specs.Lists.{calendar_in, number_within, month_from, month_at, in_turn}
+use Rattle.cpi_sql_writes.specs.Rest.{IsMonth, KeepsBut}
 use Rattle.cpi_sql_rows.proofs.Listed.{PutsRow}
 use Rattle.cpi_sql_rows.proofs.KeyColumns.{Tells}
+use Rattle.cpi_sql_writes.proofs.Kept.{agreed_number, over_kept}
 use Rattle.cpi_rows.proofs.Truth.{equal_of_order}
 use Rattle.cpi_sql_rows.proofs.Lists.{bound_is, some_is}
 use Rattle.cpi_sql_rows.proofs.QuoteOffice.{HasMonth, month_of, same_month}
@@ -74,3 +76,12 @@ module _ (x : CalendarPart) (m o c p : ℕ) (is : calendar_in (Int (pos m) ∷ d
       → PutsRow nat_cmp_total day_key calendar_in x old new
   day_puts = puts_row calendar_places (Int (pos m)) (day_behind o c p) nat_cmp_total day_key calendar_in day_tells x
       as_named (λ r y e. refl) same_key
+
+  pub day_kept : (old new : List Row) → PutsOver calendar_places (Int (pos m)) (day_behind o c p) old new
+      → KeepsBut (λ r. IsMonth x.month (column r 0)) old new
+  day_kept old new put =
+      over_kept calendar_places (Int (pos m)) (day_behind o c p) old new put (λ r. IsMonth x.month (column r 0))
+      (λ r hit.
+      let row = Int (pos m) ∷ day_behind o c p in
+      let month = month_in row x is in
+      (month.number, month.is, (agreed_number 0 [] r row month.number month.column hit).0))

@@ -20,8 +20,9 @@ use Rattle.cpi_store.specs.Office.{HandsOver, put_given, given_until, row_until,
 use Rattle.cpi_store.specs.Office.{hand_over}
 use Rattle.cpi_store.proofs.GivenRows.{AreInOrder, end_in_order}
 use Rattle.cpi_sql_rows.specs.Lists.{office_in, assignments_in, assignment_in_row, releases_in}
-use Rattle.cpi_sql_writes.specs.GivenColumns.{CanHandOver, IsNumberFree, PutsGiven}
-use Rattle.cpi_sql_rows.specs.Shelf.{HasTables, IsDone, IsKeyed, Takes}
+use Rattle.cpi_sql_writes.specs.GivenColumns.{AddsGiven, CanHandOver, IsNumberFree, ReplacesGiven}
+use Rattle.cpi_sql_writes.specs.Rest.{IsOfSlot, KeepsAll, KeepsBut, MakesOnly}
+use Rattle.cpi_sql_rows.specs.Shelf.{HasTables, IsKeyed, Takes}
 use Rattle.cpi_sql_rows.specs.Steps.{IsRowStep, SameBut, outside}
 use Rattle.cpi_sql_rows.proofs.Found.{in_order_same}
 use Rattle.cpi_sql_rows.proofs.Listed.{same_in_order, listed_in_order, has_put, put_has, put_keeps}
@@ -169,17 +170,17 @@ module _ (h : SeriesMove) (rows : List (ℕ × Given)) (can : CanHandOver h rows
 
 module _ (h : SeriesMove) (a b c : State) (has : HasTables (outside a))
     (can : CanHandOver h (office_in a.now.trees).assignments)
-    (one : IsRowStep 22 (PutsGiven h.former.number h.ended) a b)
-    (two : IsRowStep 22 (PutsGiven h.taker.number (given_over h)) b c) where
+    (one : IsRowStep 22 (ReplacesGiven h.former.number h.ended) a b)
+    (two : IsRowStep 22 (AddsGiven h.taker.number (given_over h)) b c) where
   first : (assignments_in (b.now.trees 22) ≡ put_given h.former.number h.ended (assignments_in (a.now.trees 22)))
       × IsKeyed (held_cmp nat_cmp) key assignment_in_row (b.now.trees 22)
       × Takes assignment_in_row (a.now.trees 22) (b.now.trees 22)
-  first = one.rows has.assignments
+  first = one.rows.0 has.assignments
 
   second : (assignments_in (c.now.trees 22) ≡ put_given h.taker.number (given_over h) (assignments_in (b.now.trees 22)))
       × IsKeyed (held_cmp nat_cmp) key assignment_in_row (c.now.trees 22)
       × Takes assignment_in_row (b.now.trees 22) (c.now.trees 22)
-  second = two.rows first.1
+  second = two.rows.0 first.1
 
   rows_now : assignments_in (c.now.trees 22) ≡ hand_over h (assignments_in (a.now.trees 22))
   rows_now = second.0 ∙ ap (put_given h.taker.number (given_over h)) (first.0
@@ -190,12 +191,16 @@ module _ (h : SeriesMove) (a b c : State) (has : HasTables (outside a))
   unfolding Takes
   both r h = elim (second.2 r h) [ inl was ↦ first.2 r was | inr stands ↦ inr stands ]
 
+  rest : KeepsBut (IsOfSlot h.former.number h.ended.assignment.slot) (a.now.trees 22) (c.now.trees 22)
+  unfolding KeepsAll KeepsBut
+  rest r there = elim (one.rows.1 r there) [ inl stays ↦ inl (two.rows.1 r stays) | inr ended ↦ inr ended ]
+
   others : SameBut (22 ∷ []) a.now.trees c.now.trees
   others n e = two.others n e ∙ one.others n e
 
-  pub handed_over : IsDone (HandsOver h) (outside a) (outside c)
+  pub handed_over : MakesOnly (HandsOver h) (outside a) (outside c)
   unfolding releases_in
   handed_over = tables_written (HandsOver h) (outside a) (outside c) has two.schema refl
       (two.all (one.all has.office.tables)) (Assignments ∷ []) refl others
       (record { rows = record { keyed = λ _. second.1; takes = both }; rowids = λ _. two.rowids }, tt)
-      (ap (λ rows. record (office_in a.now.trees) { assignments = rows }) rows_now)
+      (ap (λ rows. record (office_in a.now.trees) { assignments = rows }) rows_now) rest

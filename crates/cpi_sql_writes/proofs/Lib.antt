@@ -1,3 +1,4 @@
+pub mod Kept
 pub mod Alone
 pub mod Beside
 pub mod RowWrites

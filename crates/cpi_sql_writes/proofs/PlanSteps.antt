@@ -13,6 +13,7 @@ use Rattle.cpi_plan.specs.declared.plan_rows.Place.{Place}
 use Rattle.cpi_plan.specs.declared.plan_rows.Node.{Node}
 use Rattle.cpi_rows.specs.Keyed.{IsInOrder}
 use Rattle.cpi_rows.specs.Held.{held_cmp, held_key}
+use Rattle.cpi_sql_writes.specs.Rest.{IsNumber, KeepsBut}
 use Rattle.cpi_sql_rows.specs.Shelf.{IsKeyed}
 use Rattle.cpi_sql_rows.specs.Tables.{table_of_nodes, table_of_plan_items, table_of_plan_refs}
 use Rattle.cpi_sql_rows.specs.declared.reference_months.ReferenceMonth.{ReferenceMonth}
@@ -28,7 +29,7 @@ use Rattle.cpi_sql_rows.proofs.Writing.{cast_int, cast_null}
 use Rattle.cpi_sql_writes.specs.Columns.{AreColumns}
 use Rattle.cpi_sql_writes.specs.PlanSteps.{is_of_year, IsYearNumber}
 use Rattle.cpi_sql_writes.specs.Within.{AddsTo, Changes, Drops, RanStatement, Replaces, Within}
-use Rattle.cpi_sql_writes.proofs.AddedRows.{list_replaced}
+use Rattle.cpi_sql_writes.proofs.AddedRows.{list_kept, list_replaced}
 use Rattle.cpi_sql_writes.proofs.Replaced.{Replaced}
 use Rattle.cpi_sql_writes.proofs.TableSteps.{adds_row, drops_rows}
 
@@ -94,6 +95,13 @@ year_read year low high = rw (le-leb 2000 year low, le-leb year 2199 high) refl
 abbrev beside_year : {X : Type 0} → ℕ → (Row → Option X) → Row → Option (ℕ × X)
 beside_year place from r =
     and_then (number_within 2000 2199 (column r place)) (λ y. and_then (from r) (λ x. Some (y, x)))
+
+-- each row of another year is there
+pub year_kept : {X : Type 0} (place : ℕ) (from : Row → Option X) (year : ℕ) → 2000 ≤ year → year ≤ 2199 → (xs : List X)
+    (old new : List Row) → Replaces (beside_year place from) (is_of_year place year) (IsYearNumber year) xs old new
+    → KeepsBut (λ r. IsNumber year (column r place)) old new
+year_kept place from year low high = list_kept (beside_year place from) (is_of_year place year) (IsYearNumber year) year
+    (year_read year low high) (λ r. IsNumber year (column r place)) (λ r hit. hit)
 
 module _ {X K : Type 0} {R : K → K → Ordering} (o : IsTotalOrder R) (key : X → K) (place : ℕ) (from : Row → Option X)
   where

@@ -26,17 +26,19 @@ use Rattle.cpi_sql_rows.specs.Lists.{release_number}
 use Rattle.cpi_sql_rows.specs.ReleaseRows.{frozen_after, carried_after, level_after}
 use Rattle.cpi_sql_writes.specs.ReleaseSteps.{header_of, FitsTables, IsHeaderStep, ListsStand, ReplacesList}
 use Rattle.cpi_sql_rows.specs.Tables.{table_of_frozen_2, table_of_carried_2, table_of_levels_2}
-use Rattle.cpi_sql_rows.specs.Shelf.{HasTables, IsDone}
+use Rattle.cpi_sql_writes.specs.Rest.{KeepsAll, KeepsRest, MakesOnly}
+use Rattle.cpi_sql_rows.specs.Shelf.{HasTables}
 use Rattle.cpi_sql_rows.specs.Steps.{IsRowStep, SameBut, outside}
 use Rattle.cpi_sql_rows.proofs.Frame as tables
 use Rattle.cpi_sql_rows.proofs.Frame.{Headers, Levels, row_written}
 use Rattle.cpi_sql_rows.proofs.FoundReleases.{header_names}
 use Rattle.cpi_sql_rows.proofs.Inserting.{inserted, none_apart}
 use Rattle.cpi_sql_rows.proofs.Listed.{PutsRow, listed_put, listed_stands}
+use Rattle.cpi_sql_writes.proofs.Kept.{all_kept}
 use Rattle.cpi_sql_writes.proofs.Beside.{tables_written}
 use Rattle.cpi_sql_writes.proofs.MappedPut.{map_put}
 use Rattle.cpi_sql_rows.proofs.ReleaseRows.{one_release, within_limits}
-use Rattle.cpi_sql_writes.proofs.ReleaseReplaced.{release_replaced, release_stands}
+use Rattle.cpi_sql_writes.proofs.ReleaseReplaced.{release_kept, release_replaced, release_stands}
 use Rattle.cpi_sql_writes.proofs.Replaced.{Replaced}
 use Rattle.cpi_sql_rows.proofs.Unchanged.{same_then}
 
@@ -142,7 +144,19 @@ module _ (r : Release) (fits : FitsTables r) (m v : ℕ) (is : month_at m ≡ So
       (same_then (28 ∷ []) (30 ∷ 32 ∷ []) b.now.trees c.now.trees e.now.trees two.others
       (same_then (30 ∷ []) (32 ∷ []) c.now.trees d.now.trees e.now.trees three.others four.others))
 
-  release_done : IsDone (Freezes r) (outside a) (outside e)
+  headers_kept : KeepsAll (a.now.trees 26) (e.now.trees 26)
+  headers_kept = rw headers_same (all_kept _ _ one.rows.kept)
+
+  -- the rows of other releases are there
+  rest : KeepsRest (Freezes r) a.now.trees e.now.trees
+  rest = (
+    headers_kept,
+    release_kept frozen_after m r.month r.revision is range.0 range.1 r.frozen _ _ frozen_put,
+    release_kept carried_after m r.month r.revision is range.0 range.1 r.carried _ _ carried_put,
+    release_kept level_after m r.month r.revision is range.0 range.1 r.levels _ _ levels_put,
+  )
+
+  release_done : MakesOnly (Freezes r) (outside a) (outside e)
   unfolding releases_in
   release_done = tables_written (Freezes r) (outside a) (outside e) has four.schema refl
       (four.all (three.all (two.all (one.all has.office.tables))))
@@ -155,8 +169,8 @@ module _ (r : Release) (fits : FitsTables r) (m v : ℕ) (is : month_at m ≡ So
             (level_rows.written four.rowids, tt),
           ),
         ),
-      ) (ap (λ releases. record (office_in a.now.trees) { releases = releases }) releases_now)
+      ) (ap (λ releases. record (office_in a.now.trees) { releases = releases }) releases_now) rest
 
   -- the change of the office, and what it leaves
-  pub release_put : IsDone (Freezes r) (outside a) (outside e) × ListsStand r e.now.trees
+  pub release_put : MakesOnly (Freezes r) (outside a) (outside e) × ListsStand r e.now.trees
   release_put = (release_done, lists_stand)

@@ -1,15 +1,16 @@
 -- The rows of a release are dropped and others added one by one, which replaces them.
 use Rattle.std.proofs.Common.{◌≡◌, ◌≤◌, ℕ, List, Some, Option, refl}
-use Rattle.std.proofs.lemmas.Bool.{le-leb}
+use Rattle.std.proofs.lemmas.Bool.{and_parts, le-leb}
 use Rattle.std.specs.declared.cmp.Ordering.{Ordering}
 use Rattle.std.specs.Cmp.{IsTotalOrder}
 use Rattle.sqlite.specs.Order.{Row, column}
 use Rattle.cpi_rows.specs.Keyed.{IsInOrder}
 use Rattle.cpi_rows.specs.Held.{held_cmp, held_key}
 use Rattle.cpi_sql_rows.specs.Lists.{month_at, release_from_key, release_number}
+use Rattle.cpi_sql_writes.specs.Rest.{IsOfRelease, KeepsBut}
 use Rattle.cpi_sql_rows.specs.Shelf.{AllStandOf, IsKeyed}
 use Rattle.cpi_sql_writes.specs.ReleaseSteps.{beside_release, is_of_release, IsReleaseNumber, ReplacesList}
-use Rattle.cpi_sql_writes.proofs.AddedRows.{all_stand, list_replaced}
+use Rattle.cpi_sql_writes.proofs.AddedRows.{all_stand, list_kept, list_replaced}
 use Rattle.cpi_sql_rows.proofs.ReleaseRows.{beside, release_named, release_numbered}
 use Rattle.cpi_sql_writes.proofs.Replaced.{Replaced}
 
@@ -26,6 +27,12 @@ module _ {X : Type 0} (from : Row → Option X) (n month v : ℕ) (is : month_at
       → AllStandOf (beside_release from) number new
   release_stands = all_stand (beside_release from) (λ r. release_from_key (column r 1) (column r 2))
       (is_of_release n v) (IsReleaseNumber n v) number is_number (release_named n month v is low high)
+
+  -- each row of another release is there
+  pub release_kept : (xs : List X) (old new : List Row) → ReplacesList from n v xs old new
+      → KeepsBut (IsOfRelease month v) old new
+  release_kept = list_kept (beside_release from) (is_of_release n v) (IsReleaseNumber n v) number is_number
+      (IsOfRelease month v) (λ r hit. let both = and_parts _ _ hit in ((n, is, both.0), both.1))
 
   pub release_replaced : {K : Type 0} {R : K → K → Ordering} (o : IsTotalOrder R) (key : X → K) (xs : List X)
       (old new : List Row) → IsKeyed (held_cmp R) (held_key key) (beside_release from) old → IsInOrder R key xs

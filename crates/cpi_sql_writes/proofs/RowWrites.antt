@@ -43,9 +43,10 @@ use Rattle.cpi_sql_writes.specs.GivenColumns.{IsNumberFree, columns_of, given_of
 use Rattle.cpi_sql_writes.specs.Within.{RunsAlone}
 use Rattle.cpi_sql_writes.specs.Written.{Written}
 use Rattle.cpi_sql_writes.specs.declared.given_columns.GivenColumns.{GivenColumns}
+use Rattle.cpi_sql_writes.proofs.Kept.{all_kept, quote_kept}
 use Rattle.cpi_sql_writes.proofs.Alone.{alone_written}
 use Rattle.cpi_sql_writes.proofs.Beside.{row_done}
-use Rattle.cpi_sql_writes.proofs.CalendarOffice.{day_key, day_puts}
+use Rattle.cpi_sql_writes.proofs.CalendarOffice.{day_kept, day_key, day_puts}
 use Rattle.cpi_sql_writes.proofs.CalendarRows.{calendar_places, day_behind, day_columns, day_put}
 use Rattle.cpi_sql_writes.proofs.SlotOffice.{Added, added_puts, row_made, slot_key}
 
@@ -76,7 +77,7 @@ module _ {A E : Type 0} (old new : State) (result : Result A E) where
       row_done (Registers b) a s has made.schema alone (all_tables_of s.now made.schema sound) Collectors refl
       made.others nat_cmp_total key collector_in b has.collectors (inserted nat_cmp_total key collector_in b _ _
       (numbered n k) is made.rows made.kept has.collectors (λ y h. none_apart nat_cmp key b.number _ y free h)) (λ w. w)
-      (ap (λ rows. record (office_in a.now.trees) { collectors = rows }))) old new result
+      (ap (λ rows. record (office_in a.now.trees) { collectors = rows })) (all_kept _ _ made.kept)) old new result
 
   pub outlet_written : (u : Outlet) (n : ℕ) (k : List ℕ) → outlet_from (Int (pos n)) (Text k) ≡ Some u
       → RunsAlone put_outlet_text (Int (pos n) ∷ Text k ∷ []) old new result
@@ -92,7 +93,7 @@ module _ {A E : Type 0} (old new : State) (result : Result A E) where
       row_done (PutsOutlet u) a s has made.schema alone (all_tables_of s.now made.schema sound) Outlets refl made.others
       nat_cmp_total key outlet_in u has.outlets (inserted nat_cmp_total key outlet_in u _ _ (numbered n k) is made.rows
       made.kept has.outlets (λ y h. none_apart nat_cmp key u.number _ y free h)) (λ w. w) (ap (λ rows. record (office_in
-      a.now.trees) { outlets = rows }))) old new result
+      a.now.trees) { outlets = rows })) (all_kept _ _ made.kept)) old new result
 
   pub item_written : (i : Item) (c t u : List ℕ) (l h : ℕ)
       → item_of_values (Text c) (Text t) (Text u) (Int (pos l)) (Int (pos h)) ≡ Some i
@@ -110,7 +111,7 @@ module _ {A E : Type 0} (old new : State) (result : Result A E) where
       row_done (PutsItem i) a s has made.schema alone (all_tables_of s.now made.schema sound) Items refl made.others
       nat_cmp_total key item_in i has.items (inserted nat_cmp_total key item_in i _ _ (item_row c t u l h a.now.trees)
       is made.rows made.kept has.items (λ y h. none_apart nat_cmp key i.code _ y free h)) (λ w. w) (ap (λ rows. record
-      (office_in a.now.trees) { items = rows }))) old new result
+      (office_in a.now.trees) { items = rows })) (all_kept _ _ made.kept)) old new result
 
   pub assignment_written : (b : Registration) (a : Assigned) (c : GivenColumns)
       → given_of c ≡ Some (b.number, first_of_series b.number a.assignment)
@@ -126,7 +127,7 @@ module _ {A E : Type 0} (old new : State) (result : Result A E) where
       made.others (held_total nat_cmp_total) slot_key assignment_in_row (b.number, g) has.assignments
       (added_puts b.number g
       c is s.now.trees t.now free made has.assignments) (λ w. record { rows = w; rowids = made.rowids }) (ap (λ rows.
-      record (office_in s.now.trees) { assignments = rows }))) old new result
+      record (office_in s.now.trees) { assignments = rows })) (all_kept _ _ made.kept)) old new result
 
   pub quote_written : (b : Registration) (q : QuoteRow) (m : ℕ) (mark : List ℕ) (v : ℕ)
       → ((id : Value) → quote_in (id ∷ quote_columns b.number q.slot m mark v q.receipt) ≡ Some (b.number, q))
@@ -143,7 +144,8 @@ module _ {A E : Type 0} (old new : State) (result : Result A E) where
       row_done (Quotes b q) a s has done.schema alone (all_tables_of s.now done.schema sound) tables.Quotes refl
       done.others (held_total quote_order) (held_key quote_key) quote_in (b.number, q) has.quotes (quote_puts b q
       columns is (a.now.trees 24) (s.now.trees 24) done.rows) (λ w. record { rows = w; rowids = λ _. done.rowids }) (ap
-      (λ rows. record (office_in a.now.trees) { quotes = rows }))) old new result
+      (λ rows. record (office_in a.now.trees) { quotes = rows })) (quote_kept b q columns is (a.now.trees 24)
+      (s.now.trees 24) done.rows)) old new result
 
   pub day_written : (x : CalendarPart) (m o c p : ℕ) → calendar_in (Int (pos m) ∷ day_behind o c p) ≡ Some x
       → RunsAlone put_calendar_text (day_columns m o c p) old new result
@@ -159,4 +161,4 @@ module _ {A E : Type 0} (old new : State) (result : Result A E) where
       done.others nat_cmp_total day_key calendar_in x has.calendar (day_puts x m o c p is (a.now.trees 10) (s.now.trees
       10) done.rows) (λ w. record { rows = w; rowids = λ _. done.rowids }) (ap (λ rows. record (office_in a.now.trees) {
         calendar = rows;
-      }))) old new result
+      })) (day_kept x m o c p is (a.now.trees 10) (s.now.trees 10) done.rows)) old new result

@@ -1,5 +1,5 @@
 -- What a slot was given, put by one statement, as a change of the lists.
-use Rattle.std.proofs.Common.{◌≡◌, ℕ, pos, List, ◌∷◌, Some, None, Option, Result, refl}
+use Rattle.std.proofs.Common.{◌≡◌, ℕ, pos, List, [], ◌∷◌, Some, None, Option, Result, refl}
 use Rattle.std.specs.String.{string_bytes}
 use Rattle.std.specs.Ordering.{nat_cmp}
 use Rattle.std.proofs.lemmas.Cmp.{nat_cmp_total}
@@ -17,15 +17,18 @@ use Rattle.cpi_store.specs.declared.given.Given.{Given}
 use Rattle.cpi_sql_rows.specs.Tables.{table_of_assignments_2}
 use Rattle.cpi_sql_rows.specs.Texts.{put_assignment_text, replace_given_text}
 use Rattle.cpi_sql_rows.specs.Lists.{assignments_in, assignment_in_row}
-use Rattle.cpi_sql_writes.specs.GivenColumns.{columns_of, copied_column, given_of, IsNumberFree, PutsGiven}
+use Rattle.cpi_sql_writes.specs.GivenColumns.{AddsGiven, columns_of, copied_column, given_of, IsNumberFree, PutsGiven}
+use Rattle.cpi_sql_writes.specs.GivenColumns.{ReplacesGiven}
 use Rattle.cpi_sql_writes.specs.declared.given_columns.GivenColumns.{GivenColumns}
+use Rattle.cpi_sql_writes.specs.Rest.{IsOfSlot, KeepsBut}
 use Rattle.cpi_sql_rows.specs.Shelf.{HasRowids, IsKeyed}
 use Rattle.cpi_sql_rows.proofs.Change.{IsChange}
 use Rattle.cpi_sql_rows.proofs.Listed.{PutsRow, listed_put, still_keyed}
 use Rattle.cpi_sql_rows.proofs.Lists.{held_total}
 use Rattle.cpi_sql_rows.proofs.Inserting.{inserted}
 use Rattle.cpi_sql_writes.proofs.AddPremises.{slot_apart}
-use Rattle.cpi_sql_rows.proofs.GivenRows.{same_slot, slot_places, slot_tells}
+use Rattle.cpi_sql_rows.proofs.GivenRows.{same_slot, slot_in, slot_places, slot_tells}
+use Rattle.cpi_sql_writes.proofs.Kept.{agreed_number, all_kept, over_kept}
 use Rattle.cpi_sql_rows.proofs.TableRows.{AddsRow}
 use Rattle.cpi_sql_rows.proofs.Upserts.{IsPutOver, PutsOver, puts_row}
 use Rattle.cpi_sql_writes.specs.Within.{Changes, RanStatement, Within}
@@ -77,6 +80,15 @@ module _ (n : ℕ) (g : Given) (c : GivenColumns) (is : given_of c ≡ Some (n, 
       puts_row slot_places Null (columns_of c) (held_total nat_cmp_total) slot_key assignment_in_row slot_tells (n, g)
       (λ id named. is) (λ r y e. refl) same_slot
 
+  over_leaves : (old new : List Row) → PutsOver slot_places Null (columns_of c) old new
+      → KeepsBut (IsOfSlot n g.assignment.slot) old new
+  over_leaves old new p =
+      over_kept slot_places Null (columns_of c) old new p (IsOfSlot n g.assignment.slot) (λ r hit.
+      let row = Null ∷ columns_of c in
+      let it = slot_in row n g is in
+      let one = agreed_number 1 (2 ∷ []) r row n it.collector hit in
+      (one.0, (agreed_number 2 [] r row g.assignment.slot it.slot one.1).0))
+
   -- the row of a slot that is free
   pub added_puts : (old : Trees) (after : Database) → IsNumberFree n g.assignment.slot (assignments_in (old 22))
       → Added c old after → IsKeyed (held_cmp nat_cmp) slot_key assignment_in_row (old 22)
@@ -89,14 +101,14 @@ module _ (n : ℕ) (g : Given) (c : GivenColumns) (is : given_of c ≡ Some (n, 
 module _ {A E : Type 0} (c : GivenColumns) (old new : State) (result : Result A E) where
   pub given_puts : Within old new result (RanStatement replace_given_text (columns_of c))
       → Within old new result (λ old new. (n : ℕ) (g : Given) → given_of c ≡ Some (n, g)
-      → Changes table_of_assignments_2.tree (PutsGiven n g) old new)
+      → Changes table_of_assignments_2.tree (ReplacesGiven n g) old new)
   given_puts ran = within_as old new result (RanStatement replace_given_text (columns_of c))
       (λ old new. (n : ℕ) (g : Given)
-      → given_of c ≡ Some (n, g) → Changes table_of_assignments_2.tree (PutsGiven n g) old new) ran
-      (λ inside run n g is ready. made_step 22 replace_given_text (columns_of c) _ (row_replaced c) (PutsGiven n g)
+      → given_of c ≡ Some (n, g) → Changes table_of_assignments_2.tree (ReplacesGiven n g) old new) ran
+      (λ inside run n g is ready. made_step 22 replace_given_text (columns_of c) _ (row_replaced c) (ReplacesGiven n g)
       old new (λ ids made. let done = made ids in record {
         schema = done.schema;
-        rows = put_given n g c is _ _ (λ _. over_puts n g c is _ _ done.rows);
+        rows = (put_given n g c is _ _ (λ _. over_puts n g c is _ _ done.rows), over_leaves n g c is _ _ done.rows);
         rowids = done.rowids;
         others = done.others;
       }) inside run ready)
@@ -104,16 +116,16 @@ module _ {A E : Type 0} (c : GivenColumns) (old new : State) (result : Result A 
   pub given_adds : Within old new result (RanStatement put_assignment_text (columns_of c))
       → Within old new result (λ old new. (n : ℕ) (g : Given) → given_of c ≡ Some (n, g)
       → IsNumberFree n g.assignment.slot (assignments_in (old.now.trees table_of_assignments_2.tree))
-      → Changes table_of_assignments_2.tree (PutsGiven n g) old new)
+      → Changes table_of_assignments_2.tree (AddsGiven n g) old new)
   given_adds ran = within_as old new result (RanStatement put_assignment_text (columns_of c))
       (λ old new. (n : ℕ) (g : Given)
       → given_of c ≡ Some (n, g)
       → IsNumberFree n g.assignment.slot (assignments_in (old.now.trees table_of_assignments_2.tree))
-      → Changes table_of_assignments_2.tree (PutsGiven n g) old new) ran
+      → Changes table_of_assignments_2.tree (AddsGiven n g) old new) ran
       (λ inside run n g is free ready. made_step 22 put_assignment_text (columns_of c) (Added c) (row_made c)
-      (PutsGiven n g) old new (λ ids made. record {
+      (AddsGiven n g) old new (λ ids made. record {
         schema = made.schema;
-        rows = put_given n g c is _ _ (added_puts n g c is old.now.trees new.now free made);
+        rows = (put_given n g c is _ _ (added_puts n g c is old.now.trees new.now free made), all_kept _ _ made.kept);
         rowids = made.rowids ids;
         others = made.others;
       }) inside run ready)

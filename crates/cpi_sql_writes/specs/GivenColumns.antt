@@ -11,6 +11,7 @@ use Rattle.cpi_store.specs.declared.given.Given.{Given}
 use Rattle.cpi_store.specs.declared.series_move.SeriesMove.{SeriesMove}
 use Rattle.cpi_store.specs.Office.{put_given, given_until}
 use Rattle.cpi_sql_rows.specs.Lists.{given_from, assignment_in_row, assignments_in}
+use Rattle.cpi_sql_writes.specs.Rest.{IsOfSlot, KeepsAll, KeepsBut}
 use Rattle.cpi_sql_rows.specs.Shelf.{IsKeyed, Takes}
 use Rattle.cpi_sql_writes.specs.declared.given_columns.GivenColumns.{GivenColumns}
 
@@ -38,6 +39,15 @@ PutsGiven number g old new = IsKeyed (held_cmp nat_cmp) (held_key (λ g. g.assig
     (assignments_in new ≡ put_given number g (assignments_in old))
     × IsKeyed (held_cmp nat_cmp) (held_key (λ g. g.assignment.slot)) assignment_in_row new
     × Takes assignment_in_row old new
+
+-- the same, and each other row is there
+abbrev pub ReplacesGiven : ℕ → Given → List Row → List Row → Type 0
+ReplacesGiven number g old new =
+    PutsGiven number g old new × KeepsBut (IsOfSlot number g.assignment.slot) old new
+
+-- the rows contain the slot's new row, and each row that was there
+abbrev pub AddsGiven : ℕ → Given → List Row → List Row → Type 0
+AddsGiven number g old new = PutsGiven number g old new × KeepsAll old new
 
 -- no slot of the collector has the number
 abbrev pub IsNumberFree : ℕ → ℕ → List (ℕ × Given) → Type 0

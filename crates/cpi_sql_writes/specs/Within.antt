@@ -6,8 +6,9 @@ use Rattle.sqlite.specs.State.{State, CommitsBy, Executes, HasCleanDisk, KeepsCo
 use Rattle.sqlite_rules.specs.Lists.{Has}
 use Rattle.cpi_sql_rows.specs.Tables.{office_schema}
 use Rattle.cpi_store.specs.Office.{Change}
-use Rattle.cpi_sql_rows.specs.Shelf.{HasRowids, HasTables, IsCleanBook, IsDone, IsKept}
+use Rattle.cpi_sql_rows.specs.Shelf.{HasRowids, HasTables, IsCleanBook, IsKept}
 use Rattle.cpi_sql_rows.specs.Steps.{IsRowStep, outside}
+use Rattle.cpi_sql_writes.specs.Rest.{MakesOnly}
 
 -- the statement was run
 abbrev pub RanStatement : List ℕ → Row → State → State → Type 0
@@ -43,7 +44,7 @@ Changes tree Rows old new = IsReady tree old → IsRowStep tree Rows old new
 
 -- the steps together are the change of the office, were the transaction at an end
 abbrev pub ChangesOffice : Change → State → State → Type 0
-ChangesOffice change old new = HasTables (outside old) → IsDone change (outside old) (outside new)
+ChangesOffice change old new = HasTables (outside old) → MakesOnly change (outside old) (outside new)
 
 -- they leave tables that this holds for
 abbrev pub LeavesTables : (Trees → Type 0) → State → State → Type 0

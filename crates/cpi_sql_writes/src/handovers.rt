@@ -5,7 +5,8 @@ ghost use Rattle.cpi_store.specs.Office.{HandsOver};
 ghost use Rattle.cpi_sql_rows.specs.Common.{⊤, ℕ, HasCleanDisk, IsTrue, OnOk, Some, state};
 ghost use Rattle.cpi_sql_rows.specs.Lists.{assignments_in};
 ghost use Rattle.cpi_sql_rows.specs.Tables.{table_of_assignments_2};
-ghost use Rattle.cpi_sql_writes.specs.GivenColumns.{CanHandOver, columns_of, given_of, IsNumberFree, PutsGiven};
+ghost use Rattle.cpi_sql_writes.specs.GivenColumns.{AddsGiven, CanHandOver, columns_of, given_of, IsNumberFree};
+ghost use Rattle.cpi_sql_writes.specs.GivenColumns.{ReplacesGiven};
 ghost use Rattle.cpi_sql_writes.specs.Within.{Changes, RanStatement, Within};
 ghost use Rattle.cpi_sql_writes.specs.Written.{Written};
 
@@ -46,7 +47,7 @@ fn replace_given<S: Alter>(
     ensures same_reference { tx.new.conn.ghost_name ≡ tx.old.conn.ghost_name }
     ensures put { Within (state S.Store tx.old.conn.now) (state S.Store tx.new.conn.now) result
         (λ old new. (number : ℕ) (g : Given) → given_of columns.now ≡ Some (number, g)
-        → Changes table_of_assignments_2.tree (PutsGiven number g) old new) }
+        → Changes table_of_assignments_2.tree (ReplacesGiven number g) old new) }
 {
     run_given(tx, REPLACE_GIVEN, columns)
 }
@@ -61,7 +62,7 @@ fn add_given<S: Alter>(tx: &mut Transaction<'_, S>, columns: &GivenColumns) -> R
     ensures put { Within (state S.Store tx.old.conn.now) (state S.Store tx.new.conn.now) result
         (λ old new. (number : ℕ) (g : Given) → given_of columns.now ≡ Some (number, g)
         → IsNumberFree number g.assignment.slot (assignments_in (old.now.trees table_of_assignments_2.tree))
-        → Changes table_of_assignments_2.tree (PutsGiven number g) old new) }
+        → Changes table_of_assignments_2.tree (AddsGiven number g) old new) }
 {
     run_given(tx, ADD_GIVEN, columns)
 }

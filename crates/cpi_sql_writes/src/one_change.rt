@@ -2,11 +2,10 @@
 ghost use Rattle.std.specs.Prelude.{◌≡◌};
 ghost use Rattle.sqlite.specs.Tree.{Trees};
 ghost use Rattle.cpi_store.specs.Office.{Change, Office};
-ghost use Rattle.cpi_sql_rows.specs.Common.{false, HasCleanDisk, HasTables, IsCleanBook, IsDone, IsTrue, OnErr};
+ghost use Rattle.cpi_sql_rows.specs.Common.{false, HasCleanDisk, HasTables, IsCleanBook, IsTrue, OnErr};
 ghost use Rattle.cpi_sql_rows.specs.Common.{OnOk, state, Survives};
 ghost use Rattle.cpi_sql_rows.specs.Lists.{office_in};
-ghost use Rattle.cpi_sql_rows.specs.Making.{IsOfficeDatabase};
-ghost use Rattle.cpi_sql_rows.specs.Shelf.{IsChangedBy};
+ghost use Rattle.cpi_sql_writes.specs.Rest.{LeavesOnly, MakesOnly};
 ghost use Rattle.cpi_sql_writes.specs.Within.{ChangesOffice, LeavesTables, Within};
 ghost use Rattle.cpi_sql_writes.specs.Written.{Written};
 
@@ -46,7 +45,7 @@ fn in_transaction<S: Alter, C: OneChange>(
     ensures open { HasCleanDisk (state S.Store conn.new) → OnOk result (IsTrue (state S.Store conn.new).is_open) }
     ensures done { HasCleanDisk (state S.Store conn.new) → HasTables (state S.Store conn.old) →
         C.fits change.now (office_in (state S.Store conn.old).now.trees) →
-        OnOk result (IsDone (C.change change.now) (state S.Store conn.old) (state S.Store conn.new)) }
+        OnOk result (MakesOnly (C.change change.now) (state S.Store conn.old) (state S.Store conn.new)) }
     ensures left { HasCleanDisk (state S.Store conn.new) → HasTables (state S.Store conn.old) →
         C.fits change.now (office_in (state S.Store conn.old).now.trees) →
         OnOk result (C.leaves change.now (state S.Store conn.new).now.trees) }
@@ -54,7 +53,7 @@ fn in_transaction<S: Alter, C: OneChange>(
         OnErr result ((state S.Store conn.new).now ≡ (state S.Store conn.old).now) }
     ensures crash { Survives (state S.Store conn.old) (state S.Store conn.new) (λ db.
         HasTables (state S.Store conn.old) → C.fits change.now (office_in (state S.Store conn.old).now.trees) →
-        IsOfficeDatabase db × IsChangedBy (C.change change.now) (state S.Store conn.old).now.trees db) }
+        LeavesOnly (C.change change.now) (state S.Store conn.old).now.trees db) }
 {
     settle(conn);
     let mut tx = conn.transaction();

@@ -3,6 +3,7 @@ pub mod Answered
 pub mod Asked
 pub mod Carried
 pub mod Causes
+pub mod ChangedRows
 pub mod Coded
 pub mod Counted
 pub mod Floats

@@ -3,7 +3,9 @@ use Rattle.std.specs.Prelude.{ℕ, List, [], ◌∷◌, ◌++◌, Option, Some, 
 use Rattle.cpi_codes.specs.Zone.{ZoneRule}
 use Rattle.cpi_release.specs.State.{State}
 use Rattle.cpi_store.specs.Office.{Office}
-use Rattle.cpi_office.specs.Served.{RunOverBook}
+use Rattle.cpi_store.specs.Sound.{IsSound}
+use Rattle.cpi_office.specs.OneChange.{ChangesRows}
+use Rattle.cpi_office.specs.Served.{RunOverBook, all_served}
 use Rattle.cpi_office.specs.declared.caller.Caller.{Caller}
 use Rattle.cpi_office.specs.declared.request.Ask.{Ask as Asking}
 use Rattle.cpi_office.specs.declared.request.Request.{Request}
@@ -67,3 +69,12 @@ abbrev pub AreRecordsOfARun : {B : Type 0} → (B → State Office) → Type 0
 AreRecordsOfARun {B} state = (zone : ZoneRule) (old new : B) (rows : List Record) (replies : List Answer)
     → AnswersAll zone state old rows replies new →
     RunOverBook (state old) (state new) (requests_of_records zone rows) (replies_of zone rows replies)
+
+-- Records that were answered in turn, from a sound office, changed only rows that their requests asked for, at most one
+-- each, of a hand-over two; and each caller's view is the view before, with what the caller sees of those rows. A
+-- request that was answered 90 changed nothing. The store is clean once the records are answered.
+abbrev pub RecordsChangeRows : {B : Type 0} → (B → State Office) → Type 0
+RecordsChangeRows {B} state = (zone : ZoneRule) (old new : B) (rows : List Record) (replies : List Answer)
+    → AnswersAll zone state old rows replies new → (state new).is_clean → IsSound (state old).held →
+    ChangesRows (all_served (requests_of_records zone rows) (replies_of zone rows replies)) (state old).held
+    (state new).held

@@ -52,7 +52,7 @@ module _ {B : Type 0} (zone : ZoneRule) (state : B → State Office) where
     pub answers : AnswersAll old rows replies new
     pub written : LinesAreWritten replies was is
 
-  -- the same, and the cause of the first reply that says that the office is unavailable
+  -- the same, with a cause if one of the replies says that the office is unavailable, as far as IsCaused says
   pub record CausedInput (input : Option (List ℕ)) (old new : B) (was is : Option (List ℕ)) (cause : Option Cause)
       : Type 0 where
     pub answered : AnsweredInput input old new was is

@@ -31,7 +31,7 @@ pub struct ImportAnswer {
     pub line: Vec<u8>,
     /// Whether one of the replies says that the office is unavailable.
     pub failed: bool,
-    /// The cause of the first reply that says so.
+    /// A cause, if one says so.
     pub cause: Option<Cause>,
 }
 
@@ -42,7 +42,7 @@ pub(crate) struct AnswerLine {
     pub(crate) line: Vec<u8>,
     /// Whether one of its replies says that the office is unavailable.
     pub(crate) failed: bool,
-    /// The cause of the first reply that says so.
+    /// A cause, if one says so.
     pub(crate) cause: Option<Cause>,
 }
 

@@ -3,9 +3,9 @@ use crate::fault::WireFault;
 use std::alloc::{AllocError, AllocFailed};
 use std::marker::Model;
 
-/// A fault that came to pass: a read or a write failed, an input was too long, or memory was refused. It can't be copied.
-/// Other crates get one from [`crate::ReadNote`], from [`crate::WriteNote`], or from an error of memory, and make none by
-/// hand. The logic sees the fault.
+/// A fault with its cause: a read or a write failed, or no call was left; an input was too long; or there is an error
+/// of memory. It can't be copied. Other crates get one from [`crate::ReadNote`], from [`crate::WriteNote`], or from an
+/// error of memory, and make none by hand. The logic sees the fault.
 #[derive(Drop)]
 pub struct Failure {
     fault: WireFault,

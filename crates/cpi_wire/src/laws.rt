@@ -1,5 +1,5 @@
 //! Theorems about the definitions.
-ghost use Rattle.cpi_wire.specs.Laws.{AreRecordsOfARun};
+ghost use Rattle.cpi_wire.specs.Laws.{AreRecordsOfARun, RecordsChangeRows};
 ghost use Rattle.cpi_wire.specs.Lines.{LinesAreAlike, ReplaysAnswerAlike};
 ghost use Rattle.cpi_wire.specs.Printed.{LinesArePrinted};
 ghost use Rattle.cpi_wire.specs.TableLines.{TableLinesAreComputed, ReplaysReportTables};
@@ -10,6 +10,15 @@ use cpi_store::Book;
 /// the answers to these.
 pub fn records_are_a_run<B: Book>()
     ensures { AreRecordsOfARun B.state }
+{}
+
+/// Records that were answered in turn changed only rows that their requests asked for, at most one each, of a hand-over
+/// two. Each caller's view at each moment is the view before, with what the caller sees of those rows.
+///
+/// The office is sound, and the store is clean once the records are answered. A request that is answered
+/// [`cpi_office::Refusal::Unavailable`] changes nothing.
+pub fn records_change_rows<B: Book>()
+    ensures { RecordsChangeRows B.state }
 {}
 
 /// The line of a record, whoever sends it, is what the replies of the office to its requests print: those of

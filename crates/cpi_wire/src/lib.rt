@@ -36,8 +36,8 @@ pub use fault::WireFault;
 pub use fields::field_list;
 pub use import::import_rows;
 pub use laws::{
-    lines_are_alike, lines_are_printed, records_are_a_run, replays_answer_alike,
-    tables_are_reported,
+    lines_are_alike, lines_are_printed, records_are_a_run, records_change_rows,
+    replays_answer_alike, tables_are_reported,
 };
 pub use limits::{MOST_CALLS, MOST_MESSAGE_CALLS, MOST_RECORDS, MOST_ROWS};
 pub use line::reply_line;

@@ -42,7 +42,8 @@ fn answer_row<B: Book>(
     answer_line(alloc, office, ask)
 }
 
-// Answers the records that the reader has left, one after the other, and returns the cause of the first reply that is 90.
+// Answers the records that the reader has left, one after the other, and returns a cause if a reply is 90. (It is that
+// of the first such reply, which no clause says.)
 fn answer_records<R: Read, W: Write, B: Book>(
     alloc: Global,
     records: &mut Reader<R>,
@@ -96,8 +97,8 @@ pub fn replay<R: Read + Drop, W: Write, B: Book>(
     Ok(())
 }
 
-/// Does what [`replay`] does, and says why if anything isn't answered: it returns the cause of the first reply that is
-/// 90, and gives up only by a [`Failure`]. After `Write` the note says that writing failed.
+/// Does what [`replay`] does, and says why if anything isn't answered: it returns a cause if a reply is 90, and gives
+/// up only by a [`Failure`]. After `Write` the note says that writing failed.
 pub fn replay_noted<R: Read + Drop, W: Write, B: Book>(
     alloc: Global,
     reader: R,

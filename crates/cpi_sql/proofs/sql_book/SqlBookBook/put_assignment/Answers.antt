@@ -1,5 +1,5 @@
 use Rattle.std.proofs.Common.{refl}
-use Rattle.cpi_sql.proofs.Calls.{puts, put_fails}
+use Rattle.cpi_sql.proofs.Calls.{puts, put_fails, rows_kept, rows_put}
 use Rattle.cpi_sql.proofs.Followed.{kept_sound, survey_sound, tables_of}
 use Rattle.cpi_sql.proofs.sql_book.SqlBookBook.put_assignment.Goals as goal
 
@@ -9,6 +9,8 @@ returns g c =
     rw (← c.self.view_is) (record {
       writes = puts _ _ _ _ _ c.put_assignment-put.ensures.written (tables_of _ _ c.self.invariant) owed
           c.in_ok-stored.ensures.counted c.put_assignment-put.ensures.open c.in_ok-stored.ensures.settled;
+      rows = rows_put _ _ _ _ _ c.put_assignment-put.ensures.written (tables_of _ _ c.self.invariant) owed
+          c.in_ok-stored.ensures.counted;
     })
 
 pub returns-in_err-stored : goal.returns-in_err-stored
@@ -17,6 +19,8 @@ returns-in_err-stored g c =
     rw (← c.self.view_is) (record {
       writes = put_fails _ _ _ _ _ c.put_assignment-put.ensures.written (tables_of _ _ c.self.invariant) owed
           _ c.from_residual.ensures.0 c.in_err-stored.ensures.counted;
+      rows = rows_kept _ _ _ _ _ c.put_assignment-put.ensures.written (tables_of _ _ c.self.invariant) owed _
+          c.from_residual.ensures.0 c.in_err-stored.ensures.counted;
     })
 
 pub invariant_of-self-2 : goal.invariant_of-self-2

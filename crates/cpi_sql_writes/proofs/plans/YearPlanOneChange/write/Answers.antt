@@ -3,8 +3,9 @@ use Rattle.std.specs.Prelude.{⊤}
 use Rattle.sqlite.specs.Held.{state}
 use Rattle.cpi_store.specs.Office.{PutsPlan}
 use Rattle.cpi_sql_rows.proofs.FoundTables.{on_ok_implies}
-use Rattle.cpi_sql_rows.specs.Shelf.{HasRowids, HasTables, IsDone}
+use Rattle.cpi_sql_rows.specs.Shelf.{HasRowids, HasTables}
 use Rattle.cpi_sql_rows.specs.Steps.{outside}
+use Rattle.cpi_sql_writes.specs.Rest.{MakesOnly}
 use Rattle.cpi_sql_writes.specs.Within.{ChangesOffice}
 use Rattle.cpi_sql_writes.proofs.PlanOffice.{plan_done}
 use Rattle.cpi_sql_writes.proofs.Withins.{clean_before, inside_then, on_given}
@@ -23,7 +24,7 @@ returns-clause-written g c =
     let month = c.replace_reference.ensures.replaced in
     inside_then a b e nodes (inside_then {R = Unit {0}} b d e places month (λ _ _ _. tt)) (λ clean_b clean inside.
     on_given result ⊤ (ChangesOffice (PutsPlan plan) a e) (λ _.
-    on_given result (HasTables (outside a)) (IsDone (PutsPlan plan) (outside a) (outside e)) (λ has.
+    on_given result (HasTables (outside a)) (MakesOnly (PutsPlan plan) (outside a) (outside e)) (λ has.
     let one = nodes.step clean_b inside (record { schema = has.schema; rowids = has.plans.node_ids }) in
     let place_ids = subst HasRowids (sym (one.others 8 refl)) has.plans.place_ids in
     let two = places.step (clean_before d e month clean) one.inside

@@ -5,8 +5,9 @@ use Rattle.cpi_release.specs.declared.release.Release.{Release}
 use Rattle.cpi_store.specs.Office.{Freezes}
 use Rattle.cpi_sql_rows.proofs.FoundTables.{on_ok_implies}
 use Rattle.cpi_sql_rows.specs.Lists.{month_at, office_in}
-use Rattle.cpi_sql_rows.specs.Shelf.{HasRowids, HasTables, IsDone}
+use Rattle.cpi_sql_rows.specs.Shelf.{HasRowids, HasTables}
 use Rattle.cpi_sql_rows.specs.Steps.{outside}
+use Rattle.cpi_sql_writes.specs.Rest.{MakesOnly}
 use Rattle.cpi_sql_writes.specs.ReleaseSteps.{IsNewRevision, ListsStand}
 use Rattle.cpi_sql_writes.specs.Within.{ChangesOffice, LeavesTables, Within}
 use Rattle.cpi_sql_writes.proofs.ReleaseOffice.{release_put}
@@ -15,7 +16,7 @@ use Rattle.cpi_sql_writes.proofs.releases.ReleaseOneChange.write.Goals as goal
 
 -- the change of the office, and what it leaves
 abbrev Both : Release → State → State → Type 0
-Both r old new = IsDone (Freezes r) (outside old) (outside new) × ListsStand r new.now.trees
+Both r old new = MakesOnly (Freezes r) (outside old) (outside new) × ListsStand r new.now.trees
 
 -- where it is new
 abbrev Puts : Release → State → State → Type 0
