@@ -7,15 +7,15 @@ The office is the made-up country of examples/national: two to three years of pu
 this month's window is open. It is made by the first call in a month, which takes a minute or more, and stays in FOLDER
 with what is sent to it: out/try in the repository, and ~/.cache/sabrethog/out/try where this is installed. With --db it
 is a copy of the office in FILE instead. Each start publishes its website, and the desk's pages are served beside the
-office; their log and notes are beside the office's file. Nothing else on the machine is changed.
+office; their log, and the notes that phones send, are beside the office's file. Nothing else on the machine is changed.
 
 It listens at this machine alone, or at the ADDRESS of it that is named, for a phone in the same network: who can reach
 that address can read and send what its pages can, so let it be a network that you trust. The certificate is drawn for
 this address by an authority that can speak for no other, whose key is thrown away; it stays for 90 days.
 
-It needs nginx, openssl, jinja2, flask and waitress (Debian: nginx-light, openssl, python3-jinja2, python3-flask,
-python3-waitress), Python 3.9 or later, and for another language than English Babel (python3-babel). Exit status: 0 after
-Ctrl-C, 1 where something fails, in one line, 2 where the words are refused.
+It needs nginx, openssl, jinja2, flask, waitress and Pillow (Debian: nginx-light, openssl, python3-jinja2, python3-flask,
+python3-waitress, python3-pil), Python 3.9 or later, and for another language than English Babel (python3-babel). Exit
+status: 0 after Ctrl-C, 1 where something fails, in one line, 2 where the words are refused.
 
 example: ops/try --address 192.168.1.5 --language fr
 """
@@ -49,9 +49,9 @@ from functools import partial
 from pathlib import Path
 from typing import NoReturn, Optional, Union
 
-from cpi_tools.calendar_file import write_calendar
-from cpi_tools.copying import right_copy
-from cpi_tools.front import (
+from cpi_tools.office.calendar_file import write_calendar
+from cpi_tools.office.copying import right_copy
+from cpi_tools.tryout.front import (
     LOCALHOST,
     Front,
     Place,
@@ -62,18 +62,18 @@ from cpi_tools.front import (
     standing,
     system_program,
 )
-from cpi_tools.languages import SOURCE, a_language
-from cpi_tools.pack.clocks import clock_of
-from cpi_tools.pack.config import read_config
-from cpi_tools.pack.public import from_file
-from cpi_tools.program import Cpi, CpiFailed, add_program, told as told_end
-from cpi_tools.publish import publish
-from cpi_tools.sign_in import address_of_page, link_of
-from cpi_tools.terminal import Fault, ToolWords, because_of, ends_by_signals, needs
-from cpi_tools.trials import folder_of_trial
-from cpi_tools.tried_desk import Tried, TriedDesk, desk_needs
-from cpi_tools.tried_language import write_config
-from cpi_tools.tried_site import write_site_config
+from cpi_tools.text.languages import SOURCE, a_language
+from cpi_tools.text.clocks import clock_of
+from cpi_tools.publish.figures.config import read_config
+from cpi_tools.office.public import from_file
+from cpi_tools.office.program import Cpi, CpiFailed, add_program, end_text as told_end
+from cpi_tools.publish.pack import publish
+from cpi_tools.desk.keys.sign_in import address_of_page, link_of
+from cpi_tools.text.terminal import Fault, ToolWords, because_of, ends_by_signals, needs
+from cpi_tools.tryout.trial_folder import folder_of_trial
+from cpi_tools.tryout.trial_config import write_config
+from cpi_tools.tryout.trial_desk import Tried, TriedDesk, desk_needs
+from cpi_tools.tryout.trial_site import TrialSite, write_site_config
 
 ROOT = Path(__file__).resolve().parents[1]
 
@@ -128,7 +128,7 @@ def copy_of(office: Path, folder: Path) -> Path:
     return right_copy(office, copies)
 
 
-def write_website(cpi: Cpi, file: Path, folder: Path, is_country: bool, language: str) -> Path:
+def write_website(cpi: Cpi, file: Path, folder: Path, is_country: bool, of: TrialSite) -> Path:
     """The website of what an office has published until now, in `published`; none if that is no table yet. The file of
     its configuration."""
     site = folder / SITE
@@ -136,7 +136,7 @@ def write_website(cpi: Cpi, file: Path, folder: Path, is_country: bool, language
     shutil.rmtree(site, ignore_errors=True)
     published = from_file(cpi, file, int(time.time()))
     first = min((each.listed.month for each in published if each.table), default="")
-    config = write_site_config(folder, COUNTRY if is_country else None, first, language)
+    config = write_site_config(folder, COUNTRY if is_country else None, first, of)
     if first:
         publish(published, read_config(config), site, None, lambda _: None)
     return config
@@ -292,8 +292,7 @@ def serve(chosen: argparse.Namespace, cpi: Cpi, folder: Path) -> int:
     month = datetime.date.today().strftime("%Y-%m")
     file = copy_of(Path(chosen.db), folder) if chosen.db else made_up_country(folder, cpi, month)
     keep_certificate(folder, place.host)
-    if chosen.language != SOURCE:
-        place = place._replace(config=write_config(ROOT / "web/config.js", folder / "config.js", chosen.language))
+    place = place._replace(config=write_config(ROOT / "web/config.js", folder / "config.js", chosen.language))
     office = Office(cpi, file, place.office_port, chosen.zone)
     print("The office reads its file, which takes some seconds.", flush=True)
     front = Front(ROOT / "ops/nginx.conf", folder, place)
@@ -301,7 +300,8 @@ def serve(chosen: argparse.Namespace, cpi: Cpi, folder: Path) -> int:
         # (the program has opened the file, so it is an office, and of the tables that are read here)
         write_calendar(file, folder / CALENDAR, clock=clock_of(chosen.zone))
         print("Its website is written, which takes some seconds, too.", flush=True)
-        config = write_website(cpi, file, folder, not chosen.db, chosen.language)
+        of = TrialSite(f"{place.url}/{SITE}/", file.with_name(f"{file.stem}-revisions.csv"), chosen.language)
+        config = write_website(cpi, file, folder, not chosen.db, of)
         with started(desk_of(chosen, cpi, file, place, config)) as desk, standing(front, partial(of_a_trial, folder)):
             print(told(place, office, not chosen.db, folder), flush=True)
             watch(office, desk, front)

@@ -24,7 +24,7 @@ from babel.messages.plurals import PLURALS
 from babel.messages.pofile import read_po, write_po
 from babel.plural import to_gettext
 
-from cpi_tools.elided import OF
+from cpi_tools.text.elided import OF, plain_name
 from extractors import COMMENT, refused
 
 SOURCE = "en"
@@ -39,8 +39,8 @@ KEYWORDS: Mapping[str, Any] = {
     "pgettext": ((1, "c"), 2),
     "ngettext": (1, 2),
     "_": None,
-    "told": None,
-    "told_of": (1, 2),
+    "message": None,
+    "message_of": (1, 2),
     "marked": None,
     "marked_as": ((1, "c"), 2),
 }
@@ -49,7 +49,7 @@ KEYWORDS: Mapping[str, Any] = {
 CONTEXT_ENDS = "\x04"
 """Between a context and its text, as in gettext's files."""
 
-PLACE = re.compile(r"\{([a-z_]+)\}|%\(([a-z_]+)\)s")
+PLACE = re.compile(r"\{([A-Za-z_]+)\}|%\(([A-Za-z_]+)\)s")
 """A place of a text: `{month}` in a page, `%(month)s` in a template."""
 
 TAG = re.compile(r"<[^>]*>")
@@ -202,8 +202,9 @@ def places(text: str) -> set[str]:
 
 
 def _parted(text: str, allowed: Collection[str]) -> set[str]:
-    """The places of a translation; `{of_month}` is the place `{month}` with the word of its language before it."""
-    found = places(text)
+    """The places of a translation; `{of_month}` is the place `{month}` with the word of its language before it, and
+    `{Month}` the same with a capital letter."""
+    found = {it if it in allowed else plain_name(it) for it in places(text)}
     return {it if it in allowed else it.removeprefix(OF) for it in found}
 
 
@@ -326,7 +327,7 @@ def listed(languages: Iterable[str]) -> str:
 
 
 REFUSED_HEAD = """\
-// What the page says of a refusal, by its number. tools/pages makes this file of tools/cpi_tools/words.py.
+// What the page says of a refusal, by its number. tools/pages makes this file of tools/cpi_tools/office/refusals.py.
 
 """
 

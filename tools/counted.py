@@ -26,6 +26,15 @@ IRREGULAR = frozenset(
 )
 """Participles that don't end in -ed."""
 
+TRUSTED = ("cpi/src/main.rt", "cpi_files/src/file.rt", "cpi_app/src/machine.rt")
+"""The files of what the program does to the machine, which no contract says and people read."""
+VERBS = frozenset({"put", "read", "run", "split"})
+"""Those that are also what one tells somebody to do."""
+
+COMPANIONS = "tools/cpi_tools/"
+MOST_FILES = 30
+"""A folder of the companions has at most so many files."""
+
 SAYING_NOTHING = frozenset({"by", "mine", "either", "go"})
 """Names that say nothing of what a lemma states."""
 
@@ -150,6 +159,63 @@ def never_called() -> list[str]:
     return [f"{it.file}:{it.line} {it.name}" for it in found if it.is_public and it.name not in seen]
 
 
+def trusted_lines() -> list[str]:
+    """The lines of code of the files that people read: not those that are blank, only a comment, or bring in names."""
+    found = []
+    for file in TRUSTED:
+        within = False
+        for number, line in enumerate((TOP / "crates" / file).read_text(encoding="utf-8").split("\n"), 1):
+            code = line.partition("//")[0].strip()
+            within = within or USE.match(code) is not None
+            if code and not within:
+                found.append(f"crates/{file}:{number} {code}")
+            within = within and not code.endswith(";")
+    return found
+
+
 def by_crate(places: list[str]) -> Counter[str]:
     """How many of these places each crate has."""
     return Counter(it.split("/")[1] for it in places)
+
+
+# ---- the companions
+
+
+def modules() -> list[str]:
+    """The modules of the companions, from tools/cpi_tools on."""
+    return sorted(it for it in written_in("python") if it.startswith(COMPANIONS) and it.endswith(".py"))
+
+
+def module_names_twice() -> list[str]:
+    """The names of modules that two folders of the companions have, with their files."""
+    found: dict[str, list[str]] = defaultdict(list)
+    for file in modules():
+        found[file.rpartition("/")[2]].append(file)
+    return [f"{name}: {', '.join(files)}" for name, files in sorted(found.items()) if files[1:] and name[0] != "_"]
+
+
+def wide_folders() -> list[str]:
+    """The folders of the companions with more than MOST_FILES files."""
+    folders = Counter(path.parent for path in (TOP / COMPANIONS).rglob("*.*") if "__pycache__" not in path.parts)
+    return sorted(f"{it.relative_to(TOP)}: {count}" for it, count in folders.items() if count > MOST_FILES)
+
+
+def python_names(kinds: tuple[type[ast.AST], ...]) -> Iterator[tuple[str, str]]:
+    """The names of some kinds that the companions give, each with its file and line."""
+    for file in modules():
+        for node in ast.walk(ast.parse((TOP / file).read_text(encoding="utf-8"))):
+            if isinstance(node, kinds):
+                name = getattr(node, "name", None) or getattr(node, "arg", None) or getattr(node, "id", "")
+                yield f"{file}:{getattr(node, 'lineno')}: {name}", str(name).strip("_").lower()
+
+
+def told() -> list[str]:
+    """Functions, classes, parameters and variables of the companions with the name `told`."""
+    kinds = (ast.FunctionDef, ast.ClassDef, ast.arg, ast.Name)
+    return [at for at, name in python_names(kinds) if name == "told"]
+
+
+def python_participles() -> list[str]:
+    """Functions of the companions whose name is one word that ends in -ed, or is one of IRREGULAR and no verb."""
+    names = python_names((ast.FunctionDef,))
+    return [at for at, name in names if name in IRREGULAR - VERBS or re.fullmatch(r"[a-z]{2,}[^e]ed", name)]

@@ -15,7 +15,7 @@ from typing import IO, Any, Optional, Union
 
 from babel.messages.extract import extract_python
 
-from cpi_tools.words import COLLECTOR, PLAN_FAULTS, REFUSALS, Refusal, sentence
+from cpi_tools.office.refusals import COLLECTOR, PLAN_FAULTS, REFUSALS, Refusal, sentence
 
 Found = tuple[int, Optional[str], Union[str, tuple[str, str]], list[str]]
 """Line, function or none, text or context and text, and comments."""
@@ -122,7 +122,7 @@ def to_desk() -> Mapping[str, str]:
 
 
 def of_refusals(*_: object, options: object) -> Iterator[Found]:
-    """The words of the refusals to collectors and to the desk; the file is `cpi_tools/words.py`, which has them."""
+    """The words of the refusals to collectors and to the desk; the file is `cpi_tools/office/refusals.py`, which has them."""
     for number, text in refused().items():
         yield 1, None, text, [f"refusal {number} to a collector: why, and what to do"]
     for text, comment in to_desk().items():

@@ -1,7 +1,7 @@
 """The pages of the manual: those of docs/man with what belongs into them, and one of each tool of cpi-tools.
 
 The page of a tool is made of its own words, as its `--help` tells them, so a new tool has its page and its line in
-cpi-tools(1) without anything being written twice. The refusals in cpi(1) are made of cpi_tools/words.py, which the
+cpi-tools(1) without anything being written twice. The refusals in cpi(1) are made of cpi_tools/office/refusals.py, which the
 guides and the pages of `web/` have too.
 """
 
@@ -13,7 +13,7 @@ from collections.abc import Iterator
 from pathlib import Path
 from typing import Optional
 
-from cpi_tools.words import COLLECTOR, PLAN_FAULTS, REFUSALS, Refusal, Words
+from cpi_tools.office.refusals import COLLECTOR, PLAN_FAULTS, REFUSALS, Refusal, Words
 
 
 def roff(text: str) -> str:

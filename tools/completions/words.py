@@ -9,7 +9,7 @@ from collections.abc import Iterator
 from pathlib import Path
 from typing import NamedTuple, Optional
 
-from cpi_tools.terminal import a_file
+from cpi_tools.text.terminal import a_file
 from manual import actions_of, tools_of
 
 

@@ -9,16 +9,19 @@ from collections.abc import Iterable, Iterator, Sequence
 from importlib import import_module
 from typing import Optional
 
-from .csv_files import formulas_told
-from .output import shown_outputs
-from .terminal import Fault, ToolWords, ends_by_signals, is_line
+from .text.csv_files import formulas_told
+from .text.output import shown_outputs
+from .text.terminal import Fault, ToolWords, ends_by_signals, is_line
 from .version import ShowVersion
 
 TOOLS = {
-    "backup": "backup", "drill": "drill", "restore": "restore", "follow": "follow", "receive": "receive", "keep": "keep",
-    "promote": "promote", "gaps": "gaps", "probe": "probe", "doctor": "doctor", "keys": "keys", "calendar": "calendar_file",
-    "desk": "desk", "explain": "explain", "quality": "quality", "publish": "publish", "take-in": "take_in", "take-out": "take_out",
-    "next-year": "next_year", "weights": "moved_weights",
+    "backup": "guard.backup", "drill": "guard.drill", "restore": "guard.restore", "follow": "guard.follow",
+    "receive": "guard.receive", "keep": "guard.keep", "promote": "guard.promote", "gaps": "guard.gaps",
+    "probe": "guard.watch.probe", "doctor": "guard.doctor", "keys": "desk.keys.keys_cli",
+    "calendar": "office.calendar_file", "desk": "desk.desk_cli", "explain": "explain.explain_cli",
+    "compare": "office.compare", "quality": "publish.quality_counts", "publish": "publish.pack",
+    "take-in": "sheets.maps.take_in_words", "take-out": "sheets.take_out", "next-year": "sheets.year.next_year",
+    "weights": "sheets.year.moved_weights",
 }  # fmt: skip
 """The module of each tool, in the order of the help."""
 

@@ -15,8 +15,8 @@ from pathlib import Path
 from typing import Any, Optional, Union
 
 from . import VERSION
-from .program import CpiFailed, find_program
-from .terminal import because_of, is_line, naming
+from .office.program import CpiFailed, find_program
+from .text.terminal import because_of, is_line, naming
 
 TOP = Path(__file__).resolve().parents[2]
 """The repository, or the folder of the package that has its form."""
@@ -82,13 +82,13 @@ def told_of_program(top: Path, shipped: dict[str, str]) -> str:
 def lines(top: Path = TOP) -> Iterator[str]:
     """All that is told, line by line; what isn't a line of UTF-8 is escaped."""
     shipped = made(top)
-    told = [f"cpi-tools {VERSION}"]
+    text = [f"cpi-tools {VERSION}"]
     if shipped:
-        told += [f"{name}: {shipped.get(name, 'dist/MADE has no such line')}" for name in NAMES]
+        text += [f"{name}: {shipped.get(name, 'dist/MADE has no such line')}" for name in NAMES]
     else:
-        told.append("shipped: not known, since there is no dist/MADE with these companions")
-    told.append(f"runs: {told_of_program(top, shipped)}")
-    yield from (line if is_line(line) else ascii(line)[1:-1] for line in told)
+        text.append("shipped: not known, since there is no dist/MADE with these companions")
+    text.append(f"runs: {told_of_program(top, shipped)}")
+    yield from (line if is_line(line) else ascii(line)[1:-1] for line in text)
 
 
 class ShowVersion(argparse.Action):

@@ -14,7 +14,7 @@ from .edits import Edit
 from .prover import Libraries
 from .sources import Crate
 
-RULES = 2
+RULES = 3
 """Raise this when the rules change by which an edit counts as refused: then nothing that is kept counts."""
 
 
@@ -52,7 +52,8 @@ class Cache:
 
     def key(self, edit: Edit) -> str:
         error = (edit.code, edit.says) if edit.code else ()
-        return hashlib.sha256(repr((self.sum, edit.name, edit.pairs, *error)).encode()).hexdigest()
+        laws = sorted(edit.names()) if edit.is_of_definitions() else []
+        return hashlib.sha256(repr((self.sum, edit.name, edit.pairs, *error, *laws)).encode()).hexdigest()
 
     def find(self, edit: Edit) -> Optional[str]:
         """What was said of an edit that was refused; None if nothing whole is kept of it."""

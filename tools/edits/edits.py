@@ -1,7 +1,8 @@
 """The edits of a crate, `must-fail/*.edit` and `must-not-compile/*.edit`, and the functions that each of them changes.
 
 `rt` reads those of `must-fail/` in the same way. An edit of `must-not-compile/` has two lines more, `code: CODE` and
-`says: TEXT`: the code of the error by which the compiler must refuse it, and a part of that error's text.
+`says: TEXT`: the code of the error by which the compiler must refuse it, and a part of that error's text. An edit of
+definitions, in specs/, has a line more, `at: FUNCTION`: a law that isn't proved with it.
 """
 
 from __future__ import annotations
@@ -33,9 +34,9 @@ class Pair(NamedTuple):
 class Edit(NamedTuple):
     """An edit of a crate.
 
-    `functions` are those that it changes. `is_wide` says that it may change any other function too. `fault` says why it
-    can't be tried, and is empty if it can. `code` is that of the compiler's error, and `says` a part of its text; both are
-    empty if the prover has to refuse the edit.
+    `functions` are those that it changes, or the law that it names. `is_wide` says that it may change any other function
+    too. `fault` says why it can't be tried, and is empty if it can. `code` is that of the compiler's error, and `says` a
+    part of its text; both are empty if the prover has to refuse the edit.
     """
 
     name: str
@@ -60,6 +61,10 @@ class Edit(NamedTuple):
         """The function that it changes and that has this name, or in which the closure of this name stands, or ``."""
         plain = "::".join(part for part in name.split("::") if part != "fn")
         return next((it for it in sorted(self.names()) if plain == it or plain.startswith(f"{it}::")), "")
+
+    def is_of_definitions(self) -> bool:
+        """Whether it changes definitions only, so that a lemma of any proof may be the first that fails."""
+        return all(file.startswith("specs/") for file in self.files())
 
     def is_alone(self) -> bool:
         """Whether it never shares a run."""
@@ -115,7 +120,8 @@ def read_file(path: Path, has_code: bool, crate: Crate) -> Edit:
 
 
 def read_edit(name: str, text: str, crate: Crate) -> Edit:
-    """Reads an edit: lines `file: PATH`, and pairs of lines `old: TEXT` and `new: TEXT`; other lines say nothing."""
+    """Reads an edit: lines `file: PATH`, pairs of lines `old: TEXT` and `new: TEXT`, and of definitions `at: FUNCTION`.
+    Other lines say nothing."""
     pairs, fault = parse(text, crate)
     if fault:
         return Edit(name, fault=fault)
@@ -126,7 +132,18 @@ def read_edit(name: str, text: str, crate: Crate) -> Edit:
         return Edit(name, fault="it changes nothing")
     functions = {it.name: it for pair in pairs for it in list_changed(crate, pair)}
     is_wide = any(not is_local(crate, pair) for pair in pairs)
-    return Edit(name, tuple(pairs), tuple(functions.values()), is_wide)
+    return add_laws(Edit(name, tuple(pairs), tuple(functions.values()), is_wide), text, crate)
+
+
+def add_laws(edit: Edit, text: str, crate: Crate) -> Edit:
+    """An edit with the functions that its lines `at: FUNCTION` name, or with a fault."""
+    names = re.findall(r"^at: (\S+)$", text, re.M)
+    functions = {it.name: it for it in crate.items if it.kind == "fn"}
+    if names and not edit.is_of_definitions():
+        return edit._replace(fault="an 'at:' line is for an edit of definitions, in specs/")
+    if unknown := [name for name in names if name not in functions]:
+        return edit._replace(fault=f"there is no function {unknown[0]}")
+    return edit._replace(functions=(*edit.functions, *(functions[name] for name in names)))
 
 
 def parse(text: str, crate: Crate) -> tuple[list[Pair], str]:

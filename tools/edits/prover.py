@@ -20,6 +20,7 @@ from .edits import Edit, apply
 from .report import KILLED, Report
 from .slots import Slots
 from .sources import Crate, name_module
+from .stubs import find_faulty, stub_others
 
 
 class Libraries(NamedTuple):
@@ -74,19 +75,36 @@ class Prover:
         self.running: set[int] = set()
         self.starting = threading.Lock()
 
+    def compile(self, crate: Crate, edit: Edit) -> Report:
+        """Checks the functions that an edit changes, and the whole crate as far as the compiler reads it."""
+        return self.check_with_stubs(crate, [edit], edit.names(), {it.name for it in crate.items})
+
     def check_functions(self, crate: Crate, edits: Sequence[Edit], names: Collection[str]) -> Report:
-        """Checks a crate with these edits, but only the functions of these names and what they call. What it proves is
-        kept for the next run over the crate, in a folder of the crate's own."""
-        wanted, texts = set(names), apply_all(crate, edits)
+        """Checks a crate with these edits, but only the functions of these names; all others are stubs."""
+        return self.check_with_stubs(crate, edits, names, set(names))
+
+    def check_with_stubs(self, crate: Crate, edits: Sequence[Edit], names: Collection[str], whole: set[str]) -> Report:
+        """Checks the functions of these names, in a crate with these edits in which all functions but those of `whole` are
+        stubs. What it proves is kept for the next run over the crate, in a folder of the crate's own."""
+        wanted = set(names)
         while True:
+            texts = apply_all(crate, edits)
+            stubs = stub_others(crate, whole, texts)
             more = [word for name in sorted(wanted) for word in ("--only", name)]
-            report = self.check(crate, edits, texts, ["--incremental", str(self.room / f"{crate.name}.kept"), *more])
-            unknown = report.find_unknown()
-            if unknown not in wanted:
+            kept = str(self.room / f"{crate.name}.kept")
+            report = self.check(crate, edits, texts, ["--allow-holes", "--incremental", kept, *more])
+            unknown, faulty = report.find_unknown(), find_faulty(stubs.values(), report.list_places())
+            if unknown in wanted:
+                # (of a method that a macro writes the prover knows another name: the module stands for it)
+                wanted |= {name_module(it.file) for edit in edits for it in edit.functions if it.name == unknown}
+                wanted.discard(unknown)
+            elif faulty:
+                whole = whole | faulty
+            elif stubs and not report.is_verdict():
+                # (so that no edit fails because of a stub)
+                whole = whole | set(stubs)
+            else:
                 return report
-            # (of a method that a macro writes the prover knows another name: the module stands for it)
-            wanted |= {name_module(it.file) for edit in edits for it in edit.functions if it.name == unknown}
-            wanted.discard(unknown)
 
     def check_all(self, crate: Crate, edit: Edit) -> Report:
         """Checks a whole crate with an edit, from nothing."""

@@ -1,7 +1,8 @@
 """What the prover prints of a crate with edits: which functions aren't proved, and at which goals.
 
 It prints `fn NAME: proved`, or why not, for each function. A goal that is open has a line `note: src/FILE:LINE:COLUMN:
-it is not proved that ..`. A proof that it doesn't take has `proofs/FUNCTION/FILE:LINE:COLUMN: error: ..`.
+it is not proved that ..`. A proof that it doesn't take has `proofs/FUNCTION/FILE:LINE:COLUMN: error: ..`, and a lemma
+`proofs/FILE:LINE:COLUMN: error: ..`.
 """
 
 from __future__ import annotations
@@ -14,6 +15,8 @@ from .edits import Edit
 
 GOAL = re.compile(r"note: (src/\S+?):(\d+):\d+: it is not proved that .*?\(`([^`]*)`\)")
 PROOF = re.compile(r"(?:\./)?(proofs/(\S+)/[^/]+\.antt:\d+):\d+: error: `([^`]*)`: (.*)")
+PROOF_FILE = re.compile(r"proofs/[^\s:`]+\.antt")
+LEMMA = re.compile(r"(?:\./)?(proofs/\S+\.antt:\d+):\d+: error: `([^`]*)`: (.*)")
 FUNCTION = re.compile(r"fn \w+::(\S+): (.*)")
 FOLLOWS = re.compile(r"was not admitted|was rejected|were not checked")
 """What is said of a proof that only cites another one which isn't taken."""
@@ -28,8 +31,8 @@ UNREAD = re.compile(r"is not in scope|has no field|is no name|operand is missing
 """What is said of a declaration that can't be read. One that is only false reads well."""
 
 UNKNOWN = re.compile(r"has no function `([^`]*)`")
-PROVED = "proved"
-"""What is said of a function that is proved."""
+PROVED = ("proved", "no holes", "depends on a hole in")
+"""What is said of a function that is proved, if the functions are that it calls."""
 
 PLACED = re.compile(r"(note: )?\S+:\d+:\d+:")
 LITTLE = "(little: a proof file names what the edit took away)"
@@ -54,6 +57,10 @@ class Report(NamedTuple):
         """Whether the prover came to its end and doesn't prove all that it was asked for."""
         return self.status == REFUSED and self.find_last().startswith(("only=", "logic=not-proved"))
 
+    def is_verdict(self) -> bool:
+        """Whether the prover came to its end, or was killed."""
+        return self.status in (NOTHING_REFUSED, KILLED) or self.has_verdict()
+
     def list_functions(self) -> dict[str, str]:
         """What is said of each function, by its name without the crate."""
         return {it[1]: it[2] for it in map(FUNCTION.match, self.lines) if it}
@@ -63,6 +70,11 @@ class Report(NamedTuple):
         found = UNKNOWN.search("\n".join(self.lines)) if self.status == NOT_CALLED_WELL else None
         return found[1] if found else ""
 
+    def list_places(self) -> set[tuple[str, int]]:
+        """The file and the line of each error; line 0 of a file of proofs that an error only names."""
+        placed = {(it["file"], int(it["line"])) for it in map(ERROR.match, self.lines) if it}
+        return placed | {(path, 0) for line in self.lines if "error" in line for path in PROOF_FILE.findall(line)}
+
     def list_calls(self, crate: str) -> dict[str, set[str]]:
         """By the name of each function that isn't proved, the functions of the crate that it calls and that aren't."""
         called = {name: said.partition("it calls ")[2] for name, said in self.list_functions().items()}
@@ -71,7 +83,7 @@ class Report(NamedTuple):
 
 def find_refusal(edit: Edit, report: Report) -> str:
     """The function that an edit changes and that a run refuses, with the place and the goal: `FUNCTION, FILE:LINE,
-    GOAL`. It is `` if no note stands at such a function."""
+    GOAL`. It is `` if no note stands at such a function. Of an edit of definitions a lemma counts, wherever it is."""
     if not report.has_verdict():
         return ""
     said = report.list_functions().items()
@@ -90,7 +102,14 @@ def find_refusal(edit: Edit, report: Report) -> str:
                 return f"{name}, {proof[1]}, {proof[3]}"
             if name in unproved:
                 weak = weak or f"{name}, {proof[1]}, {proof[3]} {LITTLE}"
-    return weak
+    lemma = find_lemma(report) if unproved and edit.is_of_definitions() else ""
+    return f"{min(unproved)}, {lemma}" if lemma else weak
+
+
+def find_lemma(report: Report) -> str:
+    """The first lemma that a run refuses for what it says itself: `FILE:LINE, LEMMA`; or ``."""
+    lemmas = [it for it in map(LEMMA.match, report.lines) if it and not (FOLLOWS.search(it[3]) or GONE.search(it[3]))]
+    return f"{lemmas[0][1]}, {lemmas[0][2]}" if lemmas else ""
 
 
 def is_proved(edit: Edit, report: Report) -> bool:

@@ -81,7 +81,7 @@ class Trial:
 
     def try_to_compile(self, edit: Edit) -> Verdict:
         """What the compiler says of an edit that it must refuse. If it takes the edit, the prover tries what changed."""
-        report = self.prover.check_functions(self.crate, [edit], edit.names())
+        report = self.prover.compile(self.crate, edit)
         if text := find_uncompiled(edit, report):
             return Verdict(REFUSED, text)
         if report.status not in (0, 1):

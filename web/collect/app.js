@@ -3,7 +3,7 @@ import { office } from "../config.js";
 import { find, isolated } from "../shared/dom.js";
 import { begin } from "../shared/language.js";
 import { t } from "../shared/texts.js";
-import { showDeadline } from "./deadline.js";
+import * as deadline from "./deadline.js";
 import * as entry from "./entry.js";
 import * as exported from "./export.js";
 import { notice, noticeUntilRead, showHead } from "./head.js";
@@ -15,6 +15,7 @@ import * as search from "./search.js";
 import * as session from "./session.js";
 import * as shownMonth from "./shown-month.js";
 import { state } from "./state.js";
+import * as storage from "./storage.js";
 import * as unsent from "./unsent.js";
 import { pageKeepsNothing } from "./wording.js";
 
@@ -76,7 +77,7 @@ async function returned() {
 /** A minute has passed. */
 async function passed() {
   if (!state.who) return;
-  showDeadline();
+  deadline.showDeadline();
   await shownMonth.follow();
 }
 
@@ -113,7 +114,7 @@ languages.on.spoken = () => {
 };
 unsent.on.open = entry.edit;
 unsent.on.dropped = entry.dropped;
-for (const part of [entry, exported, languages, search, session, unsent]) part.listen();
+for (const part of [deadline, entry, exported, languages, search, session, storage, unsent]) part.listen();
 listen();
 keepFiles();
 begin().then(languages.spoken).then(loadNotes).then(session.start);

@@ -3,7 +3,7 @@
 // office's clock if the file has it, and by the phone's if that differs.
 import { find } from "../shared/dom.js";
 import { inWords, moved, timeBy, timeOf, thisMonth } from "../shared/months.js";
-import { form, t, tn } from "../shared/texts.js";
+import { form, t, tc, tn } from "../shared/texts.js";
 import { windows } from "./answers.js";
 import { state } from "./state.js";
 
@@ -44,6 +44,7 @@ export function showDeadline() {
   const count = state.entries.filter(({ month }) => month === state.month).length;
   const left = window ? window.closes - seconds() : SOON, isSoon = left < SOON && (left > 0 || count > 0);
   find("deadline").textContent = window ? wordsOf(window) : "";
+  find("left").textContent = window ? shortOf(window) : "";
   find("unstored").textContent = isSoon ? warning(count) : "";
   find("unstored").classList.toggle("late", isSoon && count > 0);
 }
@@ -61,6 +62,21 @@ function wordsOf(window) {
   // t: {moment} is such as 30 November, 18:00; {within} is such as in 2 days
   if (now < closes) return t("The window closes on {moment}, {within}.", { moment, within: within(closes - now) });
   return t("The window closed on {moment}.", { moment });
+}
+
+/** The same in some words, under the month. */
+function shortOf({ word, opens, closes }) {
+  const now = seconds();
+  // t: of the window of a month in which prices are taken; short
+  if (word === "open") return tc("window of a month", "open");
+  // t: of the window of a month in which prices are taken; short
+  if (word === "closed" || (!word && now >= closes)) return tc("window of a month", "closed");
+  // t: of the window of a month in which prices are taken; short
+  if (word) return tc("window of a month", "not open yet");
+  // t: {within} is such as in 2 days, until prices are taken; short
+  if (now < opens) return t("opens {within}", { within: within(opens - now) });
+  // t: {time} is such as 2 days, as long as prices are taken; short
+  return t("{time} left", { time: lasting(closes - now) });
 }
 
 /** What the office's last answer said, if the published window is another one. */
@@ -85,10 +101,26 @@ function warning(count) {
   return tn("One entry isn’t stored yet.", "{count} entries aren’t stored yet.", count);
 }
 
-/** `in 2 days`: never more than is left. */
-function within(left) {
-  const relative = form(Intl.RelativeTimeFormat);
-  if (left >= 2 * DAY) return relative.format(Math.floor(left / DAY), "day");
-  if (left >= 2 * HOUR) return relative.format(Math.floor(left / HOUR), "hour");
-  return relative.format(Math.floor(left / MINUTE), "minute");
+/** How long that is, in the largest unit of which there are two at least: never more than is left. */
+function counted(left) {
+  if (left >= 2 * DAY) return [Math.floor(left / DAY), "day"];
+  if (left >= 2 * HOUR) return [Math.floor(left / HOUR), "hour"];
+  return [Math.floor(left / MINUTE), "minute"];
+}
+
+/** `in 2 days`. */
+const within = (left) => form(Intl.RelativeTimeFormat).format(...counted(left));
+
+/** `2 days`. */
+function lasting(left) {
+  const [count, unit] = counted(left);
+  return form(Intl.NumberFormat, { style: "unit", unit, unitDisplay: "long" }).format(count);
+}
+
+/** The event of the line of month, deadline and progress: it unfolds the whole sentences. */
+export function listen() {
+  find("more").addEventListener("click", () => {
+    const isOpen = !find("whole").toggleAttribute("hidden");
+    find("more").setAttribute("aria-expanded", String(isOpen));
+  });
 }

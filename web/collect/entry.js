@@ -10,6 +10,7 @@ import { focusOn, nextToDo, touch } from "./list.js";
 import { farFrom } from "./look.js";
 import { notes, questions } from "./optional.js";
 import { entryAt, isToDo, rowOf, state, storedOf, takeEntries, takeEntry } from "./state.js";
+import { showStorage } from "./storage.js";
 import * as store from "./store.js";
 import * as tabs from "./tabs.js";
 import * as unsent from "./unsent.js";
@@ -55,7 +56,7 @@ function chosen() {
   }
   const read = typed(find("price").value);
   if (read?.price) return { mark, value: read.price };
-  if (read?.readings) return form.askReading(read.readings);
+  if (read?.readings) return form.askReading(read.readings, read.isRounded);
   form.focusPrice();
   return form.showFault(t("Write the price with figures, such as {price}.", { price: figures(210) }));
 }
@@ -103,6 +104,7 @@ function goOn(kept, edited, text) {
   takeEntry(kept);
   drafts.keepDraft(kept, null);
   tabs.tell("entries");
+  showStorage();
   const { slot, row, wasToDo } = edited;
   const next = wasToDo && isOpen() && editing === edited ? nextToDo(slot) : null;
   if (next !== null) {

@@ -144,13 +144,15 @@ export function showSaved(kept, isElsewhere = false) {
   find("entry-saved").replaceChildren(...(saved ?? []));
 }
 
-/** Asks which price is meant by what was typed; null. */
-export function askReading(readings) {
+/** Asks which price is meant by what was typed; the first reading may be rounded. Null. */
+export function askReading(readings, isRounded) {
   showQuestion(null);
   find("entry-refusal").hidden = false;
   find("entry-refusal").replaceChildren(make("p", {}, t("This can be read in more than one way. Which price is it?")),
-    make("div", { class: "actions" }, ...readings.map((price) =>
-      make("button", { type: "button", "data-reading": price, onclick: () => on.reading(price) }, shown(price)))));
+    make("div", { class: "actions" }, ...readings.map((price, n) =>
+      make("button", { type: "button", "data-reading": price, onclick: () => on.reading(price) },
+        // t: a button: a price that was typed with more decimals than the office writes: 1.46, rounded
+        isRounded && n === 0 ? t("{price}, rounded", { price: shown(price) }) : shown(price)))));
   bringIntoSight("entry-refusal");
   return null;
 }

@@ -72,6 +72,9 @@ export function showCounts() {
   const { work = [], at } = state.list ?? {};
   const stored = work.filter(([slot]) => storedOf(slot)).length;
   find("progress").textContent = state.list ? progress(stored, work.length, at) : "";
+  // t: how many rows are stored, of how many; short
+  const share = t("{stored} of {all}", { stored: whole(stored), all: whole(work.length) });
+  find("share").textContent = state.list ? share + restOf(stored, work.length) : "";
   find("done").hidden = work.length === 0;
   find("done").max = work.length || 1;
   find("done").value = stored;
@@ -81,15 +84,16 @@ export function showCounts() {
   showHead();
 }
 
-/** The text keeps its width, so that no line breaks anew, and no row moves. */
+/** What a count lacks in width, so that no line breaks anew, and no row moves. */
+const restOf = (stored, all) => "\u2007".repeat(String(all).length - String(stored).length);
+
 function progress(stored, all, at) {
-  const rest = "\u2007".repeat(String(all).length - String(stored).length);
   const counts = { stored: whole(stored), all: whole(all) };
   const isToday = new Date(at).toDateString() === new Date().toDateString();
   // t: {time} is such as 17:30, when the list came
   return (isToday ? t("{stored} of {all} stored, list of {time}", { ...counts, time: clockOf(at) })
     // t: {day} is such as 25 Nov 2026, when the list came
-    : t("{stored} of {all} stored, list of {day}", { ...counts, day: dayOf(at) })) + rest;
+    : t("{stored} of {all} stored, list of {day}", { ...counts, day: dayOf(at) })) + restOf(stored, all);
 }
 
 function whyNoList() {

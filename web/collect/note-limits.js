@@ -1,4 +1,4 @@
-// What a note of the field may have at most. tools/cpi_tools/desk_app/field_limits.py has the same names.
+// What a note of the field may have at most. tools/cpi_tools/desk/field/field_limits.py has the same names.
 export const MOST_LETTERS = 500; // of the text
 export const MOST_BRAND_LETTERS = 80;
 export const MOST_QUANTITY_LETTERS = 40;

@@ -1,16 +1,16 @@
-// What the page says of a refusal, by its number. tools/pages makes this file of tools/cpi_tools/words.py.
+// What the page says of a refusal, by its number. tools/pages makes this file of tools/cpi_tools/office/refusals.py.
 
 export const REFUSED = {
-  10: "The record has no such form, or a price or number is outside its limits. Look at the fields, send again.",
-  11: "Nobody bears this key. Look at the key; if it is right, ask the desk.",
-  12: "Only the desk may ask that. Ask the desk.",
-  20: "You have no such slot. Look at the work list.",
+  10: "The record’s form is wrong, or a price or number is outside its limits. Check the fields and send it again.",
+  11: "Nobody has this key. Check the key; if it is right, ask the desk.",
+  12: "Only the desk may ask for that. Ask the desk.",
+  20: "You have no such slot. Check the work list.",
   21: "The month has no window yet. Ask the desk.",
-  22: "The slot isn’t yours in that month, or isn’t any more. Look at the work list of the month.",
-  23: "The window isn’t open yet. Send it once it is.",
-  24: "The window has closed. Tell the desk; the month goes without it, unless the desk opens it again.",
+  22: "The slot isn’t yours in that month, or no longer is. Check the work list of the month.",
+  23: "The window isn’t open yet. Send it once the window is open.",
+  24: "The window has closed. Tell the desk; the month goes without the price unless the desk opens the window again.",
   25: "A replacement in a slot without a price. Send it as a price.",
-  26: "The price is far from the last one. Look again; mend it, or send it with the confirm button.",
+  26: "The price is far from the last one. Look again; correct it, or send it with the confirm button.",
   27: "Your receipts are used up. The desk registers a new number with slots of its own.",
-  90: "Memory or the disk failed. Nothing was stored; send the same again.",
+  90: "Memory or the disk failed. Nothing was stored; send it again.",
 };

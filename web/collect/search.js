@@ -59,13 +59,31 @@ export function sayNone() {
 
 /** Nothing is searched for, and nothing is folded. */
 export function forget() {
+  open(false);
   find("search").value = "";
   words = [];
   folded.clear();
 }
 
+/** Opens the field, which has the focus then, or closes it, and shows all rows again. */
+function turn() {
+  open(find("search").hidden);
+  if (!find("search").hidden) {
+    find("search").focus();
+    return;
+  }
+  find("search").value = "";
+  searchFor("");
+}
+
+function open(isOpen) {
+  find("search").hidden = !isOpen;
+  find("seek").setAttribute("aria-expanded", String(isOpen));
+}
+
 /** The events of the field, and of the outlets' heads. */
 export function listen() {
+  find("seek").addEventListener("click", turn);
   find("search").addEventListener("input", ({ target }) => searchFor(target.value));
   find("search").addEventListener("keydown", ({ key, target }) => {
     if (key === "Enter") target.blur(); // (so that the keyboard of a phone goes)

@@ -95,7 +95,6 @@ async function enter(key, name) {
   await takeShared();
   Object.assign(state, { who: await store.nameOf(key), key, name: name ?? "" });
   shownMonth.begin();
-  await showStorage(); // (before the rows come, so that it moves none)
   find("sign-in").hidden = true;
   find("work").hidden = find("leave").hidden = false;
   await show();
@@ -109,12 +108,6 @@ async function enter(key, name) {
 async function refresh() {
   await line.refresh(true);
   await shownMonth.follow();
-}
-
-/** Says that the browser may clear what isn't sent, until that was read. */
-async function showStorage() {
-  const isSafe = await navigator.storage?.persisted?.().catch(() => false);
-  find("storage").hidden = isSafe || Boolean(await store.isNoticeRead());
 }
 
 // ---- Signing out
@@ -160,6 +153,7 @@ function cleared() {
   questions.clear();
   Object.assign(state, signedOut());
   takeKept(null, []);
+  find("storage").hidden = true;
   noticeUntilRead(() => "");
   render();
 }
@@ -183,10 +177,6 @@ export function listen() {
   });
   find("leave").addEventListener("click", askToLeave);
   find("leaving").addEventListener("close", left);
-  find("storage-read").addEventListener("click", async () => {
-    await store.keepNoticeRead();
-    find("storage").hidden = true;
-  });
   addEventListener("hashchange", async () => {
     const link = takeLink();
     if (link) await follow(link);

@@ -4,12 +4,12 @@
 // writes it. What an office sets itself (SET) is kept too, and read anew behind each start, so that the next one has it; and
 // so are the catalogues of languages that this phone has spoken, and the files of notes and questions if the office takes
 // them: the page names these.
-const VERSION = "9bbec26ab7acc3b0";
+const VERSION = "47d2c6ff17030b87";
 const FILES = [
   "./", "answers.js", "app.js", "collect.css", "deadline.js", "drafts.js", "entry.js", "export.js", "form.js", "head.js",
   "icon.svg", "kept-lists.js", "key.js", "languages.js", "line.js", "list.js", "lists.js", "look.js",
   "manifest.webmanifest", "optional.js", "quotes.js", "refused.js", "restored.js", "search.js", "send.js", "session.js",
-  "shown-month.js", "state.js", "store.js", "tabs.js", "unsent.js", "wording.js",
+  "shown-month.js", "state.js", "storage.js", "store.js", "tabs.js", "unsent.js", "wording.js",
   "../shared/api.js", "../shared/base.css", "../shared/csv.js", "../shared/dom.js", "../shared/money.js",
   "../shared/language.js", "../shared/languages.js", "../shared/months.js", "../shared/texts.js", "../shared/windows.js",
 ];

@@ -43,8 +43,8 @@ function reason(value) {
 export function statusOf(slot) {
   const entry = entryOf(slot), stored = storedOf(slot);
   if (entry) return stateOf(kindOf(entry));
-  // t: of a row whose price is stored; short
-  if (stored) return ["good", t("Receipt {number}", { number: whole(stored[4]) })];
+  // (the form has the number of its receipt)
+  if (stored) return ["good", tc("state of a row", "Stored")];
   // t: of a row without an entry; short
   return ["todo", tc("state of a row", "To do")];
 }

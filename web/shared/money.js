@@ -25,11 +25,14 @@ export function typed(text) {
 }
 
 /**
- * A text as a price in minor units: { price } if it can be read in one way only, { readings } if the collector has to
- * say which of them is meant (one or more), null if it is no price from LEAST to MOST.
+ * A text as a price in minor units: { price } if it can be read in one way only, { readings, isRounded } if the collector
+ * has to say which of them is meant (one or two), null if it is no price from LEAST to MOST.
  *
  * A point or a comma before the last three digits may group them or be a decimal mark: a fuel's price at a pump is
- * 1,459 even if the office writes two decimals. So the collector is asked, unless the office writes no decimals.
+ * 1,459 even if the office writes two decimals. So the collector is asked, unless the office writes no decimals. If the
+ * first reading has more decimals than the office writes, it is the nearest price, halves up, and `isRounded` says so.
+ *
+ * @returns {{ price?: number, readings?: number[], isRounded?: boolean } | null}
  */
 export function read(text, minorDigits, currency = "") {
   const figure = plain(text, currency);
@@ -37,9 +40,18 @@ export function read(text, minorDigits, currency = "") {
   const [, before, mark, after] = DECIMAL.exec(figure) ?? [];
   const isDecimal = mark && after.length <= minorDigits && !before.includes(mark) && (!before || WHOLE.test(before));
   const decimal = isDecimal ? priceOf(before, after, minorDigits) : null;
-  const readings = [decimal, whole].filter((price) => price !== null);
-  if (!readings.length) return null;
-  return minorDigits && DOUBTFUL.test(figure) ? { readings } : { price: readings[0] };
+  if (minorDigits && DOUBTFUL.test(figure)) return asked(decimal, whole, before + after, minorDigits);
+  const price = decimal ?? whole;
+  return price === null ? null : { price };
+}
+
+/** The readings of a doubtful figure, whose digits are thousandths if its mark is a decimal one. */
+function asked(decimal, whole, digits, minorDigits) {
+  const step = 10 ** Math.max(3 - minorDigits, 0), count = Number(digits), rest = count % step;
+  const nearest = (count - rest) / step + (2 * rest >= step && rest ? 1 : 0);
+  const first = decimal ?? (minorDigits < 3 && nearest >= LEAST ? nearest : null);
+  const readings = [first, whole].filter((price) => price !== null);
+  return readings.length ? { readings, isRounded: decimal === null && rest > 0 && first !== null } : null;
 }
 
 // The forms of a figure in plain signs. "." and "," may be either mark; " ", "'" and "\u066c" (the Arabic thousands

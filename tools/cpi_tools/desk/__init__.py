@@ -1,8 +1,1 @@
-"""`cpi-tools desk month | close | what-if`: the month before it is frozen, its freeze, and what would change it.
-
-All of it works on copies of the office's file. What would happen is told by the program, which freezes the month there.
-"""
-
-from .words import add_words
-
-__all__ = ["add_words"]
+"""The desk: a month before it is frozen, computed once, on a terminal and in a browser."""

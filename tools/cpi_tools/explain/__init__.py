@@ -2,7 +2,3 @@
 
 The rows of a copy are taken as claims: each line says what its row has to be, by the rows that it comes from.
 """
-
-from .words import add_words
-
-__all__ = ["add_words"]

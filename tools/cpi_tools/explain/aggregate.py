@@ -6,49 +6,49 @@ from collections.abc import Iterator, Sequence
 from fractions import Fraction
 from typing import Optional
 
-from ..exact import HUNDRED, decimal
-from ..desk.marks import mark_words
-from ..others import of_others
-from ..sections import Cell, Section, columns
-from ..stored import OBSERVED, Frozen, Series
-from ..terminal import link_month, month_before, slot_text
-from ..told import Code, Price, Ticks, Told, month_of, told
-from . import wording
-from .lines import WITHIN, Line, Part, summed
-from .sources import WHOLE_SCALE, Sources
+from ..office.quote_marks import mark_words
+from ..office.stored import OBSERVED, Frozen, Series
+from ..text.exact import HUNDRED, decimal
+from ..text.message import Code, Price, Ticks, Message, month_of, message
+from ..text.others import of_others
+from ..text.sections import Cell, Section, columns
+from ..text.terminal import link_month, month_before, slot_text
+from . import sentence_texts
+from .explanation_lines import WITHIN, Line, Part, summed
+from .release_sources import WHOLE_SCALE, Sources
 
 
-def mark_text(quote: Optional[Frozen], has_ended: bool = False) -> Told:
+def mark_text(quote: Optional[Frozen], has_ended: bool = False) -> Message:
     """`price 210`, `missing, stock`, or `nothing was sent`; `no longer priced` if the series has ended."""
     if quote is None:
-        return told("no longer priced") if has_ended else told("nothing was sent")
+        return message("no longer priced") if has_ended else message("nothing was sent")
     if quote.mark in OBSERVED:
         # t: a mark and its price: price 2.10
-        return told("{mark} {price}", mark=mark_words(quote.mark), price=Price(quote.value))
+        return message("{mark} {price}", mark=mark_words(quote.mark), price=Price(quote.value))
     # t: there is no price, and why: missing, stock
-    return told("missing, {reason}", reason=mark_words(quote.mark))
+    return message("missing, {reason}", reason=mark_words(quote.mark))
 
 
 # ---- in words
 
 
-def who_sent(sources: Sources, series: Series, month: int, quote: Frozen) -> Told:
+def who_sent(sources: Sources, series: Series, month: int, quote: Frozen) -> Message:
     """Who sent a frozen quote, with its receipt where the quote still stands."""
     found = sources.sent.get((series, month))
     if found is None:
         holder = sources.holder(series, month)
-        return told("by collector {collector}, slot {slot}", collector=holder.collector, slot=holder.slot)
+        return message("by collector {collector}, slot {slot}", collector=holder.collector, slot=holder.slot)
     by: dict[str, object] = {"collector": found.slot.collector, "slot": found.slot.slot, "receipt": found.receipt}
     if found.quote == (quote.mark, quote.value):
-        return told("by collector {collector}, slot {slot}, receipt {receipt}", **by)
+        return message("by collector {collector}, slot {slot}, receipt {receipt}", **by)
     stands = mark_text(Frozen("", 0, *found.quote))
     # t: found is what the collector has sent since: price 210
-    return told(
+    return message(
         "by collector {collector}, slot {slot}; since the freeze {found} stands, receipt {receipt}", found=stands, **by
     )
 
 
-def about(sources: Sources, series: Series) -> Told:
+def about(sources: Sources, series: Series) -> Message:
     """What a series prices, and where."""
     it = sources.holder(series, sources.month)
     item = sources.items[it.item]
@@ -57,7 +57,7 @@ def about(sources: Sources, series: Series) -> Told:
         "unit": of_others(item.unit),
         "outlet": of_others(sources.outlets[it.outlet]),
     }
-    return told("{code} {item}, {unit}; {outlet}", code=Code(item.code), **places)
+    return message("{code} {item}, {unit}; {outlet}", code=Code(item.code), **places)
 
 
 # ---- lines of a series
@@ -66,52 +66,52 @@ def about(sources: Sources, series: Series) -> Told:
 def base_line(sources: Sources, series: Series) -> Line:
     """The base of a series."""
     link, ticks = link_month(sources.month), sources.base(series)[0]
-    name = told("base of {series}", series=Code(slot_text(series)))
+    name = message("base of {series}", series=Code(slot_text(series)))
     places = {"about": about(sources, series), "month": month_of(link)}
     if sources.link.is_observed(series):
         quote = sources.link.frozen[series]
         sent = who_sent(sources, series, link, quote)
         # t: what a series prices, its mark in a month, and who sent it: RICE Rice, 1 kg; price in 2025-12 by collector 7
-        says = told("{about}; {mark} in {month} {sent}", mark=mark_words(quote.mark), sent=sent, **places)
+        says = message("{about}; {mark} in {month} {sent}", mark=mark_words(quote.mark), sent=sent, **places)
         return Line(name, f"10000 * {quote.value}", ticks, says, amount=Ticks(ticks))
-    says = told("{about}; not observed in {month}: its carried price of that month", **places)
+    says = message("{about}; not observed in {month}: its carried price of that month", **places)
     return Line(name, "", ticks, says, amount=Ticks(ticks))
 
 
 def quote_line(sources: Sources, series: Series) -> Line:
     """What was found of a series in the month."""
-    quote, name = sources.own.frozen.get(series), told("price of {series}", series=Code(slot_text(series)))
+    quote, name = sources.own.frozen.get(series), message("price of {series}", series=Code(slot_text(series)))
     if quote is None:
         holder = sources.holder(series, sources.month)
         who: dict[str, object] = {"collector": holder.collector, "slot": holder.slot}
         if holder.has_ended(sources.month):
             last = month_of(holder.last_month)
-            says = told(
+            says = message(
                 "no longer priced: the last month of collector {collector}, slot {slot} was {month}", month=last, **who
             )
             return Line(name, "", None, says)
-        return Line(name, "", None, told("nothing was sent by collector {collector}, slot {slot}", **who))
+        return Line(name, "", None, message("nothing was sent by collector {collector}, slot {slot}", **who))
     by = who_sent(sources, series, sources.month, quote)
     if quote.mark in OBSERVED:
         # t: a mark, and who sent it: price, by collector 7, slot 2
-        says = told("{mark}, {sent}", mark=mark_words(quote.mark), sent=by)
+        says = message("{mark}, {sent}", mark=mark_words(quote.mark), sent=by)
         return Line(name, "", quote.value, says, amount=Price(quote.value))
-    return Line(name, "", None, told("missing, {reason}, {sent}", reason=mark_words(quote.mark), sent=by))
+    return Line(name, "", None, message("missing, {reason}, {sent}", reason=mark_words(quote.mark), sent=by))
 
 
 def then_line(sources: Sources, series: Series) -> Line:
     """What a series counted as in the month before."""
     ticks, (over, under) = sources.then(series)
     before = month_of(month_before(sources.month))
-    origin = told("its base") if sources.is_january else told("carried in {month}", month=before)
+    origin = message("its base") if sources.is_january else message("carried in {month}", month=before)
     # t: origin is where the price is from: its base, or carried in 2026-01
-    says = told("{origin}; observed that month", origin=origin)
+    says = message("{origin}; observed that month", origin=origin)
     if not sources.before.is_observed(series):
-        says = told("{origin}; not observed that month", origin=origin)
+        says = message("{origin}; not observed that month", origin=origin)
     if (over, under) != WHOLE_SCALE:
         # t: says is a text such as: its base; observed that month
-        says = told("{says}; a minor unit counts as {ratio} ticks", says=says, ratio=Code(f"{over}/{under}"))
-    name = told("earlier carried price of {series}", series=Code(slot_text(series)))
+        says = message("{says}; a minor unit counts as {ratio} ticks", says=says, ratio=Code(f"{over}/{under}"))
+    name = message("earlier carried price of {series}", series=Code(slot_text(series)))
     return Line(name, "", ticks, says, amount=Ticks(ticks))
 
 
@@ -119,16 +119,16 @@ def observed_line(sources: Sources, series: Series) -> Line:
     """The carried price of a series with a comparable price."""
     over, under = sources.then(series)[1]
     is_matched = sources.is_matched(series)
-    says = told("matched") if is_matched else told("comparable; not observed in the month before, so not matched")
+    says = message("matched") if is_matched else message("comparable; not observed in the month before, so not matched")
     row = sources.row("carried_2", f"{series[0]}, {series[1]}")
     expression = f"round({sources.own.frozen[series].value} * {over} / {under})"
     ticks = sources.own.carried[series].ticks
     return Line(carried_price_of(series), expression, ticks, says, row, amount=Ticks(ticks))
 
 
-def carried_price_of(series: Series) -> Told:
+def carried_price_of(series: Series) -> Message:
     """What a series counts as, by name."""
-    return told("carried price of {series}", series=Code(slot_text(series)))
+    return message("carried price of {series}", series=Code(slot_text(series)))
 
 
 def imputed_lines(sources: Sources, series: Series, up: int, down: int) -> Iterator[Line]:
@@ -136,15 +136,19 @@ def imputed_lines(sources: Sources, series: Series, up: int, down: int) -> Itera
     it, quote = sources.own.carried[series], sources.own.frozen.get(series)
     row = sources.row("carried_2", f"{series[0]}, {series[1]}")
     is_other = quote is not None and quote.mark == "other"
-    entered = told("imputed: an 'other' replacement enters without moving the index")
-    says = entered if is_other else told("imputed by the movement")
+    entered = message("imputed: an 'other' replacement enters without moving the index")
+    says = entered if is_other else message("imputed by the movement")
     expression = f"round({sources.then(series)[0]} * {up} / {down})"
     yield Line(carried_price_of(series), expression, it.ticks, says, row, amount=Ticks(it.ticks))
     if quote is not None and is_other:
-        says = told("ticks that a minor unit of its price counts as from now on")
+        says = message("ticks that a minor unit of its price counts as from now on")
         scale = Fraction(it.knum, it.kden)
         yield Line(
-            told("scale of {series}", series=Code(slot_text(series))), f"{it.ticks} / {quote.value}", scale, says, row
+            message("scale of {series}", series=Code(slot_text(series))),
+            f"{it.ticks} / {quote.value}",
+            scale,
+            says,
+            row,
         )
 
 
@@ -160,12 +164,12 @@ def movement(sources: Sources, code: str, sample: Sequence[Series]) -> tuple[int
     up, down, count = sum(now), sum(then), len(matched)
     months = month_of(sources.month), month_of(month_before(sources.month))
     what = [
-        told("carried prices of the {count} matched series in {month}", count=count, month=month) for month in months
+        message("carried prices of the {count} matched series in {month}", count=count, month=month) for month in months
     ]
     lines = [
-        Line(told("moved to"), summed(now), up, what[0], amount=Ticks(up)),
-        Line(told("moved from"), summed(then), down, what[1], amount=Ticks(down)),
-        Line(told("movement"), f"{up} / {down}", Fraction(up, down), told("what is imputed moves by this")),
+        Line(message("moved to"), summed(now), up, what[0], amount=Ticks(up)),
+        Line(message("moved from"), summed(then), down, what[1], amount=Ticks(down)),
+        Line(message("movement"), f"{up} / {down}", Fraction(up, down), message("what is imputed moves by this")),
     ]
     return up, down, lines
 
@@ -175,11 +179,11 @@ def unmatched_lines(sources: Sources, code: str, sample: Sequence[Series]) -> li
     if all(sources.is_comparable(it) for it in sample):
         return []
     if code in sources.own.release.carry:
-        says = told("nothing is matched; the freeze's carry list has the aggregate")
-        return [Line(told("movement"), "1 / 1", 1, says)]
-    says = told("nothing is matched, and a movement is needed")
+        says = message("nothing is matched; the freeze's carry list has the aggregate")
+        return [Line(message("movement"), "1 / 1", 1, says)]
+    says = message("nothing is matched, and a movement is needed")
     row = f"release_2 ({sources.month}, {sources.own.release.revision})"
-    return [Line(told("movement"), "1 / 1", 1, says, row, uncarried=code)]
+    return [Line(message("movement"), "1 / 1", 1, says, row, uncarried=code)]
 
 
 def index_lines(sources: Sources, code: str, sample: Sequence[Series]) -> list[Line]:
@@ -189,9 +193,9 @@ def index_lines(sources: Sources, code: str, sample: Sequence[Series]) -> list[L
     expression = f"round({HUNDRED} * {up} / {down})"
     row = sources.row("level_2", code)
     return [
-        Line(told("sum of carried prices"), summed(now), up, told("of the sample"), amount=Ticks(up)),
-        Line(told("sum of bases"), summed(bases), down, told("of the sample"), amount=Ticks(down)),
-        Line(told("index"), expression, sources.own.levels[code].within, WITHIN, row, True),
+        Line(message("sum of carried prices"), summed(now), up, message("of the sample"), amount=Ticks(up)),
+        Line(message("sum of bases"), summed(bases), down, message("of the sample"), amount=Ticks(down)),
+        Line(message("index"), expression, sources.own.levels[code].within, WITHIN, row, True),
     ]
 
 
@@ -199,8 +203,8 @@ def aggregate_parts(sources: Sources, code: str) -> list[Part]:
     """The parts of an aggregate, from its index down to what was found."""
     sample = sources.samples[code]
     index = Part(
-        told("Elementary index"),
-        told("The sum of the carried prices over the sum of the bases, of the same series (Dutot)."),
+        message("Elementary index"),
+        message("The sum of the carried prices over the sum of the bases, of the same series (Dutot)."),
         index_lines(sources, code, sample),
     )
     parts = [index, *carried_parts(sources, code, sample), *found_parts(sources, sample)]
@@ -214,14 +218,18 @@ def carried_parts(sources: Sources, code: str, sample: Sequence[Series]) -> list
     imputed = [line for it in sample if it not in seen for line in imputed_lines(sources, it, up, down)]
     return [
         Part(
-            told("Movement"),
-            told("Of the matched series: a comparable price now, and observed in the month before."),
+            message("Movement"),
+            message("Of the matched series: a comparable price now, and observed in the month before."),
             moved,
         ),
-        Part(told("Imputed prices"), told("What can't be compared moves with the matched series, in ticks."), imputed),
         Part(
-            told("Observed prices"),
-            told("What they count as, in ticks: price times scale."),
+            message("Imputed prices"),
+            message("What can't be compared moves with the matched series, in ticks."),
+            imputed,
+        ),
+        Part(
+            message("Observed prices"),
+            message("What they count as, in ticks: price times scale."),
             [observed_line(sources, it) for it in seen],
         ),
     ]
@@ -232,18 +240,18 @@ def found_parts(sources: Sources, sample: Sequence[Series]) -> list[Part]:
     link, month = month_of(link_month(sources.month)), month_of(sources.month)
     return [
         Part(
-            told("What was found"),
-            told("The quotes that {month} was frozen with, in minor units of money.", month=month),
+            message("What was found"),
+            message("The quotes that {month} was frozen with, in minor units of money.", month=month),
             [quote_line(sources, it) for it in sample],
         ),
         Part(
-            told("The month before"),
-            told("What each series counted as then, in ticks."),
+            message("The month before"),
+            message("What each series counted as then, in ticks."),
             [then_line(sources, it) for it in sample],
         ),
         Part(
-            told("Bases"),
-            told("In ticks, 10,000 a minor unit of money; the link month is {month}.", month=link),
+            message("Bases"),
+            message("In ticks, 10,000 a minor unit of money; the link month is {month}.", month=link),
             [base_line(sources, it) for it in sample],
         ),
     ]
@@ -260,8 +268,8 @@ def sample_glance(sources: Sources, code: str) -> Section:
         *("series", "priced by", "item", "outlet", "found", "#receipt", "#counted before", "#counts as", "#percent"),
         "how",
     )
-    note = told("Greatest changes first.")
-    return Section("glance", told("The sample at a glance"), note, heads, rows, told("No series."))
+    note = message("Greatest changes first.")
+    return Section("glance", message("The sample at a glance"), note, heads, rows, message("No series."))
 
 
 def glance_row(sources: Sources, series: Series, now: int, then: int) -> list[Cell]:
@@ -269,16 +277,16 @@ def glance_row(sources: Sources, series: Series, now: int, then: int) -> list[Ce
     holder, quote = sources.holder(series, sources.month), sources.own.frozen.get(series)
     item, sent = sources.items[holder.item], sources.sent.get((series, sources.month))
     stands = sent is not None and quote is not None and sent.quote == (quote.mark, quote.value)
-    how = told("imputed") if sources.own.carried[series].imputed else told("observed")
+    how = message("imputed") if sources.own.carried[series].imputed else message("observed")
     return [
         Code(slot_text(series)),
         Code(slot_text(holder[:2])),
-        told(wording.ITEM, text=of_others(item.text), unit=of_others(item.unit)),
+        message(sentence_texts.ITEM, text=of_others(item.text), unit=of_others(item.unit)),
         sources.outlets[holder.outlet],
         mark_text(quote, holder.has_ended(sources.month)),
         sent.receipt if sent and stands else None,
         Ticks(then),
         Ticks(now),
         decimal(100 * (now - then), then, 1),
-        told("matched") if sources.is_matched(series) else how,
+        message("matched") if sources.is_matched(series) else how,
     ]

@@ -6,12 +6,12 @@ from collections.abc import Iterator, Sequence
 from fractions import Fraction
 from typing import NamedTuple
 
-from ..stored import Series
-from ..terminal import month_before
-from ..told import Told, told
-from . import wording
-from .sources import WHOLE_SCALE, Sources
-from .spoken import (
+from ..office.stored import Series
+from ..text.message import Message, message
+from ..text.terminal import month_before
+from . import sentence_texts
+from .release_sources import WHOLE_SCALE, Sources
+from .sentence_places import (
     chained_places,
     count_words,
     item_words,
@@ -33,7 +33,7 @@ class Sample(NamedTuple):
     imputed: Sequence[Series]
 
 
-def sentences_of_prices(sources: Sources, code: str) -> Iterator[Told]:
+def sentences_of_prices(sources: Sources, code: str) -> Iterator[Message]:
     """From the prices that were compared to the level."""
     every = sources.samples[code]
     matched = [it for it in every if sources.is_matched(it)]
@@ -46,7 +46,7 @@ def sentences_of_prices(sources: Sources, code: str) -> Iterator[Told]:
         yield of_carried(sources, sample.imputed)
     else:
         months = {"before": month_words(month_before(sources.month)), "month": month_words(sources.month)}
-        yield told(wording.NONE_COMPARED, **months)
+        yield message(sentence_texts.NONE_COMPARED, **months)
     yield of_level(sources, code, sample)
 
 
@@ -59,19 +59,19 @@ def change_of(sources: Sources, series: Series) -> Fraction:
     return Fraction(sources.own.carried[series].ticks - then, then)
 
 
-def span(sources: Sources, series: Series) -> dict[str, Told]:
+def span(sources: Sources, series: Series) -> dict[str, Message]:
     """The places `then` and `now` of a series, as it counts."""
     then, now = sources.then(series)[0], sources.own.carried[series].ticks
     return {"then": sources.money.of_ticks(then), "now": sources.money.of_ticks(now)}
 
 
-def of_compared(sources: Sources, matched: Sequence[Series]) -> Told:
+def of_compared(sources: Sources, matched: Sequence[Series]) -> Message:
     """How many prices were compared, in which shops, and which of them changed most."""
     most = min(matched, key=lambda it: (-abs(change_of(sources, it)), it))
     changes = [change_of(sources, it) for it in matched]
     rose, fell = sum(it > 0 for it in changes), sum(it < 0 for it in changes)
     outlets = [*dict.fromkeys(outlet_words(sources, it) for it in matched)]
-    return told(
+    return message(
         compared_form(sources, matched, most),
         count=count_words(len(matched)),
         shops=count_words(len(outlets_of(sources, matched))),
@@ -88,20 +88,20 @@ def compared_form(sources: Sources, matched: Sequence[Series], most: Series) -> 
     """The sentence of the prices that were compared, of which one changed most."""
     is_replaced = sources.then(most)[1] != WHOLE_SCALE
     if len(matched) == 1:
-        return wording.ONE_COMPARED_REPLACED if is_replaced else wording.ONE_COMPARED
+        return sentence_texts.ONE_COMPARED_REPLACED if is_replaced else sentence_texts.ONE_COMPARED
     if len(outlets_of(sources, matched)) == 1:
         if not change_of(sources, most):
-            return wording.COMPARED_UNCHANGED_IN_ONE_SHOP
-        return wording.COMPARED_REPLACED_IN_ONE_SHOP if is_replaced else wording.COMPARED_IN_ONE_SHOP
+            return sentence_texts.COMPARED_UNCHANGED_IN_ONE_SHOP
+        return sentence_texts.COMPARED_REPLACED_IN_ONE_SHOP if is_replaced else sentence_texts.COMPARED_IN_ONE_SHOP
     if not change_of(sources, most):
-        return wording.COMPARED_UNCHANGED
-    return wording.COMPARED_REPLACED if is_replaced else wording.COMPARED
+        return sentence_texts.COMPARED_UNCHANGED
+    return sentence_texts.COMPARED_REPLACED if is_replaced else sentence_texts.COMPARED
 
 
 # ---- what wasn't
 
 
-def of_imputed(sources: Sources, sample: Sample) -> Told:
+def of_imputed(sources: Sources, sample: Sample) -> Message:
     """Why prices are imputed, and what they move with."""
     moved = {
         "earlier": sources.money.of_ticks(sum(sources.then(it)[0] for it in sample.matched)),
@@ -109,20 +109,20 @@ def of_imputed(sources: Sources, sample: Sample) -> Told:
     }
     if len(sample.imputed) > 1:
         reasons = reasons_by_name(sources, sample.imputed)
-        return told(wording.IMPUTED, count=count_words(len(sample.imputed)), reasons=reasons, **moved)
+        return message(sentence_texts.IMPUTED, count=count_words(len(sample.imputed)), reasons=reasons, **moved)
     (only,) = sample.imputed
     named = {"item": item_words(sources, only), "outlet": outlet_words(sources, only)}
-    return told(wording.ONE_IMPUTED[reason_of(sources, only)], **named, **moved, **span(sources, only))
+    return message(sentence_texts.ONE_IMPUTED[reason_of(sources, only)], **named, **moved, **span(sources, only))
 
 
-def of_carried(sources: Sources, imputed: Sequence[Series]) -> Told:
+def of_carried(sources: Sources, imputed: Sequence[Series]) -> Message:
     """What the desk decided to carry."""
     before, reasons = month_words(month_before(sources.month)), reasons_by_name(sources, imputed)
     if len(imputed) > 1:
-        return told(wording.CARRIED, count=count_words(len(imputed)), reasons=reasons, before=before)
+        return message(sentence_texts.CARRIED, count=count_words(len(imputed)), reasons=reasons, before=before)
     named = {"item": item_words(sources, imputed[0]), "outlet": outlet_words(sources, imputed[0])}
     now = span(sources, imputed[0])["now"]
-    return told(wording.ONE_CARRIED, reasons=reasons, before=before, now=now, **named)
+    return message(sentence_texts.ONE_CARRIED, reasons=reasons, before=before, now=now, **named)
 
 
 # ---- what it adds up to
@@ -134,12 +134,12 @@ def returned_of(sources: Sources, sample: Sample) -> list[Series]:
     return sorted(found, key=lambda it: (-abs(change_of(sources, it)), it))
 
 
-def of_level(sources: Sources, code: str, sample: Sample) -> Told:
+def of_level(sources: Sources, code: str, sample: Sample) -> Message:
     """How the prices make the level, and which of them was found again, since no sentence before this one names it."""
     returned = returned_of(sources, sample)
     sums = sum(sources.base(it)[0] for it in sample.all), sum(sources.own.carried[it].ticks for it in sample.all)
     base, now = map(sources.money.of_ticks, sums)
-    return told(
+    return message(
         level_form(sources, len(sample.all), returned),
         count=count_words(len(sample.all)),
         base=base,
@@ -160,12 +160,20 @@ def returned_places(sources: Sources, returned: Sequence[Series]) -> dict[str, o
 def level_form(sources: Sources, count: int, returned: Sequence[Series]) -> str:
     """The sentence of so many prices, of which some were found again."""
     if not returned:
-        return wording.ONE_PRICE_MAKES if count == 1 else wording.PRICES_MAKE
+        return sentence_texts.ONE_PRICE_MAKES if count == 1 else sentence_texts.PRICES_MAKE
     is_replaced = sources.then(returned[0])[1] != WHOLE_SCALE
     if count == 1:
-        return wording.ONE_RETURNED_REPLACED_PRICE_MAKES if is_replaced else wording.ONE_RETURNED_PRICE_MAKES
+        return (
+            sentence_texts.ONE_RETURNED_REPLACED_PRICE_MAKES if is_replaced else sentence_texts.ONE_RETURNED_PRICE_MAKES
+        )
     if len(returned) == 1:
-        return wording.PRICES_WITH_ONE_RETURNED_REPLACED_MAKE if is_replaced else wording.PRICES_WITH_ONE_RETURNED_MAKE
+        return (
+            sentence_texts.PRICES_WITH_ONE_RETURNED_REPLACED_MAKE
+            if is_replaced
+            else sentence_texts.PRICES_WITH_ONE_RETURNED_MAKE
+        )
     if not change_of(sources, returned[0]):
-        return wording.PRICES_WITH_RETURNED_UNCHANGED_MAKE
-    return wording.PRICES_WITH_RETURNED_REPLACED_MAKE if is_replaced else wording.PRICES_WITH_RETURNED_MAKE
+        return sentence_texts.PRICES_WITH_RETURNED_UNCHANGED_MAKE
+    return (
+        sentence_texts.PRICES_WITH_RETURNED_REPLACED_MAKE if is_replaced else sentence_texts.PRICES_WITH_RETURNED_MAKE
+    )

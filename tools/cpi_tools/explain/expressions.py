@@ -8,7 +8,7 @@ from __future__ import annotations
 import re
 from fractions import Fraction
 
-from ..exact import rounded
+from ..text.exact import rounded
 
 TOKEN = re.compile(r"\s*(\d+|round|[-+*/()])")
 

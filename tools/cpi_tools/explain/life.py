@@ -5,14 +5,14 @@ from __future__ import annotations
 from collections.abc import Iterator, Sequence
 from typing import NamedTuple, Optional
 
-from ..desk.marks import mark_words
-from ..others import of_others
-from ..sections import Cell, Section, columns
-from ..stored import Assignment, Carried, Frozen, Release, Series, StoredOffice
-from ..terminal import slot_text
-from ..told import Code, Price, Ticks, Told, month_of, row as row_of, told, told_of
+from ..office.quote_marks import mark_words
+from ..office.stored import Assignment, Carried, Frozen, Release, Series, StoredOffice
+from ..text.message import Code, Price, Ticks, Message, month_of, row as row_of, message, message_of
+from ..text.others import of_others
+from ..text.sections import Cell, Section, columns
+from ..text.terminal import slot_text
 from .aggregate import mark_text
-from .sources import NotExplained
+from .release_sources import NotExplained
 
 
 class MonthOfSeries(NamedTuple):
@@ -27,8 +27,8 @@ class MonthOfSeries(NamedTuple):
 class Life(NamedTuple):
     """A series up to a month: what it is, what happened to it, and its months."""
 
-    title: Told
-    facts: list[Told]
+    title: Message
+    facts: list[Message]
     months: Section
 
 
@@ -39,7 +39,7 @@ def series_in(office: StoredOffice, place: tuple[int, int]) -> tuple[Series, lis
         if it[:2] == place:
             return it.series, [each for each in assignments if each.series == it.series]
     name = Code(slot_text(place))
-    raise NotExplained(told("{slot} is no slot of the office: give COLLECTOR/SLOT", slot=name))
+    raise NotExplained(message("{slot} is no slot of the office: give COLLECTOR/SLOT", slot=name))
 
 
 def life_of(office: StoredOffice, place: tuple[int, int], until: int) -> Life:
@@ -57,26 +57,26 @@ def life_of(office: StoredOffice, place: tuple[int, int], until: int) -> Life:
     outlet = office.outlets()[held[0].outlet]
     places = {"item": of_others(item.text), "unit": of_others(item.unit), "outlet": of_others(outlet)}
     name, code = Code(slot_text(series)), Code(item.code)
-    title = told("Series {series}: {code} {item}, {unit}; {outlet}", series=name, code=code, **places)
+    title = message("Series {series}: {code} {item}, {unit}; {outlet}", series=name, code=code, **places)
     return Life(title, [*facts_of(office, held, months)], section_of(office, months))
 
 
 # ---- in words
 
 
-def facts_of(office: StoredOffice, held: Sequence[Assignment], months: Sequence[MonthOfSeries]) -> Iterator[Told]:
+def facts_of(office: StoredOffice, held: Sequence[Assignment], months: Sequence[MonthOfSeries]) -> Iterator[Message]:
     """Hand-overs, replacements, and the months in which it was imputed."""
     copied = office.copied_prices()
     for former, it in zip(held, held[1:]):
         yield handed_over(former, it, copied.get(it[:2]))
     new = [(month_of(it.release.month), it.found.mark) for it in months if it.found and is_new(it.found)]
     # t: the month of a replacement, and its mark: comparable or other
-    replaced = [told("{month} ({mark})", month=month, mark=mark_words(mark)) for month, mark in new]
+    replaced = [message("{month} ({mark})", month=month, mark=mark_words(mark)) for month, mark in new]
     if replaced:
-        yield told("Replaced in {months}.", months=row_of(replaced))
+        yield message("Replaced in {months}.", months=row_of(replaced))
     imputed = [month_of(it.release.month) for it in months if it.carried and it.carried.imputed]
     if imputed:
-        yield told_of(
+        yield message_of(
             "Imputed in {count} month: {months}.",
             "Imputed in {count} months: {months}.",
             len(imputed),
@@ -89,7 +89,7 @@ def is_new(quote: Frozen) -> bool:
     return quote.mark in ("comparable", "other")
 
 
-def handed_over(former: Assignment, it: Assignment, price: Optional[int]) -> Told:
+def handed_over(former: Assignment, it: Assignment, price: Optional[int]) -> Message:
     """A hand-over in words."""
     places: dict[str, object] = {
         "former": former.collector,
@@ -98,12 +98,12 @@ def handed_over(former: Assignment, it: Assignment, price: Optional[int]) -> Tol
     }
     places.update(collector=it.collector, slot=it.slot)
     if price is None:
-        return told(
+        return message(
             "Handed over from collector {former}, slot {former_slot} to collector {collector}, slot {slot} from {month} on,"
             " without a price.",
             **places,
         )
-    return told(
+    return message(
         "Handed over from collector {former}, slot {former_slot} to collector {collector}, slot {slot} from {month} on, with"
         " the last price {price}.",
         **places,
@@ -126,11 +126,11 @@ def section_of(office: StoredOffice, months: Sequence[MonthOfSeries]) -> Section
     heads = columns(
         *("month", "#revision", "priced by", "found", "#receipt", "#counts as, ticks", "#scale", "how", "=aggregate")
     )
-    return Section("life", told("Month by month"), "", heads, rows, told("No month is frozen."), shown=len(rows))
+    return Section("life", message("Month by month"), "", heads, rows, message("No month is frozen."), shown=len(rows))
 
 
 def carried_cells(it: Optional[Carried]) -> list[Cell]:
     """Ticks, scale, and how they came."""
     if it is None:
-        return [None, "", told("in no sample")]
-    return [Ticks(it.ticks), f"{it.knum}/{it.kden}", told("imputed") if it.imputed else told("observed")]
+        return [None, "", message("in no sample")]
+    return [Ticks(it.ticks), f"{it.knum}/{it.kden}", message("imputed") if it.imputed else message("observed")]

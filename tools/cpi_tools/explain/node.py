@@ -4,14 +4,14 @@ from __future__ import annotations
 
 from fractions import Fraction
 
-from ..exact import HUNDRED, at_and_above, decimal, points, tenths
-from ..others import of_others
-from ..sections import Cell, Section, columns
-from ..terminal import link_month
-from ..told import Code, month_of, told
+from ..text.exact import HUNDRED, at_and_above, decimal, points, tenths
+from ..text.message import Code, month_of, message
+from ..text.others import of_others
+from ..text.sections import Cell, Section, columns
+from ..text.terminal import link_month
+from .explanation_lines import WITHIN, Line, Part, summed
 from .expressions import value_of
-from .lines import WITHIN, Line, Part, summed
-from .sources import Sources
+from .release_sources import Sources
 
 MOST_CONTRIBUTIONS = 5
 
@@ -24,18 +24,18 @@ def below(sources: Sources, node: str) -> list[str]:
 def weight_line(sources: Sources, code: str) -> Line:
     """The weight in use of an aggregate: as the plan has it, or moved by prices from the plan's reference month."""
     sent, now, row = sources.plan.weights[code], sources.own.levels[code].weight, sources.row("level_2", code)
-    name, title = told("weight of {code}", code=Code(code)), of_others(sources.plan.titles[code])
+    name, title = message("weight of {code}", code=Code(code)), of_others(sources.plan.titles[code])
     reference = sources.plan.reference
     if reference is None:
-        return Line(name, f"{sent}", now, told("{title}; as the plan has it", title=title), row)
+        return Line(name, f"{sent}", now, message("{title}; as the plan has it", title=title), row)
     then = sources.latest(reference)
     levels = then.levels if then else {}
     places = {"title": title, "first": month_of(reference), "last": month_of(link_month(sources.month))}
     if code not in levels or code not in sources.link.levels:
-        says = told("{title}; one of the tables from {first} to {last} has no row of it", **places)
+        says = message("{title}; one of the tables from {first} to {last} has no row of it", **places)
         return Line(name, "0", now, says, row)
     expression = f"round({sent} * {sources.link.levels[code].chained} / {levels[code].chained})"
-    return Line(name, expression, now, told("{title}; moved by its prices from {first} to {last}", **places), row)
+    return Line(name, expression, now, message("{title}; moved by its prices from {first} to {last}", **places), row)
 
 
 def index_before(sources: Sources, code: str) -> int:
@@ -50,7 +50,7 @@ def adds_line(sources: Sources, node: str, code: str) -> Line:
     change = f"({own.within} - {then})" if own.within >= then else f"({then} - {own.within})"
     expression = f"round({HUNDRED} * {own.weight} * {change} / ({whole.weight} * {whole_then}))"
     expression = expression if own.within >= then else f"-{expression}"
-    name = told("contribution of {code}", code=Code(code))
+    name = message("contribution of {code}", code=Code(code))
     return Line(name, expression, value_of(expression), of_others(sources.plan.titles[code]))
 
 
@@ -69,29 +69,39 @@ def node_parts(sources: Sources, node: str) -> list[Part]:
     products = " + ".join(f"{it.weight} * {it.within}" for it in rows)
     own, row = sources.own.levels[node], sources.row("level_2", node)
     mean = [
-        Line(told("sum of weights"), summed(it.weight for it in rows), own.weight, told("weights in use"), row),
-        Line(told("sum of weight * index"), products, total, told("each aggregate's weight in use times its index")),
-        Line(told("index"), f"round({total} / {weight})", own.within, WITHIN, row, True),
+        Line(message("sum of weights"), summed(it.weight for it in rows), own.weight, message("weights in use"), row),
+        Line(
+            message("sum of weight * index"), products, total, message("each aggregate's weight in use times its index")
+        ),
+        Line(message("index"), f"round({total} / {weight})", own.within, WITHIN, row, True),
     ]
     titles = sources.plan.titles
     indices = [
-        Line(told("index of {code}", code=Code(code)), "", it.within, of_others(titles[code]))
+        Line(message("index of {code}", code=Code(code)), "", it.within, of_others(titles[code]))
         for code, it in zip(codes, rows)
     ]
     adds = [line for _, _, line in contributions(sources, node)[:MOST_CONTRIBUTIONS]]
     return [
-        Part(told("Mean"), told("Always of the elementary indices, by their weights in use, and rounded once."), mean),
         Part(
-            told("The greatest contributions"),
-            told("In millionths of a percentage point of the index's monthly change."),
+            message("Mean"),
+            message("Always of the elementary indices, by their weights in use, and rounded once."),
+            mean,
+        ),
+        Part(
+            message("The greatest contributions"),
+            message("In millionths of a percentage point of the index's monthly change."),
             adds,
         ),
         Part(
-            told("Elementary indices"),
-            told("Each goes on down to its receipts, where it is asked for by its code."),
+            message("Elementary indices"),
+            message("Each goes on down to its receipts, where it is asked for by its code."),
             indices,
         ),
-        Part(told("Weights in use"), told("Of the aggregates below."), [weight_line(sources, code) for code in codes]),
+        Part(
+            message("Weights in use"),
+            message("Of the aggregates below."),
+            [weight_line(sources, code) for code in codes],
+        ),
     ]
 
 
@@ -103,5 +113,5 @@ def node_glance(sources: Sources, node: str) -> Section:
         figures: list[Cell] = [it.weight, points(it.within, 2), tenths(it.month_change)]
         rows.append([code, sources.plan.titles[code], *figures, decimal(added.numerator, 10**6, 4)])
     heads = columns("=aggregate", "title", "#weight in use", "#index", "#month %", "#adds")
-    note = told("Those first that add most to the index's monthly change, in percentage points.")
-    return Section("glance", told("The aggregates below at a glance"), note, heads, rows, shown=30)
+    note = message("Those first that add most to the index's monthly change, in percentage points.")
+    return Section("glance", message("The aggregates below at a glance"), note, heads, rows, shown=30)

@@ -1,0 +1,143 @@
+"""The notes of the field for the desk: those of a month with what they are of, their photographs, and a CSV file."""
+
+from __future__ import annotations
+
+import io
+from typing import NamedTuple, Optional
+
+import flask
+from werkzeug.wrappers import Response
+
+from ...office.quote_marks import mark_text
+from ...office.stored import Frozen, Quote, StoredOffice, read_copy
+from ...text.csv_files import Writer, formulas_told
+from ...text.message import Message
+from ...text.others import Worded
+from ...text.terminal import slot_text, time_text
+from ..records.desk_log import REMOVED_NOTE, SAID
+from ..serve.page_versions import changed_by_step
+from ..serve.request_context import csv_file, desk, file_name, month_of, page, session
+from .field_notes import FieldNote, FieldNotes
+
+views = flask.Blueprint("field_notes", __name__)
+
+SHOWN = 50
+"""Notes of a page."""
+
+HEADING = ("number", "collector", "slot", "outlet", "item", "receipt", "moment", "sale", "brand", "quantity", "text")
+
+
+class Row(NamedTuple):
+    """A note with the outlet and the item of its slot, what is stored there now, and that quote's receipt."""
+
+    note: FieldNote
+    outlet: str
+    item: str
+    stored: Optional[Quote]
+    receipt: int
+
+    @property
+    def slot_name(self) -> str:
+        """`7/2`."""
+        return slot_text((self.note.collector, self.note.slot))
+
+    @property
+    def stored_now(self) -> Optional[Message]:
+        """`price 2.52`, or the reason why there is none."""
+        return mark_text(Frozen("", 0, self.stored.mark, self.stored.value)) if self.stored else None
+
+    @property
+    def is_of_earlier(self) -> bool:
+        """Whether another price was stored since."""
+        return self.receipt > self.note.receipt
+
+
+def kept() -> FieldNotes:
+    """The notes: these views are there only if they are on."""
+    found = desk().field
+    assert found is not None
+    return found
+
+
+def rows_now(month: int, notes: list[FieldNote]) -> list[Row]:
+    """Notes with what the office has of their prices, by a new copy if the latest one is older than one of them."""
+    with desk().copies.latest() as copy, read_copy(copy.path) as office:
+        found = rows_of(office, month, notes)
+    if not any(row.receipt < row.note.receipt for row in found):
+        return found
+    with desk().copies_now() as copy, read_copy(copy.path) as office:
+        return rows_of(office, month, notes)
+
+
+def rows_of(office: StoredOffice, month: int, notes: list[FieldNote]) -> list[Row]:
+    """Notes with what the office has of their prices."""
+    slots = {(it.collector, it.slot): it for it in office.assignments()}
+    outlets, items = office.outlets(), {it.code: it.text for it in office.items()}
+    quotes, receipts = office.quotes(month), office.receipts(month)
+    found = list[Row]()
+    for it in notes:
+        at = (it.collector, it.slot)
+        place = slots.get(at)
+        names = (outlets.get(place.outlet, ""), items.get(place.item, "")) if place else ("", "")
+        found.append(Row(it, *names, quotes.get(at), receipts.get(at, 0)))
+    return found
+
+
+@views.get("/month/<month>/field-notes")
+def show(month: str) -> Response:
+    """The notes of a month, the latest first."""
+    return shown(month)
+
+
+def shown(month: str, status: int = 200, fault: Worded = Worded("")) -> Response:
+    """The same, with what came of a step."""
+    number = month_of(month)
+    notes = kept().of_month(number)[::-1]
+    start = flask.request.args.get("from", "0")
+    first = int(start) if start.isdecimal() and len(start) < 9 else 0
+    rows = rows_now(number, notes[first : first + SHOWN])
+    named = {"count": len(notes), "first": first, "step": SHOWN, "months": kept().months}
+    return page("field-notes.html", status, month=month, rows=rows, fault=fault, **named)
+
+
+@views.get("/month/<month>/field-notes.csv")
+def file(month: str) -> Response:
+    """The notes of a month as a file, without photographs: the last column is the name of each."""
+    number = month_of(month)
+    rows = rows_now(number, kept().of_month(number))
+    text = io.StringIO()
+    with formulas_told("", True):
+        out = Writer(text)
+        out.writerow([*HEADING, "photograph"])
+        out.writerows(cells_of(month, row) for row in rows)
+    return csv_file(file_name(month, "field-notes"), text.getvalue())
+
+
+def cells_of(month: str, row: Row) -> list[object]:
+    """A note as the cells of its row."""
+    it = row.note
+    place = [it.number, it.collector, it.slot, row.outlet, row.item, it.receipt, time_text(it.at)]
+    photo = f"{month}-{it.number}.jpg" if it.has_photo else ""
+    return [*place, "yes" if it.is_sale else "", it.brand, it.quantity, it.text, photo]
+
+
+@views.get("/month/<month>/field-notes/<int:number>.jpg")
+def photo(month: str, number: int) -> Response:
+    """The photograph of a note."""
+    found = kept().photo(number) if any(it.number == number for it in kept().of_month(month_of(month))) else None
+    if found is None:
+        flask.abort(404)
+    answer = flask.Response(found, mimetype="image/jpeg")
+    answer.headers["Content-Disposition"] = f'inline; filename="{month}-{number}.jpg"'
+    return answer
+
+
+@views.post("/month/<month>/field-notes/<int:number>/remove")
+def remove(month: str, number: int) -> Response:
+    """Removes a note with its photograph for good."""
+    of, text = month_of(month), REMOVED_NOTE.format(number=number, month=month)
+    if number not in {it.number for it in kept().of_month(of)}:
+        return shown(month, 409, changed_by_step(text))
+    desk().log.append(session().person, SAID, text=text)
+    kept().remove(of, number)
+    return flask.redirect(flask.url_for("field_notes.show", month=month), 303)

@@ -1,0 +1,1 @@
+"""The freeze of a month by two people, the reason of a revision, and the website."""

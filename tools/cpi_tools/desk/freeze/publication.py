@@ -1,0 +1,325 @@
+"""The office's website, written by `cpi-tools publish` in a process of its own: now, or at the moment at which a table is
+out. No table under embargo can be in it, since `publish` reads as the public does.
+
+Which tables somebody wants to be published at their moment is a file. If the application isn't running at that moment, it
+publishes as soon as it is.
+"""
+
+from __future__ import annotations
+
+import contextlib
+import json
+import os
+import subprocess
+import sys
+import threading
+import time
+import traceback
+from collections.abc import Callable, Sequence
+from pathlib import Path
+from typing import NamedTuple, Optional
+
+from ...office.stored import StoredOffice
+from ...publish.figures.config import read_config
+from ...publish.figures.release_names import page_of_release
+from ...publish.forms.manifest import MANIFEST, TableId, read_manifest
+from ...publish.forms.sdmx import KNOWN_IDS
+from ...text.message import Message, sentences, message as _
+from ...text.others import Worded, own_line
+from ...text.terminal import Fault, because_of, month_text, time_text
+from ...text.whole_files import write_whole
+from ..records.desk_log import SAID, DeskLog
+from ..serve.durations import Durations
+from ..serve.faults import met, not_as_written, of_system, says
+from .freezes import sum_of
+
+LOOKS_EVERY = 20.0
+"""Seconds from one look at what is planned to the next, at most."""
+
+AGAIN_AFTER = 300
+"""Seconds after which what came to nothing is tried again."""
+
+BEGINS = f"cpi-tools {'publish'}: "
+"""How a line of the tool begins."""
+
+WRITING = "writing"
+
+READABLE = 0o022
+"""The mask of a process whose files everybody may read."""
+
+TOOLS = Path(__file__).resolve().parents[3]
+
+
+class Site(NamedTuple):
+    """Where the website is written, the file that says who publishes, and the key that signs it, if there is one."""
+
+    folder: Path
+    config: Path
+    key: Optional[Path] = None
+
+
+class Planned(NamedTuple):
+    """A table that somebody wants to be published at its moment: who, its month and revision, and the moment."""
+
+    by: str
+    month: str
+    revision: int
+    at: int
+
+
+class Running(NamedTuple):
+    """A process that writes the website: for whom, since when, and how long the last one took."""
+
+    by: str
+    begun: int
+    about: Message = sentences()
+
+
+class Release(NamedTuple):
+    """A frozen month as the page shows it: month like `2026-01` and revision, the moment at which its table is out,
+    whether it is in the website, who planned it, and the address of its page or nothing."""
+
+    month: str
+    revision: int
+    at: int
+    is_published: bool
+    planned_by: str
+    page: str
+
+    @property
+    def shown(self) -> str:
+        """A sum of what the page shows of a table that is to come, so that nobody plans or drops another thing."""
+        return sum_of([self.month, self.revision, self.at, self.planned_by])
+
+
+class NotWritten(Fault):
+    """`cpi-tools publish` ended without a website; `line` is what it said."""
+
+    def __init__(self, says: Message, line: str):
+        super().__init__(says)
+        self.line = line
+
+
+class Publisher:
+    """Writes the website of an office's file; `program` is cpi."""
+
+    def __init__(self, site: Site, file: Path, program: Path, plan: Path, log: DeskLog):
+        self.site, self._file, self._program, self._plan, self._log = site, file, program, plan, log
+        self._lock, self._wake, self._is_over = threading.Lock(), threading.Event(), False
+        self._process: Optional[subprocess.Popen[str]] = None
+        self._thread = threading.Thread(target=self._follow, daemon=True, name="publisher")
+        self.running: Optional[Running] = None
+        self.before: Callable[[], object] = lambda: None
+        """What is done before the website is written; if it fails, the website is written all the same."""
+        self.fault, self.output, self.left = Worded(""), Worded(""), Worded("")
+        self._durations = Durations()
+        self._failed_at, self._logged = 0.0, Worded("")
+
+    # ---- what there is
+
+    def published(self) -> set[TableId]:
+        """The tables of the website, by month and revision; none if there is no website yet. Raises Fault."""
+        manifest = self.site.folder / MANIFEST
+        return {*read_manifest(manifest).tables} if manifest.exists() else set()
+
+    def written_at(self) -> Optional[int]:
+        """When the website was written last."""
+        try:
+            return int((self.site.folder / MANIFEST).stat().st_mtime)
+        except FileNotFoundError:
+            return None
+
+    def address(self) -> str:
+        """The address of the website, as its configuration has it; nothing if it names none. Raises Fault."""
+        return read_config(self.site.config, KNOWN_IDS).address
+
+    def releases(self, office: StoredOffice) -> list[Release]:
+        """All frozen months, the latest table first. Raises Fault."""
+        there, address, moments = self.published(), self.address(), office.frozen_moments()
+        by = {(it.month, it.revision): it.by for it in self.planned()}
+        found = list[Release]()
+        for (number, revision), (__, at) in moments.items():
+            table = (month_text(number), revision)
+            page = address + page_of_release(*table) if address and table in there else ""
+            found.append(Release(*table, at, table in there, by.get(table, ""), page))
+        return sorted(found, key=lambda it: (it.at, it.month, it.revision), reverse=True)
+
+    # ---- what is planned
+
+    def planned(self) -> list[Planned]:
+        """What is to be published at its moment, the first one first. Raises Fault if the file can't be read."""
+        try:
+            found = json.loads(self._plan.read_text(encoding="utf-8"))
+            return sorted((Planned(*it) for it in found), key=lambda it: it.at)
+        except FileNotFoundError:
+            return []
+        except OSError as fault:
+            raise Fault(because_of(fault)) from fault
+        except (ValueError, TypeError) as fault:
+            raise Fault(not_as_written(self._plan, fault)) from fault
+
+    def plan(self, one: Planned) -> None:
+        """Plans to publish a table at its moment; whoever planned it before did. Raises Fault."""
+        with self._lock:
+            others = self.planned()
+            if (one.month, one.revision) not in {(it.month, it.revision) for it in others}:
+                self._log.append(one.by, SAID, text=f"to be published at its moment, {time_text(one.at)}: {named(one)}")
+                self._keep([*others, one])
+        self._wake.set()
+
+    def drop(self, by: str, month: str, revision: int) -> None:
+        """Takes a plan back. Raises Fault."""
+        with self._lock:
+            rest = self.planned()
+            for it in [it for it in rest if (it.month, it.revision) == (month, revision)]:
+                self._log.append(by, SAID, text=f"not to be published at its moment after all: {named(it)}")
+                rest.remove(it)
+            self._keep(rest)
+
+    def _keep(self, planned: Sequence[Planned]) -> None:
+        try:
+            write_whole(self._plan, json.dumps([*planned]).encode(), 0o600)
+        except OSError as fault:
+            raise Fault(because_of(fault)) from fault
+
+    # ---- writing
+
+    def begin(self, by: str) -> bool:
+        """Begins to write the website with all that is out; whether it did: one process at a time does."""
+        with self._lock:
+            if self.running:
+                return False
+            self.running = Running(by, int(time.time()), self._durations.about(WRITING))
+        threading.Thread(target=self._run, args=(by,), daemon=True, name="publishing").start()
+        return True
+
+    def _run(self, by: str) -> None:
+        try:
+            self._prepare()
+            at = int(time.time())
+            with self._durations.measured(WRITING):
+                text, errors = self._written(at)
+            self.output = own_line(" ".join([text, *errors.splitlines()]))
+            self.fault = self.left = self._logged = Worded("")
+            self._keep_written(by, at, text)
+        except Fault as fault:
+            self._failed(by, says(fault), fault.line if isinstance(fault, NotWritten) else str(fault))
+        except Exception as fault:
+            # (a fault of ours: it is on the page too, and the journal has all of it)
+            self._failed(by, met(fault), repr(fault))
+            raise
+        finally:
+            self.running = None
+
+    def _prepare(self) -> None:
+        """Does what comes before; whatever becomes of that, the website is written."""
+        try:
+            self.before()
+        except Fault:
+            # (the page says it, since it tries the same)
+            pass
+        except Exception:
+            traceback.print_exc()
+
+    def _failed(self, by: str, why: Worded, line: str) -> None:
+        """Keeps why the website wasn't written; the log has its line once, however often it is tried again."""
+        self.fault, self._failed_at = why, time.monotonic()
+        if why != self._logged:
+            # (a full disk has no room for the log either: the page tells it, and the log once there is room)
+            with contextlib.suppress(Fault):
+                self._log.append(by, SAID, text=f"the website couldn't be written: {line}")
+                self._logged = why
+
+    def _keep_written(self, by: str, at: int, text: str) -> None:
+        """Keeps that the website was written; if that fails it was written all the same, and the page tells both."""
+        for step in (lambda: self._log_written(by, at, text), self._done):
+            try:
+                step()
+            except Fault as fault:
+                self.left, self._failed_at = self._says_kept(fault), time.monotonic()
+
+    def _log_written(self, by: str, at: int, text: str) -> None:
+        self._log.append(by, SAID, text=f"the website was written, with what is out at {time_text(at)}: {text}")
+
+    def _says_kept(self, fault: Fault) -> Worded:
+        """Why it isn't kept that the website was written. (The log says of itself that nothing was done.)"""
+        cause = fault.__cause__
+        if not isinstance(cause, OSError):
+            return says(fault)
+        return of_system(cause, "" if cause.filename else f"{self._log.path}: {cause.strerror}")
+
+    def _written(self, at: int) -> tuple[str, str]:
+        """Writes the website as it is at a moment; what `publish` prints, and what it warns of. Raises Fault."""
+        words = [sys.executable, "-m", "cpi_tools", "publish", "--db", self._file, "--at", at]
+        words += ["--program", self._program, "--config", self.site.config, "--out", self.site.folder]
+        words += ["--sign", self.site.key] if self.site.key else []
+        where = {**os.environ, "PYTHONPATH": str(TOOLS)}
+        pipe = subprocess.PIPE
+        # (everybody reads the website, whatever the application's own files are)
+        with subprocess.Popen(
+            [*map(str, words)], stdout=pipe, stderr=pipe, text=True, env=where, umask=READABLE
+        ) as self._process:
+            text, errors = self._process.communicate()
+        if self._process.returncode:
+            raise _ended(self._process.returncode, errors)
+        return text.strip(), errors.strip()
+
+    def _done(self) -> None:
+        """Forgets what was planned and is in the website now."""
+        with self._lock:
+            there, planned = self.published(), self.planned()
+            rest = [it for it in planned if (it.month, it.revision) not in there]
+            if len(rest) < len(planned):
+                self._keep(rest)
+
+    # ---- at their moments
+
+    def start(self) -> None:
+        """Begins to publish what is planned."""
+        self._thread.start()
+
+    def stop(self) -> None:
+        """Ends it, and a process that writes: the website that is there stays as it is."""
+        self._is_over = True
+        self._wake.set()
+        if self._thread.is_alive():
+            self._thread.join()
+        process = self._process
+        if self.running and process and process.poll() is None:
+            process.terminate()
+
+    def _follow(self) -> None:
+        while not self._is_over:
+            self._wake.wait(self._look())
+            self._wake.clear()
+
+    def _look(self) -> float:
+        """Publishes what is due; the seconds until the next look."""
+        try:
+            planned = self.planned()
+        except Fault as fault:
+            self.fault = says(fault)
+            return LOOKS_EVERY
+        wait = planned[0].at - time.time() if planned else LOOKS_EVERY
+        is_waiting = bool(self.fault or self.left) and time.monotonic() - self._failed_at < AGAIN_AFTER
+        if planned and wait <= 0 and not is_waiting:
+            self.begin(planned[0].by)
+        return min(LOOKS_EVERY, wait) if wait > 0 else 1.0
+
+
+def _ended(status: int, errors: str) -> NotWritten:
+    """Why `cpi-tools publish` ended with a status, by what it wrote."""
+    lines = errors.strip().splitlines()
+    if not lines:
+        ended = _("cpi-tools publish ended with the status {status}.", status=status)
+        return NotWritten(ended, str(ended))
+    line = lines[-1].removeprefix(BEGINS)
+    says = _(
+        "Mend what cpi-tools publish names in this line, then write the website again: {line}", line=own_line(line)
+    )
+    return NotWritten(says, line)
+
+
+def named(it: Planned) -> str:
+    """A table in a line of the log."""
+    return f"{it.month}, revision {it.revision}"

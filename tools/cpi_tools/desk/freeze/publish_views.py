@@ -1,0 +1,121 @@
+"""Publishing: which tables are in the website, which are due, and which come when; it is written now, or at a table's
+moment.
+
+The form `/publish/now` takes `shown`, the sum of what the page showed to be due, and `written`, when it was written last;
+`/publish/plan` takes `month` and `revision`
+of a frozen month, `what`, which is `plan` or `drop`, and `shown`, the sum of what the page showed of the table.
+"""
+
+from __future__ import annotations
+
+import time
+
+import flask
+from werkzeug.wrappers import Response
+
+from ...office.stored import read_copy
+from ...text.message import message as _
+from ...text.others import Worded, of_others
+from ...text.terminal import Fault
+from ..records.desk_log import NOT_PLANNED, PLANNED, WRITTEN
+from ..serve.faults import says
+from ..serve.page_versions import changed_by, changed_by_step
+from ..serve.request_context import desk, field, page, session
+from .freezes import sum_of
+from .publication import Planned, Publisher, Release
+from .reason_views import not_written
+
+views = flask.Blueprint("publish", __name__)
+
+NOTHING = Worded("")
+
+
+@views.get("/publish")
+def show() -> Response:
+    """The state of the website."""
+    return shown()
+
+
+def shown(status: int = 200, fault: Worded = NOTHING) -> Response:
+    """The page, with what came of a step."""
+    publisher = desk().publisher
+    if publisher is None:
+        return page("publish.html", publisher=None, fault=fault)
+    try:
+        releases, address = releases_of(publisher), publisher.address()
+    except Fault as cause:
+        fault, releases, address = fault or says(cause), [], ""
+    now = int(time.time())
+    named = {
+        "publisher": publisher,
+        "due": due_at(releases, now),
+        "shown_due": shown_due(releases),
+        "to_come": [it for it in releases[::-1] if it.at > now],
+        "published": [it for it in releases if it.is_published],
+        "address": address,
+        "written_at": publisher.written_at(),
+        "not_written": not_written(),
+    }
+    return page("publish.html", status, fault=fault, **named)
+
+
+def due_at(releases: list[Release], now: int) -> list[Release]:
+    """The tables that are out, and not in the website."""
+    return [it for it in releases if it.at <= now and not it.is_published]
+
+
+def shown_due(releases: list[Release]) -> str:
+    """A sum of the tables that the page shows as due."""
+    return sum_of([it.shown for it in due_at(releases, int(time.time()))])
+
+
+def releases_of(publisher: Publisher) -> list[Release]:
+    """The frozen months as they are now. Raises Fault."""
+    with desk().copies_now() as copy, read_copy(copy.path) as office:
+        return publisher.releases(office)
+
+
+@views.post("/publish/now")
+def now() -> Response:
+    """Writes the website with what is out, if that is what the page showed."""
+    publisher, was, written = publisher_here(), field("shown"), field("written")
+    try:
+        releases = releases_of(publisher)
+    except Fault:
+        # (the page said why; `publish` meets it too, and says it again)
+        releases = []
+    if written != str(publisher.written_at() or 0):
+        return shown(409, changed_by_step(WRITTEN))
+    if shown_due(releases) != was:
+        return shown(409, changed_by("", 0))
+    publisher.begin(session().person)
+    return flask.redirect(flask.url_for("publish.show"), 303)
+
+
+@views.post("/publish/plan")
+def plan() -> Response:
+    """Plans to publish a table at its moment, or takes that back, if the page showed how it is."""
+    publisher, month, revision, what = publisher_here(), field("month"), field("revision"), field("what")
+    try:
+        found = [it for it in releases_of(publisher) if (it.month, str(it.revision)) == (month, revision)]
+        if not found or what not in ("plan", "drop"):
+            places = {"month": of_others(month), "revision": of_others(revision)}
+            raise Fault(_("There is nothing to publish: {month} has no revision {revision}.", **places))
+        if field("shown") != found[0].shown:
+            says_who = changed_by_step(PLANNED, NOT_PLANNED, has=f"{month}, revision {revision}")
+            return shown(409, says_who)
+        if what == "drop":
+            publisher.drop(session().person, month, found[0].revision)
+        else:
+            publisher.plan(Planned(session().person, month, found[0].revision, found[0].at))
+    except Fault as fault:
+        return shown(400, says(fault))
+    return flask.redirect(flask.url_for("publish.show"), 303)
+
+
+def publisher_here() -> Publisher:
+    """What writes the website; there is no such page if the application wasn't told where the website goes."""
+    found = desk().publisher
+    if found is None:
+        flask.abort(404)
+    return found

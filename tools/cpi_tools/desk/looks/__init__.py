@@ -1,0 +1,1 @@
+"""A month in the browser: at a glance, its prices to look at, its provisional table."""

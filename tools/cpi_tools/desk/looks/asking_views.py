@@ -1,0 +1,206 @@
+"""What the desk asks collectors about single prices: from a row of the prices to look at, and as a list of the month with
+the answers."""
+
+from __future__ import annotations
+
+from typing import Any, NamedTuple, Optional
+
+import flask
+from werkzeug.wrappers import Response
+
+from ...office.stored import StoredOffice, read_copy
+from ...text.message import Price as Amount, Message, moment_of, month_of as month_words, sentences, message as _, whole
+from ...text.others import of_others
+from ...text.terminal import Fault, slot_text
+from ..field.field_limits import MOST_LETTERS
+from ..field.field_questions import OPEN, Changed, FieldQuestions, Logged, Of, Question, TooManyOpen
+from ..records.desk_log import ASKED, REMOVED_QUESTION, SAID, WITHDREW
+from ..serve.faults import says
+from ..serve.page_versions import NOTHING_DONE, changed_by, changed_by_step
+from ..serve.request_context import desk, field, month_of, page, session
+from .look_filters import chosen_of
+from .looks_views import back, changed_since, shown, shown_price
+from .price_marks import Price
+
+views = flask.Blueprint("asking", __name__)
+
+SHOWN = 50
+"""Questions of a page."""
+
+
+def kept() -> FieldQuestions:
+    """The questions: these views are there only if notes of the field are on."""
+    found = desk().questions
+    assert found is not None
+    return found
+
+
+def logged(text: str, **places: object) -> Logged:
+    """Writes a step with a question into the log, as this session's person."""
+    person = session().person
+    return lambda number: desk().log.append(person, SAID, text=text.format(number=number, **places))
+
+
+# ---- from the prices to look at
+
+
+@views.post("/month/<month>/looks/ask")
+def ask(month: str) -> Response:
+    """Asks the collector of a price that the page showed, in the place of a question that is open there."""
+    form, number = flask.request.form, month_of(month)
+    price = shown_price(number, [field(name) for name in ("collector", "slot", "price")])
+    before = number_in(field("question"))
+    text = " ".join(field("text").split())
+    typed: dict[str, Any] = {"of": price[1:3], "question": text}
+    if changed := changed_since(number, [price]):
+        return shown(month, form, 409, refused=changed, **typed)
+    if wrong := fault_of(text):
+        return shown(month, form, 400, refused=wrong, **typed)
+    if number < (first := kept().first_month()):
+        # (it would go by itself within the hour, before anybody has read it)
+        past = _("Questions about prices before {month} aren't kept, so nothing was asked.", month=month_words(first))
+        return shown(month, form, 409, refused=past, **typed)
+    try:
+        places = {"collector": price.collector, "slot": price.slot, "month": month}
+        kept().ask(of_price(price), session().person, text, before, logged(ASKED, **places))
+    except Changed as fault:
+        return shown(month, form, 409, refused=changed_question(fault.now), **typed)
+    except TooManyOpen as fault:
+        return shown(month, form, 409, refused=too_many(fault), **typed)
+    except Fault as fault:
+        return shown(month, form, 503, refused=says(fault), **typed)
+    return back(month, chosen_of(form), f"{price.collector}-{price.slot}")
+
+
+def number_in(text: str) -> int:
+    """The number of a question that a page showed, 0 for none; another text is no form of these pages (400)."""
+    if not (text.isascii() and text.isdigit() and len(text) < 10):
+        flask.abort(400)
+    return int(text)
+
+
+def of_price(price: Price) -> Of:
+    """What a question is of: the price with its receipt, by the trial whose page showed it."""
+    found = desk().trials.latest(price.month)
+    assert found is not None
+    slot = price.collector, price.slot
+    with read_copy(found.copy) as office:
+        receipt = office.receipts(price.month).get(slot, 0)
+    return Of(*slot, price.month, price.price, receipt)
+
+
+def fault_of(text: str) -> Optional[Message]:
+    """What is wrong with a question, if anything is."""
+    if not text:
+        return _("The question is empty, so nothing was asked: write what the collector is to look at.")
+    if len(text) <= MOST_LETTERS:
+        return None
+    places = {"most": whole(MOST_LETTERS), "count": whole(len(text))}
+    return _("A question has {most} letters at most, and this one has {count}. Nothing was asked.", **places)
+
+
+def changed_question(now: Optional[Question]) -> Message:
+    """That somebody asked, or withdrew a question, after a page was loaded: who, when and what."""
+    if now is None:
+        return changed_by("", 0)
+    if now.gone_at:
+        return changed_by(now.gone_by, now.gone_at)
+    places = {"name": of_others(now.by), "moment": moment_of(now.at), "text": of_others(now.text)}
+    return sentences(_("{name} asked this meanwhile, {moment}: {text}", **places), NOTHING_DONE)
+
+
+def too_many(fault: TooManyOpen) -> Message:
+    """That so many questions wait for an answer."""
+    most = whole(fault.most)
+    if fault.is_of_all:
+        wait = _("{most} questions to collectors wait for an answer, and there can't be more.", most=most)
+    else:
+        wait = _("{most} questions to this collector wait for an answer, and there can't be more.", most=most)
+    return sentences(wait, _("Nothing was asked: withdraw a question that you no longer need."))
+
+
+@views.post("/month/<month>/questions/<int(max=999999999):number>/withdraw")
+def withdraw(month: str, number: int) -> Response:
+    """Takes back a question that waits for an answer; from a row of the prices to look at it leads back there."""
+    form, row = flask.request.form, flask.request.form.get("row", "")
+    collector = row.partition("-")[0] if row else ""
+    try:
+        question = next((it for it in kept().of_month(month_of(month)) if it.number == number), None)
+        collector = str(question.of.collector) if question else collector
+        kept().withdraw(month_of(month), number, session().person, logged(WITHDREW, collector=collector, month=month))
+    except Changed as fault:
+        text = answered_meanwhile(fault.now) or changed_question(fault.now)
+        return shown(month, form, 409, refused=text) if row else listed(month, 409, text)
+    except Fault as fault:
+        return shown(month, form, 503, refused=says(fault)) if row else listed(month, 503, says(fault))
+    return back(month, chosen_of(form), row) if row else _to_list(month)
+
+
+def answered_meanwhile(now: Optional[Question]) -> Optional[Message]:
+    """That the collector has answered a question that a page showed as open; None if not."""
+    if now is None or not now.answers:
+        return None
+    places = {"number": now.of.collector, "moment": moment_of(now.answers[-1].at)}
+    return sentences(_("Collector {number} answered this meanwhile, {moment}.", **places), NOTHING_DONE)
+
+
+# ---- the list of a month
+
+
+class Row(NamedTuple):
+    """A question with the outlet and the item of its slot."""
+
+    question: Question
+    outlet: str
+    item: str
+
+    @property
+    def slot_name(self) -> str:
+        """`7/2`."""
+        return slot_text((self.question.of.collector, self.question.of.slot))
+
+
+def rows_of(office: StoredOffice, questions: list[Question]) -> list[Row]:
+    """Questions with what the office has of their slots."""
+    slots = {(it.collector, it.slot): it for it in office.assignments()}
+    outlets, items = office.outlets(), {it.code: it.text for it in office.items()}
+    found = list[Row]()
+    for it in questions:
+        place = slots.get((it.of.collector, it.of.slot))
+        names = (outlets.get(place.outlet, ""), items.get(place.item, "")) if place else ("", "")
+        found.append(Row(it, *names))
+    return found
+
+
+@views.get("/month/<month>/questions")
+def show(month: str) -> Response:
+    """The questions of a month: first those that wait for an answer, of the others the latest ones first."""
+    return listed(month)
+
+
+def listed(month: str, status: int = 200, fault: object = "") -> Response:
+    """The same, with what came of a step."""
+    questions = sorted(kept().of_month(month_of(month)), key=lambda it: (it.state != OPEN, -it.number))
+    start = flask.request.args.get("from", "0")
+    first = int(start) if start.isdecimal() and len(start) < 9 else 0
+    with desk().copies.latest() as copy, read_copy(copy.path) as office:
+        rows = rows_of(office, questions[first : first + SHOWN])
+    counts = {"count": len(questions), "waiting": sum(it.state == OPEN for it in questions)}
+    named = {**counts, "first": first, "step": SHOWN, "months": kept().months, "amount": Amount}
+    return page("questions.html", status, month=month, rows=rows, fault=fault, **named)
+
+
+def _to_list(month: str) -> Response:
+    return flask.redirect(flask.url_for("asking.show", month=month), 303)
+
+
+@views.post("/month/<month>/questions/<int(max=999999999):number>/remove")
+def remove(month: str, number: int) -> Response:
+    """Removes a question with its answers for good."""
+    try:
+        kept().remove(month_of(month), number, logged(REMOVED_QUESTION, month=month))
+    except Changed:
+        return listed(month, 409, changed_by_step(REMOVED_QUESTION.format(number=number, month=month)))
+    except Fault as fault:
+        return listed(month, 503, says(fault))
+    return _to_list(month)

@@ -1,0 +1,194 @@
+"""Months that `cpi` freezes on a copy for the pages, in a thread of its own, one after the other: the provisional
+table, the prices to look at, what a freeze would be. The copy with the freeze stays, so that its figures can be
+explained."""
+
+from __future__ import annotations
+
+import tempfile
+import threading
+import time
+from collections.abc import Callable
+from pathlib import Path
+from typing import NamedTuple, Optional
+
+from ...office.copying import right_copy
+from ...office.program import Cpi
+from ...office.public import Published
+from ...office.stored import read_copy
+from ...office.trial import Frozen, State
+from ...text.message import Message, sentences, message as _
+from ...text.others import Worded
+from ...text.terminal import Fault, month_text
+from ..freeze.freezes import sum_of
+from ..month.closing import Closed, closed_of
+from ..month.facts import Facts
+from ..month.month_report import Asked, Report, report_with, tried_on
+from ..month.reference_levels import Levels, levels_of
+from ..month.unusual import PERCENT_OF_WIDTH
+from ..serve.copies import Copies
+from ..serve.durations import Durations
+from ..serve.faults import met, says
+from .kept_tables import TablesKept
+from .looks import Look, looks_of
+
+SMALL = 3
+"""Fewer series or outlets are few."""
+
+TRIAL = "trial"
+
+KEPT = 2
+"""So many months stay at hand."""
+
+
+class Tried(NamedTuple):
+    """A month that was tried on a copy of the moment `at`: where the copy with the freeze lies, where the month stands,
+    the report, the prices to look at, what a freeze would be (None if it is frozen, or can't be), and who asked for
+    it."""
+
+    at: int
+    copy: Path
+    state: State
+    report: Report
+    looks: list[Look]
+    closed: Optional[Closed]
+    by: str = ""
+
+    @property
+    def sum(self) -> str:
+        """A sum of what its pages show, so that nobody freezes another month than the page showed."""
+        table = self.report.table.decode()
+        looks = [[*it.slot, it.price, it.weight, str(it.says)] for it in self.looks]
+        said = [[str(it) for it in card] for card in self.report.cards]
+        carried = [[it.code, str(it.marks)] for it in self.closed.named] if self.closed else []
+        warned = [str(it) for it in self.report.warnings]
+        return sum_of([[*self.state.window], self.state.revision, table, looks, said, carried, warned])
+
+
+def known_levels(found: Optional[Tried]) -> Optional[Levels]:
+    """The levels of a trial, if there is one, and it has levels."""
+    return found.report.levels if found else None
+
+
+class Running(NamedTuple):
+    """A trial that runs: its month, since when, what is being done, who asked for it, and how long the last one took."""
+
+    month: int
+    begun: int
+    what: str
+    by: str = ""
+    about: Message = sentences()
+
+
+class Trials:
+    """The trials of an application; their copies lie in folders of `room`, and each leaves so many quotes out in
+    turn."""
+
+    def __init__(
+        self,
+        cpi: Cpi,
+        copies: Copies,
+        tables: TablesKept,
+        room: Path,
+        left_out: int,
+        reference_in: Callable[[str], str],
+    ):
+        """`reference_in` gives the website's reference period in the release of a month."""
+        self._cpi, self._copies, self._tables, self._room = cpi, copies, tables, room
+        self._left_out, self._reference_in = left_out, reference_in
+        self._durations = Durations()
+        self._lock = threading.Lock()
+        self._found: dict[int, tuple[Tried, tempfile.TemporaryDirectory[str]]] = {}
+        self._faults: dict[int, Worded] = {}
+        self.running: Optional[Running] = None
+
+    def latest(self, month: int) -> Optional[Tried]:
+        """The last trial of a month, if there is one."""
+        found = self._found.get(month)
+        return found[0] if found else None
+
+    def fault(self, month: int) -> Worded:
+        """Why the last trial of a month came to nothing, or nothing."""
+        return self._faults.get(month, Worded(""))
+
+    def begin(self, month: int, by: str = "") -> bool:
+        """Begins a trial of a month for a person; whether it did: one at a time runs."""
+        with self._lock:
+            if self.running:
+                return False
+            self.running = Running(month, int(time.time()), _("copying the office"), by, self._durations.about(TRIAL))
+        threading.Thread(target=self._run, args=(month,), daemon=True, name="trial").start()
+        return True
+
+    def _now(self, what: str) -> None:
+        if self.running:
+            self.running = self.running._replace(what=what)
+
+    def _run(self, month: int) -> None:
+        try:
+            with self._durations.measured(TRIAL):
+                self.run(month)
+        except Fault as fault:
+            self._faults[month] = says(fault)
+        except Exception as fault:
+            # (a fault of ours: it is on the page too, and the journal has all of it)
+            self._faults[month] = met(fault)
+            raise
+        finally:
+            self.running = None
+
+    def run(self, month: int) -> Tried:
+        """Tries a month on a copy that is taken now. Raises Fault."""
+        self._copies.renew()
+        folder = tempfile.TemporaryDirectory(prefix="cpi-desk-trial-", dir=self._room)
+        try:
+            with self._copies.latest() as it:
+                found = self._tried(it.path, it.at, right_copy(it.path, Path(folder.name)), month)
+        except BaseException:
+            folder.cleanup()
+            raise
+        if found.report.table and not found.state.is_frozen:
+            self._tables.keep(month, found.at, found.report.table)
+        with self._lock:
+            self._faults.pop(month, None)
+            old = [self._found.pop(month)] if month in self._found else []
+            self._found[month] = (found, folder)
+            while len(self._found) > KEPT:
+                old.append(self._found.pop(next(iter(self._found))))
+        for each in old:
+            each[1].cleanup()
+        return found
+
+    def _tried(self, office_copy: Path, at: int, copy: Path, month: int) -> Tried:
+        asked = Asked(month, at, self._left_out, PERCENT_OF_WIDTH, SMALL)
+        tried = tried_on(self._cpi, office_copy, copy, asked, self._now, self._tables_known())
+        with read_copy(copy) as office:
+            facts = Facts(office, month, tried.frozen, self._levels(month, tried.frozen))
+            report = report_with(self._cpi, office_copy, tried, facts, asked, self._now)
+            self._now(_("looking at prices"))
+            looks = looks_of(facts, PERCENT_OF_WIDTH)
+            is_to_freeze = tried.frozen is not None and not tried.state.is_frozen
+            closes = tried.state.window.closes
+            closed = closed_of(facts, closes, tried.frozen, tried.early) if is_to_freeze and tried.frozen else None
+        by = self.running.by if self.running else ""
+        return Tried(at, copy, tried.state, report, looks, closed, by)
+
+    def _tables_known(self) -> list[Published]:
+        """The tables that the trials at hand printed, but for those of months that were tried."""
+        levels = [known_levels(found) for found, _folder in [*self._found.values()]]
+        return [table for each in levels if each for table in each.others]
+
+    def _levels(self, month: int, frozen: Optional[Frozen]) -> Optional[Levels]:
+        if frozen is None or not frozen.table or frozen.others is None:
+            return None
+        self._now(_("reading the tables"))
+        reference = self._reference_in(month_text(month))
+        return levels_of(frozen.others, month_text(month), frozen.table, reference)
+
+    def close(self) -> None:
+        """Removes what is at hand."""
+        with self._lock:
+            # (a trial that still runs may put another one there)
+            old = [*self._found.values()]
+            self._found.clear()
+        for each in old:
+            each[1].cleanup()

@@ -1,0 +1,1 @@
+"""Records of the desk: typed, judged on a copy, sent, and kept in the desk's log."""

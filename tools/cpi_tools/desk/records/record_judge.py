@@ -1,0 +1,147 @@
+"""Records of the desk that a person typed or pasted: read, and judged by `cpi` on a copy of the office's file, row by
+row, before they are sent."""
+
+from __future__ import annotations
+
+import csv
+import time
+from collections.abc import Iterator, Sequence
+from pathlib import Path
+from typing import NamedTuple
+
+from ...office.copying import private_copy
+from ...office.program import Cpi, Reply, record
+from ...office.stored import read_copy
+from ...office.trial import state_of
+from ...text.clocks import Clock
+from ...text.message import Message, message as _, whole
+from ...text.others import of_others
+from ...text.terminal import Fault, a_month
+from ..month.early import early_tables
+from ..year.clock_faults import window_faults
+from .carried_out import TABLES
+
+FREEZE = "freeze"
+
+WORDS = tuple(word for word in TABLES if word != FREEZE)
+"""The words that are taken here: a freeze has a page of its own, on which two people confirm it."""
+
+MOST_ROWS = 20_000
+"""Rows of an import at most, and of what is pasted into a table."""
+
+MOST_RECORDS = 200_000
+"""So many assignments are in a file of 8 MB."""
+
+
+class NotRead(Fault):
+    """A text that isn't records of the desk; one line."""
+
+
+def records_of(text: str, clock: Clock) -> list[list[str]]:
+    """The records of a text, without moment and caller, one a line; empty lines aside. A civil time of the calendar is
+    the moment at which the office's clock shows it. Raises NotRead."""
+    found = list[list[str]]()
+    rows = csv.reader(text.splitlines(keepends=True), strict=True)
+    try:
+        for fields in rows:
+            if fields:
+                found.append(at_clock(_looked_at(fields, rows.line_num), clock))
+    except csv.Error as fault:
+        line = whole(rows.line_num)
+        raise NotRead(
+            _(
+                "Line {line} isn't read as CSV: look at its quotation marks. Wanted are fields with commas between them.",
+                line=line,
+            )
+        ) from fault
+    if len(found) > MOST_RECORDS:
+        places = {"count": whole(len(found)), "most": whole(MOST_RECORDS)}
+        raise NotRead(_("There are {count} records: {most} are sent at once at most.", **places))
+    if not found:
+        raise NotRead(
+            _("There are no records: write one a line, such as {example}.", example=of_others("outlet,10,Corner shop"))
+        )
+    return found
+
+
+def _looked_at(fields: list[str], line: int) -> list[str]:
+    if fields[0] == FREEZE:
+        says = _(
+            "Line {line}: a month is frozen on its own page: one person prepares it, another confirms it.",
+            line=whole(line),
+        )
+        raise NotRead(says)
+    if fields[0] not in WORDS:
+        places = {"line": whole(line), "word": of_others(fields[0][:20]), "words": of_others(", ".join(WORDS))}
+        raise NotRead(_("Line {line}: {word} is no word of a record here. Wanted is one of {words}.", **places))
+    return fields
+
+
+def clock_warnings(text: str, clock: Clock) -> list[Message]:
+    """The warnings of windows in a text whose times the clock leaves out or has twice, which `records_of` read."""
+    rows = csv.reader(text.splitlines(keepends=True), strict=True)
+    return [it for fields in rows if fields for it in window_faults(fields, clock)]
+
+
+def at_clock(fields: list[str], clock: Clock) -> list[str]:
+    """A record whose civil times are moments; what is none stays, and `cpi` refuses it."""
+    if fields[0] != "calendar":
+        return fields
+    return [*fields[:2], *(_moment(text, clock) for text in fields[2:])]
+
+
+def _moment(text: str, clock: Clock) -> str:
+    try:
+        return text if text.isdecimal() else str(clock.moment(text))
+    except ValueError:
+        return text
+
+
+class Judged(NamedTuple):
+    """What `cpi` answers to records, and warnings of tables that would come out too early by their windows."""
+
+    replies: list[Reply]
+    warnings: list[Message]
+
+
+def judged(cpi: Cpi, office_copy: Path, records: Sequence[Sequence[str]]) -> list[Reply]:
+    """What `cpi` answers to records now, on a further copy. Raises Fault."""
+    return judge(cpi, office_copy, records).replies
+
+
+def judge(cpi: Cpi, office_copy: Path, records: Sequence[Sequence[str]]) -> Judged:
+    """The same, with warnings. Raises Fault."""
+    now = int(time.time())
+    with private_copy(office_copy) as copy:
+        replies = _replies(cpi, copy, records, now)
+        set_now = {it[1] for it, reply in zip(records, replies) if it[0] == "calendar" and reply.get("done")}
+        warnings = {str(it): it for it in _warnings(copy, sorted(set_now), now)} if set_now else {}
+        return Judged(replies, [*warnings.values()])
+
+
+def _replies(cpi: Cpi, copy: Path, records: Sequence[Sequence[str]], now: int) -> list[Reply]:
+    """The replies to records on a copy, in imports, so that the copy is written a few times, and not for each record."""
+    parts = [records[at : at + MOST_ROWS] for at in range(0, len(records), MOST_ROWS)]
+    asked = [record(now, "desk", "import", "".join(f"{record(*fields)}\n" for fields in part)) for part in parts]
+    found = list[Reply]()
+    for part, reply in zip(parts, cpi.replay(asked, db=copy)):
+        found += reply.get("rows", [reply] * len(part))
+    return found
+
+
+def _warnings(office_copy: Path, months: Sequence[str], now: int) -> Iterator[Message]:
+    """The warnings on some months of an office."""
+    with read_copy(office_copy) as office:
+        for month in months:
+            yield from (it.warning() for it in early_tables(office, state_of(office, a_month(month)), now))
+
+
+def lines_of(text: str) -> list[int]:
+    """The line of a text at which each of its records begins, counted from 1."""
+    found, begun = list[int](), 1
+    rows = csv.reader(text.splitlines(keepends=True), strict=True)
+    for fields in rows:
+        if fields:
+            found.append(begun)
+        begun = rows.line_num + 1
+    return found

@@ -1,0 +1,35 @@
+"""A form that was sent after its session had ended: with what was filled in, and a button that sends it again."""
+
+from __future__ import annotations
+
+from typing import Optional
+
+import flask
+from werkzeug.wrappers import Response
+
+from .held_forms import HeldForm
+from .request_context import desk, page
+
+views = flask.Blueprint("held", __name__)
+
+PATH = "/held/"
+"""Where they are, as an address has it without what a front puts before it."""
+
+
+@views.get(f"{PATH}<name>")
+def show(name: str) -> Response:
+    """A form that is kept; or that it isn't kept any more."""
+    form = desk().held.of(name)
+    return shown(form, 200 if form else 404, name)
+
+
+def shown(form: Optional[HeldForm], status: int, name: str = "") -> Response:
+    """A form with what was filled in; `name` is that under which it is kept."""
+    return page("held.html", status, form=form, name=name)
+
+
+@views.post(f"{PATH}<name>")
+def drop(name: str) -> Response:
+    """Drops a form that is kept."""
+    desk().held.drop(name)
+    return flask.redirect(flask.url_for("month.first"), 303)

@@ -1,0 +1,1 @@
+"""The windows of the months, and the draft of a coming year."""

@@ -1,0 +1,68 @@
+"""Pages of explanations: one a subclass, with its aggregates on it, and one for each node above; linked where all are
+written."""
+
+from __future__ import annotations
+
+from collections.abc import Iterator, Sequence
+from pathlib import Path
+from typing import Optional
+
+import jinja2
+
+from ..text import page_templates, section_pages
+from ..text.exact import at_and_above, depth_of, parent_of
+from ..text.report_language import ENGLISH, Teller
+from .explanation import explained
+from .explanation_lines import Explanation
+from .life import Life
+from .release_sources import AGGREGATE, Sources
+
+TEMPLATES = Path(__file__).resolve().parent / "templates"
+
+FIRST_PAGE = "00.html"
+
+LINES_SHOWN = 12
+"""A part with more lines is folded."""
+
+
+def page_of(code: str) -> str:
+    """The node whose page a node is on: an aggregate is on that of its subclass."""
+    return parent_of(code) or code if depth_of(code) == AGGREGATE else code
+
+
+def on_page(sources: Sources, node: str) -> list[str]:
+    """The nodes of a page: a subclass has its aggregates behind it."""
+    return [code for code in sources.own.levels if page_of(code) == node]
+
+
+def write_one(sources: Sources, code: str, to: Path, teller: Teller = ENGLISH) -> list[Explanation]:
+    """Writes the page that a node is on, which links to no other; what is on it."""
+    found = [explained(sources, each) for each in on_page(sources, page_of(code))]
+    _write(section_pages.environment([TEMPLATES], teller), found, to, None)
+    return found
+
+
+def write_life(life: Life, to: Path, teller: Teller = ENGLISH) -> None:
+    """Writes the page of a series."""
+    page_templates.write_page(section_pages.environment([TEMPLATES], teller), "life.html", to, life=life)
+
+
+def write_all(sources: Sources, folder: Path, teller: Teller = ENGLISH) -> Iterator[Explanation]:
+    """Writes all pages into a folder; the explanations as they are made."""
+    environment = section_pages.environment([TEMPLATES], teller)
+    for node in sources.own.levels:
+        if page_of(node) == node:
+            found = [explained(sources, each) for each in on_page(sources, node)]
+            _write(environment, found, folder / f"{node}.html", sources)
+            yield from found
+
+
+def _write(environment: jinja2.Environment, found: Sequence[Explanation], to: Path, linked: Optional[Sources]) -> None:
+    """Writes a page. `linked` is given where the pages of the other nodes lie beside it."""
+    head = found[0]
+    above = [*at_and_above(head.code)][:0:-1] if linked else []
+    titles = linked.plan.titles if linked else {}
+    below = [code for code in titles if parent_of(code) == head.code and depth_of(code) < AGGREGATE]
+    links = {code: f"{page_of(code)}.html#{code}" for code in titles}
+    named = {"found": found, "above": above, "below": below, "titles": titles, "links": links}
+    page_templates.write_page(environment, "explain.html", to, shown=LINES_SHOWN, **named)

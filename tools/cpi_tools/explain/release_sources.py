@@ -1,0 +1,215 @@
+"""A release with all that it was computed from: each earlier month in its latest revision."""
+
+from __future__ import annotations
+
+from functools import cached_property
+from typing import NamedTuple, Optional
+
+from ..office.stored import (
+    COMPARABLE,
+    OBSERVED,
+    Assignment,
+    Carried,
+    Frozen,
+    Item,
+    Level,
+    Plan,
+    Quote,
+    Release,
+    Series,
+    StoredOffice,
+)
+from ..text.message import Message, month_of, row, message, whole
+from ..text.money import TICKS, Money
+from ..text.terminal import Fault, link_month, month_before
+
+AGGREGATE = 5
+"""The depth of an elementary aggregate."""
+
+WHOLE_SCALE = (TICKS, 1)
+"""The scale of a price that nothing replaced: ticks per minor unit."""
+
+
+class NotExplained(Fault):
+    """A month, a node or a series that the file doesn't have; one line."""
+
+
+class Sent(NamedTuple):
+    """A quote that stands now: who had the slot, the quote and its receipt."""
+
+    slot: Assignment
+    quote: Quote
+    receipt: int
+
+
+class Month:
+    """What is stored of a release: carried prices, frozen quotes and the rows of its table."""
+
+    def __init__(self, office: StoredOffice, release: Release):
+        self._office, self.release = office, release
+
+    @cached_property
+    def carried(self) -> dict[Series, Carried]:
+        """What each series counts as, in order."""
+        return dict(sorted(self._office.carried(self.release).items()))
+
+    @cached_property
+    def frozen(self) -> dict[Series, Frozen]:
+        """The quotes that it was frozen with."""
+        return self._office.frozen(self.release)
+
+    @cached_property
+    def levels(self) -> dict[str, Level]:
+        """The rows of its table, by code in order."""
+        return dict(sorted(self._office.levels(self.release).items()))
+
+    def is_observed(self, series: Series) -> bool:
+        """Whether a series had a price."""
+        return series in self.frozen and self.frozen[series].mark in OBSERVED
+
+
+def _no_table(month: int) -> Message:
+    """Why the first month isn't explained."""
+    return message("{month} has no table: it is the first month, which later ones begin at", month=month_of(month))
+
+
+class Sources:
+    """A release of a month, the months that it was computed from, the survey, and how amounts of money are written.
+
+    Raises NotExplained where the month isn't frozen, hasn't that revision, or has no table.
+    """
+
+    def __init__(self, office: StoredOffice, month: int, revision: Optional[int] = None, money: Money = Money()):
+        self.office, self.month, self.money = office, month, money
+        self.releases = office.releases()
+        self._latest = {release.month: release for release in self.releases}
+        own = [it for it in self.releases if it.month == month and revision in (None, it.revision)]
+        if not own:
+            raise NotExplained(self._no_release(revision))
+        self.own = Month(office, own[-1])
+        plan = next((plan for plan in office.plans() if plan.year == month // 100), None)
+        if plan is None or not self.own.levels:
+            raise NotExplained(_no_table(month))
+        self.plan: Plan = plan
+        self.outlets = office.outlets()
+        self.items: dict[str, Item] = {it.code: it for it in office.items()}
+
+    def _no_release(self, revision: Optional[int]) -> Message:
+        month, known = month_of(self.month), [it.revision for it in self.releases if it.month == self.month]
+        if known:
+            given, all_of_them = whole(revision or 0), row([whole(it) for it in known])
+            return message(
+                "{month} has no revision {revision}; it has {revisions}",
+                month=month,
+                revision=given,
+                revisions=all_of_them,
+            )
+        if not self.releases:
+            return message("{month} isn't frozen; no month is", month=month)
+        first, last = month_of(self.releases[0].month), month_of(self.releases[-1].month)
+        return message("{month} isn't frozen; {first} to {last} are", month=month, first=first, last=last)
+
+    @property
+    def is_january(self) -> bool:
+        """Whether the month is the first of its year."""
+        return self.month % 100 == 1
+
+    def latest(self, month: int) -> Optional[Month]:
+        """The latest release of a month, if it has one."""
+        return Month(self.office, self._latest[month]) if month in self._latest else None
+
+    def _known(self, month: int) -> Month:
+        found = self.latest(month)
+        if found is None:
+            places = {"month": month_of(month), "own": month_of(self.month)}
+            raise NotExplained(message("{month}, which {own} is computed from, isn't there", **places))
+        return found
+
+    @cached_property
+    def link(self) -> Month:
+        """The link month."""
+        return self._known(link_month(self.month))
+
+    @cached_property
+    def before(self) -> Month:
+        """The month before."""
+        return self.link if self.is_january else self._known(month_before(self.month))
+
+    @cached_property
+    def year_before(self) -> dict[str, Level]:
+        """The table of twelve months before; empty where there is none."""
+        found = self.latest(self.month - 100)
+        return found.levels if found else {}
+
+    # ---- samples and series
+
+    @cached_property
+    def aggregates(self) -> list[str]:
+        """The elementary aggregates of the year."""
+        return [*self.plan.aggregates()]
+
+    @cached_property
+    def samples(self) -> dict[str, list[Series]]:
+        """The series of each aggregate's sample, as the rows of carried prices have them."""
+        found: dict[str, list[Series]] = {code: [] for code in self.aggregates}
+        for series, it in self.own.carried.items():
+            found.setdefault(self.plan.places.get(it.item, ""), []).append(series)
+        return found
+
+    @cached_property
+    def held(self) -> dict[Series, list[Assignment]]:
+        """The assignments of each series, from the first to the last who has it."""
+        found: dict[Series, list[Assignment]] = {}
+        for it in self.office.assignments():
+            found.setdefault(it.series, []).append(it)
+        return found
+
+    def holder(self, series: Series, month: int) -> Assignment:
+        """Who prices a series in a month, or had it last before."""
+        own = self.held[series]
+        return next((it for it in reversed(own) if it.first_month <= month), own[0])
+
+    @cached_property
+    def copied(self) -> dict[tuple[int, int], int]:
+        """The price that each slot was handed over with."""
+        return self.office.copied_prices()
+
+    @cached_property
+    def sent(self) -> dict[tuple[Series, int], Sent]:
+        """The quotes that stand now for the month and for the link month, by series and month."""
+        found: dict[tuple[Series, int], Sent] = {}
+        for month in (self.month, link_month(self.month)):
+            quotes, receipts = self.office.quotes(month), self.office.receipts(month)
+            for own in self.held.values():
+                for it in own:
+                    if it[:2] in quotes and it.first_month <= month <= it.last_month:
+                        found[it.series, month] = Sent(it, quotes[it[:2]], receipts[it[:2]])
+        return found
+
+    # ---- what a series counted as
+
+    def base(self, series: Series) -> tuple[int, tuple[int, int]]:
+        """The base of a series in ticks, and its scale."""
+        if self.link.is_observed(series):
+            return self.link.frozen[series].value * WHOLE_SCALE[0], WHOLE_SCALE
+        it = self.link.carried[series]
+        return it.ticks, (it.knum, it.kden)
+
+    def then(self, series: Series) -> tuple[int, tuple[int, int]]:
+        """What a series counted as in the month before in ticks, and its scale; in January its base."""
+        if self.is_january:
+            return self.base(series)
+        it = self.before.carried[series]
+        return it.ticks, (it.knum, it.kden)
+
+    def is_comparable(self, series: Series) -> bool:
+        """Whether a series has a comparable price."""
+        return series in self.own.frozen and self.own.frozen[series].mark in COMPARABLE
+
+    def is_matched(self, series: Series) -> bool:
+        """Whether it has one, and was observed in the month before."""
+        return self.is_comparable(series) and self.before.is_observed(series)
+
+    def row(self, table: str, key: object) -> str:
+        """How a row of the release is named."""
+        return f"{table} ({self.month}, {self.own.release.revision}, {key})"

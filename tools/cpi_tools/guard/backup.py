@@ -1,0 +1,341 @@
+"""`cpi-tools backup FILE DEST`: one file that `cpi` has opened and put the log into, and a note of its SHA-256 beside.
+
+DEST and its note are written beside and renamed, so each is whole or isn't there.
+"""
+
+from __future__ import annotations
+
+import argparse
+import contextlib
+import hashlib
+import os
+import re
+import sys
+import time
+from pathlib import Path
+from typing import NamedTuple, Optional
+
+from ..office.copying import EMPTIED_BYTES, PATIENCE, has_frames, log_beside, right_copy
+from ..office.program import LAST_MOMENT, Cpi, CpiFailed, add_program, record
+from ..office.rooms import new_room
+from ..text.terminal import Fault, Progress, ToolWords, a_file, at_least, because_of, counted, time_text
+from .copies.desk_backup import desk_beside, write_desk
+from .copies.desk_files import LOG, seen_in
+
+
+LF = b"\n"
+
+NUMBER_OF_LINE = re.compile(rb'"number":([0-9]{1,18}),')
+"""The number that a line of the desk's log has."""
+
+
+class BackupFailed(Fault):
+    """No backup was made, or a note can't be read; one line."""
+
+
+class Note(NamedTuple):
+    """What is written beside a backup: the office's file, the moment at which copying began (seconds since 1970 UTC),
+    how many tables the program found, the backup's size in bytes, its SHA-256 in hexadecimal, and that of the desk's folder
+    next to it, empty if there is none; and the last line of the desk's log, as `last_line_of` has it, if the backup was
+    asked to note that."""
+
+    office: str
+    copied: int
+    tables: int
+    size: int
+    sha256: str
+    desk: str = ""
+    desk_log: str = ""
+
+
+# ---- the note
+
+
+def note_beside(path: Path) -> Path:
+    """Where the note on a backup lies: `office.db.sha256` of `office.db`."""
+    return path.with_name(path.name + ".sha256")
+
+
+def note_text(note: Note, name: str) -> str:
+    """A note as `sha256sum --check` reads it; what else it tells are comments there."""
+    fields = f"# office: {note.office}\n# copied: {note.copied}\n# tables: {note.tables}\n# bytes: {note.size}\n"
+    fields += f"# desk: {note.desk}\n" if note.desk else ""
+    fields += f"# desk log: {note.desk_log}\n" if note.desk_log else ""
+    return f"{fields}{note.sha256}  {name}\n"
+
+
+def read_note(path: Path) -> Optional[Note]:
+    """The note beside a backup, None where there is none. Raises BackupFailed where it isn't one."""
+    beside = note_beside(path)
+    try:
+        text = beside.read_text(encoding="utf-8", errors="replace")
+    except FileNotFoundError:
+        return None
+    except OSError as fault:
+        raise BackupFailed(because_of(fault)) from fault
+    fields = dict(re.findall(r"^# (office|copied|tables|bytes|desk|desk log): (.*)$", text, re.M))
+    sums = re.findall(r"^([0-9a-f]{64})  ", text, re.M)
+    numbers = [fields.get(name, "") for name in ("copied", "tables", "bytes")]
+    if len(sums) != 1 or "office" not in fields or not all(re.fullmatch("[0-9]{1,18}", each) for each in numbers):
+        raise BackupFailed(f"{beside} isn't a note that cpi-tools wrote")
+    copied, tables, size = map(int, numbers)
+    return Note(fields["office"], copied, tables, size, sums[0], fields.get("desk", ""), fields.get("desk log", ""))
+
+
+def last_line_of(path: Path) -> str:
+    """The number and the SHA-256 of the last line of the desk's log, `line 17, SHA-256 ..`, or `no line`: one that a crash
+    cut off has no number. Raises BackupFailed if the file can't be read."""
+    try:
+        lines = path.read_bytes().split(b"\n")[:-1]
+    except OSError as fault:
+        raise BackupFailed(because_of(fault)) from fault
+    for line in reversed(lines):
+        if numbers := NUMBER_OF_LINE.findall(line):
+            return f"line {int(numbers[0])}, SHA-256 {hashlib.sha256(line + LF).hexdigest()}"
+    return "no line"
+
+
+def hash_of(path: Path) -> str:
+    """SHA-256 of a file, in hexadecimal."""
+    found = hashlib.sha256()
+    with path.open("rb", buffering=0) as file:
+        while block := file.read(1 << 20):
+            found.update(block)
+    return found.hexdigest()
+
+
+# ---- the backup
+
+
+def settle(cpi: Cpi, copy: Path, of: Path) -> int:
+    """Lets the program open a copy of the file `of` and end, so that the log is in it, and removes the log; how many
+    tables it has.
+
+    Raises CpiFailed where it is no office for the program.
+    """
+    replies = cpi.open(copy, of, [record(LAST_MOMENT, "public", "tables")])
+    if len(replies) != 1 or "tables" not in replies[0]:
+        raise CpiFailed(f"{cpi.path} doesn't list the tables of {of}")
+    remove_log(copy)
+    return len(replies[0]["tables"])
+
+
+def remove_log(copy: Path) -> None:
+    """Removes the log of a copy that the program has closed. Raises CpiFailed where something is left in it."""
+    if has_frames(copy):
+        raise CpiFailed("cpi ended, and its log isn't in the file")
+    log_beside(copy).unlink(missing_ok=True)
+
+
+def back_up(
+    cpi: Cpi,
+    path: Path,
+    to: Path,
+    is_replacing: bool = False,
+    patience: float = PATIENCE,
+    pause: Optional[int] = None,
+    progress: Optional[Progress] = None,
+    desk: Optional[Path] = None,
+    desk_log: Optional[Path] = None,
+) -> Note:
+    """Makes the backup `to` of an office's file, and a note of it beside, with the last line of `desk_log` if there is one;
+    the note. `desk` is the folder of the desk's pages, which goes along.
+
+    `is_replacing` lets it take the place of what stands there. `patience` (seconds) and `pause` (a process) are those
+    of `right_copy`. Raises BackupFailed, CopyFailed or CpiFailed, and leaves nothing, where it wasn't made.
+    """
+    now = progress.now if progress else lambda _: None
+    try:
+        _look_at(path, to, is_replacing)
+        to.parent.mkdir(mode=0o700, parents=True, exist_ok=True)
+        with new_room(".cpi-backup-", to.parent) as room:
+            now(f"copying {path}")
+            begun = int(time.time())
+            copy = right_copy(path, room, patience, pause)
+            archive = room / "desk"
+            has_desk = desk is not None and _has_desk(desk, archive)
+            now("cpi opens the copy")
+            tables = settle(cpi, copy, path)
+            now("writing it to the disk")
+            line = last_line_of(desk_log) if desk_log else ""
+            of_desk = hash_of(archive) if has_desk else ""
+            note = Note(path.name, begun, tables, copy.stat().st_size, hash_of(copy), of_desk, line)
+            written = room / "note"
+            written.write_text(note_text(note, to.name), encoding="utf-8")
+            written.chmod(0o600)
+            _put(copy, written, to, is_replacing, archive if has_desk else None)
+    except OSError as fault:
+        raise BackupFailed(because_of(fault)) from fault
+    return note
+
+
+def _has_desk(desk: Path, to: Path) -> bool:
+    """Whether the desk's folder was written to a file. If it can't be read, a line says so: the office comes first."""
+    try:
+        return write_desk(desk, to)
+    except (Fault, OSError) as fault:
+        because = because_of(fault) if isinstance(fault, OSError) else fault
+        print(f"cpi-tools backup: the desk's folder isn't in it: {because}", file=sys.stderr)
+        return False
+
+
+def log_of(to: Path) -> Path:
+    """The log that would be put into a backup in its place: by its name, whatever a link there leads to now."""
+    return to.with_name(f"{to.name}-wal")
+
+
+def _look_at(path: Path, to: Path, is_replacing: bool) -> None:
+    """Tells before any work what stands in the way of a backup."""
+    path.stat()
+    if to.is_dir():
+        raise BackupFailed(f"{to} is a folder: name the file")
+    if to.exists() and not to.is_file():
+        raise BackupFailed(f"{to} is no file, so nothing takes its place")
+    if to.exists() and to.samefile(path):
+        raise BackupFailed(f"{to} is the office itself")
+    if log_beside(path) in (to.resolve(), note_beside(to).resolve()):
+        raise BackupFailed(f"{to} is the office's log")
+    for each in () if is_replacing else (to, note_beside(to), desk_beside(to)):
+        if os.path.lexists(each):
+            raise BackupFailed(f"{each} is there already (--replace puts the backup in its place)")
+    if to.exists() and not note_beside(to).exists():
+        raise BackupFailed(f"{to} has no note, so it isn't known to be a backup, and nothing takes its place")
+    _look_at_log(to)
+
+
+def _look_at_log(to: Path) -> None:
+    """Tells a log with something in it where a backup is to lie: it would be put into the backup as that is opened, and
+    has what somebody did to an office there."""
+    log = log_of(to)
+    if os.path.lexists(log) and log.lstat().st_size > EMPTIED_BYTES:
+        raise BackupFailed(f"{log} is there, and would be put into the backup: look whose it is, or name another file")
+
+
+def _put(copy: Path, written: Path, to: Path, is_replacing: bool, archive: Optional[Path]) -> None:
+    """Puts a backup, the desk's folder and the note into their place, each on the disk before it has its name.
+
+    Where one is replaced, the old note goes first: a backup whose note is of another would look like a damaged one.
+    """
+    pairs = [(copy, to), *([(archive, desk_beside(to))] if archive else []), (written, note_beside(to))]
+    for each, _ in pairs:
+        _sync(each)
+    _look_at_log(to)
+    log_of(to).unlink(missing_ok=True)
+    if is_replacing:
+        note_beside(to).unlink(missing_ok=True)
+        desk_beside(to).unlink(missing_ok=True)
+        for each, place in pairs:
+            each.replace(place)
+    else:
+        with contextlib.ExitStack() as undone:
+            for each, place in pairs:
+                _rename_to_new(each, place)
+                undone.callback(place.unlink)
+            undone.pop_all()
+    _sync(to.parent)
+
+
+def _rename_to_new(path: Path, to: Path) -> None:
+    """Renames a file to a name that nothing has, not even something that came a moment ago."""
+    try:
+        os.link(path, to)
+    except FileExistsError:
+        raise BackupFailed(f"{to} is there already (--replace puts the backup in its place)") from None
+    except OSError:
+        # (a file system without hard links)
+        path.rename(to)
+    else:
+        path.unlink()
+
+
+def _sync(path: Path) -> None:
+    """Waits until a file or a folder is on the disk."""
+    opened = os.open(path, os.O_RDONLY)
+    try:
+        os.fsync(opened)
+    finally:
+        os.close(opened)
+
+
+# ---- words
+
+
+DESCRIPTION = """\
+Copies an office's file with its log, whether cpi runs or not; lets cpi open the copy and put the
+log into it; and writes one file DEST, and beside it DEST.sha256 with its sum, which
+`sha256sum --check` reads too. Both have mode 0600, since the collectors' keys are in the file.
+The office isn't locked, and nothing is written to it. Every command that was answered before the
+copy began is in it. `cpi-tools drill DEST` looks whether it is whole. With --desk the folder of the
+desk's pages goes along, as one file DEST.desk.tar, whose sum is in the note too.
+
+To restore, stop the office, and let `cpi-tools restore DEST` put the old file aside with its log.
+"""
+
+EPILOG = """\
+example: cpi-tools backup office.db backup/office.db
+
+exit status: 0 if the backup is there; 1 with one line why it isn't, and nothing is left; 2 if the
+words are refused; 4 if it is there without the desk's folder, and a line says why
+"""
+
+WITHOUT_DESK = 4
+"""The exit status if a desk's folder couldn't be read, and the office's backup is there without it."""
+
+
+def add_words(tools: argparse._SubParsersAction[ToolWords]) -> None:
+    """The tool `backup`."""
+    words = tools.add_parser(
+        "backup",
+        help="copies an office's file, while cpi runs or not",
+        description=DESCRIPTION,
+        epilog=EPILOG,
+    )
+    words.add_argument("file", type=Path, metavar="FILE", help="the office's file, which is only read")
+    words.add_argument("dest", type=a_file, metavar="DEST", help="the backup: a file that isn't there yet")
+    words.add_argument("--desk", type=Path, metavar="FOLDER", help="the folder of the desk's pages, which goes along")
+    words.add_argument("--replace", action="store_true", help="DEST and its note take the place of another backup")
+    words.add_argument(
+        "--desk-log",
+        type=Path,
+        metavar="LOG",
+        help="the log of the desk's pages: the note has the sum of its last line",
+    )
+    words.add_argument(
+        "--patience",
+        type=at_least(0),
+        default=PATIENCE,
+        metavar="SECONDS",
+        help="how long to wait for a stretch of time in which the log isn't emptied (%(default)s)",
+    )
+    words.add_argument(
+        "--pause",
+        type=at_least(2),
+        metavar="PROCESS",
+        help="the number of the process of cpi: it stands still while the file is read, for a file that is large and is"
+        " written all the time",
+    )
+    add_program(words)
+    words.set_defaults(run=run, tool="backup", words=words)
+
+
+def run(chosen: argparse.Namespace) -> int:
+    """Runs the tool by its words; its exit status."""
+    with Progress("cpi-tools backup") as progress:
+        note = back_up(
+            Cpi(chosen.program),
+            chosen.file,
+            chosen.dest,
+            is_replacing=chosen.replace,
+            patience=chosen.patience,
+            pause=chosen.pause,
+            progress=progress,
+            desk=chosen.desk,
+            desk_log=chosen.desk_log,
+        )
+    print(
+        f"{chosen.dest}: {counted(note.size, 'byte')}, {counted(note.tables, 'table')},"
+        f" copied {time_text(note.copied)}, SHA-256 {note.sha256}"
+    )
+    if note.desk:
+        print(f"{desk_beside(chosen.dest)}: the desk's folder, SHA-256 {note.desk}")
+    return WITHOUT_DESK if chosen.desk and not note.desk and LOG in seen_in(chosen.desk) else 0

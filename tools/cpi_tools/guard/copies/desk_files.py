@@ -1,0 +1,167 @@
+"""The files of the desk's application as they are copied: its folder has the desk's log, notes on prices, notes of the
+field, questions to collectors, the draft of a year, and what waits. A backup, a second copy, a restore and a promotion all
+read it so.
+
+Each file is read at one moment, while the application runs. The logs are only appended to, and only whole lines are
+taken. All others but the notes of the field and the questions are written whole or not at all. Of those, SQLite files,
+nobody commits a change while it is read.
+
+**Which of two folders is the later one.** By the logs: one goes on from another if each log begins with the other's. Each
+change of a question is in the desk's log first.
+"""
+
+from __future__ import annotations
+
+import contextlib
+import os
+import re
+import sqlite3
+from collections.abc import Iterator
+from pathlib import Path
+from typing import NamedTuple, Optional
+
+from ...office.held_folders import NotPlain, held
+from ...text.terminal import Fault, because_of
+from .mirrors import sum_of_bytes
+
+HERE = Path("/var/lib/cpi-desk")
+"""The folder of the package."""
+
+LOG = "desk.log"
+"""The desk's log, without which there is nothing of a desk."""
+
+LOGS = (LOG, "looks.jsonl")
+"""The files that are only appended to."""
+
+NOTES = "field-notes.db"
+"""The notes of the field."""
+
+DATABASE = ".db"
+"""How the name of an SQLite file ends."""
+
+ASIDE = "before-"
+"""How the name of a folder begins that has an earlier desk, which was put aside."""
+
+MOST_FILES = 10_000
+"""Files of a folder at most."""
+
+NAME = re.compile(r"(?!before-)[A-Za-z0-9][A-Za-z0-9._-]{0,99}(/[A-Za-z0-9][A-Za-z0-9._-]{0,99}){0,3}")
+"""A file's name below the folder. Hidden files are not whole yet."""
+
+BESIDE = ("-journal", "-wal", "-shm")
+"""What SQLite has next to a file meanwhile."""
+
+
+class Sized(NamedTuple):
+    """The size of a file in bytes, and its sum as `mirrors` has it."""
+
+    size: int
+    sum: str
+
+
+class Seen(NamedTuple):
+    """What changes if a file does: its number, its size and its time in nanoseconds since 1970 UTC."""
+
+    number: int
+    size: int
+    time: int
+
+
+def seen_in(folder: Path) -> dict[str, Seen]:
+    """The files of a folder by their names; none if it isn't there. Raises Fault."""
+    found = dict[str, Seen]()
+    try:
+        for path in _files_below(folder):
+            known = path.lstat()
+            found[str(path.relative_to(folder))] = Seen(known.st_ino, known.st_size, known.st_mtime_ns)
+    except OSError as fault:
+        raise Fault(because_of(fault)) from fault
+    if len(found) > MOST_FILES:
+        raise Fault(f"{folder} has {len(found):,} files, and {MOST_FILES:,} are copied at most")
+    return found
+
+
+def _files_below(folder: Path) -> Iterator[Path]:
+    """The plain files that are copied, in the order of their names."""
+    for top, folders, names in os.walk(folder):
+        here = Path(top)
+        folders[:] = sorted(name for name in folders if is_name(str((here / name).relative_to(folder))))
+        for name in sorted(names):
+            path = here / name
+            if is_name(str(path.relative_to(folder))) and path.is_file() and not path.is_symlink():
+                yield path
+
+
+def is_name(name: str) -> bool:
+    """Whether a file of that name is copied."""
+    return bool(NAME.fullmatch(name)) and ".." not in name and not name.endswith(BESIDE)
+
+
+def lines_in(path: Path) -> bytes:
+    """The whole lines of a log; nothing if it isn't there. Raises OSError, also if it is a link or no file: root reads the
+    folder of another user."""
+    try:
+        with held(path.parent) as folder, os.fdopen(folder.opened(path.name), "rb") as file:
+            data = file.read()
+    except FileNotFoundError:
+        return b""
+    return data[: data.rfind(b"\n") + 1]
+
+
+def sized(data: bytes) -> Sized:
+    """Size and sum of some bytes."""
+    return Sized(len(data), sum_of_bytes(data))
+
+
+def goes_on(data: bytes, before: Optional[Sized]) -> bool:
+    """Whether a log goes on from an earlier one, of which only size and sum are known."""
+    return before is None or (len(data) >= before.size and sized(data[: before.size]) == before)
+
+
+def is_later(folder: Path, other: Path) -> bool:
+    """Whether the logs of a folder go on from those of another one, or are the same. What isn't a plain file doesn't. Raises
+    OSError."""
+    try:
+        return all(lines_in(folder / name).startswith(lines_in(other / name)) for name in LOGS)
+    except NotPlain:
+        return False
+
+
+class Notes(NamedTuple):
+    """How far the notes of the field are: the number of the last one that ever came, which only grows; and of the last
+    one that is kept its number and its sum."""
+
+    came: int
+    kept: int
+    sum: str
+
+
+NO_NOTES = Notes(0, 0, "")
+
+
+def notes_in(link: sqlite3.Connection) -> Notes:
+    """The notes of a file."""
+    ((came,),) = link.execute("SELECT coalesce(max(seq), 0) FROM sqlite_sequence WHERE name = 'note'")
+    rows = link.execute("SELECT number, digest FROM note ORDER BY number DESC LIMIT 1").fetchall()
+    return Notes(came, *(rows[0] if rows else (0, "")))
+
+
+def notes_go_on(link: sqlite3.Connection, before: Notes) -> bool:
+    """Whether the notes of a file go on from earlier ones: none that is there is another one under the same number. (One
+    that is kept no longer may be gone.)"""
+    rows = link.execute("SELECT digest FROM note WHERE number = ?", (before.kept,)).fetchall()
+    return notes_in(link).came >= before.came and rows in ([], [(before.sum,)])
+
+
+@contextlib.contextmanager
+def unchanging(path: Path) -> Iterator[sqlite3.Connection]:
+    """Meanwhile nobody commits a change to an SQLite file. Raises Fault. (Whoever opens the file in this process and
+    closes it ends that: so it is read once.)"""
+    try:
+        address = f"{path.absolute().as_uri()}?mode=ro"
+        with contextlib.closing(sqlite3.connect(address, uri=True, isolation_level=None)) as link:
+            link.execute("BEGIN")
+            link.execute("SELECT count(*) FROM sqlite_master").fetchall()
+            yield link
+    except sqlite3.Error as fault:
+        raise Fault(f"{path} can't be read now: {fault}") from fault

@@ -1,0 +1,248 @@
+"""A copy of an office's file and log that is brought up to date in place: only pages that changed are written.
+
+A round reads the office's file and log as `copying` has it, in their order and with the same mark before and after, so
+what the mirror has at the end is a right copy of one moment. While it is being written it is none, so whoever keeps a
+mirror keeps a second one that is whole meanwhile.
+
+**The sum.** A SHA-256 of 300 MB takes more than a second of a processor without instructions for it. So each block of
+16 KiB has its own SHA-256, which is computed anew only if the block changed, and the sum of a file is the SHA-256 of
+those of its blocks, one after the other. `sum_of` computes the same of a file that nobody knows yet.
+"""
+
+from __future__ import annotations
+
+import contextlib
+import hashlib
+import os
+import time
+from collections.abc import Iterator
+from io import RawIOBase
+from pathlib import Path
+from typing import NamedTuple
+
+from ...office.copying import BLOCK, PATIENCE, CopyFailed, log_beside, mark_of
+from ...text.terminal import naming
+
+PAGE = 4096
+"""Bytes of a page of the office's file; only whole pages are written."""
+
+SUMMED = 1 << 14
+"""Bytes of a block that has its own sum."""
+
+QUIET_WITHIN = 5
+"""Seconds for which the next emptying of the log is awaited: a pass that begins right after it has the longest time."""
+
+
+class Taken(NamedTuple):
+    """A round of a mirror: the moment at which the pass began that was right (seconds since 1970 UTC), how many passes
+    it took, and the bytes that were written."""
+
+    moment: int
+    passes: int
+    written: int
+
+
+class Mirror:
+    """A file that is brought to the bytes of another one, and the sum of each of its blocks."""
+
+    def __init__(self, path: Path):
+        """The mirror at a path, with what a former run left there. Raises OSError."""
+        self.path = path
+        self._sums = list[bytes]()
+        self._size = 0
+        self.pages = set[int]()
+        """The numbers of the pages that were written, until somebody takes them away."""
+        opened = os.open(path, os.O_RDWR | os.O_CREAT | os.O_CLOEXEC, 0o600)
+        with naming(path), os.fdopen(opened, "rb", buffering=0) as file:
+            for block in _blocks(file):
+                self._sums += _sums_of(block)
+                self._size += len(block)
+
+    @property
+    def size(self) -> int:
+        """Its bytes."""
+        return self._size
+
+    def sum(self) -> str:
+        """The sum of the file, in hexadecimal."""
+        return _sum(self._sums)
+
+    def take(self, source: Path) -> int:
+        """Brings it to the bytes of another file, which is read from front to back; how many bytes were written. A file
+        that isn't there counts as empty. Raises OSError."""
+        with contextlib.ExitStack() as opened:
+            try:
+                file = opened.enter_context(source.open("rb", buffering=0))
+            except FileNotFoundError:
+                return self._cut(0)
+            number = os.open(self.path, os.O_RDWR | os.O_CLOEXEC)
+            opened.callback(os.close, number)
+            at = written = 0
+            for block in _blocks(file):
+                with naming(self.path):
+                    written += self._put(number, at, block)
+                at += len(block)
+        return written + self._cut(at)
+
+    def _put(self, number: int, at: int, block: bytes) -> int:
+        """Writes the pages of a block, at a place in bytes, in which it differs from what is there."""
+        there = os.pread(number, len(block), at)
+        if there == block:
+            return 0
+        written = 0
+        for begin in range(0, len(block), SUMMED):
+            part, old = block[begin : begin + SUMMED], there[begin : begin + SUMMED]
+            if part != old:
+                written += self._write_pages(number, at + begin, part, old)
+                self._note(at + begin, part)
+        return written
+
+    def _write_pages(self, number: int, at: int, part: bytes, old: bytes) -> int:
+        """Writes the pages of a part of the file that differ from the old ones, at a place; how many bytes."""
+        written = 0
+        for begin in range(0, len(part), PAGE):
+            page = part[begin : begin + PAGE]
+            if page != old[begin : begin + PAGE]:
+                self.pages.add((at + begin) // PAGE)
+                _write(number, at + begin, page)
+                written += len(page)
+        return written
+
+    def _note(self, at: int, part: bytes) -> None:
+        """Keeps the sum of a block at a place."""
+        index = at // SUMMED
+        self._sums[index : index + 1] = [hashlib.sha256(part).digest()]
+        self._size = max(self._size, at + len(part))
+
+    def _cut(self, size: int) -> int:
+        """Cuts off what is past a size; no byte was written for it."""
+        if size == self._size:
+            return 0
+        with naming(self.path), self.path.open("r+b", buffering=0) as file:
+            file.truncate(size)
+            self._sums[-(-size // SUMMED) :] = []
+            self._size = size
+            if begin := size % SUMMED:
+                self._note(size - begin, os.pread(file.fileno(), begin, size - begin))
+        return 0
+
+    def sync(self) -> None:
+        """Waits until it is on the disk. Raises OSError."""
+        sync(self.path)
+
+
+SECOND = 1_000_000_000
+"""Nanoseconds."""
+
+
+class MirroredOffice:
+    """The mirrors of an office's file and of its log, in a folder."""
+
+    def __init__(self, folder: Path, name: str):
+        """The mirror of the file gets a name there, that of the log the one that belongs to it. Raises OSError."""
+        self.file = Mirror(folder / name)
+        self.log = Mirror(log_beside(folder / name))
+
+    def take(self, office: Path, patience: float = PATIENCE) -> Taken:
+        """Brings both to one moment of an office's file, which `cpi` may serve meanwhile. Raises CopyFailed if the log
+        isn't quiet for one pass within `patience` seconds, and OSError."""
+        until, passes, written = time.monotonic() + patience, 0, 0
+        while True:
+            moment, before = int(time.time()), mark_of(office)
+            written += self.file.take(office) + self.log.take(log_beside(office))
+            passes += 1
+            if mark_of(office) == before:
+                break
+            if time.monotonic() > until:
+                raise CopyFailed(f"{office} is written so fast that it wasn't quiet for one copy in {patience:.0f} s")
+            _await_emptied(office)
+        if not self.file.size and not self.log.size:
+            raise CopyFailed(f"{office} is empty, so it is no office")
+        return Taken(moment, passes, written)
+
+    def taken_and_stamped(self, office: Path, patience: float = PATIENCE) -> Taken:
+        """Takes it, and gives a mirror that changed a time in whole seconds that it never had: rsync compares these.
+        Raises CopyFailed and OSError."""
+        mirrors = (self.file, self.log)
+        before = [second_of(each.path) for each in mirrors]
+        taken = self.take(office, patience)
+        for each, moment in zip(mirrors, before):
+            stamp(each.path, moment)
+        return taken
+
+
+def _await_emptied(office: Path) -> None:
+    """Waits until the log is emptied once more, but not for long."""
+    before, until = mark_of(office), time.monotonic() + QUIET_WITHIN
+    while mark_of(office) == before and time.monotonic() < until:
+        time.sleep(0.002)
+
+
+def second_of(path: Path) -> int:
+    """The time of a file in seconds since 1970 UTC, a part counting as a whole one; 0 if it isn't there. Raises OSError."""
+    try:
+        return -(-path.stat().st_mtime_ns // SECOND)
+    except FileNotFoundError:
+        return 0
+
+
+def stamp(path: Path, before: int) -> None:
+    """Gives a file that was written since a later time than the one of before, in whole seconds. Raises OSError."""
+    if path.stat().st_mtime_ns != before * SECOND:
+        later = max(int(time.time()), before + 1) * SECOND
+        os.utime(path, ns=(later, later))
+
+
+def sum_of(path: Path) -> tuple[int, str]:
+    """The size of a file in bytes, and its sum as a mirror has it. Raises OSError."""
+    sums, size = list[bytes](), 0
+    with naming(path), path.open("rb", buffering=0) as file:
+        for block in _blocks(file):
+            sums += _sums_of(block)
+            size += len(block)
+    return size, _sum(sums)
+
+
+def sum_of_bytes(data: bytes) -> str:
+    """The sum of a file with these bytes."""
+    return _sum(_sums_of(data))
+
+
+def sync(path: Path) -> None:
+    """Waits until a file or a folder is on the disk. Raises OSError."""
+    opened = os.open(path, os.O_RDONLY | os.O_CLOEXEC)
+    try:
+        with naming(path):
+            os.fsync(opened)
+    finally:
+        os.close(opened)
+
+
+def _blocks(file: RawIOBase) -> Iterator[bytes]:
+    """The blocks of a file in their order, each but the last one of BLOCK bytes, whatever a read gives. The first end
+    that is seen is the end: what a log gets afterwards would begin within a block."""
+    while True:
+        block = b""
+        while len(block) < BLOCK and (more := file.read(BLOCK - len(block))):
+            block += more
+        if block:
+            yield block
+        if len(block) < BLOCK:
+            return
+
+
+def _sums_of(block: bytes) -> list[bytes]:
+    """The sums of the parts of a block."""
+    return [hashlib.sha256(block[at : at + SUMMED]).digest() for at in range(0, len(block), SUMMED)]
+
+
+def _sum(sums: list[bytes]) -> str:
+    return hashlib.sha256(b"".join(sums)).hexdigest()
+
+
+def _write(number: int, at: int, page: bytes) -> None:
+    """Writes a page at a place of a file."""
+    left = memoryview(page)
+    while left:
+        done = os.pwrite(number, left, at)
+        left, at = left[done:], at + done

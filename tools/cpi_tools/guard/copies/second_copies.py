@@ -1,0 +1,280 @@
+"""A second copy of an office at another place: two folders that take turns, a note in each, a mark of a promotion, and a
+note on what is kept of them.
+
+    DEST/copy-1/office.db, office.db-wal, office.db.json
+    DEST/copy-2/office.db, office.db-wal, office.db.json
+    DEST/promoted.json
+    DEST/drilled.json
+
+Each round brings the older of the two copies up to date, and writes its note last. So whatever stops a round, the other
+copy is whole. A note has the sums of its file and log, so a copy that was cut off shows even if a note of before is next
+to it. The copy that counts is the one whose note has the greatest number of a round.
+
+The two files of a copy are what a crash could leave at its moment, so `cpi` opens them as they are.
+
+The machine that carries to a place may have been taken by somebody else. So what lies there is read by its plain names
+only, never through a link; and the mark lies where the key of that machine can't write (`cpi-receive`).
+"""
+
+from __future__ import annotations
+
+import json
+import socket
+import time
+from datetime import datetime, timezone
+from pathlib import Path
+from typing import NamedTuple, Optional
+
+from ...office.copying import log_beside
+from ...office.held_folders import HeldFolder, NotPlain, held
+from ...office.plain_json import moment_of, plain_json, whole_number
+from ...text.terminal import Fault, because_of, is_line
+from ...text.whole_files import write_whole
+from .mirrors import MirroredOffice, Taken, sum_of
+from .office_marks import Identity, Known, Marks, identity_in, marks_in
+
+NAMES = ("copy-1", "copy-2")
+"""The folders that take turns."""
+
+OFFICE = "office.db"
+"""What the office's file is called in a copy."""
+
+LOG = f"{OFFICE}-wal"
+"""What its log is called there."""
+
+NOTE = "office.db.json"
+"""The note on a copy. By its name it comes after file and log, since rsync carries files in the order of their names."""
+
+MARK = "promoted.json"
+"""The mark of a place whose copy was promoted: nothing is carried there any more. `promote` writes it, and the key by
+which a follower carries only reads it."""
+
+DESK, INDEX = "desk", "index.json"
+"""The folder of a place with the copy of the desk's folder, and the file in it that says what the copy has."""
+
+RECEIVED = "received.lock"
+"""Is at a place on another machine where a program puts changed pages into a copy: one carrying at a time has it."""
+
+REFUSED = "refused.json"
+"""Is there as long as rounds are refused, since the office doesn't go on from its copy."""
+
+DRILLED = "drilled.json"
+"""Which generation of the copies passed its drill last, if somebody keeps them (`generations`). The key by which a
+follower carries only reads it."""
+
+MOST_BYTES = 1 << 16
+"""Bytes of a note that are read."""
+
+
+class Sum(NamedTuple):
+    """The size of a file in bytes, and its sum (`mirrors`)."""
+
+    size: int
+    sum: str
+
+
+class CopyNote(NamedTuple):
+    """What is written next to a copy: the office's file and its machine; the number of the round; the moment at which
+    copying began, in seconds since 1970 UTC; size and sum of file and log; the last quotes that came new, each with
+    collector, slot, month and receipt; which office it is, and its marks, which earlier versions didn't write."""
+
+    office: str
+    machine: str
+    round: int
+    copied: int
+    file: Sum
+    log: Sum
+    receipts: tuple[tuple[int, int, str, int], ...]
+    identity: Optional[Identity] = None
+    marks: Optional[Marks] = None
+
+    @property
+    def known(self) -> Known:
+        """What it knows of the office."""
+        return Known(self.identity, self.marks, self.receipts)
+
+
+class Promotion(NamedTuple):
+    """That the copy of a place was promoted: on which machine, when, and the moment of that copy, in seconds since 1970
+    UTC."""
+
+    machine: str
+    promoted: int
+    copied: int
+
+
+class State(NamedTuple):
+    """What is known of a place: the note of each copy by its folder, if it can be read, and its promotion."""
+
+    notes: dict[str, CopyNote]
+    promotion: Optional[Promotion]
+
+    def of_another(self, office: Path) -> str:
+        """Whose copy is the newest one, if it isn't that of an office's file on this machine; else nothing."""
+        note = self.last()
+        if note and (note.machine, note.office) != (socket.gethostname(), str(office.absolute())):
+            return f"{note.office} of {note.machine}"
+        return ""
+
+    def newest(self) -> Optional[str]:
+        """The folder of the newest copy; None if there is none."""
+        by_round = {note.round: name for name, note in self.notes.items()}
+        return by_round[max(by_round)] if by_round else None
+
+    def last(self) -> Optional[CopyNote]:
+        """The note of the newest copy; None if there is none."""
+        newest = self.newest()
+        return self.notes[newest] if newest else None
+
+    def next(self) -> tuple[str, int]:
+        """The folder of the next round, and its number."""
+        last = max((note.round for note in self.notes.values()), default=0)
+        without = [name for name in NAMES if name not in self.notes]
+        return (without or sorted(NAMES, key=lambda name: self.notes[name].round))[0], last + 1
+
+
+def second_text(moment: int) -> str:
+    """`2026-01-25 09:00:07 UTC` of seconds since 1970."""
+    return datetime.fromtimestamp(moment, timezone.utc).strftime("%Y-%m-%d %H:%M:%S UTC")
+
+
+# ---- what is written at a place
+
+
+def sums_of(mirrored: MirroredOffice) -> tuple[Sum, Sum]:
+    """The sums of a mirror: of its file, and of its log."""
+    return Sum(mirrored.file.size, mirrored.file.sum()), Sum(mirrored.log.size, mirrored.log.sum())
+
+
+def note_of(office: Path, number: int, taken: Taken, mirrored: MirroredOffice, known: Known) -> CopyNote:
+    """The note on a round."""
+    whose = str(office.absolute()), socket.gethostname(), number, taken.moment
+    return CopyNote(*whose, *sums_of(mirrored), known.receipts, known.identity, known.marks)
+
+
+def note_text(note: CopyNote) -> str:
+    """A note as it is written, which `note_in` reads."""
+    parts = {"file": note.file, "log": note.log, "identity": note.identity, "marks": note.marks}
+    return json.dumps({**note._asdict(), **{name: part and part._asdict() for name, part in parts.items()}})
+
+
+def write_note(folder: Path, note: CopyNote) -> None:
+    """Writes the note next to a copy, whole or not at all. Raises OSError."""
+    write_whole(folder / NOTE, f"{note_text(note)}\n".encode(), 0o600)
+
+
+def write_promotion(folder: Path, copied: int) -> Promotion:
+    """Writes that the copy of a place, of the moment `copied`, was promoted on this machine now. Raises OSError."""
+    promotion = Promotion(socket.gethostname(), int(time.time()), copied)
+    with held(folder) as place:
+        place.write_whole(MARK, (json.dumps(promotion._asdict()) + "\n").encode(), 0o644)
+        place.sync()
+    return promotion
+
+
+def write_refusal(folder: Path, because: str) -> None:
+    """Writes that a round was refused now, and why. Raises OSError."""
+    fields = {"refused": int(time.time()), "because": because}
+    write_whole(folder / REFUSED, (json.dumps(fields) + "\n").encode(), 0o600)
+
+
+# ---- what is read there
+
+
+def state_of(folder: Path) -> State:
+    """What is known of a place that is a folder of this machine. A note that can't be read counts as none: a round was
+    stopped while it was written. Raises Fault if the folder, or the mark of a promotion, can't be read."""
+    if not folder.is_dir():
+        raise Fault(f"{folder} is no folder: make it first, so that nothing is copied to a disk that isn't mounted")
+    try:
+        with held(folder) as place:
+            return state_in(place)
+    except OSError as fault:
+        raise Fault(because_of(fault)) from fault
+
+
+def state_in(place: HeldFolder) -> State:
+    """The same of a place that is open. Raises Fault and OSError."""
+    notes = {name: note for name in NAMES if (note := _note_in(place, name))}
+    return State(notes, _promotion_in(place))
+
+
+def promotion_of(folder: Path) -> Optional[Promotion]:
+    """The promotion of a place. Raises Fault if its mark can't be read, since nobody knows then what it says."""
+    try:
+        with held(folder) as place:
+            return _promotion_in(place)
+    except OSError as fault:
+        raise Fault(because_of(fault)) from fault
+
+
+def _promotion_in(place: HeldFolder) -> Optional[Promotion]:
+    """The same of a place that is open. Raises Fault and OSError."""
+    try:
+        fields = plain_json(place.text(MARK, MOST_BYTES))
+        return Promotion(str(fields["machine"]), moment_of(fields["promoted"]), moment_of(fields["copied"]))
+    except FileNotFoundError:
+        return None
+    except (ValueError, LookupError, TypeError) as fault:
+        raise Fault(f"{place.path / MARK} isn't a mark that cpi-tools wrote") from fault
+
+
+def refusal_of(folder: Path) -> str:
+    """Why the last round was refused; empty if it wasn't. Raises Fault if that can't be read."""
+    try:
+        with held(folder) as place:
+            return str(plain_json(place.text(REFUSED, MOST_BYTES))["because"])
+    except FileNotFoundError:
+        return ""
+    except OSError as fault:
+        raise Fault(because_of(fault)) from fault
+    except (ValueError, LookupError, TypeError) as fault:
+        raise Fault(f"{folder / REFUSED} isn't a refusal that cpi-tools follow wrote") from fault
+
+
+def _note_in(place: HeldFolder, name: str) -> Optional[CopyNote]:
+    """The note of a copy; None where there is none that is whole, or something else stands in its place. Raises OSError
+    where it can't be read."""
+    try:
+        with place.folder(name) as copy:
+            return note_in(copy.text(NOTE, MOST_BYTES))
+    except (FileNotFoundError, NotPlain):
+        return None
+
+
+def note_in(text: str) -> Optional[CopyNote]:
+    """The note of a text; None if it is none that is whole."""
+    try:
+        fields = plain_json(text)
+        file, log = (Sum(whole_number(fields[name]["size"]), str(fields[name]["sum"])) for name in ("file", "log"))
+        receipts = tuple(
+            (whole_number(row[0]), whole_number(row[1]), str(row[2]), whole_number(row[3]))
+            for row in fields["receipts"]
+        )
+        office, machine = str(fields["office"]), str(fields["machine"])
+        if not is_line("".join((office, machine, *(row[2] for row in receipts)))):
+            return None
+        known = identity_in(fields.get("identity")), marks_in(fields.get("marks"))
+        return CopyNote(
+            office, machine, whole_number(fields["round"]), moment_of(fields["copied"]), file, log, receipts, *known
+        )
+    except (ValueError, LookupError, TypeError, AttributeError):
+        return None
+
+
+def fault_of(office: Path, note: CopyNote) -> str:
+    """Why the file of a copy and its log aren't those of a note; empty if they are. Raises OSError."""
+    for path, wanted in ((office, note.file), (log_beside(office), note.log)):
+        try:
+            found = Sum(*sum_of(path))
+        except FileNotFoundError:
+            found = Sum(*EMPTY)
+        if found.size != wanted.size:
+            return f"{path.name} has {found.size:,} bytes, and {wanted.size:,} by its note"
+        if found.sum != wanted.sum:
+            return f"{path.name} hasn't the sum of its note"
+    return ""
+
+
+EMPTY = (0, "e3b0c44298fc1c149afbf4c8996fb92427ae41e4649b934ca495991b7852b855")
+"""The size and the sum of a file without a byte."""

@@ -1,0 +1,314 @@
+"""`cpi-tools drill COPY`: shows that a copy of an office's file is a whole office, and tells what is wrong.
+
+It looks at a copy of the copy, so what it looks at is never changed: by the note's SHA-256, by `cpi`, which opens it
+and tests each row, by the C library of SQLite, and by a computation of every table of every revision from the frozen
+quotes, against what is stored and against what `cpi` prints.
+"""
+
+from __future__ import annotations
+
+import argparse
+import csv
+import io
+import os
+import sqlite3
+import sys
+from collections.abc import Iterator
+from pathlib import Path
+from typing import NamedTuple, Optional
+
+from ..office.anew import Computed, Months, differing
+from ..office.copying import has_frames, log_beside, private_copy
+from ..office.program import LAST_MOMENT, Cpi, CpiFailed, Reply, add_program, record
+from ..office.rooms import new_room
+from ..office.stored import Level, Release, StoredOffice, stored_office
+from ..text.terminal import Fault, Progress, ToolWords, because_of, counted, month_text, time_text
+from .backup import BackupFailed, Note, hash_of, note_beside, read_note, remove_log
+from .copies.desk_backup import desk_beside, read_desk
+
+MOST_TOLD = 20
+"""So many faults have a line; the others are counted."""
+
+Printed = dict[tuple[int, int], str]
+"""The CSV that the program prints, by month and revision."""
+
+
+class Drilled(NamedTuple):
+    """What a drill looked at, and found: counts, the note if there is one, and a line for each fault and each warning.
+    `collectors` is None if the file can't be read."""
+
+    tables: int
+    rows: int
+    carried: int
+    quotes: int
+    other_quotes: int
+    collectors: Optional[int]
+    note: Optional[Note]
+    faults: tuple[str, ...]
+    warnings: tuple[str, ...] = ()
+
+
+class Counts:
+    """How much was looked at, so far."""
+
+    def __init__(self) -> None:
+        self.tables = self.rows = self.carried = self.quotes = self.other_quotes = 0
+        self.collectors: Optional[int] = None
+
+
+def drill(cpi: Cpi, path: Path, progress: Optional[Progress] = None) -> Drilled:
+    """Looks at a copy of an office's file, with its log where one lies beside it.
+
+    Raises CopyFailed or another Fault where it can't be looked at; what is found wrong is told in the result.
+    """
+    now = progress.now if progress else lambda _: None
+    counts, faults = Counts(), list[str]()
+    now("comparing it with its note")
+    note = note_of(path, faults)
+    if note and note.desk:
+        faults += desk_faults_of(path, note.desk)
+    with private_copy(path) as copy:
+        now("cpi opens a copy")
+        printed = _printed(cpi, copy, faults)
+        now("the C library looks at it")
+        try:
+            with stored_office(copy) as office:
+                faults += office.broken()
+                faults += _stored_faults(office, counts)
+                for each in computed_faults(office, printed, counts):
+                    now(f"computing tables anew ({counts.tables})")
+                    faults += each
+        except sqlite3.Error as fault:
+            faults.append(f"the C library can't read it: {fault}")
+    found = (counts.tables, counts.rows, counts.carried, counts.quotes, counts.other_quotes, counts.collectors)
+    return Drilled(*found, note, tuple(faults), tuple(warnings_of(path, counts)))
+
+
+def warnings_of(path: Path, counts: Counts) -> Iterator[str]:
+    """Why a file without a fault may still lack what its office had. A note says that file and log were copied as one,
+    so a copy that has one is all of its office, be it an office before its survey."""
+    note, log = note_beside(path), log_beside(path)
+    if os.path.lexists(note):
+        return
+    if not log.exists():
+        yield (
+            f"neither a note ({note.name}) nor a log ({log.name}) is next to it: if it was copied without its log, it"
+            " lacks the answered commands that were only in the log"
+        )
+    if counts.collectors == 0:
+        yield "no collector is registered in it: either its office has no survey yet, or its data stayed in a log"
+
+
+def note_of(path: Path, faults: list[str]) -> Optional[Note]:
+    """The note beside a copy; a fault where it isn't of these bytes, or isn't one. A backup is one file, so a log with
+    something in it makes it another state than that of its note."""
+    try:
+        note = read_note(path)
+        if note and note.sha256 != hash_of(path):
+            faults.append(f"its bytes aren't those of its note {note_beside(path).name}")
+        if note and has_frames(path):
+            faults.append(f"{log_beside(path).name} beside it has something in it, of which its note doesn't tell")
+    except BackupFailed as fault:
+        faults.append(str(fault))
+        return None
+    except OSError as fault:
+        raise Fault(because_of(fault)) from fault
+    return note
+
+
+def desk_faults_of(path: Path, wanted: str) -> list[str]:
+    """What is wrong with the desk's folder next to a backup, whose note says that it has this sum."""
+    archive = desk_beside(path)
+    try:
+        if hash_of(archive) != wanted:
+            return [f"the bytes of {archive.name} aren't those of its note"]
+        with new_room("cpi-tools-") as room:
+            read_desk(archive, room)
+    except OSError as fault:
+        return [because_of(fault)]
+    except Fault as fault:
+        return [str(fault)]
+    return []
+
+
+# ---- the program
+
+
+def _printed(cpi: Cpi, copy: Path, faults: list[str]) -> Optional[Printed]:
+    """Each table that the program lists, as it prints it; None, and a fault, where it doesn't open the file.
+
+    They are read at the last moment there is, so those under embargo too: they are compared, and never told.
+    """
+    try:
+        with cpi.session(copy) as session:
+            listed = session.ask(record(LAST_MOMENT, "public", "tables"))
+            printed = {}
+            for month, revision, _ in _tables_of(listed):
+                reply = session.ask(record(LAST_MOMENT, "public", "table", month, "csv", revision))
+                printed[int(month[:4]) * 100 + int(month[5:]), revision] = str(reply.get("table", reply))
+        remove_log(copy)
+    except CpiFailed as fault:
+        faults.append(str(fault))
+        return None
+    return printed
+
+
+def _tables_of(reply: Reply) -> list[tuple[str, int, int]]:
+    """The list of published tables in a reply."""
+    if "tables" not in reply:
+        raise CpiFailed(f"cpi doesn't list the tables: {reply}")
+    return [(month, revision, publishes) for month, revision, publishes in reply["tables"]]
+
+
+def figures_of(text: str) -> tuple[dict[str, Level], dict[str, str]]:
+    """The figures and the titles of a table that the program printed as CSV, by code.
+
+    Raises ValueError where it isn't one.
+    """
+    levels, titles = {}, {}
+    for code, weight, within, chained, on_month, on_year, imputed, title in csv.reader(io.StringIO(text, newline="")):
+        levels[code] = Level(
+            int(weight), _digits(within, 6), _digits(chained, 6), _digits(on_month, 1), _change(on_year), int(imputed)
+        )
+        titles[code] = title
+    return levels, titles
+
+
+def _digits(text: str, decimals: int) -> int:
+    """`-0.3` with one decimal is -3. Raises ValueError where it has another number of decimals."""
+    whole, _, part = text.partition(".")
+    if len(part) != decimals:
+        raise ValueError(f"{text} hasn't {decimals} decimals")
+    return int(whole + part)
+
+
+def _change(text: str) -> Optional[int]:
+    return _digits(text, 1) if text else None
+
+
+# ---- what is stored
+
+
+def _stored_faults(office: StoredOffice, counts: Counts) -> Iterator[str]:
+    """Counts collectors and quotes, and compares the quotes with those that were frozen."""
+    counts.collectors = len(office.keys())
+    counts.quotes = office.count_of_quotes()
+    lost, counts.other_quotes = office.quotes_beside_frozen()
+    if lost:
+        yield f"{counted(lost, 'quote')} that a month was frozen with and that no slot has"
+
+
+def computed_faults(office: StoredOffice, printed: Optional[Printed], counts: Counts) -> Iterator[list[str]]:
+    """Computes each release anew and compares it; the faults of each in turn."""
+    releases, months = office.releases(), Months(office)
+    if printed is not None and [*printed] != [release[:2] for release in releases]:
+        yield [f"{counted(len(releases), 'release')} stored, {counted(len(printed), 'table')} listed by cpi"]
+    for turn, release in enumerate(releases):
+        is_latest = turn + 1 == len(releases) or releases[turn + 1].month != release.month
+        frozen = office.frozen(release)
+        try:
+            wanted = months.computed(release, frozen, is_latest)
+        except (ArithmeticError, LookupError, TypeError, ValueError) as fault:
+            yield [f"{_name_of(release)}: can't be computed from what is stored ({type(fault).__name__}: {fault})"]
+            return
+        counts.tables += 1
+        counts.rows += len(wanted.levels)
+        counts.carried += len(wanted.carried)
+        yield [f"{_name_of(release)}: {each}" for each in differences(office, wanted, printed)]
+
+
+def _name_of(release: Release) -> str:
+    return f"{month_text(release.month)} revision {release.revision}"
+
+
+def differences(office: StoredOffice, wanted: Computed, printed: Optional[Printed]) -> Iterator[str]:
+    """What is stored and printed of a release in another way than it was computed."""
+    release = wanted.release
+    if found := differing(office.carried(release), wanted.carried):
+        series = f"{found[0][0]}/{found[0][1]}"
+        yield f"{counted(len(found), 'carried price')} other than its quotes give, the first of series {series}"
+    stored = office.levels(release)
+    if found := differing(stored, wanted.levels):
+        yield f"{counted(len(found), 'row')} of its table other than its quotes give, the first at {found[0]}"
+    titles = office.titles(release)
+    if wanted.levels and titles != office.planned_titles(release.month // 100):
+        yield "the titles aren't those of the year's plan"
+    if printed is not None and release[:2] in printed:
+        try:
+            levels, names = figures_of(printed[release[:2]])
+        except ValueError:
+            yield "cpi prints no table of it"
+            return
+        if levels != stored or names != titles:
+            yield "cpi prints it in another way than it is stored"
+
+
+# ---- words
+
+DESCRIPTION = """\
+Checks whether a copy of an office's file is a whole office: its bytes are those of its note
+COPY.sha256, cpi opens it, every table of every revision is what its frozen quotes give, with each
+carried price, and is printed so, and the C library of SQLite finds no fault (integrity_check,
+foreign_key_check). One line gives the result and how much was checked; each fault is a line on
+standard error. The drill works on a copy of COPY, so COPY is never changed. A log next to COPY,
+COPY-wal, belongs to it. An office that is being served may be drilled too. If the note says that
+the desk's folder is in the backup, COPY.desk.tar has to be there with its sum.
+
+After a kill most of an office can be in its log, and the file without the log is then a sound but
+older office, perhaps an empty one. So a warning on standard error names a COPY that has neither a
+note nor a log, and an office without a collector that has no note. With its note, an office
+without a collector is a right backup of an office before its survey.
+"""
+
+EPILOG = """\
+example: cpi-tools drill backup/office.db
+
+exit status: 0 if nothing is wrong; 1 if something is wrong, or COPY can't be read; 2 if the words
+are refused; 3 if nothing is wrong, but a warning says why COPY may lack a part of its office
+"""
+
+WARNED = 3
+"""The exit status if nothing is wrong, and there is a warning."""
+
+
+def add_words(tools: argparse._SubParsersAction[ToolWords]) -> None:
+    """The tool `drill`."""
+    words = tools.add_parser(
+        "drill",
+        help="shows that a copy of an office's file is a whole office",
+        description=DESCRIPTION,
+        epilog=EPILOG,
+    )
+    words.add_argument("copy", type=Path, metavar="COPY", help="a backup, or any copy of file and log")
+    add_program(words)
+    words.set_defaults(run=run, tool="drill", words=words)
+
+
+def told_line(path: Path, found: Drilled) -> str:
+    """The one line on a drill."""
+    counts = [counted(len(each), one) for each, one in ((found.faults, "fault"), (found.warnings, "warning")) if each]
+    state = " and ".join(counts) or "nothing is wrong"
+    of_note = f"copied {time_text(found.note.copied)}" if found.note else "no note of its SHA-256"
+    looked = (
+        f"{counted(found.tables, 'table')} with {counted(found.rows, 'row')} and"
+        f" {counted(found.carried, 'carried price')} computed anew, {counted(found.quotes, 'quote')}"
+    )
+    if found.other_quotes:
+        looked += f" ({found.other_quotes:,} of them not as frozen last)"
+    if found.collectors == 0:
+        looked += ", no collector"
+    return f"{path}: {state}; {looked}; {of_note}"
+
+
+def run(chosen: argparse.Namespace) -> int:
+    """Runs the tool by its words; its exit status."""
+    with Progress("cpi-tools drill") as progress:
+        found = drill(Cpi(chosen.program), chosen.copy, progress)
+    for fault in found.faults[:MOST_TOLD]:
+        print(f"cpi-tools drill: {chosen.copy}: {fault}", file=sys.stderr)
+    if len(found.faults) > MOST_TOLD:
+        print(f"cpi-tools drill: {chosen.copy}: and {len(found.faults) - MOST_TOLD:,} more", file=sys.stderr)
+    for warning in found.warnings:
+        print(f"cpi-tools drill: {chosen.copy}: warning: {warning}", file=sys.stderr)
+    print(told_line(chosen.copy, found))
+    return 1 if found.faults else WARNED if found.warnings else 0

@@ -1,0 +1,290 @@
+"""`cpi-tools follow FILE DEST`: keeps a second copy of an office up to date while `cpi` serves.
+
+Each round looks first whether the place was promoted. If it was, the file of this machine gets a mark next to it, by
+which `cpi-serve` doesn't start, and the follower ends. A round isn't carried if the office is damaged, or doesn't go on
+from the newest copy: then that copy has what the office lost.
+"""
+
+from __future__ import annotations
+
+import argparse
+import contextlib
+import re
+import sys
+import time
+from pathlib import Path
+from typing import Optional
+
+from ..office.copying import PATIENCE
+from ..text.terminal import Fault, Progress, ToolWords, at_least, because_of, counted
+from ..text.whole_files import write_whole
+from .copies.desk_follow import DeskFollower
+from .copies.mirrors import Taken
+from .copies.office_marks import NotCarried
+from .copies.places import Place, kept_for_one, place_of
+from .copies.second_copies import REFUSED, CopyNote, Promotion, State, second_text, write_refusal
+
+EVERY = 20
+"""Seconds from the beginning of a round to that of the next one."""
+
+TOLD_AGAIN = 3600
+"""Seconds after which a fault that lasts has one more line."""
+
+PROMOTED = 4
+"""The exit status if the place was promoted."""
+
+OF_ANOTHER = ("place", "identity")
+"""The kinds of offices that aren't carried because the place is another's."""
+
+NOT_CARRIED = 5
+"""The exit status if the office is damaged, or doesn't go on from its copy."""
+
+
+def mark_beside(office: Path) -> Path:
+    """The file that says of an office's file that the copy of another machine was promoted: `office.db.promoted`."""
+    return office.with_name(f"{office.name}.promoted")
+
+
+def restoring_beside(office: Path) -> Path:
+    """The file that says of an office's file that a restore isn't done: `office.db.restoring`. `cpi-serve` starts no
+    office meanwhile."""
+    return office.with_name(f"{office.name}.restoring")
+
+
+def mark_as_former(office: Path, promotion: Promotion) -> str:
+    """Puts the mark next to an office's file; what it says. Raises OSError."""
+    text = (
+        f"{promotion.machine} was promoted {second_text(promotion.promoted)} with the copy of"
+        f" {second_text(promotion.copied)} ({promotion.copied})"
+    )
+    write_whole(mark_beside(office), f"{text}\n".encode(), 0o644)
+    return text
+
+
+class Causes:
+    """Why something isn't carried: each cause is said once, and again each hour while it stays so."""
+
+    def __init__(self) -> None:
+        self._cause, self._said_at = "", 0.0
+
+    @property
+    def is_said(self) -> bool:
+        """Whether a cause was said that isn't over."""
+        return bool(self._cause)
+
+    def say(self, text: str, cause: str) -> None:
+        """Says a text, unless it is of the same cause as the last one. (Other numbers make no other cause, such as how
+        long rsync waited.)"""
+        cause = re.sub(r"\d+", "0", cause)
+        if cause != self._cause or time.monotonic() - self._said_at > TOLD_AGAIN:
+            print(f"cpi-tools follow: {text}; it goes on to try", file=sys.stderr, flush=True)
+            self._cause, self._said_at = cause, time.monotonic()
+
+    def forget(self) -> None:
+        """The cause is over."""
+        self._cause = ""
+
+
+class Follower:
+    """A follower of an office's file, and what it has told."""
+
+    def __init__(
+        self,
+        office: Path,
+        place: Place,
+        patience: float = PATIENCE,
+        is_anew: bool = False,
+        desk: Optional[Path] = None,
+    ):
+        """`is_anew` lets the first round carry an office that doesn't go on from the copy; `desk` is the desk's folder,
+        if it goes along."""
+        self._office, self._place, self._patience, self._is_anew = office, place, patience, is_anew
+        self._has_told = False
+        self._of_office = Causes()
+        self._desk = DeskFollower(desk, place) if desk else None
+        self._of_desk = Causes()
+
+    def promotion(self) -> str:
+        """What is to be said if the place was promoted, and then the office's file is marked; else nothing. Raises
+        Fault."""
+        promotion = self._place.state().promotion
+        return mark_as_former(self._office, promotion) if promotion else ""
+
+    def round(self) -> str:
+        """Carries one copy; what is to be said if the place was promoted. Raises Fault: NotCarried if the office is
+        damaged or doesn't go on from its copy, which a probe sees too."""
+        try:
+            state = self._place.state()
+            if state.promotion:
+                return mark_as_former(self._office, state.promotion)
+            try:
+                note, taken = self._carried(state)
+            except NotCarried as fault:
+                # (if its disk is full, a probe sees the age of the copy)
+                with contextlib.suppress(OSError):
+                    write_refusal(self._place.seen, str(fault))
+                raise
+            (self._place.seen / REFUSED).unlink(missing_ok=True)
+        except OSError as fault:
+            raise Fault(because_of(fault)) from fault
+        self._is_anew = False
+        if self._of_office.is_said or not self._has_told:
+            size = counted(note.file.size + note.log.size, "byte")
+            print(
+                f"{self._place.name}: copied {second_text(note.copied)}, {size}, {taken.written:,} of them new",
+                flush=True,
+            )
+            self._of_office.forget()
+            self._has_told = True
+        return ""
+
+    def desk_round(self) -> bool:
+        """Carries what changed in the desk's folder, after a round of the office; whether its copy is as it is to be. A
+        fault is said, and holds the office's rounds up in nothing."""
+        if not self._desk:
+            return True
+        try:
+            said = self._desk.carry()
+        except Fault as fault:
+            self._of_desk.say(f"the desk's folder: {fault}", str(fault))
+            return False
+        self._of_desk.forget()
+        if said:
+            print(f"cpi-tools follow: {self._place.name}: {said}", file=sys.stderr, flush=True)
+        return True
+
+    def _carried(self, state: State) -> tuple[CopyNote, Taken]:
+        """The note of a round. Raises NotCarried with a line that names the office and the place, other Faults, and
+        OSError."""
+        if (whose := state.of_another(self._office)) and not self._is_anew:
+            text = "empty it first, name another folder, or say --anew if this office goes on from that one"
+            raise NotCarried("place", f"{self._place.name} has a copy of {whose}: {text}")
+        try:
+            return self._place.round(self._office, state, self._patience, self._is_anew)
+        except NotCarried as fault:
+            last = state.last()
+            kept = f", which keeps its copy of {second_text(last.copied)}" if last else ""
+            anew = "" if fault.kind == "damage" else " (--anew carries it all the same)"
+            text = f"{self._office} isn't carried to {self._place.name}{kept}: {fault}{anew}"
+            raise NotCarried(fault.kind, text) from fault
+
+    def tell(self, fault: Fault) -> None:
+        """Tells why a round wasn't carried. (The marks of an office that isn't carried change as it goes on.)"""
+        self._of_office.say(str(fault), fault.kind if isinstance(fault, NotCarried) else str(fault))
+
+    def keep(self, every: float) -> str:
+        """Carries copy after copy until the place is promoted; what is to be said then."""
+        while True:
+            begun = time.monotonic()
+            try:
+                if text := self.round():
+                    return text
+                self.desk_round()
+            except Fault as fault:
+                self.tell(fault)
+                # (what happened to the office is no reason to lose its desk)
+                if isinstance(fault, NotCarried) and fault.kind not in OF_ANOTHER:
+                    self.desk_round()
+            time.sleep(max(0.0, begun + every - time.monotonic()))
+
+
+# ---- words
+
+DESCRIPTION = """\
+Keeps a second copy of an office's file at DEST, while cpi serves. Each round copies file and log
+at one moment, and writes and carries only the pages that changed. The office isn't locked, and
+nothing is written to it. DEST holds two copies that take turns, copy-1 and copy-2: one of them is
+whole at any time, whatever stops a round. Next to each lies office.db.json with its sums, its
+moment, and the receipts of the last new quotes.
+
+DEST is one of these:
+
+    FOLDER                   a folder of this machine that is there, as on another disk
+    [USER@]MACHINE:FOLDER    a folder of another machine, by rsync over ssh; if cpi-receive is the
+                             command of its key there, a round carries the changed pages as one file
+    rclone:REMOTE:FOLDER     a folder of a store that rclone knows; it carries whole files
+
+Each copy says which office it is of, how many rows that has, and the sum of its receipts: these
+only grow. Before a round counts, SQLite looks at each page (quick_check). A round isn't carried,
+and cpi-tools probe --copy is critical, if a page is damaged, if it is another office, or if it
+would take back what the copy has, as after a backup was restored or a lost file was made anew.
+Both copies stay, and in a FOLDER what isn't carried is in FOLDER/aside as long as that lasts.
+Then the copy may be what you want: promote it. Or carry the office of now once, by --anew.
+
+With --desk the folder of the desk's pages goes along to DEST/desk after each round: its log, notes,
+and what waits there. Only changes are carried, and a log is only appended to. If one doesn't go on
+from its copy, the copy stays, and the folder is put next to it, which a line says. To another
+machine that needs cpi-receive there.
+
+A round that fails is one line, and the next round tries again. If the copy at DEST was promoted
+(cpi-tools promote), the follower puts FILE.promoted next to FILE, so that cpi-serve doesn't start
+any more, and ends. Keys and prices are in the copies: let nobody else read them.
+"""
+
+EPILOG = """\
+example: cpi-tools follow office.db backup-machine:/var/lib/cpi-copy
+
+exit status: 0 after --once or --ask; 1 if that failed, or another follower keeps DEST; 2 if the
+words are refused; 4 if the copy at DEST was promoted; 5 if FILE isn't carried, since it is damaged
+or would take back what the copy has
+"""
+
+
+def add_words(tools: argparse._SubParsersAction[ToolWords]) -> None:
+    """The tool `follow`."""
+    words = tools.add_parser(
+        "follow", help="keeps a second copy on another machine", description=DESCRIPTION, epilog=EPILOG
+    )
+    add = words.add_argument
+    add("file", type=Path, metavar="FILE", help="the office's file, which is only read")
+    add("dest", metavar="DEST", help="where the second copy is kept")
+    add("--every", type=at_least(1), default=EVERY, metavar="SECONDS", help="from one round to the next (%(default)s)")
+    how = words.add_mutually_exclusive_group()
+    how.add_argument("--once", action="store_true", help="carry one copy, and end")
+    how.add_argument("--ask", action="store_true", help="only ask whether the copy was promoted, and end")
+    add("--anew", action="store_true", help="let the first round take back what the copy has, or be another office")
+    add("--desk", type=Path, metavar="FOLDER", help="the folder of the desk's pages, which goes along")
+    add("--room", type=Path, metavar="FOLDER", help="for a DEST elsewhere: what is carried lies here (FILE.follow)")
+    add("--ssh", metavar="COMMAND", help="the program by which rsync reaches the other machine, with its words")
+    add(
+        "--patience",
+        type=at_least(0),
+        default=PATIENCE,
+        metavar="SECONDS",
+        help="how long a round waits for a stretch of time in which the log isn't emptied (%(default)s)",
+    )
+    words.set_defaults(run=run, tool="follow", words=words)
+
+
+def _end_line(follower: Follower, chosen: argparse.Namespace) -> str:
+    """Does what the words ask; what is to be said if the place was promoted."""
+    if not chosen.ask and not chosen.once:
+        return follower.keep(chosen.every)
+    with Progress("cpi-tools follow") as progress:
+        progress.now(f"asking {chosen.dest}" if chosen.ask else f"copying {chosen.file}")
+        return follower.promotion() if chosen.ask else follower.round()
+
+
+def _ended_desk(follower: Follower, chosen: argparse.Namespace) -> int:
+    """The exit status after the rounds that were asked for: the desk's folder goes along with a round."""
+    return 0 if chosen.ask or follower.desk_round() else 1
+
+
+def run(chosen: argparse.Namespace) -> int:
+    """Runs the tool by its words; its exit status."""
+    room = chosen.room or chosen.file.with_name(f"{chosen.file.name}.follow")
+    try:
+        with kept_for_one(chosen.dest, room) if not chosen.ask else contextlib.nullcontext():
+            place = place_of(chosen.dest, room, chosen.ssh)
+            follower = Follower(chosen.file, place, chosen.patience, chosen.anew, chosen.desk)
+            text = _end_line(follower, chosen)
+            status = 0 if text else _ended_desk(follower, chosen)
+    except NotCarried as fault:
+        print(f"cpi-tools follow: {fault}", file=sys.stderr)
+        return NOT_CARRIED
+    except OSError as fault:
+        raise Fault(because_of(fault)) from fault
+    if text:
+        print(f"cpi-tools follow: {text}: this office must not serve any more", file=sys.stderr)
+        return PROMOTED
+    return status

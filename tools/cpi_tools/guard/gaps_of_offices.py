@@ -1,0 +1,276 @@
+"""`cpi-tools gaps NEW --office OLD`: what only the old file of an office has, as rows to send.
+
+After a promotion, a restore or a cut line two files go on from one office. OLD has answered what NEW hasn't: its prices,
+and its records of the desk.
+
+**Which of two prices is the later one.** No file has moments of prices. But a collector's receipts count on from those
+that both files have. So whatever differs between the files came after the last common receipt, and the greatest number
+that all differences leave for that receipt is taken for it. A price of OLD is missing if only its own receipt is greater;
+if only that of NEW is, NEW put it right since. If both are greater nobody knows, and a person decides. So it is with
+records of the desk that both have and that differ, which have no receipts.
+
+A slot that both gave to different series, or a number to different persons, is one too: nothing is sent for it.
+"""
+
+from __future__ import annotations
+
+import csv
+import io
+from collections import defaultdict
+from collections.abc import Collection, Iterable, Iterator, Mapping, Sequence
+from typing import NamedTuple, Optional
+
+from ..office.stored import REASONS, StoredOffice
+from ..sheets.known_rows import Known
+from ..sheets.known_sheets import known_of, rows_of_plan
+from ..sheets.price_cells import COMPARABLE, PRICE
+from ..sheets.record_rows import DESK
+from ..sheets.take_out import held_by, rows_of_handovers, rows_of_series
+from ..text.terminal import Fault, counted, month_text
+
+OTHER_PERSON = "this number is another collector"
+"""Why nothing is sent for a number that NEW gave to another person."""
+
+Fields = tuple[str, ...]
+"""The fields of a record without its moment and its caller, the word first: a row of an import."""
+
+At = tuple[int, int, int]
+"""Collector, slot, and month as a number like 202601."""
+
+
+class Entry(NamedTuple):
+    """A stored quote: its mark, its price or its reason as a text, and its receipt."""
+
+    mark: str
+    value: str
+    receipt: int
+
+    @property
+    def text(self) -> str:
+        """What a person reads of it."""
+        return f"{self.mark} {self.value}, receipt {self.receipt}"
+
+
+class Missing(NamedTuple):
+    """A price that NEW doesn't have: where it is, what OLD has, and what NEW has there."""
+
+    at: At
+    entry: Entry
+    here: Optional[Entry]
+
+    @property
+    def fields(self) -> Fields:
+        """The row that its collector sends. A price that could be outside of the tolerance is confirmed: it was accepted
+        once."""
+        confirm = ("confirm",) if self.entry.mark in (PRICE, COMPARABLE) else ()
+        return ("quote", str(self.at[1]), month_text(self.at[2]), *self.entry[:2], *confirm)
+
+
+class Different(NamedTuple):
+    """What both have, but not the same: who sent it (`desk`, or the number of a collector), what it is, and how OLD and
+    NEW have it."""
+
+    by: str
+    what: str
+    old: str
+    new: str
+
+
+class Lacking(NamedTuple):
+    """What NEW lacks: the records of the desk in the order in which an office takes them, the prices by collector, and
+    the freezes, which come after them; what differs; and how many prices NEW put right since."""
+
+    records: list[Fields]
+    prices: list[Missing]
+    freezes: list[Fields]
+    different: list[Different]
+    put_right: int
+
+    @property
+    def to_send(self) -> int:
+        """How many rows are to be sent."""
+        return len(self.records) + len(self.prices) + len(self.freezes)
+
+
+def lacking(old: StoredOffice, new: StoredOffice) -> Lacking:
+    """What one file of an office has and another one lacks. Raises Fault if they are of two offices."""
+    has, knows = known_of(old), known_of(new)
+    if has.keys and knows.keys and not {*has.keys.items()} & {*knows.keys.items()}:
+        raise Fault("they are of two offices: no collector has the same key in both")
+    others = {number for number, key in has.keys.items() if knows.keys.get(number, key) != key}
+    different = list[Different]()
+    records = [*_records(old, Registered(knows), others, different)]
+    freezes = [*_freezes(old, new, different)]
+    prices, put_right = _prices(old, new, _barred(old, new, others), different)
+    return Lacking(records, prices, freezes, different, put_right)
+
+
+# ---- the records of the desk
+
+
+def _records(
+    old: StoredOffice, registered: Registered, others: Collection[str], different: list[Different]
+) -> Iterator[Fields]:
+    """The records that NEW lacks. `others` are the numbers that it gave to other persons."""
+    for fields in _registered(old):
+        here = registered.here(fields)
+        numbers = {"assign": fields[1:2], "handover": fields[1:4:2]}.get(fields[0], ())
+        if here is None and not {*numbers} & {*others}:
+            yield fields
+        elif here != fields:
+            different.append(Different(DESK, *_compared(fields, here)))
+
+
+def _registered(old: StoredOffice) -> Iterator[Fields]:
+    """All records of the desk but the freezes, in the order in which an office takes them."""
+    held = held_by(old)
+    yield from (("item", *map(str, it)) for it in old.items())
+    yield from (("outlet", str(number), name) for number, name in old.outlets().items())
+    yield from (("collector", str(number), key) for number, key in old.keys().items())
+    yield from (("assign", *map(str, row)) for row in rows_of_series(held))
+    yield from (("plan", str(plan.year), body_of(rows_of_plan(plan))) for plan in old.plans())
+    yield from (("handover", *map(str, row[1:]), str(row[0])) for row in rows_of_handovers(held))
+    yield from (("calendar", month_text(it.month), *map(str, it[1:])) for it in old.calendar())
+
+
+def body_of(rows: Iterable[Iterable[str]]) -> str:
+    """Rows as the body of a record."""
+    text = io.StringIO()
+    csv.writer(text, lineterminator="\n").writerows(rows)
+    return text.getvalue()
+
+
+class Registered:
+    """The records of the desk that NEW has, by what one of OLD has in common with the one in its place."""
+
+    def __init__(self, knows: Known):
+        self._knows = knows
+        self._places = defaultdict[Fields, list[Fields]](list)
+        for place in (*knows.given, *knows.places):
+            self._places[place[:2]].append(place)
+        self._moved = {(way, *row[at : at + 2]): row for row in knows.handovers for way, at in (("from", 0), ("to", 2))}
+
+    def here(self, fields: Fields) -> Optional[Fields]:
+        """The record that NEW has in the place of one of OLD; None if it has none."""
+        word, first = fields[:2]
+        if word == "assign":
+            return _after((word,), _same_or_first(fields[1:], self._places.get(fields[1:3], [])))
+        if word == "handover":
+            ways = (("from", *fields[1:3]), ("to", *fields[3:5]))
+            return _after((word,), _same_or_first(fields[1:], [self._moved[it] for it in ways if it in self._moved]))
+        if word == "plan":
+            return self._plan(fields)
+        if word == "item":
+            return _after((word,), self._knows.items.get(first))
+        if word == "calendar":
+            return _after((word, first), self._knows.windows.get(first))
+        text = (self._knows.outlets if word == "outlet" else self._knows.keys).get(first)
+        return None if text is None else (word, first, text)
+
+    def _plan(self, fields: Fields) -> Optional[Fields]:
+        """The plan of a year, whose rows have no order."""
+        rows = self._knows.plans.get(fields[1])
+        if rows is None:
+            return None
+        is_same = rows == frozenset(tuple(row) for row in csv.reader(io.StringIO(fields[2], newline="")))
+        return fields if is_same else (*fields[:2], body_of(sorted(rows)))
+
+
+def _same_or_first(fields: Fields, others: Sequence[Fields]) -> Optional[Fields]:
+    """The fields if they are among others, else the first of these; None if there are none."""
+    return fields if fields in others else others[0] if others else None
+
+
+def _after(fields: Fields, others: Optional[Fields]) -> Optional[Fields]:
+    """Some fields and those that follow; None if there are none."""
+    return None if others is None else (*fields, *others)
+
+
+def _compared(fields: Fields, here: Optional[Fields]) -> tuple[str, str, str]:
+    """What a record is, and how OLD and NEW have it, None if NEW has another collector. A key is in no text."""
+    word, first = fields[:2]
+    if word == "collector" or here is None:
+        what = f"{word} {first}" if word == "collector" else f"{word} {first}/{fields[2]}"
+        return what, "its key" if word == "collector" else ",".join(fields[3:]), OTHER_PERSON
+    if word == "plan":
+        return f"plan {first}", counted(fields[2].count("\n"), "row"), counted(here[2].count("\n"), "row")
+    own = 3 if word in ("assign", "handover") else 2
+    return f"{word} {'/'.join(fields[1:own])}", ",".join(fields[own:]), ",".join(here[own:])
+
+
+def _freezes(old: StoredOffice, new: StoredOffice, different: list[Different]) -> Iterator[Fields]:
+    """The freezes that NEW lacks, in their order. One that both have is the same if its carry list and its table are."""
+    releases = {it[:2]: it for it in new.releases()}
+    for release in old.releases():
+        month = month_text(release.month)
+        here = releases.get(release[:2])
+        if here is None:
+            yield ("freeze", month, *release.carry)
+            continue
+        lists = [sorted(it.carry) for it in (release, here)]
+        what = f"freeze {month} revision {release.revision}"
+        if lists[0] != lists[1]:
+            different.append(Different(DESK, what, *(f"carried {' '.join(it) or 'nothing'}" for it in lists)))
+        elif (old.levels(release), old.titles(release)) != (new.levels(here), new.titles(here)):
+            different.append(Different(DESK, what, "its table", "another table"))
+
+
+# ---- prices
+
+
+def entries_of(office: StoredOffice) -> dict[At, Entry]:
+    """All stored quotes."""
+    return {
+        (collector, slot, month): Entry("missing", mark, receipt)
+        if mark in REASONS
+        else Entry(mark, str(value), receipt)
+        for collector, slot, month, mark, value, receipt in office.all_quotes()
+    }
+
+
+def _barred(old: StoredOffice, new: StoredOffice, others: Collection[str]) -> dict[tuple[int, int], str]:
+    """The slots for which nothing can be sent, and why: NEW gave the number to another person, or the slot to another
+    series."""
+    of_new = {(it.collector, it.slot): (it.outlet, it.item) for it in new.assignments()}
+    found = dict[tuple[int, int], str]()
+    for it in old.assignments():
+        slot = (it.collector, it.slot)
+        if str(it.collector) in others:
+            found[slot] = OTHER_PERSON
+        elif of_new.get(slot, (it.outlet, it.item)) != (it.outlet, it.item):
+            found[slot] = "this slot prices another item or outlet"
+    return found
+
+
+def last_common(old: Mapping[At, Entry], new: Mapping[At, Entry]) -> dict[int, int]:
+    """By collector the greatest receipt up to which both may be one office. Whatever differs came after it: a price that
+    one of them lacks, or the later one of two."""
+    found = dict[int, int]()
+    for at in old.keys() | new.keys():
+        entries = old.get(at), new.get(at)
+        if entries[0] != entries[1]:
+            differs = max(it.receipt for it in entries if it)
+            found[at[0]] = min(differs - 1, found.get(at[0], differs))
+    return found
+
+
+def _prices(
+    old: StoredOffice, new: StoredOffice, barred: Mapping[tuple[int, int], str], different: list[Different]
+) -> tuple[list[Missing], int]:
+    """The prices that NEW lacks, by collector, month and slot, and how many it put right since."""
+    has, knows = entries_of(old), entries_of(new)
+    common, missing, put_right = last_common(has, knows), list[Missing](), 0
+    for at, entry in sorted(has.items(), key=lambda it: (it[0][0], it[0][2], it[0][1])):
+        here, last = knows.get(at), common.get(at[0], 0)
+        if here and here[:2] == entry[:2]:
+            continue
+        what = f"quote {at[0]}/{at[1]} {month_text(at[2])}"
+        if at[:2] in barred:
+            different.append(Different(str(at[0]), what, entry.text, barred[at[:2]]))
+        elif here is None or here.receipt <= last < entry.receipt:
+            missing.append(Missing(at, entry, here))
+        elif entry.receipt <= last < here.receipt:
+            put_right += 1
+        else:
+            different.append(Different(str(at[0]), what, entry.text, here.text))
+    return missing, put_right

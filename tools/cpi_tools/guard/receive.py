@@ -1,0 +1,50 @@
+"""`cpi-tools receive FOLDER`: puts the changed pages that a follower carried to a place into their copy there, and so what
+changed in the desk's folder.
+
+`cpi-receive` runs it, the command of the key by which the follower of another machine carries.
+"""
+
+from __future__ import annotations
+
+import argparse
+import os
+import sys
+from pathlib import Path
+
+from ..text.terminal import ToolWords
+from .copies.desk_changes import CARRIED_DESK, desk_received_text, put_in_desk
+from .copies.page_changes import CAME, CARRIED, put_in, received_text
+
+DESCRIPTION = """\
+Puts the changed pages that a follower of another machine carried to FOLDER into the copy there that
+they belong to, and what changed in the desk's folder into its copy, whose logs are only appended
+to. cpi-receive runs this after each carrying; nobody else has to. What doesn't belong to
+that copy is refused, and changes nothing. If it is stopped, that copy is none until the follower
+carries a whole one, and the other copy counts.
+"""
+
+EPILOG = """\
+example: cpi-tools receive /var/lib/cpi-copy/office
+
+exit status: 0 if the copy has them; 1 with one line why not; 2 if the words are refused
+"""
+
+
+def add_words(tools: argparse._SubParsersAction[ToolWords]) -> None:
+    """The tool `receive`."""
+    words = tools.add_parser(
+        "receive", help="puts the pages that a follower carried into a copy", description=DESCRIPTION, epilog=EPILOG
+    )
+    words.add_argument("folder", type=Path, metavar="FOLDER", help="the folder with the two copies")
+    words.set_defaults(run=run, tool="receive", words=words)
+
+
+def run(chosen: argparse.Namespace) -> int:
+    """Runs the tool by its words; its exit status. The line goes to standard error, since rsync has the other one."""
+    came = chosen.folder / CAME
+    if os.path.lexists(came / CARRIED) or not os.path.lexists(came / CARRIED_DESK):
+        changes = put_in(chosen.folder)
+        print(received_text(changes.name, changes.note), file=sys.stderr)
+    if os.path.lexists(came / CARRIED_DESK):
+        print(desk_received_text(put_in_desk(chosen.folder)), file=sys.stderr)
+    return 0

@@ -1,0 +1,378 @@
+"""`cpi-tools restore BACKUP`: a backup becomes the office of this machine, and what was there is put aside, file and log
+together.
+
+All of it is looked at before anything changes. While the files change their places a mark lies next to the office, by
+which `cpi-serve` starts none: a file without its log, or a log next to another file, would be an office of another day.
+"""
+
+from __future__ import annotations
+
+import argparse
+import contextlib
+import fcntl
+import os
+import subprocess
+import sys
+import time
+from collections.abc import Iterator
+from pathlib import Path
+from typing import IO, NamedTuple, Optional
+
+from ..office.access import acting_as, user_of
+from ..office.copying import BLOCK, has_frames, right_copy
+from ..office.held_folders import first_line
+from ..office.holders import holders_of, is_held
+from ..office.program import Cpi, add_program
+from ..office.rooms import new_room
+from ..text.terminal import Fault, Progress, ToolWords, a_file, because_of, counted
+from ..text.whole_files import write_whole
+from .backup import WITHOUT_DESK, log_of, note_beside, read_note, settle
+from .copies.desk_backup import desk_beside, read_desk
+from .copies.desk_places import add_desk, place_desk, refuse_desk
+from .copies.mirrors import sync
+from .copies.office_marks import Known, NotCarried, known_of
+from .copies.places import LOCK
+from .copies.second_copies import CopyNote, second_text, state_of
+from .drill import MOST_TOLD, Drilled, drill, told_line
+from .follow import mark_beside, restoring_beside
+from .other_logs import other_log_of
+from .promote import HERE, SYSTEMD, desk_of
+
+ROOM = Path("/var/lib/cpi-follow")
+"""The room of the follower of the package."""
+
+UNITS = ("cpi.service", "cpi-follow.service")
+"""The units of the package that may not run meanwhile."""
+
+START = "systemctl start cpi.service"
+
+BESIDE = ("-wal", "-shm", "-journal")
+"""What SQLite may have next to a file, by the ends of their names: each belongs to that file."""
+
+
+class Looked(NamedTuple):
+    """What was found of a backup: its private copy, one file without a log; what its drill found; its marks; and a private
+    copy of the desk's folder, if that is in it."""
+
+    copy: Path
+    drilled: Drilled
+    known: Known
+    desk: Optional[Path]
+
+
+# ---- what is in the way
+
+
+def refuse(office: Path, backup: Path) -> None:
+    """Raises Fault if the office may not be replaced, or runs."""
+    if not office.parent.is_dir():
+        raise Fault(f"{office.parent} is no folder: install the package of cpi first, or name another place (--office)")
+    if not backup.is_file():
+        raise Fault(f"{backup} is no file")
+    if office.exists() and backup.samefile(office):
+        raise Fault(f"{backup} is the office itself")
+    if os.path.lexists(mark := mark_beside(office)):
+        text = first_line(mark, "another machine was promoted")
+        raise Fault(f"{mark}: {text}: the office is on that machine, and a second one here would take prices too")
+    _refuse_units(office)
+    if office.exists() and is_held(office):
+        held = next(holders_of(office), None)
+        who = f"{held.name}, process {held.process}," if held else "a program"
+        raise Fault(f"{who} holds {office}: stop the office of this machine first")
+
+
+def _refuse_units(office: Path) -> None:
+    """Raises Fault if a unit of the package runs, and this is its office."""
+    if office.absolute() != HERE or not SYSTEMD.is_dir():
+        return
+    for unit in UNITS:
+        words = ["systemctl", "show", "--property=ActiveState", "--value", unit]
+        ran = subprocess.run(words, stdin=subprocess.DEVNULL, capture_output=True, text=True, check=False)
+        if (state := ran.stdout.strip()) not in ("", "inactive", "failed"):
+            raise Fault(f"{unit} is {state}: systemctl stop {' '.join(UNITS)}")
+
+
+@contextlib.contextmanager
+def without_follower(folders: list[Path]) -> Iterator[None]:
+    """Meanwhile no follower of this machine writes to these folders, or begins to. Raises Fault if one does."""
+    with contextlib.ExitStack() as locks:
+        for folder in folders:
+            if (folder / LOCK).exists():
+                lock = locks.enter_context((folder / LOCK).open("rb"))
+                try:
+                    fcntl.flock(lock, fcntl.LOCK_EX | fcntl.LOCK_NB)
+                except BlockingIOError as fault:
+                    raise Fault(f"a cpi-tools follow runs that keeps {folder}: stop it first") from fault
+        yield
+
+
+def rooms_of(office: Path) -> list[Path]:
+    """The rooms in which a follower of an office may be."""
+    beside = office.with_name(f"{office.name}.follow")
+    return [beside, ROOM] if office.absolute() == HERE else [beside]
+
+
+# ---- the backup
+
+
+def looked_at(cpi: Cpi, backup: Path, room: Path) -> Looked:
+    """Copies a backup to a room, and looks at all of the copy. Raises Fault if it isn't a whole office."""
+    if (other := other_log_of(backup)) and other.is_sure:
+        raise Fault(f"{log_of(backup)} isn't the log of {backup}, which is whole by itself: {other.because}")
+    copy = right_copy(backup, room)
+    if read_note(backup):
+        note_beside(copy).write_bytes(note_beside(backup).read_bytes())
+        desk_beside(copy).symlink_to(desk_beside(backup.absolute()))
+    drilled = drill(cpi, copy)
+    for text in drilled.faults[1:MOST_TOLD]:
+        print(f"cpi-tools restore: {backup}: {text}", file=sys.stderr)
+    if drilled.faults:
+        raise Fault(f"{backup} isn't a whole office, and nothing was changed: {drilled.faults[0]}")
+    if has_frames(copy) or not drilled.note:
+        settle(cpi, copy, backup)
+    desk = _desk_in(backup, room) if drilled.note and drilled.note.desk else None
+    return Looked(copy, drilled, _known(cpi, copy, backup), desk)
+
+
+def _desk_in(backup: Path, room: Path) -> Path:
+    """A private copy of the desk's folder in a backup. Raises Fault."""
+    made = room / "desk"
+    made.mkdir(mode=0o700)
+    read_desk(desk_beside(backup), made)
+    return made
+
+
+def _known(cpi: Cpi, copy: Path, backup: Path) -> Known:
+    """What is known of a copy without a log. The tables of an earlier version are brought to this one first."""
+    for is_settled in (False, True):
+        # (the C library reads no file without any log)
+        log_of(copy).write_bytes(b"")
+        try:
+            return known_of(copy, None)
+        except NotCarried:
+            if is_settled:
+                raise
+            settle(cpi, copy, backup)
+    raise AssertionError
+
+
+def newer_lines(backup: Path, looked: Looked, folders: list[Path]) -> Iterator[str]:
+    """Which is newer, the backup or a second copy, for each folder that has a note of one."""
+    for folder in folders:
+        if folder.is_dir() and (last := state_of(folder).last()):
+            yield f"{folder}: {_newer(backup, looked, last)}"
+
+
+def _newer(backup: Path, looked: Looked, last: CopyNote) -> str:
+    """Which is newer, the backup or a second copy of this note: by what they hold, or else by their moments."""
+    of_copy = f"the second copy of {second_text(last.copied)}"
+    if last.marks:
+        try:
+            known_of(looked.copy, last.known)
+        except NotCarried as fault:
+            text = str(fault).replace("it would take back what the copy has", "the backup hasn't what it has")
+            return f"{of_copy} is newer than {backup.name}: {text}. cpi-tools promote takes it"
+        return f"{backup.name} has all that {of_copy} has"
+    copied = looked.drilled.note.copied if looked.drilled.note else None
+    if copied is None:
+        return f"{of_copy}, and nobody knows when {backup.name} was made, which has no note"
+    which = "is newer than" if last.copied > copied else "is older than"
+    return f"{of_copy} {which} {backup.name}, which was made {second_text(copied)}"
+
+
+# ---- its place
+
+
+def put_in_place(copy: Path, office: Path, because: str) -> Optional[Path]:
+    """Puts aside what is at the place of an office, and a copy there instead: as the owner of the folder, with mode 0600,
+    on the disk; all of it or nothing. The folder of what was put aside, None if nothing was there. Raises OSError."""
+    restoring, text = restoring_beside(office), f"{because}, begun {second_text(int(time.time()))}, isn't done\n"
+    aside: Optional[Path] = None
+    folder = office.parent.stat()
+    owner = user_of(folder.st_uid)._replace(group=folder.st_gid)
+    with copy.open("rb", buffering=0) as source, acting_as(owner):
+        with new_room(".cpi-restore-", office.parent) as room:
+            _write(source, room / office.name)
+            write_whole(restoring, text.encode(), 0o644)
+            try:
+                sync(office.parent)
+                if there := [path for path in _files_of(office) if os.path.lexists(path)]:
+                    aside = _new_folder(office)
+                    _move(there, aside)
+                (room / office.name).rename(office)
+            except BaseException:
+                _put_back(office, aside)
+                raise
+            sync(office.parent)
+        restoring.unlink()
+        sync(office.parent)
+    return aside
+
+
+def _write(source: IO[bytes], to: Path) -> None:
+    """Writes a new file of mode 0600, onto the disk."""
+    number = os.open(to, os.O_WRONLY | os.O_CREAT | os.O_EXCL | os.O_NOFOLLOW | os.O_CLOEXEC, 0o600)
+    with os.fdopen(number, "wb") as file:
+        while block := source.read(BLOCK):
+            file.write(block)
+        file.flush()
+        os.fsync(number)
+
+
+def _move(there: list[Path], aside: Path) -> None:
+    """Moves files to a folder, the office's file first: a log without a file is no office."""
+    for path in there:
+        path.rename(aside / path.name)
+    for folder in (aside, aside.parent):
+        sync(folder)
+
+
+def _files_of(office: Path) -> list[Path]:
+    return [office, *(office.with_name(f"{office.name}{end}") for end in BESIDE)]
+
+
+def _new_folder(office: Path) -> Path:
+    """A new folder next to an office, named by the moment; two of one second have different names."""
+    moment = time.strftime("%Y%m%d-%H%M%S", time.gmtime())
+    for number in range(1, 1000):
+        folder = office.with_name(f"{office.name}.before-{moment}" + (f"-{number}" if number > 1 else ""))
+        with contextlib.suppress(FileExistsError):
+            folder.mkdir(mode=0o700)
+            return folder
+    raise Fault(f"{folder} is there already")
+
+
+def _put_back(office: Path, aside: Optional[Path]) -> None:
+    """Moves back what was put aside, the log first, and takes the mark away."""
+    if aside:
+        for path in reversed(_files_of(office)):
+            if os.path.lexists(aside / path.name):
+                (aside / path.name).rename(path)
+        aside.rmdir()
+    restoring_beside(office).unlink(missing_ok=True)
+
+
+# ---- words
+
+DESCRIPTION = f"""\
+Makes BACKUP the office of this machine. First it looks at everything: another machine may have
+been promoted, the office or its follower may run, a log may lie next to BACKUP that isn't its own,
+or a second copy may be newer. It drills BACKUP, says what it found, and asks. Then it puts the file
+FILE and its log aside together, in a folder next to it that is named by the moment, and places
+BACKUP, as the owner of the folder and with mode 0600: all of it or nothing. If the machine stops
+within that, cpi-serve starts no office until the restore was run again.
+
+If the desk's folder is in BACKUP, it takes its place too, and the one there is put aside in a
+folder in it. It stays if its logs go on from those of BACKUP.
+
+What was answered after BACKUP was made isn't in it, and is in what was put aside, if that can be
+read. A follower doesn't carry an older office over a newer copy: promote that copy instead, or say
+cpi-tools follow --anew. The last line has the command that starts the office:
+{START}
+"""
+
+EPILOG = """\
+example: cpi-tools restore backup/office.db --office office.db
+
+exit status: 0 if BACKUP is the office now; 1 with one line why it isn't, and nothing was changed;
+2 if the words are refused; 4 if it is the office now, and a line says why the desk's folder isn't
+in its place
+"""
+
+
+def add_words(tools: argparse._SubParsersAction[ToolWords]) -> None:
+    """The tool `restore`."""
+    words = tools.add_parser(
+        "restore", help="makes a backup the office of this machine", description=DESCRIPTION, epilog=EPILOG
+    )
+    add = words.add_argument
+    add("backup", type=Path, metavar="BACKUP", help="the backup, with its note if there is one")
+    add("--office", type=a_file, default=HERE, metavar="FILE", help="the office's file on this machine (%(default)s)")
+    text = "where cpi-tools follow keeps a second copy, or its room: says which is newer (the rooms that are known)"
+    add("--copy", type=Path, metavar="FOLDER", help=text)
+    add_desk(words)
+    add("--yes", action="store_true", help="don't ask")
+    add_program(words)
+    words.set_defaults(run=run, tool="restore", words=words)
+
+
+def run(chosen: argparse.Namespace) -> int:
+    """Runs the tool by its words; its exit status."""
+    office, backup = chosen.office, chosen.backup
+    folders = rooms_of(office) + ([chosen.copy] if chosen.copy else [])
+    desk = desk_of(office, chosen.desk)
+    cpi = Cpi(chosen.program)
+    try:
+        refuse(office, backup)
+        with without_follower(folders), new_room("cpi-restore-") as room:
+            with Progress("cpi-tools restore") as progress:
+                progress.now(f"drilling {backup}")
+                looked = looked_at(cpi, backup, room)
+            _tell(office, backup, looked, folders)
+            print(desk_line(looked, desk))
+            _ask(office, chosen.yes)
+            refuse(office, backup)
+            aside = put_in_place(looked.copy, office, f"the restore of {backup}")
+            _tell_restored(office, backup, looked.drilled, aside)
+            status = _restore_desk(looked, desk, office) if looked.desk and desk else 0
+    except OSError as fault:
+        raise Fault(because_of(fault)) from fault
+    print(f"start it: {START}")
+    return status
+
+
+def _tell_restored(office: Path, backup: Path, found: Drilled, aside: Optional[Path]) -> None:
+    """What was done."""
+    quotes, tables = counted(found.quotes, "quote"), counted(found.tables, "table")
+    print(f"{office}: restored from {backup}, with {quotes} and {tables}")
+    if aside:
+        print(f"{aside}: what was at that place before")
+
+
+def _restore_desk(looked: Looked, desk: Path, office: Path) -> int:
+    """Puts the desk's folder of a backup into its place, once the office is in its own; the exit status."""
+    assert looked.desk
+    try:
+        placed = place_desk(looked.desk, desk, office.parent.stat())
+    except (Fault, OSError) as fault:
+        because = because_of(fault) if isinstance(fault, OSError) else fault
+        print(f"cpi-tools restore: the desk's folder isn't in its place: {because}", file=sys.stderr)
+        return WITHOUT_DESK
+    if placed.is_placed:
+        print(f"{desk}: the desk's folder of the backup")
+    if placed.aside:
+        print(f"{placed.aside}: the one before")
+    return 0
+
+
+def desk_line(looked: Looked, desk: Optional[Path]) -> str:
+    """What is to become of the desk's folder. Raises Fault if its pages have it and it is to be replaced."""
+    if not looked.desk:
+        return "the backup has no desk's folder, so that of this machine stays as it is"
+    if not desk:
+        return "the backup has a desk's folder too, which goes nowhere: --desk names its place"
+    if refuse_desk(looked.desk, desk):
+        return f"{desk} stays as it is: the desk's logs there go on from those of the backup"
+    return f"{desk} gets the desk's folder of the backup"
+
+
+def _tell(office: Path, backup: Path, looked: Looked, folders: list[Path]) -> None:
+    """What was found before anything changes."""
+    for warning in looked.drilled.warnings:
+        print(f"cpi-tools restore: {backup}: warning: {warning}", file=sys.stderr)
+    print(told_line(backup, looked.drilled))
+    for line in newer_lines(backup, looked, folders):
+        print(line)
+    if os.path.lexists(restoring := restoring_beside(office)):
+        print(f"{restoring}: {first_line(restoring, 'a restore')}")
+
+
+def _ask(office: Path, is_said: bool) -> None:
+    """Asks whether the office is to be replaced. Raises Fault if it isn't."""
+    if is_said:
+        return
+    if not sys.stdin.isatty():
+        raise Fault("nobody can be asked here, and nothing was changed: --yes says that it is meant")
+    print(f"Put {office} and its log aside, and restore this backup? [yes/no] ", end="", flush=True)
+    if sys.stdin.readline().strip().lower() not in ("y", "yes"):
+        raise Fault("nothing was changed")

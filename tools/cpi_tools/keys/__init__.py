@@ -1,5 +1,0 @@
-"""`cpi-tools keys`: for each collector a sheet of paper with the key, by which the collector signs in on a phone."""
-
-from .words import add_words
-
-__all__ = ["add_words"]

@@ -1,0 +1,82 @@
+"""Each release of an office computed anew from its frozen quotes, in one pass over all months and revisions.
+
+The rules are the functions of `recompute`. What is said of an earlier month is taken of its latest revision, as computed
+here: no carried price and no level that the file has is used.
+"""
+
+from __future__ import annotations
+
+from collections.abc import Iterator
+from typing import Any, NamedTuple
+
+from . import recompute
+from .stored import Carried, Frozen, Level, Release, Series, StoredOffice
+
+Kept = dict[str, dict[Series, tuple[int, int, int, int]]]
+"""By aggregate and series: ticks, the scale's two numbers, and whether the price was imputed."""
+
+
+class Computed(NamedTuple):
+    """A release as it has to be: its carried prices, and the figures of its table; and what the table is computed from:
+    the weights in use, and the sample of each aggregate with its bases."""
+
+    release: Release
+    carried: dict[Series, Carried]
+    levels: dict[str, Level]
+    weights: dict[str, int]
+    kept: Kept
+    bases: Kept
+
+
+class Months:
+    """The pass over the months: what those before the one at hand say, each in its latest revision."""
+
+    def __init__(self, office: StoredOffice):
+        self._office = office
+        self._series = office.series()
+        self._quotes: dict[Series, tuple[str, int]] = {}
+        self._kept: Kept = {}
+        self._bases: Kept = {}
+        self._levels: dict[int, dict[str, int]] = {}
+        self._weights: dict[str, int] = {}
+
+    def computed(self, release: Release, frozen: dict[Series, Frozen], is_latest: bool) -> Computed:
+        """A release of these frozen quotes, which later months are computed from where it is its month's latest.
+
+        Raises ArithmeticError, LookupError, TypeError or ValueError where what the file has can't be computed with.
+        """
+        quotes = {series: (quote.mark, quote.value) for series, quote in frozen.items()}
+        kept, weights, bases = self._kept, self._weights, self._bases
+        if release.month % 100 == 1:
+            kept, weights = self._begun(release.month // 100)
+            bases = kept
+        kept = {code: recompute.moved(own, quotes, self._quotes, code in release.carry) for code, own in kept.items()}
+        rows = recompute.table(release.month, weights, bases, kept, self._levels) if weights else {}
+        levels = {code: Level(*row) for code, row in rows.items()}
+        if is_latest:
+            self._quotes, self._kept, self._weights, self._bases = quotes, kept, weights, bases
+            self._levels[release.month] = {code: row.chained for code, row in levels.items()}
+        return Computed(release, dict(self._carried(kept, quotes)), levels, weights, kept, bases)
+
+    def _begun(self, year: int) -> tuple[Kept, dict[str, int]]:
+        """The bases of a year by aggregate and series, and its weights in use."""
+        old = {series: price for own in self._kept.values() for series, price in own.items()}
+        weights, bases = recompute.begun(self._office.ask, year, self._quotes, old)
+        weights = recompute.in_use(self._office.ask, year, weights, self._levels)
+        kept: Kept = {
+            code: {series: (ticks, knum, kden, 0) for series, (ticks, knum, kden, _) in own.items()}
+            for code, own in bases.items()
+        }
+        return kept, weights
+
+    def _carried(self, kept: Kept, quotes: dict[Series, tuple[str, int]]) -> Iterator[tuple[Series, Carried]]:
+        """The carried prices as the file has them: a series is observed where its quote has a price."""
+        for own in kept.values():
+            for series, (ticks, knum, kden, imputed) in own.items():
+                observed = int(quotes.get(series, ("", 0))[1] > 0)
+                yield series, Carried(*self._series[series], ticks, knum, kden, observed, imputed)
+
+
+def differing(stored: dict[Any, Any], wanted: dict[Any, Any]) -> list[Any]:
+    """The keys at which two tables differ, in order."""
+    return sorted(key for key in stored.keys() | wanted.keys() if stored.get(key) != wanted.get(key))

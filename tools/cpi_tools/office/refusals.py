@@ -1,0 +1,261 @@
+"""Each refusal of the office and each fault line of the program in words, and what to do about it.
+
+The rows of the desk and of the collectors are those of `docs/desk/DESK.md` and `docs/desk/COLLECTING.md`, word for
+word (a link there is its text here).
+"""
+
+from __future__ import annotations
+
+from collections.abc import Mapping
+from typing import Any, NamedTuple, Optional
+
+
+class Words(NamedTuple):
+    """Why something was refused or ended, and what to do."""
+
+    because: str
+    do: str
+
+
+class Refusal(NamedTuple):
+    """A row of a guide: for whom it is, the numbers of refusals, the fault and the record's word where it is of one
+    alone, and its words."""
+
+    to: str
+    numbers: tuple[int, ...]
+    fault: Optional[int]
+    word: Optional[str]
+    words: Words
+
+
+DESK, COLLECTOR = "desk", "collector"
+
+
+def desk(*numbers: int, because: str, do: str, fault: Optional[int] = None, word: Optional[str] = None) -> Refusal:
+    """A row of the desk's guide."""
+    return Refusal(DESK, numbers, fault, word, Words(because, do))
+
+
+def collector(number: int, because: str, do: str) -> Refusal:
+    """A row of the collectors' guide."""
+    return Refusal(COLLECTOR, (number,), None, None, Words(because, do))
+
+
+REFUSALS: tuple[Refusal, ...] = (
+    desk(
+        10,
+        because="the record's form is wrong, or a number is outside its limits",
+        do="look at FORMATS; nothing was done",
+    ),
+    desk(12, because="this word isn't the desk's", do="quotes and work lists are a collector's"),
+    desk(
+        20,
+        word="handover",
+        because="the former collector has no such slot",
+        do="look at the collector and the slot",
+    ),
+    desk(21, because="the month has no calendar row", do="send that row, then this record again"),
+    desk(
+        22,
+        word="handover",
+        because="the month is the first of the former slot or before it, or after its last",
+        do="take a month after the first; if the series ends before that, there is nothing to hand over",
+    ),
+    desk(
+        30,
+        because="no such table or revision is published by then",
+        do="wait for the publishing moment",
+    ),
+    desk(
+        40,
+        because="the code, number, key or slot exists with other content; for a hand-over, the new slot is taken; for an"
+        " assignment, the slot has been handed over since",
+        do="take the next free one",
+    ),
+    desk(
+        41,
+        42,
+        43,
+        because="the item, outlet or collector isn't known; of a hand-over, 43: one of the two collectors isn't",
+        do="register it first",
+    ),
+    desk(
+        44,
+        because="the plan has a fault, given by its number (OFFICE has the list)",
+        do="correct it and send all of it again",
+    ),
+    desk(
+        44,
+        fault=8,
+        word="freeze",
+        because="a code of the carry list has no weight this year",
+        do="leave it out",
+    ),
+    desk(45, because="a month of that year is frozen", do="the plan stays; change the next year's"),
+    desk(
+        46,
+        because="the month is neither the last frozen one nor the next, or the first isn't a December",
+        do="freeze month by month",
+    ),
+    desk(47, because="the window hasn't closed", do="wait until it has"),
+    desk(48, because="the year has no plan", do="send it"),
+    desk(
+        49,
+        fault=1,
+        because="an aggregate has no series with a base",
+        do="place items there that were priced in December, or give it no weight",
+    ),
+    desk(
+        49,
+        fault=2,
+        because="an aggregate has nothing to compare",
+        do="freeze again with its code on the carry list",
+    ),
+    desk(
+        49,
+        fault=3,
+        because="a price, an index, a level or a weight moved by prices is outside its limits",
+        do="look for a slip in that aggregate's prices, or in its weight",
+    ),
+    desk(
+        49,
+        fault=5,
+        because="the plan has a reference month, and that aggregate has no row in its table, or in December's",
+        do="send the plan with another reference month, or with weights that you moved and without one",
+    ),
+    desk(
+        50,
+        word="freeze",
+        because="the month is frozen",
+        do="nothing more to do for it; if it has an error and is the last one, reopen it",
+    ),
+    desk(
+        50,
+        word="calendar",
+        because="the month is frozen, and a later one is too, or it has nine revisions, or the publishing moment isn't"
+        " later than the last",
+        do="give a later publishing moment, or leave the month as it is",
+    ),
+    desk(
+        50,
+        word="handover",
+        because="that month is frozen, or a later one is",
+        do="take the month after the last frozen one",
+    ),
+    desk(
+        51,
+        because="the former slot has a quote of that month or of a later one",
+        do="take the month after its last quote",
+    ),
+    desk(90, because="memory or the disk failed", do="nothing was changed; run it again"),
+    collector(
+        10,
+        because="the record's form is wrong, or a price or number is outside its limits",
+        do="check the fields and send it again",
+    ),
+    collector(11, because="nobody has this key", do="check the key; if it is right, ask the desk"),
+    collector(12, because="only the desk may ask for that", do="ask the desk"),
+    collector(20, because="you have no such slot", do="check the work list"),
+    collector(21, because="the month has no window yet", do="ask the desk"),
+    collector(
+        22,
+        because="the slot isn't yours in that month, or no longer is",
+        do="check the work list of the month",
+    ),
+    collector(23, because="the window isn't open yet", do="send it once the window is open"),
+    collector(
+        24,
+        because="the window has closed",
+        do="tell the desk; the month goes without the price unless the desk opens the window again",
+    ),
+    collector(25, because="a replacement in a slot without a price", do="send it as `price`"),
+    collector(
+        26,
+        because="the price is far from the last one",
+        do="look again; correct it, or send it with `confirm`",
+    ),
+    collector(
+        27,
+        because="your receipts are used up",
+        do="the desk registers a new number with slots of its own",
+    ),
+    collector(90, because="memory or the disk failed", do="nothing was stored; send it again"),
+)
+
+PLAN_FAULTS: Mapping[int, Words] = {
+    1: Words(
+        "a code comes twice among the titles, or twice among the weights",
+        "take one of the two rows out",
+    ),
+    2: Words(
+        "a weight, or the place of an item, at a code that is no elementary aggregate",
+        "use a code like 01.1.1.1-01",
+    ),
+    3: Words("a weight of 0", "leave the aggregate out, or give it a weight"),
+    4: Words("the weights don't add up to 1,000,000", "mend the weights"),
+    5: Words("a node has no title", "give it a title"),
+    6: Words("an item is placed that isn't known", "register the item first, or take its place out"),
+    7: Words("an item is placed twice", "take one of the two places out"),
+    8: Words(
+        "an item is placed at an elementary aggregate without weight",
+        "place it elsewhere, or give the aggregate a weight",
+    ),
+    10: Words(
+        "there are two reference months, or one that comes after December of the year before",
+        "give one month, and none after that December",
+    ),
+}
+"""The faults of a plan, refusal 44, by `docs/reference/OFFICE.md`."""
+
+FAULTS: Mapping[str, Words] = {
+    "bad zone": Words("the zone is no rule of a clock as POSIX writes it", "write it like CET-1CEST,M3.5.0,M10.5.0/3"),
+    "bad key": Words("the desk's key isn't 32 characters 0-9 and a-f", "draw one by `openssl rand -hex 16`"),
+    "bad month": Words("the month isn't one like 2026-01, from 2000-01 to 2199-12", "mend the month"),
+    "unknown schema": Words(
+        "the file is of a later version of the program, or of another one", "open it with the version that wrote it"
+    ),
+    "database failed": Words(
+        "the file is no office, another program holds it, or the disk failed",
+        "`cpi-tools doctor FILE` says which; every command that was answered stands",
+    ),
+    "no port": Words("the port can't be listened at", "see what listens there, or take another port"),
+    "read failed": Words(
+        "the input can't be read, or has more than 1,000,000 records", "send the records that have no line yet"
+    ),
+    "write failed": Words("a line can't be written", "see where the output goes; what was answered stands"),
+    "out of memory": Words("the system refused memory", "give it more; what was answered stands"),
+    "no table": Words("no such table is published by that moment", "wait for the publishing moment"),
+    "no clock": Words(
+        "the machine's clock can't be read, or shows no moment of an office", "set the clock, and start it again"
+    ),
+    "a word isn't UTF-8": Words("a word of the command line isn't UTF-8", "write it in UTF-8"),
+}
+"""The lines of the program on standard error, without `cpi: ` before them."""
+
+
+def refusal_words(reply: Mapping[str, Any], to: str = DESK, word: Optional[str] = None) -> Words:
+    """The words of a refusal, such as `{"refused": 49, "fault": 2, "code": ".."}`.
+
+    `to` is who was refused, DESK or COLLECTOR; `word` the record's word. Of several rows of a number the one for this
+    fault and this word is taken, and what only the other guide has is told in its words.
+    """
+    number, fault = reply["refused"], reply.get("fault")
+    if number == 44 and word != "freeze" and isinstance(fault, int) and fault in PLAN_FAULTS:
+        return PLAN_FAULTS[fault]
+    rows = [row for row in REFUSALS if number in row.numbers and row.fault in (None, fault)]
+    if not rows:
+        return Words(f"refusal {number}", "look at OFFICE")
+    return max(
+        rows, key=lambda row: (row.word in (None, word), row.to == to, row.word == word, row.fault == fault)
+    ).words
+
+
+def told_fault(line: str) -> str:
+    """A line of the program with what it means and what to do, such as `cpi: no port (..; ..)`."""
+    words = FAULTS.get(line[5:]) if line.startswith("cpi: ") else None
+    return f"{line} ({words.because}; {words.do})" if words else line
+
+
+def sentence(words: str) -> str:
+    """A cell of a row as the desk's page says it."""
+    return f"{words[0].upper()}{words[1:]}".replace("'", "\u2019").removesuffix(".") + "."

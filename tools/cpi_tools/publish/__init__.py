@@ -1,0 +1,1 @@
+"""`cpi-tools publish`: everything that a user of the index takes home."""

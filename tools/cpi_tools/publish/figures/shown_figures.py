@@ -1,0 +1,198 @@
+"""The figures as readers are shown them: levels with the office's own reference period, and changes by its own rule.
+
+A node whose months are linked to the reference period has 100 there. Any other, and every node if the office names no
+period, has 100 in December before it came. Changes are those of the tables, which come from levels before rounding. If
+the office says `rates = published`, they come from the printed index, which has one decimal.
+"""
+
+from __future__ import annotations
+
+import copy
+import functools
+from collections.abc import Iterable, Iterator, Mapping, Sequence
+from typing import Optional
+
+from ...office.tables import Row, Series, before, link_of, rounded_change
+from ...text.exact import HUNDRED, Ratio, decimal, points, rounded, scaled
+from ...text.speech import SPEAKS_ENGLISH, Speech
+from ...text.terminal import Fault, month_name
+from .measures import average, months_linked_to, reference_level, rereferenced
+
+EXACT, PUBLISHED = "exact", "published"
+RATES = (EXACT, PUBLISHED)
+"""What changes are computed from: levels before rounding, or the printed index."""
+
+
+RATES_SAY = {EXACT: "from levels before rounding", PUBLISHED: "from the printed index with one decimal"}
+"""What forms say of the rule."""
+
+
+def period_name(period: str) -> str:
+    """`December 2025` of a month, and a year as it is."""
+    return month_name(period) if len(period) == 7 else period
+
+
+class NotCovered(Fault):
+    """A reference period of which there is no table; one line."""
+
+
+class Shown:
+    """The figures of all nodes as they are shown. Raises NotCovered if no table is of the reference period."""
+
+    def __init__(self, series: Series, reference: str = "", rates: str = EXACT, provisional: int = 0):
+        """The last `provisional` months can still be revised."""
+        self.series, self.reference, self.rates = series, reference, rates
+        self.provisional = frozenset(series.months[-provisional:] if provisional else [])
+        """The provisional months, also of a part of the tables."""
+        self.speech = SPEAKS_ENGLISH
+        if reference not in ("", series.base) and not any(month.startswith(reference) for month in series.months):
+            raise NotCovered(
+                f"reference: no table covers {reference}; they are of {series.months[0]} to {series.months[-1]}"
+            )
+        self._bases = {code: self._base(code) for code in series.all_titles} if reference else {}
+
+    def part(self, series: Series) -> Shown:
+        """The same figures of a part of the tables, which need not have the reference period itself."""
+        found = copy.copy(self)
+        found.series, last = series, series.every[-1]
+        found.__dict__.pop("_factors", None)
+        bases = ((code, self._bases.get(code)) for code in series.all_titles) if self.reference else ()
+        found._bases = {code: base and (base[0], min(base[1], last), base[2]) for code, base in bases}
+        return found
+
+    def spoken(self, speech: Speech) -> Shown:
+        """The same figures for readers of another language."""
+        found = copy.copy(self)
+        found.speech = speech
+        return found
+
+    @property
+    def bases(self) -> Mapping[str, Optional[tuple[str, str, Ratio]]]:
+        """By node the first and the last month that are linked to the reference period, and the level in it."""
+        return self._bases
+
+    def _base(self, code: str) -> Optional[tuple[str, str, Ratio]]:
+        """The first and the last month that are linked to the reference period, and a node's level in it."""
+        base = reference_level(self.series, code, self.reference)
+        linked = months_linked_to(self.series, code, self.reference)
+        return (linked[0], linked[-1], base) if base and linked else None
+
+    def _base_in(self, month: str, code: str) -> Optional[Ratio]:
+        """The level of the reference period for a level of a month; December before a run belongs to it."""
+        found = self._bases.get(code)
+        if found is None or not link_of(found[0]) <= month <= found[1]:
+            return None
+        return found[2]
+
+    def hundred(self, month: str, code: str) -> str:
+        """The period in which a node is 100, for a level of a month."""
+        return self.reference if self.is_rereferenced(month, code) else self.series.base_of(month, code)
+
+    def is_rereferenced(self, month: str, code: str) -> bool:
+        """Whether a node's level of a month is linked to the office's own reference period."""
+        return self._base_in(month, code) is not None
+
+    def hundreds(self, code: str) -> list[tuple[str, str]]:
+        """The first month of each of a node's runs, with the period in which it is 100."""
+        return [(month, self.hundred(month, code)) for month in self.series.starts(code)]
+
+    def of_level(self, chained: int, month: str, code: str) -> Ratio:
+        """A chained level of a node in a month, in points of what is shown."""
+        base = self._base_in(month, code)
+        return rereferenced(chained, base) if base else Ratio(chained, 10**6)
+
+    def row(self, month: str, code: str) -> Optional[Row]:
+        """The row of a node, with the changes that are shown."""
+        found = self.series.row(month, code)
+        if found is None or self.rates == EXACT:
+            return found
+        monthly, annual = (self.change(month, code, is_annual) for is_annual in (False, True))
+        return found._replace(month_change=found.month_change if monthly is None else monthly, year_change=annual)
+
+    def text(self, month: str, code: str, digits: int = 6) -> str:
+        """A node's level with some decimals, rounded once; empty without a row."""
+        chained = self.series.level(month, code)
+        if chained is None:
+            return ""
+        if not self._bases or not self._base_in(month, code):
+            return points(chained, digits)
+        return decimal(*self.of_level(chained, month, code), digits)
+
+    def units(self, months: Sequence[str], code: str, digits: int = 6) -> list[Optional[int]]:
+        """The same in some months, in units of the last decimal; None without a row."""
+        found = self._ratios(months, code, self.series.column(months, code, "chained"))
+        return [None if it is None else scaled(*it, digits) for it in found]
+
+    def units_of_month(
+        self, month: str, codes: Iterable[str], chained: Iterable[Optional[int]], digits: int
+    ) -> Iterator[Optional[int]]:
+        """Chained levels of some nodes in a month, in units of the last of some decimals."""
+        factors, by = self._factors, 10**digits
+        for code, level in zip(codes, chained):
+            it = factors.get(code)
+            over, under = it[2:] if it and it[0] <= month <= it[1] else (1, 10**6)
+            yield None if level is None else rounded(level * over * by, under)
+
+    @functools.cached_property
+    def _factors(self) -> Mapping[str, tuple[str, str, int, int]]:
+        """By node the months, December before a run among them, whose levels are linked to the reference period, and what a
+        chained level of these is multiplied by and divided by, to be in points of what is shown."""
+        bases = ((code, base) for code, base in self._bases.items() if base)
+        return {code: (link_of(it[0]), it[1], 100 * it[2].under, it[2].over * 10**6) for code, it in bases}
+
+    def numbers(self, months: Sequence[str], code: str, chained: Sequence[Optional[int]]) -> list[Optional[float]]:
+        """Chained levels of a node in some months as numbers for a picture, in points of what is shown."""
+        return [None if it is None else it[0] / it[1] for it in self._ratios(months, code, chained)]
+
+    def _ratios(
+        self, months: Sequence[str], code: str, chained: Sequence[Optional[int]]
+    ) -> Iterator[Optional[tuple[int, int]]]:
+        """Chained levels of a node in some months, in points of what is shown, as `of_level` has each of them."""
+        if code not in self._factors:
+            return (None if it is None else (it, 10**6) for it in chained)
+        (first, last, by, under), found = self._factors[code], zip(months, chained)
+        return (None if it is None else (by * it, under) if first <= at <= last else (it, 10**6) for at, it in found)
+
+    def average(self, code: str, year: int) -> Optional[Ratio]:
+        """The mean of a node's twelve levels in a year, in points of what is shown."""
+        found = average(self.series, code, year)
+        return self.mean(found, code, year) if found else None
+
+    def mean(self, chained: Ratio, code: str, year: int) -> Ratio:
+        """The same of the average of chained levels."""
+        base = self._base_in(f"{year:04}-01", code)
+        return Ratio(100 * chained.over * base.under, chained.under * base.over) if base else chained
+
+    # ---- changes
+
+    def changes(self, months: Sequence[str], code: str, is_annual: bool) -> list[Optional[int]]:
+        """The changes of a node that are shown in some months, in tenths of a percent; None where there is none."""
+        if self.rates == EXACT:
+            return self.series.column(months, code, "year_change" if is_annual else "month_change")
+        rows = [self.row(month, code) for month in months]
+        return [row and (row.year_change if is_annual else row.month_change) for row in rows]
+
+    def _printed(self, chained: int, month: str, code: str) -> int:
+        """A level with one decimal, in tenths of a point."""
+        level = self.of_level(chained, month, code)
+        return rounded(10 * level.over, level.under)
+
+    def _printed_before(self, month: str, by: int, code: str) -> Optional[int]:
+        """The printed level so many months before; December before a run has the level that it began from."""
+        earlier = before(month, by)
+        chained = self.series.level(earlier, code)
+        if chained is None and link_of(month) == earlier and month[:4] in {it[:4] for it in self.series.starts(code)}:
+            return self._printed(HUNDRED, earlier, code)
+        return None if chained is None else self._printed(chained, earlier, code)
+
+    def change(self, month: str, code: str, is_annual: bool) -> Optional[int]:
+        """The change of a node on the month or on the year before, in tenths of a percent."""
+        row = self.series.row(month, code)
+        if row is None:
+            return None
+        printed = row.year_change if is_annual else row.month_change
+        if self.rates == EXACT:
+            return printed
+        # (of a month whose table isn't out yet there is no printed index, and the table's own change stays)
+        then = self._printed_before(month, 12 if is_annual else 1, code)
+        return rounded_change(then, self._printed(row.chained, month, code)) if then else printed

@@ -1,0 +1,1 @@
+"""The forms of data in which figures are published."""

@@ -1,0 +1,420 @@
+"""`cpi-tools publish`: everything that a user of the index takes home, as data files and as a website.
+
+The tables come by the public way alone (`office/public.py`), so no file that is written here can hold a figure under
+embargo. Nothing depends on the clock: the same published tables give the same bytes.
+"""
+
+from __future__ import annotations
+
+import argparse
+import sys
+import time
+from collections.abc import Callable, Iterable, Mapping, Sequence
+from functools import partial
+from pathlib import Path
+from typing import NamedTuple, Optional
+
+from ..office.folders import behind_link, refuse_shared, written_folder
+from ..office.public import Published
+from ..office.rooms import new_room
+from ..office.tables import Series
+from ..text.csv_files import add_safe_csv, compared_only
+from ..text.terminal import Fault, Progress, ToolWords, because_of, counted, needs, time_text
+from .figures.aggregated import series_of
+from .figures.announced import Earlier as EarlierMoments, announced_after, announced_in, write_announced
+from .figures.config import Config, read_config
+from .figures.figures import Known
+from .figures.measures import Contributions
+from .figures.notes import Notes
+from .figures.reasons import Reasons, given_reasons
+from .figures.shown_figures import Shown
+from .figures.specials import Sets
+from .forms.artefact_versions import Versions, versions_after
+from .forms.manifest import (
+    MANIFEST,
+    Change,
+    Manifest,
+    changed_since,
+    differences,
+    manifest_text,
+    previous_of,
+    read_manifest,
+    write_sums,
+)
+from .forms.new_files import NewFiles
+from .forms.pack_before import Before, KeptLines
+from .forms.pack_changes import Earlier as EarlierChanges, Made, earlier_changes, joined, write_changes
+from .forms.part import Now, known_of, write_part
+from .forms.profile_files import write_profiles
+from .forms.published_core import NO_CORE, KeptCore, core_lines, kept_core, refuse_changed_core, write_core
+from .forms.published_sets import NO_SETS, KeptSets, changed_sets, kept_sets, refuse_changed
+from .forms.reason_files import added_reasons, write_reasons
+from .forms.sdmx import KNOWN_IDS
+from .forms.set_vintages import set_lines
+from .forms.signature import Sign, Signature, is_signed, unsigned
+from .forms.signing import kept, signed_by
+from .forms.slices import sdmx_slices, write_slices
+from .forms.structure import structure_of
+from .forms.tidy import write_whole
+from .forms.years import Archives, Span, earlier_years, first_of
+from .releases.card_drawing import NOT_DRAWN, cards_after, cards_like
+from .releases.cards import NO_CARDS, Cards, has_cards
+from .releases.published_quality import KeptQuality, kept_quality
+from .releases.standing_pages import Earlier, changed_pages
+from .site.item_files import ItemFiles
+from .sources import add_source, read_source, test_source
+
+SHOWN_DIFFERENCES = 20
+"""Files that --check names at most."""
+
+
+class CannotPublish(Fault):
+    """A pack that can't be written; one line."""
+
+
+Previous = Callable[[Sequence[Change]], Optional[str]]
+"""The SHA-256 of the manifest before one that has some changes."""
+
+
+class Pack(NamedTuple):
+    """What a pack is made of: its tables, who publishes, and of the pack before, if there is one, the SHA-256 of its manifest,
+    what packs changed, the versions of artefacts of SDMX, and the moments that were announced; what signs a manifest and what
+    draws cards, if anything does, and the special aggregates, the quality in figures and the core measures that packs before
+    have."""
+
+    series: Series
+    config: Config
+    previous: Previous
+    changes: EarlierChanges
+    versions: Versions
+    moments: EarlierMoments
+    sign: Sign = unsigned
+    cards: Cards = NO_CARDS
+    sets: KeptSets = NO_SETS
+    quality: Sequence[KeptQuality] = ()
+    core: KeptCore = NO_CORE
+
+
+class Last(NamedTuple):
+    """A pack that is replaced, or that the new one follows: its folder, its manifest, its special aggregates, and its core
+    measures. A manifest may be kept without its pack."""
+
+    folder: Path
+    manifest: Manifest
+    sets: KeptSets
+    core: KeptCore
+
+    def refuse_changes(self, series: Series, config: Config, reasons: Reasons) -> Earlier:
+        """Raises Fault if a table, a figure of a special aggregate or of a core measure, or a reason that it has is another
+        one now, or isn't there any more; else what its pages of releases are compared with."""
+        changed = next(changed_since(self.manifest, series), None)
+        if changed:
+            raise CannotPublish(changed)
+        refuse_changed(changed_sets(self.manifest, series, self.sets), reasons, self.sets)
+        refuse_changed_core(self.manifest, series, config.core, reasons, self.core)
+        return Earlier(self.folder, self.manifest.tables, added_reasons(self.folder, self.manifest.tables, reasons))
+
+
+def _read_last(path: Path) -> Last:
+    """The pack of a manifest. Raises Fault."""
+    return Last(path.parent, read_manifest(path), kept_sets(path.parent), kept_core(path.parent))
+
+
+# ---- writing
+
+
+def write_pack(pack: Pack, folder: Path, now: Now, before: Before) -> None:
+    """Writes all files of a pack into an empty folder; those that are the same in the pack before are taken from it."""
+    # (here, since the packages of its pages needn't be there for the other tools)
+    from .releases.quality_files import write_quality
+    from .site.sites import Shared, write_sites
+
+    series = pack.series
+    announced = announced_after(pack.moments, pack.config.planned, series)
+    config = pack.config._replace(announced=announced)
+    files = NewFiles(folder)
+    now("what each month is computed from")
+    shown, data = Shown(series, config.reference, config.rates, config.provisional), folder / "data"
+    sums = _write_tables(series, data / "tables", before)
+    span = Span(first_of(series, config.years), series.every[-1])
+    years = earlier_years(series, span.first)
+    structure = structure_of(series, config, pack.versions)
+    archives = Archives(series, shown, config, structure, before, span)
+    contributions = Contributions(series, archives.unexplained)
+    if years:
+        archives.write(years, data, now)
+    kept = KeptLines(before, archives.titled_to)
+    reasons = given_reasons(config.reasons, series, config.planned)
+    superseded = joined_lines(
+        set_lines(series, reasons, pack.sets), core_lines(series, config.core, reasons, pack.core)
+    )
+    write_whole(series, shown, data, kept, superseded)
+    write_core(series, data)
+    write_reasons(reasons, data)
+    recent = known_of(series.part(*span), archives.unexplained, shown)
+    pack.versions.write(data)
+    write_announced(announced, data)
+    write_quality(series, config, data, pack.quality, reasons)
+    files.sums.update({**sums, **before.taken})
+    with sdmx_slices(recent, structure, config, files) as also:
+        write_part(recent, structure, config, data, now, kept, also)
+    write_slices(recent, structure, config, files, now)
+    write_profiles(recent, structure, config, data)
+    now("what has changed")
+    made = Made(series, structure, config, Before(pack.changes.pack) if pack.changes.pack else None, before.taken)
+    signature = _write_manifest(pack, made, files)
+    known = Known(series, contributions, shown, recent)
+    items = ItemFiles(known, Notes(shown, config.provisional), before, archives.same_to, files)
+    write_sites(known, recent, config, Shared(items, signature, pack.cards, files), now)
+    now("sums")
+    write_sums(folder, {**before.taken, **files.sums})
+
+
+def joined_lines(one: Mapping[str, Sequence[str]], other: Mapping[str, Sequence[str]]) -> dict[str, list[str]]:
+    """Lines of two kinds by month, those of the first kind first."""
+    return {month: [*one.get(month, ()), *other.get(month, ())] for month in {**one, **other}}
+
+
+def _write_tables(series: Series, folder: Path, before: Before) -> dict[str, str]:
+    """Writes the bytes of the program, or takes those that are there; their sums by their names in the pack."""
+    folder.mkdir(parents=True)
+    sums = {}
+    for source in series.sources:
+        name, table = f"data/tables/{source.name}", source.table
+        sums[name] = source.sha256
+        if not before.take_same(name, folder / source.name, table, source.sha256):
+            (folder / source.name).write_bytes(table)
+    return sums
+
+
+def _write_manifest(pack: Pack, made: Made, files: NewFiles) -> Optional[Signature]:
+    """Writes the changes since the pack before and the manifest, which names them, and its signature if it is signed."""
+    changes, sums = write_changes(pack.changes, made, files.folder)
+    files.sums.update(sums)
+    manifest = manifest_text(pack.series, pack.previous(changes), changes).encode()
+    (files.folder / MANIFEST).write_bytes(manifest)
+    signature = pack.sign(manifest)
+    if signature:
+        signature.write(files.folder)
+    return signature
+
+
+def publish(
+    published: Iterable[Published],
+    config: Config,
+    out: Path,
+    before: Optional[Path],
+    now: Now,
+    is_draft: bool = False,
+    key: Optional[Path] = None,
+    tell: Callable[[str], None] = lambda _: None,
+) -> Series:
+    """Writes a pack beside the folder `out` and puts it in its place; its tables.
+
+    A draft is readable for its owner alone, and takes the place of no pack that others can read. `before` is the
+    manifest before, else that of `out` where a pack stands there. `key` signs the manifest. `tell` is handed a line if
+    pages of earlier releases don't say what they said. Raises Fault, and leaves `out` as it is, if a table, a figure of
+    a special aggregate or a reason that was published is another one now or isn't there any more, or if a pack that is
+    signed would be replaced by one that isn't.
+    """
+    series = series_of(published, config.specials, config.core)
+    if is_draft:
+        refuse_shared(out, "a draft")
+    with written_folder(out, MANIFEST, is_private=is_draft) as new:
+        standing = _read_last(out / MANIFEST) if out.exists() else None
+        last = _read_last(before) if before else standing
+        if standing and last:
+            _refuse_older(last, standing)
+        reasons = given_reasons(config.reasons, series, config.planned)
+        earlier = {it.folder: it.refuse_changes(series, config, reasons) for it in (standing, last) if it}
+        if key is None and is_signed(out):
+            raise CannotPublish(f"{out} is signed, and the new pack wouldn't be: --sign names the key")
+        cards = cards_after(out) if config.address else NO_CARDS
+        manifest = last.manifest if last else None
+        chain = partial(previous_of, manifest, series), _changes_after(standing, last), versions_after(earlier)
+        sets = next((it.sets for it in (last, standing) if it and it.sets.rows), NO_SETS)
+        core = next((it.core for it in (last, standing) if it and it.core.rows), NO_CORE)
+        pack = Pack(
+            series, config, *chain, announced_in(earlier), signed_by(key, config.agency), cards, sets,
+            [*map(kept_quality, earlier)], core,
+        )  # fmt: skip
+        write_pack(pack, new, now, Before(behind_link(out) if standing else None))
+        _tell_uncounted(series, config, tell)
+        if out in earlier:
+            _tell_changes(changed_pages(earlier[out], new, series), tell)
+    return series
+
+
+def _refuse_older(last: Last, standing: Last) -> None:
+    """Raises CannotPublish if the pack that is replaced has tables that the manifest before hasn't: the new one would leave
+    a manifest out that readers have."""
+    for month, revision in standing.manifest.tables:
+        if (month, revision) not in last.manifest.tables:
+            raise CannotPublish(
+                f"the manifest in {last.folder} has no table of {month}, revision {revision}, and the pack in"
+                f" {standing.folder} has: --previous names the newest manifest, and isn't needed if that is the one there"
+            )
+
+
+def _tell_uncounted(series: Series, config: Config, tell: Callable[[str], None]) -> None:
+    """A line if the file of counts lacks published releases: it may be of an earlier month."""
+    counted_ones = {cell.of for cell in config.counts}
+    lacking = [table for table in series.vintages if table.rows and (table.month, table.revision) not in counted_ones]
+    if config.counts and lacking:
+        last = lacking[-1]
+        tell(
+            f"the counts of quality lack {counted(len(lacking), 'release')}, such as {last.month}, revision"
+            f" {last.revision}: cpi-tools quality writes them anew"
+        )
+
+
+def _changes_after(standing: Optional[Last], last: Optional[Last]) -> EarlierChanges:
+    """What packs before changed: that which is replaced, and that of the manifest before, which the new one follows."""
+    replaced = EarlierChanges()
+    if standing:
+        replaced = earlier_changes(behind_link(standing.folder), standing.manifest)
+    if last is None or last is standing:
+        return replaced
+    return joined(earlier_changes(last.folder, last.manifest, is_whole=False), replaced)
+
+
+def _tell_changes(changed: Sequence[str], tell: Callable[[str], None]) -> None:
+    if changed:
+        tell(
+            f"{counted(len(changed), 'page')} of earlier releases, such as {changed[0]}, no longer"
+            f" {'says' if len(changed) == 1 else 'say'} the same: the configuration or the tool is another one"
+        )
+
+
+def check(published: Iterable[Published], config: Config, out: Path, before: Optional[Path], now: Now) -> list[str]:
+    """A line for each file of a pack that isn't what is written now.
+
+    Which manifest was before it is taken from the pack itself, or is `before`; versions
+    are those of the pack. A signature can't be made anew without
+    the key: that of the pack is taken, and has to hold for the manifest that is written now.
+    """
+    series = series_of(published, config.specials, config.core)
+    standing = read_manifest(out / MANIFEST)
+    changes = earlier_changes(out, standing)._replace(pack=None)
+
+    def previous(changes: Sequence[Change]) -> Optional[str]:
+        return previous_of(read_manifest(before), series, changes) if before else standing.previous
+
+    try:
+        with new_room("cpi-pack-") as room:
+            new = room / "pack"
+            new.mkdir()
+            with compared_only():
+                chain = previous, changes, versions_after([out]), announced_in([out])
+                # (other figures than those of the pack are differences, and need no reason)
+                quality = [kept_quality(out)._replace(figures=())]
+                pack = Pack(series, config, *chain, kept(out), cards_like(out), kept_sets(out), quality, kept_core(out))
+                write_pack(pack, new, now, Before())
+            now(f"comparing with {out}")
+            return list(differences(out, new))
+    except OSError as fault:
+        raise CannotPublish(because_of(fault)) from fault
+
+
+# ---- words
+
+DESCRIPTION = """\
+Reads the published tables as the public does, and writes into FOLDER what users of the index take
+home: CSV, SDMX, XLSX, and a website without a server. A table under embargo isn't answered to the
+public, so it can't be in it. The same tables give the same bytes, whenever they are written.
+
+With --db FILE the file is copied first, as it stands, and cpi may run meanwhile; a moment that is
+still to come is refused, but with --draft. A pack that stands in FOLDER is replaced as a whole,
+but where one of its tables is another one now, or isn't there any more. If FOLDER is a symbolic
+link, the folder that it leads to is replaced, and the link stays. manifest.json has the
+SHA-256 of each table and of the manifest before: that of the pack that stands in FOLDER, or
+--previous. With --sign KEY it is signed by ssh-keygen, and a page says how anybody checks that; KEY
+is a private key, or a public one whose private key an agent has.
+"""
+
+EPILOG = """\
+example: cpi-tools publish --db office.db --at $(date +%s) --config office.ini --out public
+
+exit status: 0 where the pack is written, or --check finds no difference; 1 with a line why not;
+2 where the words are refused
+"""
+
+
+def add_words(tools: argparse._SubParsersAction[ToolWords]) -> None:
+    """The tool `publish`."""
+    words = tools.add_parser(
+        "publish",
+        help="writes data files and a website of all published tables",
+        description=DESCRIPTION,
+        epilog=EPILOG,
+    )
+    add = words.add_argument
+    add_source(words)
+    add("--draft", action="store_true", help="take a moment that is still to come: FOLDER is then for its owner alone")
+    add("--config", type=Path, required=True, metavar="FILE", help="who publishes, under which names")
+    to = words.add_mutually_exclusive_group(required=True)
+    to.add_argument("--out", type=Path, metavar="FOLDER", help="where the pack is written")
+    to.add_argument("--check", type=Path, metavar="FOLDER", help="write nothing: tell which files of a pack differ")
+    add("--sign", type=Path, metavar="KEY", help="with --out: sign the manifest with this key, by ssh-keygen")
+    add("--previous", type=Path, metavar="MANIFEST", help="the manifest before, where the pack stands elsewhere")
+    add_safe_csv(words)
+    words.set_defaults(run=run, tool="publish", words=words)
+
+
+def run(chosen: argparse.Namespace) -> int:
+    """Runs the tool by its words; its exit status."""
+    test_source(chosen)
+    if chosen.sign and chosen.check:
+        chosen.words.error("--sign goes with --out; --check tests the signature that is there")
+    if chosen.at is not None:
+        _refuse_what_is_to_come(chosen)
+    needs("jinja2", "python3-jinja2")
+    config = read_config(chosen.config, KNOWN_IDS)
+    lines: list[str] = []
+    with Progress("cpi-tools publish") as progress:
+        published = read_source(chosen, progress)
+        if chosen.check:
+            found = check(published, config, chosen.check, chosen.previous, progress.now)
+        else:
+            words = chosen.out, chosen.previous, progress.now, chosen.draft, chosen.sign
+            series = publish(published, config, *words, lines.append)
+    if chosen.check:
+        return _check_status(chosen.check, found)
+    of = f"{counted(len(series.vintages), 'table')} up to {series.months[-1]}, {counted(len(series.titles), 'item')}"
+    print(f"{chosen.out}: {of}")
+    for line in lines:
+        print(f"cpi-tools publish: {line}", file=sys.stderr)
+    _tell_unknown(config, series)
+    for line in config.about.lacking():
+        print(f"cpi-tools publish: {line}", file=sys.stderr)
+    if config.address and not has_cards(chosen.out):
+        print(f"cpi-tools publish: releases have no cards: {NOT_DRAWN}", file=sys.stderr)
+    return 0
+
+
+def _tell_unknown(config: Config, series: Series) -> None:
+    """A line on standard error for what special aggregates name and no table has: it may come, or be a slip."""
+    unknown = Sets(config.specials).unknown(series.titles)
+    if unknown:
+        print(f"cpi-tools publish: special aggregates name what no table has: {', '.join(unknown)}", file=sys.stderr)
+
+
+def _refuse_what_is_to_come(chosen: argparse.Namespace) -> None:
+    """A slip in the moment would write what is under embargo now; a draft says that it is meant."""
+    if chosen.at > time.time() and not chosen.draft:
+        raise CannotPublish(
+            f"--at {chosen.at} is {time_text(chosen.at)}, which is still to come: its tables may be under embargo now"
+            " (--draft writes them for the owner of the folder alone)"
+        )
+
+
+def _check_status(folder: Path, found: list[str]) -> int:
+    """Tells what --check found."""
+    for line in found[:SHOWN_DIFFERENCES]:
+        print(f"{folder}: {line}")
+    if cards_like(folder) == Cards(None, folder):
+        print(f"{folder}: cards of releases weren't compared: {NOT_DRAWN}")
+    if not found:
+        print(f"{folder}: every file is as it is written now")
+        return 0
+    raise CannotPublish(f"{folder}: {counted(len(found), 'file')} not as written now")

@@ -1,0 +1,270 @@
+"""`cpi-tools quality`: who answered, as counts of each published release by division, from a copy of an office's file.
+
+What is written has no price, no outlet and no collector in it, and the rule of `figures/survey_counts.py` holds: it can be
+published. `cpi-tools publish` takes the file, which the configuration names.
+"""
+
+from __future__ import annotations
+
+import argparse
+import csv
+import io
+import sys
+import time
+from collections import defaultdict
+from collections.abc import Iterable, Iterator, Mapping, Sequence
+from pathlib import Path
+from typing import NamedTuple
+
+from ..office.copying import private_copy
+from ..office.program import Cpi, add_program, record
+from ..office.public import Listed, listed_in
+from ..office.stored import COMPARABLE, OBSERVED, REASONS, Assignment, Release, StoredOffice, read_copy
+from ..text.exact import ALL_ITEMS
+from ..text.terminal import Fault, Progress, ToolWords, at_least, because_of, counted, month_text, time_text
+from ..text.whole_files import write_whole
+from .figures.config import read_least_outlets
+from .figures.office_rows import read_rows
+from .figures.survey_counts import HEAD, LEAST_OUTLETS, BadCounts, Cell, Choice, Figures, choice_of, read_counts
+
+
+REPLACED = tuple(mark for mark in OBSERVED if mark != COMPARABLE[0])
+"""The marks of a replacement's price."""
+
+
+class Seen(NamedTuple):
+    """A slot or a series of a release: its division and outlet, and a count for each figure but that of outlets."""
+
+    division: str
+    outlet: int
+    counts: tuple[int, ...]
+
+
+Choices = Mapping[tuple[str, int], Choice]
+"""What releases show, by month and revision."""
+
+
+# ---- a release
+
+
+class Counts(NamedTuple):
+    """The counts of a release, whatever it shows: the outlets of each division, and the other figures of divisions and of all
+    items."""
+
+    month: str
+    revision: int
+    outlets: Mapping[str, frozenset[int]]
+    sums: Mapping[str, Sequence[int]]
+
+    @property
+    def of(self) -> tuple[str, int]:
+        """Its month and revision."""
+        return self.month, self.revision
+
+    def cells(self, choice: Choice) -> Iterator[Cell]:
+        """Its rows, all items first, with the figures that it shows."""
+        everybody = frozenset[int]().union(*self.outlets.values())
+        for division, counts in sorted(self.sums.items()):
+            is_shown = choice.has_total if division == ALL_ITEMS else division not in choice.hidden
+            figures = Figures(len(self.outlets.get(division, everybody)), *counts) if is_shown else None
+            yield Cell(self.month, self.revision, division, figures)
+
+
+def counts_of_release(
+    office: StoredOffice, release: Release, slots: Iterable[Assignment], places: dict[str, str]
+) -> Counts:
+    """The counts of a release by its slots and the aggregates of items."""
+    outlets, sums = defaultdict[str, set[int]](set), dict[str, list[int]]()
+    for seen in _seen(office, release, slots, places):
+        outlets[seen.division].add(seen.outlet)
+        for division in (ALL_ITEMS, seen.division):
+            before = sums.get(division, [0] * len(seen.counts))
+            sums[division] = [one + other for one, other in zip(before, seen.counts)]
+    own = {division: frozenset(numbers) for division, numbers in outlets.items()}
+    return Counts(month_text(release.month), release.revision, own, sums)
+
+
+def _seen(
+    office: StoredOffice, release: Release, slots: Iterable[Assignment], places: dict[str, str]
+) -> Iterator[Seen]:
+    """The slots of a release whose items are in the index, with what was frozen, and what the index counts with."""
+    frozen, carried = office.frozen(release), office.carried(release)
+    for slot in slots:
+        if slot.item in places:
+            mark = frozen[slot.series].mark if slot.series in frozen else ""
+            sample = carried.get(slot.series)
+            yield Seen(
+                places[slot.item][:2],
+                slot.outlet,
+                (1, mark in OBSERVED, mark in REPLACED, mark in REASONS, not mark)
+                + (sample is not None, sample is not None and bool(sample.imputed)),
+            )
+
+
+def counts_of_office(office: StoredOffice, published: Sequence[Listed]) -> Iterator[Counts]:
+    """The counts of each release that is published and has a table with rows, in the order in which they were published."""
+    moments = {(int(it.month.replace("-", "")), it.revision): it.moment for it in published}
+    releases = [it for it in office.releases() if it[:2] in moments and office.titles(it)]
+    assignments, plans = office.assignments(), {plan.year: plan.places for plan in office.plans()}
+    for release in sorted(releases, key=lambda it: (moments[it[:2]], it[:2])):
+        own = [slot for slot in assignments if slot.first_month <= release.month <= slot.last_month]
+        yield counts_of_release(office, release, own, plans[release.month // 100])
+
+
+def shown_cells(found: Iterable[Counts], least: int, known: Choices) -> list[Cell]:
+    """The rows of releases in the order in which they were published, by month and revision; those that are known show what
+    they did."""
+    choices = dict(known)
+    cells = list[Cell]()
+    for it in found:
+        if it.of not in choices:
+            choices[it.of] = choice_of(it.outlets, least, choices.values())
+        cells += it.cells(choices[it.of])
+    return sorted(cells, key=lambda cell: cell[:3])
+
+
+def read_office(cpi: Cpi, path: Path, at: int, least: int, known: Choices = {}) -> list[Cell]:
+    """The counts of what an office's file has published at a moment; the file is copied, and not changed. Raises Fault."""
+    with private_copy(path) as copy:
+        with cpi.session(copy) as asked:
+            published = listed_in(asked.ask(record(at, "public", "tables")))
+        with read_copy(copy) as office:
+            return shown_cells(counts_of_office(office, published), least, known)
+
+
+# ---- the file
+
+
+def read_known(to: Path, least: int) -> dict[tuple[str, int], Choice]:
+    """What the releases of the file at a place show; nothing if there is none. Raises Fault if it isn't a file of counts, or
+    shows divisions with fewer outlets."""
+    if not to.exists():
+        return {}
+    _rows_of(to)
+    cells: dict[tuple[str, int], list[Cell]] = {}
+    for cell in read_counts(to, 0):
+        cells.setdefault(cell.of, []).append(cell)
+        if cell.figures and cell.figures.outlets < least:
+            raise Fault(
+                f"{to} has {cell.division} of {cell.month}, revision {cell.revision}, with {cell.figures.outlets} outlets,"
+                f" and least_outlets is {least}: take the file away first if that is meant"
+            )
+    return {of: _choice(own) for of, own in cells.items()}
+
+
+def _rows_of(to: Path) -> list[tuple[str, ...]]:
+    """The rows of the file at a place, the first with the names. Raises Fault if it isn't a file of counts."""
+    rows = read_rows(to, lambda lines: [tuple(line) for line in lines], BadCounts)
+    if rows[:1] != [HEAD]:
+        raise Fault(f"{to} is there already, and is no file of counts: give the counts a name of their own")
+    return rows
+
+
+def _choice(cells: Sequence[Cell]) -> Choice:
+    """What the rows of a release show."""
+    divisions = frozenset(cell.division for cell in cells) - {ALL_ITEMS}
+    shown = {cell.division for cell in cells if cell.figures}
+    return Choice(divisions, divisions - shown, ALL_ITEMS in shown)
+
+
+def write_counts(cells: Sequence[Cell], to: Path) -> None:
+    """Writes a file of counts, whole or not at all, with mode 0644. Raises Fault, and leaves what is there, if that isn't
+    such a file, or has other rows of a release than the new one."""
+    rows = [cell.texts for cell in cells]
+    _refuse_others(to, rows)
+    text = io.StringIO()
+    csv.writer(text, lineterminator="\n").writerows([HEAD, *rows])
+    try:
+        write_whole(to, text.getvalue().encode(), 0o644)
+    except OSError as fault:
+        raise Fault(because_of(fault)) from fault
+
+
+def _refuse_others(to: Path, rows: Sequence[Sequence[str]]) -> None:
+    """Raises Fault if the file at a place isn't one that the new rows go on from."""
+    if not to.exists():
+        return
+    before = {row: None for row in _rows_of(to)[1:]}
+    known, releases = {tuple(row): None for row in rows}, {row[:2] for row in before}
+    others = [row for row in before if row not in known]
+    others += [row for row in known if row[:2] in releases and row not in before]
+    if others:
+        month, revision, division = others[0][:3]
+        raise Fault(
+            f"{to} has another row of {month}, revision {revision}, division {division}, than this office has now: it is of"
+            " another office or moment, or was changed by hand; take it away first if that is meant"
+        )
+
+
+def untold(cells: Iterable[Cell]) -> Iterator[str]:
+    """A line if the newest release shows nothing of all items, so that nobody wonders why."""
+    totals = [cell for cell in cells if cell.division == ALL_ITEMS]
+    if totals and not totals[-1].figures:
+        last = totals[-1]
+        yield (
+            f"all items have no figures in {last.month}, revision {last.revision}: else those of a hidden division would be"
+            " theirs less the others, there or in another release"
+        )
+
+
+# ---- words
+
+DESCRIPTION = f"""\
+Counts what each published release of an office rests on, by division: outlets, prices that were
+asked for, that came, that were replaced, missing or imputed. The file goes into the pack of
+cpi-tools publish, where the configuration has quality = FILE. It has no price, no outlet and no
+collector in it, and nothing of a table that isn't published at the moment.
+
+A division with fewer outlets than least_outlets of the configuration (else {LEAST_OUTLETS}) has no figures. So
+that nobody gets them by subtraction, also between releases, the same further divisions never have
+any. If another division has too few later, all items have no figures in that release.
+
+OFFICE is copied, while cpi runs or not, and isn't changed. The file is written whole or not at all,
+and goes on from the one that is there, whose releases show what they did.
+"""
+
+EPILOG = """\
+example: cpi-tools quality --db office.db --at $(date +%s) --config office.ini --out counts.csv
+
+exit status: 0 if the file is written; 1 with a line why not; 2 if the words are refused
+"""
+
+
+def add_words(tools: argparse._SubParsersAction[ToolWords]) -> None:
+    """The tool `quality`."""
+    words = tools.add_parser(
+        "quality", help="count who answered, by release and division", description=DESCRIPTION, epilog=EPILOG
+    )
+    add = words.add_argument
+    add("--db", type=Path, required=True, metavar="OFFICE", help="an office's file, which is only read")
+    add(
+        "--at",
+        type=at_least(0),
+        required=True,
+        metavar="SECONDS",
+        help="what is out at this moment, seconds since 1970",
+    )
+    add("--config", type=Path, metavar="FILE", help="the configuration of cpi-tools publish, for its least_outlets")
+    add("--out", type=Path, required=True, metavar="FILE", help="where the counts are written")
+    add_program(words)
+    words.set_defaults(run=run, tool="quality", words=words)
+
+
+def run(chosen: argparse.Namespace) -> int:
+    """Runs the tool by its words; its exit status."""
+    if chosen.at > time.time():
+        raise Fault(
+            f"--at {chosen.at} is {time_text(chosen.at)}, which is still to come: its tables may be under embargo now"
+        )
+    least = read_least_outlets(chosen.config) if chosen.config else LEAST_OUTLETS
+    with Progress("cpi-tools quality") as progress:
+        progress.now("counts")
+        known = read_known(chosen.out, least)
+        cells = read_office(Cpi(chosen.program), chosen.db, chosen.at, least, known)
+        write_counts(cells, chosen.out)
+    releases = len({cell.of for cell in cells})
+    hidden = sum(cell.figures is None for cell in cells)
+    print(f"{chosen.out}: {counted(releases, 'release')}, {counted(hidden, 'row')} of {len(cells)} hidden")
+    for line in untold(cells):
+        print(f"cpi-tools quality: {line}", file=sys.stderr)
+    return 0

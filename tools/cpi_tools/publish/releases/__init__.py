@@ -1,0 +1,1 @@
+"""Releases: what each said on its day, its pictures, its feed, its quality."""

@@ -1,0 +1,1 @@
+"""The website: its pages in each language, and what search engines and portals read."""

@@ -1,0 +1,165 @@
+"""Prices that may be none: a code that another program writes if there is no price, or a price in another unit.
+
+The program can't see such a price if it is the first one of its series, since it judges by the last one. So these are
+looked at here, by the other prices of the sheet:
+
+- a first price more than ten times away from the median of the other first prices of its item, or of its aggregate if
+  the item has no others;
+- a price of nines, and one value in series of many items, if it is as far away from the median of its item's prices, or
+  of its aggregate's, or if there are no others.
+
+Nothing of it is taken in until a person says of the value what it is.
+"""
+
+from __future__ import annotations
+
+import re
+from bisect import bisect_left, bisect_right
+from collections.abc import Collection, Iterator, Mapping, Sequence
+from itertools import groupby
+from typing import NamedTuple, Optional
+
+from ..text.message import Message, message, whole
+from ..text.others import of_others
+from .cells import Capped, SheetFault, cut
+from .price_store import PriceStore
+
+FAR = 10
+"""A price is far from another if it is more than so many times as high or as low."""
+
+MANY_ITEMS = 5
+"""A value in the series of so many items may be a code."""
+
+NINES = re.compile("9{4,}")
+
+
+class Doubts(NamedTuple):
+    """The cells in doubt, and the slots that have them: collector and slot."""
+
+    cells: list[SheetFault]
+    slots: frozenset[tuple[str, str]]
+
+
+NO_DOUBTS = Doubts([], frozenset())
+
+
+class Doubted(NamedTuple):
+    """A price in doubt: its number in the store, and why."""
+
+    number: int
+    because: Message
+
+
+def doubts_of(store: PriceStore, minor: int, priced: Collection[int]) -> Doubts:
+    """What is in doubt of a store whose series are known; `priced` are the values, in minor units, of which a person says
+    that they are prices."""
+    odd = _odd_values(store, minor)
+    medians = _Medians(store, odd)
+    found = {it.number: it for it in _far_firsts(store, medians)}
+    found.update({it.number: it for it in _far_odd(store, odd, medians)})
+    faults, slots = Capped(), set[tuple[str, str]]()
+    for cell in store.cells(sorted(found)):
+        if cell.minor not in priced:
+            because = found[cell.number].because
+            says = message('"{text}" may be no price: {because}', text=cut(cell.given), because=because)
+            faults.add(SheetFault(cell.origin, says, _what_to_do(cell.given)))
+            slots.add((cell.collector, cell.slot))
+    return Doubts(faults.all(), frozenset(slots))
+
+
+def _what_to_do(text: str) -> Message:
+    value = text.split()[-1] if text.split() else text
+    return message(
+        "if it says that there is no price, name it: {missing}; if it is a price: {price}",
+        missing=of_others(f'--missing "{value}=stock"'),
+        price=of_others(f'--price "{value}"'),
+    )
+
+
+def _odd_values(store: PriceStore, minor: int) -> Mapping[int, Message]:
+    """The values that codes have, and why each is one of them."""
+    found = {
+        value: message("it is in series of {count} items", count=whole(count))
+        for value, count in store.values_of_many(MANY_ITEMS)
+    }
+    nines = message("it has nothing but nines")
+    return {**found, **{value: nines for value in store.values() if is_nines(value, minor)}}
+
+
+def is_nines(value: int, minor: int) -> bool:
+    """Whether a price in minor units is 9999, 99999.99 or the like."""
+    units, rest = divmod(value, minor)
+    digits = str(rest).zfill(len(str(minor - 1))) if minor > 1 else ""
+    return NINES.fullmatch(str(units)) is not None and {*digits} in (set(), {"0"}, {"9"})
+
+
+def is_far(value: int, other: int) -> bool:
+    """Whether a price is more than ten times as high or as low as another one."""
+    return value > FAR * other or other > FAR * value
+
+
+class _Medians:
+    """The medians of items, and which odd values are far from the other prices of their item, or of their aggregate."""
+
+    def __init__(self, store: PriceStore, odd: Collection[int]):
+        self._by_aggregate: dict[str, dict[str, int]] = {}
+        self.far: set[tuple[str, int]] = set()
+        """Items with such a value."""
+        alone: list[tuple[str, str, int]] = []
+        for (item, aggregate), found in groupby(store.figures(), key=lambda it: (it.item, it.aggregate)):
+            values = sorted(it.minor for it in found)
+            self._by_aggregate.setdefault(aggregate, {})[item] = median(values)
+            for value in {*values}.intersection(odd):
+                other = median_without(values, value)
+                if other is None:
+                    alone.append((item, aggregate, value))
+                elif is_far(value, other):
+                    self.far.add((item, value))
+        for item, aggregate, value in alone:
+            other = self.of_others(item, aggregate)
+            if other is None or is_far(value, other):
+                self.far.add((item, value))
+
+    def of_others(self, item: str, aggregate: str) -> Optional[int]:
+        """The median of the medians of the other items of an aggregate; None if there are none."""
+        found = self._by_aggregate.get(aggregate, {}) if aggregate else {}
+        others = sorted(value for name, value in found.items() if name != item)
+        return median(others) if others else None
+
+
+def median(values: Sequence[int]) -> int:
+    """The lower one of the two in the middle, of values in their order."""
+    return values[(len(values) - 1) // 2]
+
+
+def median_without(values: Sequence[int], value: int) -> Optional[int]:
+    """The median of some values in their order that aren't this one; None if there are none."""
+    first, after = bisect_left(values, value), bisect_right(values, value)
+    left = len(values) - (after - first)
+    at = (left - 1) // 2
+    return None if not left else values[at] if at < first else values[at + after - first]
+
+
+def _far_odd(store: PriceStore, odd: Mapping[int, Message], medians: _Medians) -> Iterator[Doubted]:
+    """The prices of odd values that are far from the others, or have no others."""
+    for it in store.figures_of(medians.far):
+        yield Doubted(it.number, odd[it.minor])
+
+
+def _far_firsts(store: PriceStore, medians: _Medians) -> Iterator[Doubted]:
+    """The first prices of new series that are far from the first prices of their item, or if it has no others, from the
+    other items of their aggregate."""
+    for (item, aggregate), found in groupby(store.firsts(), key=lambda it: (it.item, it.aggregate)):
+        firsts = [*found]
+        values = sorted(it.minor for it in firsts)
+        for it in firsts:
+            others = [*values]
+            if len(values) < 3:
+                others.remove(it.minor)
+            other = median(others) if others else medians.of_others(item, aggregate)
+            if it.is_new and other is not None and is_far(it.minor, other):
+                because = message(
+                    "it is a first price, and more than ten times away from the median of {of}",
+                    of=of_others(item if others else aggregate),
+                )
+                yield Doubted(it.number, because)

@@ -1,0 +1,299 @@
+"""The rows of a table of a map: those of one file or of one sheet, as rows of ours that know the office's columns."""
+
+from __future__ import annotations
+
+import itertools
+from collections.abc import Iterator, Mapping, Sequence
+from dataclasses import dataclass, field
+from typing import NamedTuple, Optional
+
+from ...text.message import both, message, row as row_of
+from ...text.others import of_others
+from ..cells import BadSheet, Columns, Origin, Row, Sheet, Texts
+from ..months_of_texts import told_no_month
+from ..office_sheets import SHEETS
+from ..price_cells import DAY, SHARE, MISSING
+from ..sheet_files import rows_of, unmarked
+from .mapped_texts import Marks, Measures, Months, OurCodes
+from .office_map import CODED, NONE, Files, Table
+from .findings import Findings
+
+ALL_OTHERS = "*"
+"""Names all columns that a table doesn't name."""
+
+
+class Place(NamedTuple):
+    """A file or a sheet of a workbook as it is named, with what its name says for columns of ours."""
+
+    label: str
+    values: Mapping[str, str]
+    texts: Texts
+
+
+@dataclass
+class Head:
+    """A heading: the office's names in small letters and as they are written. `wide` has the columns that are months or
+    years, with the month or year, and the column of a flag after it."""
+
+    row: int
+    heads: tuple[str, ...]
+    written: Mapping[str, str]
+    wide: list[tuple[str, str, str]] = field(default_factory=list)
+
+
+class Joined(NamedTuple):
+    """The rows of a joined table by their keys, and what they are called."""
+
+    label: str
+    rows: Mapping[tuple[str, ...], Row]
+    written: Mapping[str, str]
+
+
+def heading_of(place: Place, form: Files, needed: Sequence[str], others: Sequence[str], flag: str = "") -> Head:
+    """The heading of a place, whose rows are read from then on. Raises BadSheet if it lacks a column, or has one twice;
+    only the flag, which is after each month, may be there again: it is named with the column before it."""
+    lines = [[*line] for line in itertools.islice(place.texts.rows, form.heading)]
+    line = lines[-1] if len(lines) == form.heading else []
+    written, before = {}, ""
+    heads: list[str] = []
+    for cell in line:
+        text = unmarked(cell.strip())
+        head = f"{text.lower()} ({before})" if flag and text.lower() == flag else text.lower()
+        if head and head in written:
+            because = message("the column {column} is there twice", column=of_others(text))
+            raise BadSheet(Origin(place.label, form.heading, text), because, message("rename one of the two"))
+        heads.append(head)
+        written[head], before = text, text
+    has = row_of([message('"{text}"', text=of_others(text)) for text in written.values() if text])
+    for column in needed:
+        if column not in written:
+            because = message(
+                "the map reads the column {column}, and row {row} has {names}",
+                column=of_others(column),
+                row=form.heading,
+                names=has,
+            )
+            do = message("mend the map's columns, or its heading")
+            raise BadSheet(Origin(place.label, form.heading, column), because, do)
+    return Head(form.heading, tuple(heads), written)
+
+
+def raw_rows(place: Place, head: Head, texts: Sequence[str], told: Findings) -> Iterator[Row]:
+    """The rows below a heading by the office's names; `texts` are those whose blanks count."""
+    sheet = Sheet(place.label, head.heads, tuple(head.written.get(it, it) for it in head.heads), (), [], told.warnings)
+    if not any(head.heads):
+        return
+    yield from rows_of(sheet, iter(place.texts.rows), Columns((), texts=tuple(texts)), head.row + 1)
+    for fault in (*sheet.faults, *place.texts.faults):
+        told.faults.add(fault)
+    told.warnings += place.texts.warnings
+
+
+class TableRows:
+    """Reads the places of a table."""
+
+    def __init__(self, table: Table, months: Months, codes: OurCodes, marks: Marks, measures: Measures, told: Findings):
+        self._table, self._months, self._codes, self._told = table, months, codes, told
+        self._marks, self._measures = marks, measures
+        self._joined: Optional[Joined] = None
+        form = table.form
+        beside = [name for name in table.marks if name != table.flag]
+        on = table.join.on if table.join else {}
+        own = [name for names in form.columns.values() for name in names]
+        self._needed = (*own, *beside, *table.only, *on)
+        self._beside = beside
+
+    def join(self, joined: Joined) -> None:
+        """The rows that a row is joined to."""
+        self._joined = joined
+
+    # ---- the heading
+
+    def _heading(self, place: Place) -> Head:
+        table = self._table
+        head = heading_of(place, table.form, self._needed, (), table.flag)
+        named = {*self._needed, *table.unread}
+        seen: dict[str, str] = {}
+        for at, name in enumerate(head.heads):
+            if not name or name in named or table.flag and name.startswith(f"{table.flag} ("):
+                continue
+            text = head.written[name]
+            origin = Origin(place.label, head.row, text)
+            meant = self._meant_by_head(text)
+            if meant and meant in seen:
+                because = message(
+                    '"{one}" and "{other}" are both {month}',
+                    one=of_others(seen[meant]),
+                    other=of_others(text),
+                    month=of_others(meant),
+                )
+                self._told.refuse(origin, because, message("leave one of the two columns"))
+            elif meant:
+                seen[meant] = text
+                if meant != text and table.heads == "month":
+                    self._told.read(origin, text, meant)
+                after = head.heads[at + 1] if at + 1 < len(head.heads) else ""
+                head.wide.append((name, meant, after if table.flag and after.startswith(f"{table.flag} (") else ""))
+            elif ALL_OTHERS not in table.unread:
+                because = message("the map doesn't name the column {column}", column=of_others(text))
+                if table.heads == "month":
+                    because = message("{because}, and {fault}", because=because, fault=told_no_month(text))
+                do = message("name it in the map: in columns, or in unread if it isn't to be read")
+                self._told.refuse(origin, because, do)
+        return head
+
+    def _meant_by_head(self, text: str) -> str:
+        """The month or the year that a column without a name in the map is."""
+        if self._table.heads == "month":
+            return self._months.of(text)[0]
+        is_year = self._table.heads == "year" and text.isascii() and text.isdigit() and len(text) == 4
+        return text if is_year else ""
+
+    # ---- rows
+
+    def rows(self, place: Place) -> Iterator[Row]:
+        """The rows of a place, as they are asked for. Raises BadSheet."""
+        table, head = self._table, self._heading(place)
+        kept = [name for ours in SHEETS[table.sheet].texts for name in table.form.columns.get(ours, ())]
+        names = {ours: head.written[theirs[0]] for ours, theirs in table.form.columns.items()}
+        if self._joined:
+            names.update({it: f"{text} ({self._joined.label})" for it, text in self._joined.written.items()})
+        fixed = {**table.values, **place.values}
+        for raw in raw_rows(place, head, kept, self._told):
+            if not self._is_wanted(raw, head):
+                continue
+            joined = self._joined_to(raw, head) if self._joined else None
+            if self._joined and joined is None:
+                continue
+            cells = {ours: _text(raw, theirs) for ours, theirs in table.form.columns.items()}
+            row = Row(raw.origin, {**fixed, **(joined.cells if joined else {}), **cells}, names)
+            if self._is_coded(row):
+                yield from self._of_prices(row, raw, head) if table.sheet == "prices" else self._of_others(
+                    row, raw, head
+                )
+
+    def _is_wanted(self, raw: Row, head: Head) -> bool:
+        """Whether a row has the texts that count."""
+        for name, texts in self._table.only.items():
+            if raw[name] not in texts:
+                self._told.leave_out(raw.origin.at(head.written[name]), raw[name])
+                return False
+        return True
+
+    def _joined_to(self, raw: Row, head: Head) -> Optional[Row]:
+        """The row that a row is joined to; None, which is a problem, if there is none."""
+        assert self._joined and self._table.join
+        here = tuple(self._table.join.on)
+        key = tuple(str(raw[name]) for name in here)
+        found = self._joined.rows.get(key)
+        if found is None:
+            because = message(
+                'no row of {file} has "{text}"', file=of_others(self._joined.label), text=of_others(" ".join(key))
+            )
+            self._told.refuse(
+                raw.origin.at(head.written[here[0]]), because, message("add its row, or take this one out")
+            )
+        return found
+
+    def _is_coded(self, row: Row) -> bool:
+        """Puts our codes into a row; whether it has them all."""
+        for column in CODED:
+            if column in row.cells:
+                code = self._codes.of(column, row.at(column), row.cells[column])
+                if code is None:
+                    return False
+                row.cells[column] = code
+        return True
+
+    # ---- prices
+
+    def _of_prices(self, row: Row, raw: Row, head: Head) -> Iterator[Row]:
+        beside = [(name, raw[name].strip(), raw.origin.at(head.written[name])) for name in self._beside]
+        if not self._table.heads:
+            text = row["month"]
+            month, day = (text, row[DAY]) if DAY in row.cells else self._months.at(row.at("month"), text)
+            if month:
+                yield from self._priced(row, row["value"], month, day, row.names, beside)
+            return
+        for name, month, flag in head.wide:
+            written = head.written[name]
+            names = {**row.names, "month": written, "value": written}
+            own = beside
+            if flag:
+                names["mark"] = head.written[flag]
+                own = [
+                    *beside,
+                    (self._table.flag, raw[flag].strip(), raw.origin.at(f"{head.written[flag]} ({written})")),
+                ]
+            yield from self._priced(row, raw[name], month, "", names, own)
+
+    def _priced(
+        self,
+        row: Row,
+        text: str,
+        month: str,
+        day: str,
+        names: Mapping[str, str],
+        beside: Sequence[tuple[str, str, Origin]],
+    ) -> Iterator[Row]:
+        """The row of one price, if it is one."""
+        origin = row.origin.at(names.get("value", "value"))
+        meaning = self._marks.meaning(text, origin, beside)
+        if meaning is None:
+            return
+        cells = {**row.cells, "month": month, "value": meaning.text, DAY: day}
+        if meaning.mark:
+            cells["mark"] = meaning.mark
+        if self._table.units and meaning.mark != MISSING:
+            at = [(row[name], row.at(name)) for name in ("quantity", "unit")]
+            cells[SHARE] = self._measures.share(row["item"], at[0], at[1])
+            if not cells[SHARE]:
+                return
+        yield Row(row.origin, cells, names)
+
+    # ---- other sheets
+
+    def _of_others(self, row: Row, raw: Row, head: Head) -> Iterator[Row]:
+        if not self._table.heads:
+            yield self._without_sum(row, row["weight"], row.names)
+            return
+        for name, year, _ in head.wide:
+            text, origin = raw[name].strip(), raw.origin.at(head.written[name])
+            if self._table.cells.get(text) == NONE:
+                self._told.leave_out(origin, text)
+            elif text:
+                made = Row(row.origin, {**row.cells, "year": year}, {**row.names, "year": year, "weight": year})
+                yield self._without_sum(made, raw[name], made.names)
+
+    def _without_sum(self, row: Row, weight: str, names: Mapping[str, str]) -> Row:
+        """A row, without the weight of what is a sum if the map says that these aren't read."""
+        if self._table.sheet != "classification":
+            return row
+        is_sum = self._table.has_sums and "-" not in row["code"]
+        return Row(row.origin, {**row.cells, "weight": "" if is_sum else weight}, names)
+
+
+def _text(raw: Row, theirs: Sequence[str]) -> str:
+    """The text of a column, or the texts of several with strokes between them."""
+    return raw[theirs[0]] if len(theirs) == 1 else "/".join(raw[name] for name in theirs)
+
+
+def joined_rows(places: Sequence[Place], form: Files, on: Sequence[str], told: Findings) -> Joined:
+    """The rows of a joined table by the texts of some columns. Raises BadSheet."""
+    needed = [*on, *(name for names in form.columns.values() for name in names)]
+    rows: dict[tuple[str, ...], Row] = {}
+    labels: list[str] = []
+    written: Mapping[str, str] = {}
+    for place in places:
+        head = heading_of(place, form, needed, ())
+        labels.append(place.label)
+        written = {ours: head.written[theirs[0]] for ours, theirs in form.columns.items()}
+        for raw in raw_rows(place, head, (), told):
+            key = tuple(str(raw[name]) for name in on)
+            cells = {ours: _text(raw, theirs) for ours, theirs in form.columns.items()}
+            above = rows.setdefault(key, Row(raw.origin, {**place.values, **cells}, written))
+            if above.origin != raw.origin:
+                because = message('row {row} has "{text}" too', row=above.origin.row, text=of_others(" ".join(key)))
+                told.refuse(raw.origin.at(head.written[on[0]]), because, message("take one of the two rows out"))
+    names = both([*map(of_others, labels)])
+    return Joined(str(names), rows, written)

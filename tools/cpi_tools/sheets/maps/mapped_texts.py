@@ -1,0 +1,198 @@
+"""Texts of an office by its map: months in its languages, its codes, its marks, and the quantity that was priced."""
+
+from __future__ import annotations
+
+import re
+from collections.abc import Mapping, Sequence
+from fractions import Fraction
+from typing import NamedTuple, Optional
+
+from ...text.message import message
+from ...text.others import of_others
+from ..cells import Numeral, Origin, cut
+from ..months_of_texts import month_of, told_no_month
+from ..numbers_of_texts import Numbers
+from ..price_cells import COMPARABLE, EMPTY, LIKE, MISSING, OTHER, PRICE, REASONS, Codes
+from .map_files import PRICE_IN_TEXT
+from .month_names import in_english
+from .office_map import NONE, Table, Texts
+from .patterns import Pattern
+from .findings import Findings
+
+DAY_IN_TEXT = re.compile("([0-9]{4}-[0-9]{2}-[0-9]{2})([T ].*)?")
+
+MEASURE = re.compile(r"([0-9][0-9 .,]*?) *([^\W\d_]+)\.?")
+"""The unit of an item, as `500 g`."""
+
+
+class Months:
+    """Reads months, by a pattern if there is one."""
+
+    def __init__(self, pattern: Optional[Pattern], languages: Sequence[str], told: Findings):
+        self._pattern, self._languages, self._told = pattern, tuple(languages), told
+        self._read: dict[str, tuple[str, str]] = {}
+
+    def of(self, text: str) -> tuple[str, str]:
+        """Month and day of a text, empty if it has none."""
+        if text not in self._read:
+            self._read[text] = self._of(text)
+        return self._read[text]
+
+    def _of(self, text: str) -> tuple[str, str]:
+        if self._pattern:
+            values = self._pattern.values(text)
+            return (values["month"], values["day"]) if values else ("", "")
+        day = DAY_IN_TEXT.fullmatch(text)
+        return month_of(in_english(text, self._languages)), day[1] if day else ""
+
+    def at(self, origin: Origin, text: str) -> tuple[str, str]:
+        """The same; a text that is no month is a problem, and another spelling is told."""
+        month, day = self.of(text)
+        if month:
+            self._told.read(origin, text, month)
+        elif self._pattern and text:
+            because = message('"{text}" isn\'t like {pattern}', text=cut(text), pattern=of_others(self._pattern.text))
+            self._told.refuse(origin, because, message("mend the cell, or the month of the map"))
+        else:
+            self._told.refuse(origin, told_no_month(text), LIKE)
+        return month, day
+
+
+class OurCodes:
+    """Codes of ours by those of the office."""
+
+    def __init__(self, codes: Mapping[str, Texts], told: Findings):
+        self._codes, self._told = codes, told
+        self.used: dict[str, set[str]] = {column: set() for column in codes}
+
+    def of(self, column: str, origin: Origin, text: str) -> Optional[str]:
+        """Our code for a text of a column; None if the map leaves it out, or has none, which is a problem."""
+        codes = self._codes.get(column)
+        if codes is None or not text:
+            return text
+        code = codes.get(text)
+        if code is None:
+            table = of_others(f"codes.{column}")
+            because = message('the map has no code for "{text}" in {table}', text=cut(text), table=table)
+            self._told.refuse(origin, because, message("add a line for it to {table}", table=table))
+            return None
+        self.used[column].add(text)
+        if code == NONE:
+            self._told.leave_out(origin, text)
+            return None
+        return code
+
+
+class Meaning(NamedTuple):
+    """What a cell of prices is: our mark, empty for a price by itself, and its text."""
+
+    mark: str
+    text: str
+
+
+class CellTexts:
+    """What texts in place of a price mean, by the map."""
+
+    def __init__(self, cells: Texts, numbers: Numbers):
+        plain = {text: it for text, it in cells.items() if PRICE_IN_TEXT not in text}
+        self._codes = Codes(plain, numbers)
+        self._forms = [(_form_of(text), it) for text, it in cells.items() if PRICE_IN_TEXT in text]
+
+    def of(self, text: str) -> tuple[str, str]:
+        """The meaning of a text, empty if the map has none, and the price in it."""
+        if meaning := self._codes.reason(text):
+            return meaning, text
+        for form, meaning in self._forms if not isinstance(text, Numeral) else ():
+            if found := form.fullmatch(text.strip()):
+                return meaning, found[1]
+        return "", text
+
+
+def _form_of(text: str) -> re.Pattern[str]:
+    before, _, after = text.strip().partition(PRICE_IN_TEXT)
+    return re.compile(f"{re.escape(before)}(.*[0-9].*?){re.escape(after)}")
+
+
+class Marks:
+    """Makes our marks of the marks of an office beside a price, and of what is in place of it."""
+
+    def __init__(self, table: Table, numbers: Numbers, told: Findings):
+        self._table, self._told = table, told
+        self._cells = CellTexts(table.cells, numbers)
+
+    def meaning(self, text: str, origin: Origin, beside: Sequence[tuple[str, str, Origin]]) -> Optional[Meaning]:
+        """What a cell is; None if it is no quote, or a mark beside it, with its column and cell, isn't in the map."""
+        meant, price = self._cells.of(text)
+        word = text.strip().lower()
+        meant = meant or (word if word in REASONS else "")
+        meanings = [meant] if meant else []
+        places = [(origin, text)] if meant else []
+        for column, mark, at in beside:
+            meaning = self._table.marks[column].get(mark)
+            if meaning is None:
+                self._refuse(column, mark, at)
+                return None
+            meanings.append(meaning)
+            places.append((at, mark))
+        if NONE in meanings:
+            self._told.leave_out(*places[meanings.index(NONE)])
+            return None
+        reason = next((it for it in meanings if it in REASONS), "")
+        if reason:
+            return Meaning(MISSING, reason)
+        if self._table.heads and text.strip() in EMPTY:
+            return None
+        mark = next((it for it in meanings if it in (OTHER, COMPARABLE)), "")
+        return Meaning(mark or (PRICE if meant == PRICE else ""), price)
+
+    def _refuse(self, column: str, mark: str, origin: Origin) -> None:
+        table = of_others(f"{'.'.join(self._table.key)}.marks.{column}")
+        because = message('the map has no line for the mark "{text}" in {table}', text=cut(mark), table=table)
+        self._told.refuse(origin, because, message("add a line for it to {table}", table=table))
+
+
+class Measures:
+    """Prices of another quantity than the item's unit."""
+
+    def __init__(self, table: Table, numbers: Numbers, unit_of: Mapping[str, str], told: Findings):
+        """`unit_of` has the unit of each item."""
+        self._units, self._numbers, self._unit_of, self._told = table.units, numbers, unit_of, told
+
+    def share(self, item: str, quantity: tuple[str, Origin], unit: tuple[str, Origin]) -> str:
+        """By what a price is multiplied, so that it is one of the item's unit; empty if that isn't known, a problem."""
+        factor = self._factor(*unit)
+        number = self._numbers.of(quantity[0])
+        if number is None or number <= 0:
+            because = message('"{text}" is no quantity above 0', text=cut(quantity[0]))
+            self._told.refuse(quantity[1], because, message("mend the cell"))
+        size = self._size(item, quantity[1])
+        if factor is None or size is None or number is None or number <= 0:
+            return ""
+        return str(size / (number * factor))
+
+    def _factor(self, text: str, origin: Origin) -> Optional[Fraction]:
+        """What a unit is in the smallest one; without a text the map has one unit."""
+        if not text and len(self._units) == 1:
+            return next(iter(self._units.values()))
+        factor = self._units.get(text.strip().lower())
+        if factor is None:
+            because = message('the map has no unit "{text}"', text=cut(text))
+            self._told.refuse(origin, because, message("add a line for it to {table}", table=of_others("units")))
+        return factor
+
+    def _size(self, item: str, origin: Origin) -> Optional[Fraction]:
+        """The unit of an item in the smallest unit of the map."""
+        text = self._unit_of.get(item, "")
+        found = MEASURE.fullmatch(text.strip())
+        number = self._numbers.of(found[1]) if found else None
+        factor = self._units.get(found[2].lower()) if found else None
+        if number is None or number <= 0 or factor is None:
+            because = message(
+                'the item {item} has the unit "{text}", which is no quantity in units of the map',
+                item=of_others(item),
+                text=cut(text),
+            )
+            do = message("add its unit to {table}, or read this item without a quantity", table=of_others("units"))
+            self._told.refuse(origin, because, do)
+            return None
+        return number * factor

@@ -1,0 +1,272 @@
+"""`cpi-tools take-in FOLDER (--check | --write OUT | --propose FILE)`: the tool's words, and what it prints."""
+
+from __future__ import annotations
+
+import argparse
+import contextlib
+import os
+import sqlite3
+import sys
+import tempfile
+from collections.abc import Sequence
+from fractions import Fraction
+from pathlib import Path
+from typing import Optional
+
+from ...office.private_files import private_file, write_rows
+from ...office.program import Cpi, add_program
+from ...text import csv_files
+from ...text.report_language import Teller, add_speech, chosen_speech
+from ...text.terminal import Fault, Progress, ToolWords, at_least, because_of, counted
+from ..cells import MonthRead, SheetFault, shown
+from ..numbers_of_texts import Numbers
+from ..office_files import Options
+from ..price_cells import REASONS
+from ..several_prices import Rule
+from ..take_in import Opener, command, taken_in, write_check, write_records
+from ..taken_page import place, summary
+from .map_files import UNITS_OF_WEIGHTS, read_map
+from .mapped_source import MappedSource
+from .office_map import UNKNOWN, OfficeMap
+from .proposals import proposal, quoted
+
+QUESTION = quoted(UNKNOWN)
+
+CODES = "codes.csv"
+"""The tables of codes of a map, written back."""
+
+MOST_SHOWN = 20
+"""Warnings that the terminal shows; `problems.csv` and `report.html` have all."""
+
+IN_DOUBT = 3
+"""The exit status if prices are in doubt, and nothing else is wrong."""
+
+DESCRIPTION = """\
+Reads the spreadsheets of an office, as files of text (.csv, .tsv, .txt) or workbooks (.xlsx, .xlsm;
+.ods, .xls and .xlsb if LibreOffice is installed) in FOLDER, or as one workbook: items, outlets,
+collectors, series, classification, places, plans, handovers, calendar, prices, releases.
+docs/decide/MIGRATING-AN-OFFICE.md has their columns. Rows become records in the order of an office,
+and cpi itself says what it would refuse: in an office in memory, or over a copy of the office that
+--onto names, which isn't changed. What that office already has, exactly so, is passed over.
+
+--check writes problems.csv (kind, file, row as a spreadsheet counts it, column, number of the
+refusal, because, do) and report.html. A column of prices that is no month, a file that isn't read,
+and whatever can be read in two ways are problems. A price that may be a code for a missing one is
+in doubt: a first price more than ten times away from the others of its item or aggregate; nines, or
+one value of many items, that are as far away. Say what it is by --missing or --price.
+
+--map reads sheets of other forms with a file of TOML: other names of files, sheets and columns,
+months in four languages, an office's codes and marks, several prices of a month, quantities, and
+code pages.
+What a map gives is judged as everything else, and a text that it doesn't know is a problem.
+examples/maps has maps of known forms, and its README their words. OUT/map keeps a copy of the map,
+and codes.csv its codes.
+
+--propose reads the folder and writes a first map: each guess has its reason as a comment, and a
+person has to answer each "?" before the map is taken.
+
+--write makes the folder OUT with records-01.csv and on, if there is no problem, and prints the
+commands that send them; keys that weren't given are drawn, and are in OUT/keys.csv. The records
+have the collectors' keys in them: files here have mode 0600. A workbook unpacks to at most 256 MiB.
+"""
+
+EPILOG = """\
+example: cpi-tools take-in next-year/draft --onto office.db --check
+         cpi-tools take-in spreadsheets --check --minor 100 --weights percent
+         cpi-tools take-in spreadsheets --write records --minor 100 --weights percent
+
+exit status: 0 if there is no problem; 1 if there is one, or with one line what else went wrong;
+2 if the words are refused; 3 if the only doubt is whether prices are prices
+"""
+
+
+def add_words(tools: argparse._SubParsersAction[ToolWords]) -> None:
+    """The tool `take-in`."""
+    says = "makes records of an office's spreadsheets"
+    words = tools.add_parser("take-in", help=says, description=DESCRIPTION, epilog=EPILOG)
+    words.add_argument("folder", type=Path, metavar="FOLDER", help="the folder of the files, or one workbook .xlsx")
+    do = words.add_mutually_exclusive_group(required=True)
+    do.add_argument("--check", action="store_true", help="tells what is refused, and what would be done")
+    do.add_argument("--write", type=Path, metavar="OUT", help="writes the records, into a folder that isn't there yet")
+    do.add_argument("--propose", type=Path, metavar="FILE", help="writes a first map, with what it guessed and why")
+    words.add_argument("--onto", type=Path, metavar="FILE", help="the office that they are added to; it is only read")
+    words.add_argument(
+        "--out", type=Path, metavar="FOLDER", help="where problems.csv and report.html go (check, in FOLDER)"
+    )
+    words.add_argument(
+        "--map", type=Path, metavar="FILE", help="how sheets of other forms are read, as TOML: examples/maps/README.md"
+    )
+    words.add_argument("--zone", default="UTC0", metavar="Z", help="the clock of civil times, as cpi has it (UTC0)")
+    words.add_argument(
+        "--minor", type=at_least(1), metavar="N", help="minor units in a unit of the prices (1, or the map's)"
+    )
+    words.add_argument("--decimal", choices=(".", ","), help="the decimal sign (a point, or the map's)")
+    words.add_argument(
+        "--weights",
+        choices=UNITS_OF_WEIGHTS,
+        help="what weights are in; all but ppm are scaled to 1,000,000 by greatest remainders (ppm, or the map's)",
+    )
+    words.add_argument(
+        "--ignore",
+        action="append",
+        default=[],
+        metavar="NAME",
+        help="a column of prices, a file or a sheet that isn't read on purpose; may be repeated",
+    )
+    words.add_argument(
+        "--missing",
+        action="append",
+        default=[],
+        metavar="VALUE=REASON",
+        help=f"a value of prices that says why there is none ({', '.join(REASONS)}), as 9999.99=stock; may be repeated",
+    )
+    words.add_argument(
+        "--price",
+        action="append",
+        default=[],
+        metavar="VALUE",
+        help="a value that is in doubt, and is a price; may be repeated",
+    )
+    words.add_argument(
+        "--confirm-history",
+        action="store_true",
+        help="prices outside the tolerance are confirmed, and listed; none of a series with one in doubt is",
+    )
+    add_speech(words, "report.html")
+    csv_files.add_safe_csv(words)
+    add_program(words)
+    words.set_defaults(run=run, tool="take-in", words=words)
+
+
+def run(chosen: argparse.Namespace) -> int:
+    """Runs the tool by its words; its exit status."""
+    if chosen.propose:
+        return propose(chosen.folder, chosen.propose)
+    office_map = read_map(chosen.map) if chosen.map else None
+    options = options_of(chosen, office_map)
+    cpi = Cpi(chosen.program)
+    if chosen.write and os.path.lexists(chosen.write):
+        raise Fault(f"{chosen.write} is there already: name a folder that isn't")
+    check = (chosen.folder if chosen.folder.is_dir() else chosen.folder.parent) / "check"
+    out = chosen.out or check
+    teller = Teller(chosen_speech(chosen))
+    try:
+        with contextlib.ExitStack() as stack:
+            with Progress("cpi-tools take-in") as progress:
+                own = [out, check]
+                opener = opener_of(chosen.folder, office_map, options, own) if office_map else None
+                result = stack.enter_context(
+                    taken_in(cpi, chosen.folder, options, chosen.zone, chosen.onto, own, progress, opener)
+                )
+            show_warnings(result.taken.warnings)
+            show_readings(result.taken.readings)
+            doubts = result.taken.doubts.cells
+            if chosen.check or result.judged.problems or doubts:
+                write_check(out, chosen.folder.name, chosen.onto, result, teller)
+                if office_map:
+                    write_codes(out / CODES, office_map)
+            if result.judged.problems:
+                raise Fault(f"{counted(len(result.judged.problems), 'problem')}: {out / 'problems.csv'}")
+            if doubts:
+                show_doubts(doubts, out / "problems.csv")
+                return IN_DOUBT
+            print(summary(result.taken, result.judged))
+            if chosen.write and (files := write_records(chosen.write, result.taken)):
+                if office_map:
+                    keep_map(chosen.write, office_map)
+                print(command(files, chosen.zone, chosen.onto))
+    except OSError as fault:
+        raise Fault(because_of(fault)) from fault
+    except sqlite3.Error as fault:
+        raise Fault(f"the prices can't be stored in {tempfile.gettempdir()}: {fault}") from fault
+    return 0
+
+
+def propose(folder: Path, out: Path) -> int:
+    """Writes a first map into a file that isn't there yet; the exit status."""
+    if os.path.lexists(out):
+        raise Fault(f"{out} is there already: name a file that isn't")
+    try:
+        text = proposal(folder)
+        with private_file(out) as file:
+            file.write(text)
+    except OSError as fault:
+        raise Fault(because_of(fault)) from fault
+    print(f"{out}: a first map, to be read line by line; {text.count(QUESTION)} answers are to be given")
+    return 0
+
+
+def opener_of(folder: Path, office_map: OfficeMap, options: Options, own: Sequence[Path]) -> Opener:
+    """Opens the sheets of a folder by a map."""
+    return lambda books, known: MappedSource(folder, office_map, options.decimal, known, options.ignored, own, books)
+
+
+def write_codes(path: Path, office_map: OfficeMap) -> None:
+    """Writes the map's tables of codes as one: the column, the office's code, and ours."""
+    rows = ((column, theirs, ours) for column, codes in office_map.codes.items() for theirs, ours in codes.items())
+    write_rows(path, ("column", "theirs", "ours"), rows)
+
+
+def keep_map(records: Path, office_map: OfficeMap) -> None:
+    """Keeps a map with the records that were made by it: its files, as they are, in a folder `map`, and its codes."""
+    kept = records / "map"
+    kept.mkdir(mode=0o700)
+    for part in office_map.parts:
+        with private_file(kept / part.name) as file:
+            file.write(part.read_text(encoding="utf-8"))
+    write_codes(records / CODES, office_map)
+
+
+def said(chosen: argparse.Namespace, word: str, office_map: Optional[OfficeMap], otherwise: object) -> object:
+    """What the words of the command or the map say of a word; what both say differently is refused."""
+    given, mapped = getattr(chosen, word), getattr(office_map, word, None)
+    if given and mapped and given != mapped:
+        raise Fault(f"--{word} is {given}, and {chosen.map} says {mapped}: wanted the same, or one of the two")
+    return given or mapped or otherwise
+
+
+def options_of(chosen: argparse.Namespace, office_map: Optional[OfficeMap] = None) -> Options:
+    """How texts are read, by the words of the command and a map; a value that is none is refused."""
+    ignored = frozenset(name.strip().lower() for name in chosen.ignore)
+    decimal_sign = str(said(chosen, "decimal", office_map, "."))
+    numbers, codes, priced = Numbers(decimal_sign), dict[str, str](), set[Fraction]()
+    for text in chosen.missing:
+        value, _, reason = text.rpartition("=")
+        if not value.strip() or reason not in REASONS:
+            chosen.words.error(f"--missing {text}: write a value and a reason ({', '.join(REASONS)}), as 9999.99=stock")
+        codes[value] = reason
+    for text in chosen.price:
+        number = numbers.of(text)
+        if number is None:
+            chosen.words.error(f"--price {text}: it is no number with the decimal sign {decimal_sign}")
+        else:
+            priced.add(number)
+    minor, weights = int(str(said(chosen, "minor", office_map, 1))), str(said(chosen, "weights", office_map, "ppm"))
+    rule = office_map.rule if office_map else Rule()
+    confirm = chosen.confirm_history
+    return Options(minor, decimal_sign, weights, confirm, ignored, codes, frozenset(priced), rule)
+
+
+def show_readings(readings: Sequence[MonthRead]) -> None:
+    """Prints the first months that were read of other spellings on standard error."""
+    for it in readings[:MOST_SHOWN]:
+        column = "" if it.column == it.text else f", {it.column}"
+        print(f"cpi-tools take-in: {it.file}{column}: {shown(it.text)} is read as {it.month}", file=sys.stderr)
+    if len(readings) > MOST_SHOWN:
+        print(f"cpi-tools take-in: {counted(len(readings) - MOST_SHOWN, 'more month')} read so", file=sys.stderr)
+
+
+def show_doubts(doubts: Sequence[SheetFault], problems: Path) -> None:
+    """Prints the first prices that are in doubt on standard error, and that nothing is taken in."""
+    for it in doubts[:MOST_SHOWN]:
+        print(f"cpi-tools take-in: {place(it.origin)}: {it.because}; {it.do}", file=sys.stderr)
+    count = counted(len(doubts), "price")
+    print(f"cpi-tools take-in: {count} in doubt, and nothing is taken in: {problems}", file=sys.stderr)
+
+
+def show_warnings(warnings: Sequence[SheetFault]) -> None:
+    """Prints the first warnings on standard error."""
+    for it in warnings[:MOST_SHOWN]:
+        print(f"cpi-tools take-in: warning: {place(it.origin)}: {it.because}", file=sys.stderr)
+    if len(warnings) > MOST_SHOWN:
+        print(f"cpi-tools take-in: {counted(len(warnings) - MOST_SHOWN, 'more warning')}", file=sys.stderr)

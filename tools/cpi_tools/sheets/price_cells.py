@@ -1,0 +1,357 @@
+"""The sheet of prices: a row a price, or a column a month. Each cell becomes the quote of a slot in a month."""
+
+from __future__ import annotations
+
+import re
+from collections import defaultdict
+from collections.abc import Collection, Iterator, Mapping, Sequence
+from fractions import Fraction
+from typing import NamedTuple, Optional, Union
+
+from ..text.message import Message, message
+from ..text.others import of_others
+from .cells import Capped, Columns, MonthRead, Numeral, Origin, Row, Sheet, SheetFault, cut
+from .months_of_texts import month_of, told_no_month
+from .numbers_of_texts import Numbers
+from .price_store import Form, Price
+from .record_rows import slot_of
+
+REASONS = ("stock", "closed", "gone", "refused")
+"""Why there is no price."""
+
+MISSING, PRICE, COMPARABLE, OTHER = "missing", "price", "comparable", "other"
+MARKS = (MISSING, PRICE, COMPARABLE, OTHER)
+EMPTY = ("", ".")
+"""Cells of a wide sheet that are no quote."""
+
+DAY, SHARE = "day", "share"
+"""What a map tells of a row besides its columns: the day of a price, `2026-01-15`; and by what a price is multiplied, so
+that it is one of the item's unit, such as `1000/450`."""
+
+VALUE = of_others("value")
+
+OF_A_ROW = ("month", "value")
+"""The columns that only a sheet with a row for each price has."""
+
+MONTH = of_others("2026-01")
+LIKE = message("write a month like {month}", month=MONTH)
+
+
+NO_CODES: Mapping[str, str] = {}
+
+
+class Place(NamedTuple):
+    """What a slot prices from its first to its last month; all as texts."""
+
+    collector: str
+    slot: str
+    outlet: str
+    item: str
+    first: str
+    last: str
+
+
+class Held(NamedTuple):
+    """A place, and the month from which on another slot has its series, empty if none has."""
+
+    place: Place
+    until: str = ""
+
+    def is_in(self, month: str) -> bool:
+        """Whether the slot prices in a month."""
+        return self.place.first <= month <= self.place.last and not (self.until and self.until <= month)
+
+
+class Cell(NamedTuple):
+    """A cell with a price or a reason, and the names of the columns of its month and its text."""
+
+    row: Row
+    month: str
+    text: str
+    month_column: str
+    text_column: str
+
+
+class Codes:
+    """The values that stand for a reason why there is no price."""
+
+    def __init__(self, codes: Mapping[str, str], numbers: Numbers):
+        self._numbers = numbers
+        self._texts = {text.strip().lower(): reason for text, reason in codes.items()}
+        found = ((numbers.of(text), reason) for text, reason in codes.items())
+        self._values: dict[Fraction, str] = {value: reason for value, reason in found if value is not None}
+
+    def reason(self, text: str) -> str:
+        """The reason that a text stands for, whatever its form is (`9999.99`, `9,999.990`); empty if it is no code."""
+        reason = self._texts.get(text.strip().lower(), "")
+        if reason or not self._values:
+            return reason
+        value = self._numbers.of(text)
+        return "" if value is None else self._values.get(value, "")
+
+
+class PriceCells:
+    """Reads a sheet of prices."""
+
+    def __init__(
+        self,
+        sheet: Sheet,
+        columns: Columns,
+        numbers: Numbers,
+        minor: int,
+        ignored: Collection[str],
+        codes: Mapping[str, str] = NO_CODES,
+    ):
+        """`minor` is how many minor units are in a unit of the prices; `ignored` are columns in small letters that
+        aren't read on purpose; `codes` are the texts that stand for a reason."""
+        self._sheet, self._numbers, self._minor = sheet, numbers, minor
+        self._codes = Codes(codes, numbers)
+        self._places: dict[tuple[str, str], list[Held]] = {}
+        self._of_slots: dict[tuple[str, str], Place] = {}
+        self._read: dict[str, str] = {}
+        self._currency: Optional[tuple[str, Cell]] = None
+        self.faults = Capped()
+        self.count = 0
+        self.keeps_fractions = False
+        """Whether a price that isn't whole is kept exactly, `500/3`, for a rule of the office."""
+        self.is_wide = "value" not in sheet.columns
+        self._months = self._months_of_columns(columns, ignored)
+        self.is_wide &= bool(self._months) or "month" not in sheet.columns
+        slot = ("outlet", "item") if {"outlet", "item"} & {*sheet.columns} else ("collector", "slot")
+        self.needed: tuple[str, ...] = slot if self.is_wide else (*slot, *OF_A_ROW)
+        if self.is_wide and not self._months:
+            because = message("no column is a month, and there is no column {column}", column=VALUE)
+            do = message("write a month like {month} above prices, or give a row to each price", month=MONTH)
+            self.faults.add(SheetFault(self.heading, because, do))
+
+    # ---- the form of the sheet
+
+    def _months_of_columns(self, columns: Columns, ignored: Collection[str]) -> list[tuple[str, str, str]]:
+        """The columns of a wide sheet that are a month: their name, their name as it is written, and the month. What is
+        neither such a column nor a known one is a problem."""
+        found: dict[str, tuple[str, str, str]] = {}
+        known = {*columns.needed, *columns.others}
+        for column, written in zip(self._sheet.columns, self._sheet.written):
+            month = month_of(written)
+            if column in ignored or not column:
+                continue
+            if month and self.is_wide and month in found:
+                two = {"one": of_others(found[month][1]), "other": of_others(written)}
+                both = message('"{one}" and "{other}" are both the month {month}', **two, month=of_others(month))
+                self._tell_column(written, both, message("leave one of the two columns"))
+            elif month and self.is_wide:
+                found[month] = (column, written, month)
+            elif month:
+                because = message(
+                    "{text} is a month, and a sheet with a column {column} has a row for each price",
+                    text=of_others(written),
+                    column=VALUE,
+                )
+                do = message("take out the column {column}, or those that are months", column=VALUE)
+                self._tell_column(written, because, do)
+            elif column not in known:
+                do = message(
+                    "write a month like {month}; if the column has no prices, name it: {words}",
+                    month=MONTH,
+                    words=of_others(f'--ignore "{written}"'),
+                )
+                self._tell_column(written, told_no_month(written), do)
+        if found and "month" in self._sheet.columns and "month" not in ignored:
+            column = of_others("month")
+            because = message("a sheet with a column for each month has no column {column}", column=column)
+            do = message("take out the column {column}, or give a row to each price", column=column)
+            self._tell_column("month", because, do)
+        return [*found.values()]
+
+    def _tell_column(self, column: str, because: Message, do: Message) -> None:
+        self.faults.add(SheetFault(self.heading.at(column), because, do))
+
+    @property
+    def heading(self) -> Origin:
+        """The row of the heading."""
+        return Origin(self._sheet.file, 1)
+
+    def readings(self) -> list[MonthRead]:
+        """Each text of a month that was read, once for each column, but for those like `2026-01`."""
+        of_heads = [MonthRead(self._sheet.file, written, written, month) for _, written, month in self._months]
+        of_rows = [MonthRead(self._sheet.file, "month", text, month) for text, month in self._read.items()]
+        return [it for it in (*of_heads, *of_rows) if it.month not in ("", it.text)]
+
+    def _cells(self) -> Iterator[Cell]:
+        for row in self._sheet.rows:
+            if self.is_wide:
+                cells = ((month, written, row[column]) for column, written, month in self._months)
+                yield from (Cell(row, it, text, name, name) for it, name, text in cells if text.strip() not in EMPTY)
+            elif month := self._month(row):
+                yield Cell(row, month, row["value"], row.name("month"), row.name("value"))
+
+    def _month(self, row: Row) -> str:
+        """The month of a row; empty, and told, if it can't be read."""
+        text = row["month"]
+        if text not in self._read:
+            self._read[text] = month_of(text)
+        if not self._read[text]:
+            self.faults.add(SheetFault(row.at("month"), told_no_month(text), LIKE))
+        return self._read[text]
+
+    # ---- whose price it is
+
+    def place(self, places: Sequence[Place], handed: Sequence[Row]) -> None:
+        """Notes what each slot prices, and from when on another does by a hand-over."""
+        held = {(it.collector, it.slot): Held(it) for it in places}
+        for row in handed:
+            former = held.get((row["collector"], row["slot"]))
+            if former:
+                new = former.place._replace(collector=row["to"], slot=row["to_slot"], first=row["month"])
+                held[row["collector"], row["slot"]] = former._replace(until=row["month"])
+                held[row["to"], row["to_slot"]] = Held(new)
+        self._of_slots = {slot: it.place for slot, it in held.items()}
+        self._places = defaultdict(list)
+        for it in held.values():
+            self._places[it.place.outlet, it.place.item].append(it)
+
+    @property
+    def slots(self) -> Mapping[tuple[str, str], Place]:
+        """What each slot prices, by collector and slot."""
+        return self._of_slots
+
+    def _slot(self, cell: Cell) -> Optional[tuple[str, str, str]]:
+        """Collector and slot of a price, as told or by its outlet and item; and the column that tells."""
+        row = cell.row
+        if row["collector"] and row["slot"] or "item" not in self._sheet.columns:
+            return None if self._is_of_another(row) else (row["collector"], row["slot"], "slot")
+        of_series = self._places.get((row["outlet"], row["item"]), [])
+        found = [it.place for it in of_series if it.is_in(cell.month)]
+        found = [it for it in found if row["collector"] in ("", it.collector)]
+        if len(found) == 1:
+            return found[0].collector, found[0].slot, "item"
+        self.faults.add(self._told_no_slot(cell, bool(of_series), bool(found)))
+        return None
+
+    def _is_of_another(self, row: Row) -> bool:
+        """Tells a row whose slot prices another item, or in another outlet, than the row names too."""
+        of = self._of_slots.get((row["collector"], row["slot"]))
+        for name in ("outlet", "item") if of else ():
+            if row[name] and row[name] != getattr(of, name):
+                self.faults.add(told_of_another(row, name, getattr(of, name)))
+                return True
+        return False
+
+    def _told_no_slot(self, cell: Cell, has_series: bool, has_several: bool) -> SheetFault:
+        """Why a price isn't that of one slot: once for a row if that is so in each of its months."""
+        row = cell.row
+        if not row["outlet"] or not row["item"]:
+            return told_unnamed(row)
+        named = {"item": cut(row["item"]), "outlet": cut(row["outlet"]), "month": of_others(cell.month)}
+        if has_several:
+            because = message(
+                'more than one slot prices the item "{item}" in the outlet "{outlet}" in {month}', **named
+            )
+        elif has_series:
+            because = message('no series has the item "{item}" in the outlet "{outlet}" in {month}', **named)
+        else:
+            because = message('no series has the item "{item}" in the outlet "{outlet}"', **named)
+        do = message("check the outlet, the item and the months of its series, or give collector and slot")
+        return SheetFault(row.at("item"), because, do)
+
+    # ---- quotes
+
+    def prices(self) -> Iterator[Price]:
+        """All cells as they are sent, in the order of the sheet."""
+        for cell in self._cells():
+            self.count += 1
+            slot, turn = self._slot(cell), self._turn(cell.row)
+            if slot is not None and turn is not None:
+                yield self._price_of(cell, turn, *slot)
+
+    def _turn(self, row: Row) -> Optional[int]:
+        revision = row["revision"]
+        if revision and not re.fullmatch("[1-9]|10", revision):
+            because, do = message('"{text}" is no revision', text=of_others(revision)), message(
+                "give 1 to 9, or leave it empty"
+            )
+            self.faults.add(SheetFault(row.at("revision"), because, do))
+            return None
+        return int(revision or 1)
+
+    def _price_of(self, cell: Cell, turn: int, collector: str, slot: str, column: str) -> Price:
+        """The quote of a cell: a reason, or a price by itself or behind its mark; `confirm` as the row has it."""
+        mark, value = cell.row["mark"], cell.text
+        mark_column = cell.row.name("mark") if mark else cell.text_column
+        if not mark:
+            first, *others = value.split() or [""]
+            word = first.lower()
+            if word in REASONS:
+                mark, value = MISSING, " ".join([word, *others])
+            else:
+                mark = word if others and word in MARKS else PRICE
+                value = value.strip()[len(first) :].strip() if others and word in MARKS else value
+        hint, confirm = "", cell.row["confirm"]
+        if mark != MISSING and (reason := self._codes.reason(value)):
+            mark, value, confirm = MISSING, reason, ""
+        if mark != MISSING:
+            value, hint = self._minor_units(cell, value)
+        row, own = cell.row, cell.row.name("collector" if column == "slot" else "item")
+        columns = (row.name(column), cell.month_column, mark_column, cell.text_column, row.name("confirm"), own)
+        form, given = Form(row.origin.file, columns), str(cell.text)
+        sent = (mark, value.strip(), confirm)
+        return Price(cell.month, turn, collector, slot, *sent, row.origin.row, form, given, hint, row[DAY])
+
+    def _look_at_currency(self, cell: Cell, currency: str) -> None:
+        """Tells a price that its cell shows in another currency than the first price that has one."""
+        first = self._currency = self._currency or (currency, cell)
+        if first[0] != currency:
+            because = message(
+                'the price is shown in "{currency}", and that of row {row}, {column} in "{other}"',
+                currency=cut(currency),
+                row=first[1].row.origin.row,
+                column=of_others(first[1].text_column),
+                other=cut(first[0]),
+            )
+            do = message("give all prices in one currency, and all cells its format")
+            self.faults.add(SheetFault(cell.row.origin.at(cell.text_column), because, do))
+
+    def _minor_units(self, cell: Cell, text: str) -> tuple[str, Union[Message, str]]:
+        """A price in minor units; what is no whole number of them goes to the program as it is, which refuses it, with
+        what is known of it."""
+        number = self._numbers.of(text)
+        if isinstance(text, Numeral) and text.currency:
+            self._look_at_currency(cell, text.currency)
+        if number is None:
+            return text, self._numbers.told_none(text) if text else message("the cell is empty")
+        share = cell.row[SHARE]
+        minor = number * self._minor * (Fraction(share) if share else 1)
+        if self._minor % 1000 and (doubt := self._numbers.told_thousands(text)):
+            return f"{text} * {self._minor}", doubt
+        if minor.denominator == 1:
+            return str(minor.numerator), ""
+        hint = message(
+            "{text} isn't whole in minor units ({option})",
+            text=of_others(f"{text} * {share}" if share else text),
+            option=of_others("--minor"),
+        )
+        if self.keeps_fractions:
+            return str(minor), hint
+        return text if self._minor == 1 else f"{text} * {self._minor}", hint
+
+
+def told_of_another(row: Row, name: str, other: str) -> SheetFault:
+    """A row whose slot prices another outlet or item, `name`, than the row has."""
+    named = {"text": cut(row[name]), "slot": slot_of(row["collector"], row["slot"]), "other": cut(other)}
+    if name == "outlet":
+        because = message('the row has the outlet "{text}", and slot {slot} prices "{other}"', **named)
+        do = message("mend the slot or the outlet, or leave one of the two out")
+    else:
+        because = message('the row has the item "{text}", and slot {slot} prices "{other}"', **named)
+        do = message("mend the slot or the item, or leave one of the two out")
+    return SheetFault(row.at(name), because, do)
+
+
+def told_unnamed(row: Row) -> SheetFault:
+    """A row that has prices and no outlet, no item or neither."""
+    do = message("write it in each row with a price; a unit, a total or a note isn't read: take it out")
+    if row["outlet"]:
+        return SheetFault(row.at("item"), message("the row has prices and names no item"), do)
+    if row["item"]:
+        return SheetFault(row.at("outlet"), message("the row has prices and names no outlet"), do)
+    return SheetFault(row.at("outlet"), message("the row has prices and names no outlet and item"), do)

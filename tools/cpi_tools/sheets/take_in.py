@@ -1,0 +1,144 @@
+"""An office's spreadsheets become the records of `cpi`: read, judged by the program, and written.
+
+What would be refused is told by the program, over an office in memory or over a private copy of another one. No office
+is written: files of records are made, and the desk sends them. `maps/take_in_words` has the tool.
+"""
+
+from __future__ import annotations
+
+import contextlib
+import itertools
+import shlex
+from collections.abc import Callable, Iterable, Iterator, Mapping, Sequence
+from pathlib import Path
+from typing import NamedTuple, Optional
+
+from ..office.copying import private_copy
+from ..office.private_files import private_file, write_rows
+from ..office.program import Cpi
+from ..office.rooms import new_room
+from ..office.stored import stored_office
+from ..text.report_language import ENGLISH, Teller
+from ..text.terminal import Progress
+from .converted import converted
+from .judge import Judge, Judged, moments_of
+from .known_rows import NOTHING, Known
+from .known_sheets import known_of
+from .numbers_of_texts import decimal
+from .office_files import OfficeFiles, Options, Taken
+from .office_sheets import SHEETS
+from .record_rows import MOST_RECORDS, Bundle
+from .sheet_files import Sheets, Source, files_of
+from .taken_page import page
+
+
+Opener = Callable[[Mapping[Path, Path], Known], Sheets]
+"""Opens the sheets of an office; handed in are the workbooks that files of other kinds became, and what the office to
+which the sheets are added has already."""
+
+
+class TakenIn(NamedTuple):
+    """What the files say, and what the program says to it."""
+
+    taken: Taken
+    judged: Judged
+
+
+@contextlib.contextmanager
+def taken_in(
+    cpi: Cpi,
+    folder: Path,
+    options: Options,
+    zone: str,
+    onto: Optional[Path] = None,
+    own: Sequence[Path] = (),
+    progress: Optional[Progress] = None,
+    opener: Optional[Opener] = None,
+) -> Iterator[TakenIn]:
+    """Reads the files of a folder or a workbook, and lets the program judge them.
+
+    `onto` is the file of an office to which they are to be added: it is copied, and not a byte of it changes. `own` are
+    folders that this tool writes, and doesn't read; `opener` opens sheets of other forms. What was
+    taken is kept as long as the context is. Raises Fault if
+    the folder can't be read, no right copy can be made, or the program fails.
+    """
+    now = progress.now if progress else lambda _: None
+    now(f"reading {folder}")
+    with contextlib.ExitStack() as stack:
+        copy = stack.enter_context(private_copy(onto)) if onto else None
+        with converted(files_of(folder)) as workbooks, known_from(cpi, copy, onto) as known:
+            opened = opener or (lambda books, _: Source(folder, SHEETS, options.ignored, own, books))
+            with contextlib.closing(opened(workbooks, known)) as source:
+                files = OfficeFiles(source, options, known, lambda texts: moments_of(cpi, texts, zone), onto is None)
+                taken = files.in_order()
+        stack.callback(taken.store.close)
+        now("cpi judges what was read")
+        yield TakenIn(taken, Judge(cpi, zone, options.is_confirmed, known.items).judge(taken, copy))
+
+
+@contextlib.contextmanager
+def known_from(cpi: Cpi, copy: Optional[Path], onto: Optional[Path]) -> Iterator[Known]:
+    """What the copy of an office has, once the program has opened it: so its schema is the one that is read here."""
+    if copy is None or onto is None:
+        yield NOTHING
+        return
+    cpi.open(copy, onto)
+    with stored_office(copy) as stored:
+        yield known_of(stored)
+
+
+# ---- what is written
+
+
+def write_check(out: Path, name: str, onto: Optional[Path], result: TakenIn, teller: Teller = ENGLISH) -> None:
+    """Writes `problems.csv` and `report.html`, and `weights.csv` if weights were scaled. The page is in the language of a
+    teller, the files are in English."""
+    out.mkdir(mode=0o700, parents=True, exist_ok=True)
+    problems = (("problem", *it.origin, it.number, it.because, it.do) for it in result.judged.problems)
+    doubts = (("doubt", *it.origin, "", it.because, it.do) for it in result.taken.doubts.cells)
+    warnings = (("warning", *it.origin, "", it.because, it.do) for it in result.taken.warnings)
+    heads = ("kind", "file", "row", "column", "number", "because", "do")
+    write_rows(out / "problems.csv", heads, itertools.chain(problems, doubts, warnings))
+    (out / "weights.csv").unlink(missing_ok=True)
+    if result.taken.weighed:
+        weights = (
+            (it.year, it.code, it.given, decimal(it.share).replace(",", ""), it.weight, decimal(it.weight - it.share))
+            for it in result.taken.weighed
+        )
+        write_rows(out / "weights.csv", ("year", "code", "given", "share", "weight", "change"), weights)
+    with private_file(out / "report.html") as file:
+        file.write(page(name, onto, result.taken, result.judged, teller))
+
+
+def write_records(out: Path, taken: Taken, most: int = MOST_RECORDS) -> list[Path]:
+    """Writes a new folder of records, `most` a file, whole or not at all; the files, none if nothing is to be sent.
+
+    A key that was drawn is in `keys.csv` next to them, and in no other place but the records.
+    """
+    out.parent.mkdir(parents=True, exist_ok=True)
+    with new_room(".cpi-take-in-", out.parent) as room:
+        made = room / "records"
+        made.mkdir(mode=0o700)
+        names = []
+        for number, part in enumerate(parted(taken.bundles, most), 1):
+            names.append(f"records-{number:02}.csv")
+            with private_file(made / names[-1]) as file:
+                file.writelines(f"{it.line()}\n" for it in part)
+        if taken.drawn:
+            write_rows(made / "keys.csv", ("collector", "key"), taken.drawn.items())
+        made.rename(out)
+    return [out / name for name in names]
+
+
+def parted(bundles: Iterable[Bundle], most: int) -> Iterator[Iterator[Bundle]]:
+    """What is sent in parts of at most so many, each to be read before the next one."""
+    left = iter(bundles)
+    for first in left:
+        yield itertools.chain([first], itertools.islice(left, most - 1))
+
+
+def command(files: Sequence[Path], zone: str, onto: Optional[Path]) -> str:
+    """The commands that send the records to an office."""
+    db = shlex.quote(str(onto or "office.db"))
+    clock = "" if zone == "UTC0" else f" --zone {shlex.quote(zone)}"
+    return "\n".join(f"cpi replay{clock} --db {db} < {shlex.quote(str(it))}" for it in files)

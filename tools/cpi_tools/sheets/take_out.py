@@ -1,0 +1,251 @@
+"""`cpi-tools take-out FILE FOLDER`: an office's file as the spreadsheets that `take-in` reads. Nobody is locked in.
+
+Prices are in minor units, weights in parts per million, moments in seconds since 1970 UTC. Each quote says the first
+revision whose freeze took it; one that came after the last freeze says the revision after that. All prices that could
+have been outside the tolerance are confirmed: they were accepted once.
+"""
+
+from __future__ import annotations
+
+import argparse
+import os
+import sqlite3
+import sys
+from collections.abc import Iterable, Iterator, Sequence
+from pathlib import Path
+
+from ..office.copying import private_copy
+from ..office.private_files import write_rows
+from ..office.program import Cpi, add_program
+from ..office.rooms import new_room
+from ..office.stored import Assignment, Quote, Release, Series, Slot, StoredOffice, Window, stored_office
+from ..text.terminal import Fault, Progress, ToolWords, because_of, month_text
+from .office_sheets import SHEETS
+from .price_cells import COMPARABLE, MISSING, PRICE, REASONS
+
+Line = Sequence[object]
+Held = dict[Series, list[Assignment]]
+"""The assignments of each series, from its first holder to its last."""
+
+
+def held_by(stored: StoredOffice) -> Held:
+    """Who has each series, one after the other."""
+    found: Held = {}
+    for it in stored.assignments():
+        found.setdefault(it.series, []).append(it)
+    return found
+
+
+# ---- what was registered
+
+
+def rows_of_series(held: Held) -> Iterator[Line]:
+    """What each slot was first given: up to the last month of all who have the series."""
+    rows = [
+        (first.collector, first.slot, first.outlet, first.item, first.first_month, own[-1].last_month)
+        for own in held.values()
+        for first in own[:1]
+    ]
+    yield from ((*it[:4], month_text(it[4]), month_text(it[5])) for it in sorted(rows))
+
+
+def rows_of_handovers(held: Held) -> Iterator[Line]:
+    """Each hand-over, by month."""
+    pairs = [pair for own in held.values() for pair in zip(own, own[1:])]
+    for former, it in sorted(pairs, key=lambda pair: (pair[1].first_month, pair[0].collector, pair[0].slot)):
+        yield month_text(it.first_month), former.collector, former.slot, it.collector, it.slot
+
+
+def rows_of_classification(stored: StoredOffice) -> Iterator[Line]:
+    """Titles and weights as they were sent; a node above has no weight of its own."""
+    for plan in stored.plans():
+        weights = plan.aggregates()
+        yield from ((plan.year, code, title, weights.get(code, "")) for code, title in plan.titles.items())
+
+
+def rows_of_places(stored: StoredOffice) -> Iterator[Line]:
+    """The aggregate of each item, by year."""
+    return ((plan.year, item, code) for plan in stored.plans() for item, code in plan.places.items())
+
+
+def rows_of_plans(stored: StoredOffice) -> Iterator[Line]:
+    """The reference month of each plan, if it has one."""
+    return ((plan.year, month_text(plan.reference) if plan.reference else "") for plan in stored.plans())
+
+
+def rows_of_calendar(stored: StoredOffice) -> Iterator[Line]:
+    """The windows as they stand."""
+    return ((month_text(it.month), *it[1:]) for it in stored.calendar())
+
+
+# ---- months
+
+
+def window_of(frozen_at: int, publishes: int, now: Window) -> tuple[int, int]:
+    """When the window of a revision opens and closes, so that it is frozen at its moment: as the calendar has it now,
+    or sooner where the revision was frozen or published sooner. What the calendar had then isn't stored."""
+    closes = min(now.closes, frozen_at, publishes)
+    return min(now.opens, closes - 1), closes
+
+
+def rows_of_releases(stored: StoredOffice) -> Iterator[Line]:
+    """The freezes of each month with their carry lists."""
+    windows = {it.month: it for it in stored.calendar()}
+    moments = stored.frozen_moments()
+    for month, revision, carry in stored.releases():
+        frozen_at, publishes = moments[month, revision]
+        opens, closes = window_of(frozen_at, publishes, windows[month])
+        yield month_text(month), revision, opens, closes, publishes, frozen_at, " ".join(carry)
+
+
+def rows_of_prices(stored: StoredOffice, held: Held) -> Iterator[Line]:
+    """Every quote, by month and revision."""
+    series = {(it.collector, it.slot): it.series for own in held.values() for it in own}
+    releases = stored.releases()
+    for month in sorted({*stored.months_of_quotes(), *(it.month for it in releases)}):
+        own = [it for it in releases if it.month == month]
+        for revision, slot, quote in quotes_of(stored, month, own, held, series):
+            mark, value = told_quote(quote)
+            confirm = "confirm" if mark in (PRICE, COMPARABLE) else ""
+            yield month_text(month), *slot, mark, value, confirm, revision
+
+
+def told_quote(quote: Quote) -> tuple[str, object]:
+    """A quote's mark and its price, or `missing` and the reason."""
+    return (MISSING, quote.mark) if quote.mark in REASONS else (quote.mark, quote.value)
+
+
+def quotes_of(
+    stored: StoredOffice, month: int, releases: Sequence[Release], held: Held, series: dict[Slot, Series]
+) -> Iterator[tuple[int, Slot, Quote]]:
+    """Revision, slot and quote: what each freeze took that the one before hadn't, and then what stands and no freeze
+    took."""
+    before: dict[Series, Quote] = {}
+    for release in releases:
+        for own, frozen in sorted(stored.frozen(release).items()):
+            quote = Quote(frozen.mark, frozen.value)
+            if before.get(own) != quote:
+                before[own] = quote
+                yield release.revision, slot_in(held[own], month), quote
+    for slot, quote in sorted(stored.quotes(month).items()):
+        if before.get(series[slot]) != quote:
+            yield len(releases) + 1, slot, quote
+
+
+def slot_in(own: Sequence[Assignment], month: int) -> Slot:
+    """The slot that has a series in a month."""
+    (it,) = [it for it in own if it.first_month <= month <= it.last_month]
+    return it.collector, it.slot
+
+
+# ---- files
+
+Table = tuple[str, Sequence[str], Iterable[Line]]
+"""A file's name, its columns, its rows."""
+
+
+def tables(stored: StoredOffice) -> Iterator[Table]:
+    """Each sheet of an office."""
+    held = held_by(stored)
+    rows: dict[str, Iterable[Line]] = {
+        "items": stored.items(),
+        "outlets": stored.outlets().items(),
+        "collectors": stored.keys().items(),
+        "series": rows_of_series(held),
+        "classification": rows_of_classification(stored),
+        "places": rows_of_places(stored),
+        "plans": rows_of_plans(stored),
+        "handovers": rows_of_handovers(held),
+        "calendar": rows_of_calendar(stored),
+        "prices": rows_of_prices(stored, held),
+        "releases": rows_of_releases(stored),
+    }
+    yield from ((name, COLUMNS[name], own) for name, own in rows.items())
+
+
+COLUMNS: dict[str, Sequence[str]] = {
+    **{name: (*columns.needed, *columns.others) for name, columns in SHEETS.items()},
+    "items": SHEETS["items"].needed,
+    "series": ("collector", "slot", "outlet", "item", "first", "last"),
+    "prices": ("month", "collector", "slot", "mark", "value", "confirm", "revision"),
+}
+"""The columns of each file, in the order in which they are written."""
+
+
+def write_files(stored: StoredOffice, folder: Path) -> dict[str, int]:
+    """Writes the files of mode 0600 into a folder; how many rows each has."""
+    counts = {}
+    for name, columns, rows in tables(stored):
+        counts[name] = 0
+
+        def counting(own: Iterable[Line], name: str = name) -> Iterator[Line]:
+            for row in own:
+                counts[name] += 1
+                yield row
+
+        write_rows(folder / f"{name}.csv", columns, counting(rows))
+    return counts
+
+
+def take_out(cpi: Cpi, file: Path, folder: Path) -> dict[str, int]:
+    """Writes a new folder of an office's files, whole or not at all; how many rows each has.
+
+    FILE is copied, and not a byte of it changes. Raises Fault where no right copy can be made or it is no office.
+    """
+    if os.path.lexists(folder):
+        raise Fault(f"{folder} is there already: name a folder that isn't")
+    folder.parent.mkdir(parents=True, exist_ok=True)
+    with private_copy(file) as copy, new_room(".cpi-take-out-", folder.parent) as room:
+        # (the program opens it first, so it is an office, and of the schema that is read here)
+        cpi.open(copy, file)
+        made = room / "files"
+        made.mkdir(mode=0o700)
+        with stored_office(copy) as stored:
+            counts = write_files(stored, made)
+        made.rename(folder)
+    return counts
+
+
+# ---- words
+
+DESCRIPTION = """\
+Writes an office's file as CSV files that cpi-tools take-in reads, into a new folder: items,
+outlets, collectors, series, classification, places, plans, handovers, calendar, prices, releases.
+Prices are in minor units, weights in parts per million, moments in seconds since 1970 UTC. Taken in
+again they give the same tables, of all revisions. FILE is copied, while cpi runs or not, and isn't
+changed.
+
+The collectors' keys are in collectors.csv, and all prices in prices.csv: the files have mode 0600.
+"""
+
+EPILOG = """\
+example: cpi-tools take-out office.db spreadsheets
+
+exit status: 0 where the files are there; 1 with one line why they aren't, and nothing is left;
+2 where the words are refused
+"""
+
+
+def add_words(tools: argparse._SubParsersAction[ToolWords]) -> None:
+    """The tool `take-out`."""
+    says = "writes an office's file as the spreadsheets that take-in reads"
+    words = tools.add_parser("take-out", help=says, description=DESCRIPTION, epilog=EPILOG)
+    words.add_argument("file", type=Path, metavar="FILE", help="the office's file, which is only read")
+    words.add_argument("folder", type=Path, metavar="FOLDER", help="a folder that isn't there yet")
+    add_program(words)
+    words.set_defaults(run=run, tool="take-out", words=words)
+
+
+def run(chosen: argparse.Namespace) -> int:
+    """Runs the tool by its words; its exit status."""
+    try:
+        with Progress("cpi-tools take-out") as progress:
+            progress.now(f"writing {chosen.folder}")
+            counts = take_out(Cpi(chosen.program), chosen.file, chosen.folder)
+    except OSError as fault:
+        raise Fault(because_of(fault)) from fault
+    except sqlite3.Error as fault:
+        raise Fault(f"{chosen.file} can't be read: {fault}") from fault
+    print(f"cpi-tools take-out: {chosen.folder / 'collectors.csv'} has the collectors' keys", file=sys.stderr)
+    print(f"{chosen.folder}: " + ", ".join(f"{name} {count:,}" for name, count in counts.items()))
+    return 0

@@ -1,0 +1,1 @@
+"""The sheets of a coming year: its draft, its sample, its moved weights."""

@@ -1,0 +1,1 @@
+"""Texts, figures and pages: messages and their languages, whole numbers, the terminal."""

@@ -1,0 +1,78 @@
+"""Pages of sections: the templates of a tool with those of all pages, and a style for tables and lines.
+
+How a page shows the columns of a report: their names in words, changes with their sign, counts with their separators.
+
+Files of a report have the columns' own names and figures without signs of people.
+"""
+
+from __future__ import annotations
+
+from collections.abc import Sequence
+from functools import partial
+from pathlib import Path
+
+import jinja2
+from markupsafe import Markup
+
+from . import page_templates
+from .report_language import ENGLISH, FIGURE, Teller
+from .sections import Cell
+from .speech import marked
+
+
+def style() -> Markup:
+    """The style of all pages, and what sections have beside it."""
+    return page_templates.style() + Markup((page_templates.TEMPLATES / "sections.css").read_text(encoding="utf-8"))
+
+
+def environment(own: Sequence[Path], teller: Teller = ENGLISH) -> jinja2.Environment:
+    """The templates of a tool whose pages are made of sections; its own are in folders."""
+    made = page_templates.environment(own, teller.speech.language, teller.speech.digits)
+    made.globals["style"] = style
+    made.filters.update(teller.filters)
+    made.filters.update(head=head, cell_figure=partial(cell_figure, teller))
+    return made
+
+
+HEADS = {
+    "month %": marked("monthly change, %"),
+    "year %": marked("annual change, %"),
+    "adds, month": marked("contribution to the monthly change, points"),
+    "adds, year": marked("contribution to the annual change, points"),
+}
+"""What a page has in the place of a column's own name."""
+
+CHANGES = frozenset(
+    (
+        *("month %", "year %", "adds, month", "adds, year", "change %", "moves all items", "moves all items, about"),
+        *("moves aggregate", "what if: month %", "what if: year %", "prepared: month %", "prepared: year %"),
+        *("now: month %", "now: year %", "gap, month", "gap, year"),
+    )
+)
+"""Columns whose figures are changes: one that goes up has a plus sign."""
+
+COUNTS = frozenset(
+    (
+        *("slots", "priced", "comparable", "other", "missing", "silent", "series", "outlets", "imputed", "matched"),
+        *("weight", "weight in use"),
+    )
+)
+"""Columns of whole numbers that count something, or are parts of a million; others may be those of a collector."""
+
+
+def head(name: object) -> object:
+    """The name of a column on a page."""
+    return HEADS.get(str(name), name)
+
+
+def with_plus(text: str) -> str:
+    """A figure that is a change: `+0.3` of `0.3`, and nothing of `-0.3` or `0.0` changed."""
+    is_up = FIGURE.fullmatch(text) and text[0].isdigit() and text.strip("0.,% \u202f")
+    return f"+{text}" if is_up else text
+
+
+def cell_figure(teller: Teller, cell: Cell, name: str) -> object:
+    """The figure in a cell of a column."""
+    if isinstance(cell, int):
+        return teller.whole(cell) if name in COUNTS else teller.figure(cell)
+    return teller.figure(with_plus(cell) if cell and name in CHANGES else cell)

@@ -1,0 +1,125 @@
+"""How other languages than English say figures, months and moments: by CLDR, as Babel has it."""
+
+from __future__ import annotations
+
+import functools
+import re
+from collections.abc import Mapping, Sequence
+from datetime import date, datetime
+
+from babel import Locale
+from babel.dates import format_date, format_skeleton
+from babel.lists import format_list
+from markupsafe import Markup, escape
+
+from .languages import Language
+from .others import CLOSES, LEFT_TO_RIGHT
+from .speech import LATIN, MINUS, Speech
+
+ZEROS: Mapping[str, str] = {"latn": "0", "arab": "\u0660", "deva": "\u0966"}
+"""The first digit of each system."""
+
+ARABIC: Mapping[str, str] = {
+    "decimal": "\u066b", "group": "\u066c", "percentSign": "\u066a\u061c", "plusSign": "\u061c+", "minusSign": "\u061c-",
+}  # fmt: skip
+"""The signs that go with the digits `arab` by CLDR; Babel has those of a language's Latin digits only. Those that go with
+`deva` are the same as with Latin digits."""
+
+NUMBER = re.compile(r"[#0,.]+")
+
+WRITTEN = re.compile(
+    r"<[^>]*>|\{[a-z_]+\}|%\([a-z_]+\)s|[A-Za-z-]*[A-Z]{2}[A-Za-z-]*\s[0-9]+(?:\.[0-9]+)*|[0-9]+(?:\.[0-9]+){2,}"
+    r"|(?:(?<=&nbsp;)|(?<![A-Za-z0-9.,:/#&;_-]))(?P<number>[0-9]+(?:[.,][0-9]+)*)(?![A-Za-z0-9_/-]|[.:][A-Za-z0-9])"
+)
+"""What is passed by in a text of a catalogue, and a number in it. Tags and places are passed by, a name in capitals with
+its number, as COICOP 2018, and a code such as 01.1.1; a number within a name, as SHA-256, is none."""
+
+
+class Cldr(Speech):
+    """A language by its locale, with a system of digits."""
+
+    def __init__(self, language: Language, digits: str = LATIN):
+        super().__init__(language, digits)
+        self._locale = locale = Locale.parse(language.tag, sep="-")
+        zero = ord(ZEROS[digits])
+        own = {chr(ord("0") + at): chr(zero + at) for at in range(10)}
+        signs = {**locale.number_symbols, **(ARABIC if digits == "arab" else {})}
+        minus = signs["minusSign"].replace("-", MINUS)
+        named = {".": signs["decimal"], ",": signs["group"], "+": signs["plusSign"], "-": minus, MINUS: minus}
+        self._signs = {**own, **named}
+        self._digits, self._figures = str.maketrans(own), str.maketrans(self._signs)
+        # (the texts of a catalogue have the language's own signs)
+        latin = {locale.number_symbols[name]: signs[name] for name in ("group", "decimal")}
+        self._written = str.maketrans({**own, **latin})
+        before, after = NUMBER.split(locale.percent_formats[None].pattern, maxsplit=1)
+        self._percent = [part.replace("%", signs["percentSign"]) for part in (before, after)]
+        if digits != LATIN:
+            self.language = language._replace(
+                gettext=lambda text: self.numbered(language.gettext(text)),
+                ngettext=lambda one, many, count: self.numbered(language.ngettext(one, many, count)),
+                pgettext=lambda context, text: self.numbered(language.pgettext(context, text)),
+            )
+
+    def listed(self, texts: Sequence[str]) -> str:
+        return str(format_list(texts, locale=self._locale))
+
+    def inner(self, title: str) -> str:
+        """A title as it is: where a language has small letters, CLDR doesn't say."""
+        return title
+
+    def figure(self, text: str) -> str:
+        return text.translate(self._figures)
+
+    @property
+    def signs(self) -> dict[str, str]:
+        return {sign: text for sign, text in self._signs.items() if sign != text}
+
+    @functools.lru_cache(maxsize=4000)
+    def numbered(self, text: str) -> str:
+        if self.digits == LATIN:
+            return text
+        return WRITTEN.sub(lambda it: it[0].translate(self._written) if it["number"] else it[0], text)
+
+    def whole(self, number: int) -> str:
+        return self.figure(f"{number:,}")
+
+    def percent(self, text: str) -> str:
+        return self.figure(text).join(self._percent)
+
+    def share(self, text: str) -> str:
+        return self.percent(text)
+
+    @functools.lru_cache(maxsize=2000)
+    def month(self, month: str) -> str:
+        return self._dated("yMMMM", _day(month))
+
+    def year(self, year: str) -> str:
+        return year.translate(self._digits)
+
+    @functools.lru_cache(maxsize=2000)
+    def month_mark(self, month: str) -> str:
+        names: Mapping[int, str] = self._locale.months["stand-alone"]["abbreviated"]
+        return names[int(month[5:])]
+
+    @functools.lru_cache(maxsize=2000)
+    def month_head(self, month: str) -> str:
+        names = escape(self.month(month)), escape(self._dated("yMMM", _day(month)))
+        return Markup('<span class="wide">{}</span><span class="narrow">{}</span>').format(*names)
+
+    def moment(self, at: datetime, zone: str) -> str:
+        day = format_date(at, "long", locale=self._locale).translate(self._digits)
+        return self.t("{day} at {time}", day=day, time=self.time(at, zone))
+
+    def time(self, at: datetime, zone: str) -> str:
+        """The time, and what its zone is called: both from left to right, so that no bracket next to them is turned."""
+        text = f"{self._dated('Hm', at)} {zone}"
+        return f"{LEFT_TO_RIGHT}{text}{CLOSES}" if self.language.dir == "rtl" else text
+
+    def _dated(self, skeleton: str, at: date) -> str:
+        """A date in the form that the language has for some of its parts."""
+        return str(format_skeleton(skeleton, at, locale=self._locale)).translate(self._digits)
+
+
+def _day(month: str) -> datetime:
+    """The first day of a month."""
+    return datetime(int(month[:4]), int(month[5:]), 1)

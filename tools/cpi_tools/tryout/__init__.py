@@ -1,0 +1,1 @@
+"""What `ops/try` and the examples start: a front, the desk's pages, a website."""
