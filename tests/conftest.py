@@ -10,11 +10,12 @@ from typing import TYPE_CHECKING
 import pytest
 
 if TYPE_CHECKING:
-    from cpi_tools.program import Cpi
+    from cpi_tools.office.program import Cpi
 
 HERE = Path(__file__).resolve().parent
 
-sys.dont_write_bytecode = True
+# (until all tests are read: tests/run)
+sys.dont_write_bytecode = not sys.pycache_prefix
 sys.path[:0] = [str(HERE), str(HERE.parent / "tools")]
 
 from lib.program import Program  # noqa: E402
@@ -30,6 +31,11 @@ def pytest_addoption(parser: pytest.Parser) -> None:
     parser.addoption("--leave-out", action="append", default=[], help="what isn't here on purpose (tests/outside)")
     parser.addoption("--kills", type=int, default=100, help="how often the first machine is killed (tests/outside)")
     parser.addoption("--every", type=int, default=1, help="seconds from one round of the second copy to the next there")
+
+
+def pytest_collection_finish() -> None:
+    """What Python makes of modules that tests write isn't kept."""
+    sys.dont_write_bytecode = True
 
 
 @pytest.fixture(scope="session")
@@ -50,7 +56,7 @@ def program(program_file: str) -> Program:
 @pytest.fixture(scope="session")
 def cpi(program_file: str) -> Cpi:
     """The program that is tried, as cpi-tools runs it."""
-    from cpi_tools.program import Cpi
+    from cpi_tools.office.program import Cpi
 
     return Cpi(program_file)
 

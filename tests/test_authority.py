@@ -2,7 +2,8 @@
 
 Whoever holds it may print, make or remove any file and open sockets, and no contract says that it doesn't. A function
 without it can only do what it is handed: memory, a reader, a writer, files that a cabinet gave. So no other file names
-its type by either name, or the place of a file, which lends it; and only one asks for a part of what it can do.
+its type by either name, or the place of a file, which lends it; and only those of connections ask for a part of what it can
+do: a network.
 """
 
 from __future__ import annotations
@@ -15,14 +16,14 @@ import pytest
 from lib.places import ROOT
 
 COMMENT = re.compile(r"//.*")
-USE = re.compile(r"^\s*(?:pub(?:\([a-z]+\))? )?use [^;]*;", re.M)
+USE = re.compile(r"^\s*(?:(?:ghost|pub(?:\([a-z]+\))?) )?use [^;]*;", re.M)
 
 RUNTIME = re.compile(r"\b(?:HostRuntime|LibcRuntime|FileAt)\b")
 """The type of the runtime, by both of its names, and the place of a file, by which one has it too."""
 
 BOUND = re.compile(
     r"(?:\b[A-Z]\w*: (?:[^;{}()]*\+\s*)?|\bimpl )"
-    r"(?:Runtime|Files|Net|Env|Input|Print|RandomSource|Threads|Wait|Abort)\b"
+    r"(?:Runtime|Files|Net|Network|Env|Input|Print|RandomSource|Threads|Wait|Abort)\b"
 )
 """A type that can do some of what the runtime can. (`Eprint` isn't one: it only prints to standard error.)"""
 
@@ -31,12 +32,16 @@ RENAMED = re.compile(r"\b(?:HostRuntime|LibcRuntime|FileAt) as\b|\btype\s+\w+\s*
 HOLDERS = {
     "cpi/src/main.rt": "hands streams, memory, the clock and the place of a file on",
     "cpi_files/src/file.rt": "opens the file at a path",
-    "cpi_app/src/wall_clock.rt": "reads the machine's clock",
+    "cpi_app/src/machine.rt": "is the network of the machine, with its clock",
 }
 """The files that name the runtime, and what each does with it."""
 
-ASKERS = {"cpi_app/src/port.rt": "listens, and says so"}
-"""The files that ask for a part of what the runtime can do."""
+ASKERS = {
+    "cpi_app/src/machine.rt": "is the network",
+    "cpi_app/src/peer.rt": "hangs up after a response",
+    "cpi_app/src/port.rt": "listens at a port of this machine, and says so",
+}
+"""The files that ask for a part of what the runtime can do, and for what."""
 
 
 def read_sources() -> dict[str, str]:
@@ -61,6 +66,11 @@ def find_renamed(texts: Mapping[str, str]) -> set[str]:
     return {name for name, text in texts.items() if RENAMED.search(COMMENT.sub("", text))}
 
 
+def count_lines(text: str) -> int:
+    """Its lines of code: those that aren't blank, only a comment or only `use`."""
+    return len([line for line in USE.sub("", COMMENT.sub("", text)).split("\n") if line.strip()])
+
+
 def find_in_code(texts: Mapping[str, str], pattern: re.Pattern[str]) -> set[str]:
     """Those in which a pattern is found, but for comments and what is only brought in by `use`."""
     code = {name: USE.sub("", COMMENT.sub("", text)) for name, text in texts.items()}
@@ -71,7 +81,15 @@ def test_only_these_files_name_the_runtime_of_the_host() -> None:
     assert find_holders(read_sources()) == set(HOLDERS)
 
 
-def test_only_one_file_asks_for_a_part_of_it() -> None:
+def test_proof_lists_these_files_with_their_lines() -> None:
+    texts, page = read_sources(), (ROOT / "docs/develop/PROOF.md").read_text(encoding="utf-8")
+    trusted = page.partition("\n## Trusted\n")[2]
+    assert re.findall(r"`(\S+\.rt)` \((\d+) lines\)", trusted) == [
+        (name, str(count_lines(texts[name]))) for name in HOLDERS
+    ]
+
+
+def test_only_the_files_of_connections_ask_for_a_part_of_it() -> None:
     assert find_askers(read_sources()) == set(ASKERS)
 
 
@@ -101,6 +119,7 @@ def test_a_file_that_names_the_runtime_is_found(line: str, is_found: bool) -> No
         ("fn job<R: Eprint + Files>(rt: &R)", True),
         ("impl<'a, R: Net<Stream = S>> Port<'a, R>", True),
         ("fn job(rt: &impl Print)", True),
+        ("fn job<N: Network + Clock>(rt: &N)", True),
         ("fn job<R: Eprint>(rt: &R)", False),
         ("use std::rt::{Files, Net};", False),
     ],

@@ -48,8 +48,33 @@ FILED = [
 ]
 WAITS = rf"\| (port|front).* \| {N} \| {N} \| (\d+ by (\d+|nothing)(, )?)+ \|"
 
+AGED = [
+    rf"{N} years: {N} quotes, a file of {N} MB",
+    *(
+        rf"{name}\s+{N} s\s+{N} MB"
+        for name in ("SQLite's tests of the file", "an open", "backup", "drill", "desk month")
+    ),
+    rf"cpi serve, once it listens\s+{N} s\s+{N} MB",
+    rf"  held from then on\s+{N} MB",
+    rf"  the first request\s+{N} s\s+{N} MB",
+    rf"  a price; a work list\s+{N} ms\s+{N} ms",
+    *(
+        rf"  {name}\s+{N} s\s+{N} MB"
+        for name in ("publish, \\d+ months", "the freeze of a month", "publish, one month more")
+    ),
+]
+"""What bench/age tells of an age."""
+
 FORMS: dict[str, list[str]] = {
-    "copies": [ANY, ANY, row("cp and sync", 2), *rows("backup/drill/an open", 3), r"nothing is wrong; .*"],
+    "age": AGED,
+    "copies": [
+        ANY,
+        ANY,
+        row("cp and sync", 2),
+        *rows("backup/drill/an open/a generation/the next one", 3),
+        r"nothing is wrong; .*",
+        rf"the repository: {N} MB, and {N} MB more after {N} quotes",
+    ],
     "desk": [
         rf"{N} quotes a month, {N} MB; an open {N} s",
         rf"desk month, none left out: {N} s, {N} s beside its open",

@@ -102,6 +102,20 @@ NOTES = {
         Place("connection::OfficeAtDeskService::serve", "let (alloc, mut note) = (self.alloc, WriteNote::new());"),
     ): "of the peer's writer",
     ("cpi_app", Place("replay::replay_over_office", "let mut note = WriteNote::new();")): "of the caller's writer",
+    ("cpi_app", Place("offered::Offered::new", "note: OfferNote::new(),")): "of the peer's writer",
+    ("cpi_app", Place("table::print_table", "note.write_line(err, fault);")): "the line of a fault",
+    ("cpi_files", Place("table::PrintBookJob::run", "let mut note = OfferNote::new();")): "of standard error",
+    (
+        "cpi_app",
+        Place("offered::OfferedWrite::write", "if let Some(count) = self.note.write_some(&mut self.writer, buf) {"),
+    ): "what the peer is offered",
+    (
+        "cpi_app",
+        Place(
+            "port::OpenPortListener::serve_next",
+            "let note: OfferNote<Timed<'_, N::Writer, N>> = OfferNote::new();",
+        ),
+    ): "of a peer to whom nothing was written",
 }
 """Each place that makes a note of reading or writing, or uses one, and for what."""
 

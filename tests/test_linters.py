@@ -6,6 +6,7 @@
 - shellcheck: each shell script, known by its ending or its first line
 - codespell: code and documents, but for tests/linters/words.txt: words of the toolchain, and names in proofs
 - merges: no file has lines that git leaves where two changes met
+- imports: a module of the companions imports what its folder's README allows
 - tsc --checkJs: the scripts of web/ and of the pages that the tools write, with tests/linters/*.d.ts
 
 What a file is known to have is in tests/linters/known.txt, a line `LINTER COUNT FILE`; with more findings it fails, and

@@ -31,8 +31,8 @@ NAMED = re.compile(r"\bAllocError\b(?!\s*>)|\bUnavailable\b")
 GROWTH = re.compile(r"\b(?:with_capacity\w*|reserve\w*|resize\w*|repeat\w*)\b|\[in |format!|vec!")
 
 RENAMED = re.compile(
-    r"\b(?:AllocError|StoreFault|Cause|Refusal|Present|Bearer|Book|Sight|Failure|ReadNote|WriteNote) as \w+"
-    r"|^\s*(?:pub(?:\([a-z]+\))? )?type \w+ = (?:\w+::)*(?:Failure|ReadNote|WriteNote)\b.*"
+    r"\b(?:AllocError|StoreFault|Cause|Refusal|Present|Bearer|Book|Sight|Failure|ReadNote|WriteNote|OfferNote) as \w+"
+    r"|^\s*(?:pub(?:\([a-z]+\))? )?type \w+ = (?:\w+::)*(?:Failure|ReadNote|WriteNote|OfferNote)\b.*"
     r"|^\s*(?:pub(?:\([a-z]+\))? )?(?:type|const|static)\b"
     r".*\b(?:AllocError|StoreFault|Cause|Refusal|Present|Bearer)\b.*"
     r"|macro_rules!.*",
@@ -42,7 +42,9 @@ RENAMED = re.compile(
 TOKEN = re.compile(r"\b(?:Present|Bearer) \{")
 TOKEN_OR_SELF = re.compile(r"\b(?:Present|Bearer|Self) \{")
 FAILURE = re.compile(r"\bFailure::of\b|\b(?:Failure|ReadNote|WriteNote) \{")
-NOTE = re.compile(r"\b(?:ReadNote|WriteNote)\b(?:::<.*?>)?::new\b|\.(?:read_some|write_whole)\(")
+NOTE = re.compile(
+    r"\b(?:ReadNote|WriteNote|OfferNote)\b(?:::<.*?>)?::new\b|\.(?:read_some|write_whole|write_some|write_line)\("
+)
 STREAM = re.compile(r"^impl.*\b(?:Read|Write) for (\w+)", re.M)
 SIGHT, BOOK = re.compile(r"\bS: Sight\b"), re.compile(r"\b[Bb]ook\b")
 

@@ -88,11 +88,12 @@ def readme_faults(text: str) -> Iterator[str]:
 
 # ---- the length
 
-MOST_WORDS, MOST_OF_ALL = 5000, 49500
-"""Words as `wc -w` counts them: of a document, and of the English pages of docs/ together."""
+MOST_WORDS, MOST_OF_ALL = 5000, 49219
+"""Words as `wc -w` counts them, beside what is printed from the specs: of a document, and of the English pages of docs/
+together."""
 
 SHORT = {"docs/develop/THEOREM.md": 1500}
-"""Documents with a bound of their own: two pages of paper, beside what is printed from the specs."""
+"""Documents with a bound of their own: two pages of paper."""
 
 PRINTED = re.compile(r"^```antt .*\n(?:.*\n)*?```$", re.M)
 
@@ -110,7 +111,7 @@ def pages() -> list[Path]:
 
 def all_words() -> str | None:
     """What is wrong with the length of the English pages of docs/ together, if it is."""
-    count = sum(len(it.read_text(encoding="utf-8").split()) for it in pages())
+    count = sum(len(PRINTED.sub("", it.read_text(encoding="utf-8")).split()) for it in pages())
     return f"{count} words, over {MOST_OF_ALL}" if count > MOST_OF_ALL else None
 
 

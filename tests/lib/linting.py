@@ -9,10 +9,11 @@ from __future__ import annotations
 import os
 import re
 import subprocess
-import tempfile
 from collections.abc import Iterable, Sequence
+from pathlib import Path
 from typing import Callable, NamedTuple
 
+from .imports import import_findings
 from .places import TOP
 
 WORDS = "tests/linters/words.txt"
@@ -71,12 +72,19 @@ def ran(files: Sequence[str], *words: str, **environment: str) -> Found:
     return found
 
 
+def kept_types() -> Path:
+    """The user's folder in which mypy keeps what it knows of modules, by their contents and by its words."""
+    return Path(os.environ.get("XDG_CACHE_HOME") or Path.home() / ".cache") / "sabrethog/mypy"
+
+
 def by_mypy(files: Sequence[str]) -> Found:
-    """One run, with the folders that tests and tools import from; it leaves no cache."""
+    """One run, with the folders that tests and tools import from. It reads anew what changed since an earlier run, and what
+    imports that."""
     typed = [it for it in files if it in TYPED or not it.startswith(UNTYPED)]
     words = ["mypy", "--strict", "--scripts-are-modules", "--no-error-summary", "--hide-error-context"]
-    with tempfile.TemporaryDirectory() as cache:
-        found = ran(typed, *words, f"--cache-dir={cache}", MYPYPATH="tests:tools")
+    kept = kept_types()
+    kept.mkdir(parents=True, exist_ok=True)
+    found = ran(typed, *words, f"--cache-dir={kept}", MYPYPATH="tests:tools")
     return {name: [it for it in lines if ": note: " not in it] for name, lines in found.items()}
 
 
@@ -127,5 +135,6 @@ LINTERS = [
     Linter("shellcheck", ("shell",), lambda files: ran(files, "shellcheck", "-f", "gcc")),
     Linter("codespell", TEXTS, by_codespell),
     Linter("merges", TEXTS, by_merges),
+    Linter("imports", ("python",), import_findings),
 ]
 """The slow ones first."""

@@ -66,6 +66,54 @@ def exposed(shown: Iterable[str], outlets: Mapping[str, frozenset[int]], least: 
     ]
 
 
+class Shown(NamedTuple):
+    """A release: the outlets of each division, and what has figures, of which `00` is all items."""
+
+    outlets: Mapping[str, frozenset[int]]
+    names: frozenset[str]
+
+    @property
+    def hidden(self) -> frozenset[str]:
+        """The divisions without figures."""
+        return frozenset(self.outlets) - self.names
+
+    @property
+    def sums(self) -> list[frozenset[str]]:
+        """The divisions that each of its figures is the sum of."""
+        return [frozenset(self.outlets) if name == "00" else frozenset({name}) for name in sorted(self.names)]
+
+
+def are_spanned(sums: Iterable[frozenset[str]], wanted: frozenset[str]) -> bool:
+    """Whether the figure of some divisions is what sums, added and subtracted, give, if figures stay from release to release
+    (elimination by Gauss, exactly)."""
+    rest, rows = {name: Fraction(1) for name in wanted}, list[tuple[str, dict[str, Fraction]]]()
+    for each in [*({name: Fraction(1) for name in it} for it in sums), rest]:
+        row = each
+        for pivot, known in rows:
+            factor = row.get(pivot, Fraction(0))
+            moved = {name: row.get(name, Fraction(0)) - factor * known.get(name, 0) for name in {*row, *known}}
+            row = {name: value for name, value in moved.items() if value}
+        if each is rest:
+            return not row
+        if row:
+            pivot = min(row)
+            rows.append((pivot, {name: value / row[pivot] for name, value in row.items()}))
+    raise AssertionError
+
+
+def exposed_between(one: Shown, other: Shown, least: int) -> list[frozenset[str]]:
+    """The groups of hidden divisions of a release, single ones or of too few outlets, that its figures and those of another
+    release give by subtraction, but for those that the other one shows by itself."""
+    groups = (frozenset(it) for size in range(1, len(one.hidden) + 1) for it in combinations(sorted(one.hidden), size))
+    return [
+        group
+        for group in groups
+        if (len(group) == 1 or len(frozenset[int]().union(*(one.outlets[it] for it in group))) < least)
+        and are_spanned([*one.sums, *other.sums], group)
+        and not are_spanned(other.sums, group)
+    ]
+
+
 # ---- of published tables
 
 Table = tuple[str, int, int, bytes]

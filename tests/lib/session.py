@@ -34,14 +34,20 @@ FIRST = (
     "test_linters.py",
     "test_national_example.py",
     "test_http_peers.py",
+    "web/test_desk_month.py",
+    "web/test_desk_app.py",
     "web/test_phone.py",
     "test_year.py",
+    "web/test_desk_app_sample.py",
+    "web/test_looks.py",
     "test_refused_memory.py",
     "test_killed.py",
     "test_little_memory.py",
     "test_documents.py",
+    "web/test_desk_app_languages.py",
+    "tools/test_releases.py",
 )
-"""The files that take longest, so they begin first."""
+"""The files that take longest by the clock, so they begin first."""
 
 
 def pytest_addoption(parser: pytest.Parser) -> None:

@@ -27,5 +27,6 @@ interface Window {
 declare function t(text: string, values?: object): string;
 declare function tn(one: string, many: string, count: number, values?: object): string;
 declare function figureText(text: string): string;
-declare function plainFigure(text: string): string;
+declare function amountRead(text: string, decimals: number): { minor?: bigint, readings?: string[] } | null;
+declare function moneyText(minor: bigint, digits: number): string;
 declare function monthText(month: string): string;

@@ -9,7 +9,7 @@ from pathlib import Path
 
 import pytest
 
-from cpi_tools.program import Cpi, record
+from cpi_tools.office.program import Cpi, record
 from tools.ran import run
 
 EXAMPLE = Path(__file__).resolve().parents[2] / "examples/national/run"

@@ -9,7 +9,7 @@ import pytest
 
 from tools import surveys
 from .chromium import Browser, browser
-from cpi_tools.program import Cpi
+from cpi_tools.office.program import Cpi
 from tools.ran import run
 from .test_published import OVERLAPS
 

@@ -8,7 +8,7 @@ import sys
 from pathlib import Path
 
 from tools import clients
-from cpi_tools.gaps import MISSING
+from cpi_tools.guard.gaps import MISSING
 from lib.places import ROOT
 from .systems import System, indented, section
 

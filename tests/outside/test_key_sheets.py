@@ -10,7 +10,7 @@ from pathlib import Path
 import pytest
 
 from .chromium import Browser, browser
-from cpi_tools.program import Cpi, record
+from cpi_tools.office.program import Cpi, record
 from tools.ran import run
 
 Needed = Callable[[str], str]

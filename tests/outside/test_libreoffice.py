@@ -10,9 +10,9 @@ from pathlib import Path
 
 import pytest
 
-from cpi_tools.office_sheets import SHEETS
-from cpi_tools.program import Cpi
-from cpi_tools.sheets import Source
+from cpi_tools.sheets.office_sheets import SHEETS
+from cpi_tools.office.program import Cpi
+from cpi_tools.sheets.sheet_files import Source
 from lib.places import ROOT
 from tools.ran import Ran, rows_of, run
 from tools.spreadsheets import Sheets, replayed, sheets, tables, written

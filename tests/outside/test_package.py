@@ -61,6 +61,7 @@ usage: cpi-tools backup
 /usr/share/man/man1/cpi-tools.1.gz
 /var/lib/cpi cpi 700
 /var/lib/cpi-backup cpi 700
+/var/lib/cpi-keep cpi-keep 700
 /var/lib/cpi-site cpi 755
 0
 """

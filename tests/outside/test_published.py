@@ -9,21 +9,25 @@ import csv
 import io
 import json
 import subprocess
-from collections.abc import Callable, Iterator
+import zipfile
+from collections.abc import Callable, Iterable, Iterator, Mapping, Sequence
 from decimal import Decimal
 from pathlib import Path
 
 import pytest
 
 from .chromium import Browser, browser
-from cpi_tools.pack.config import Config
-from cpi_tools.pack.public import from_file
-from cpi_tools.program import Cpi
-from cpi_tools.publish import publish
+from cpi_tools.publish.figures.config import Config
+from cpi_tools.publish.figures.profiles import read_profile
+from cpi_tools.office.public import from_file
+from cpi_tools.office.program import Cpi
+from cpi_tools.publish.pack import publish
+from lib.places import ROOT
 from tools.published import Office, made, shown
 
 Needed = Callable[[str], str]
 
+HICP = ROOT / "examples/profiles/hicp.toml"
 CONFIG = Config("NSO", "XX", "Office <of> prices", country="Exampleland", currency="crowns")
 PLACES = {("CPI", "N"): 3, ("CPI", "G1"): 4, ("CPI", "GY"): 5, ("CPIW", "N"): 1}
 """Where the figure of a measure stands in a printed row, by FORMATS."""
@@ -64,14 +68,15 @@ def observations(latest: Latest) -> list[tuple[str, str, str, str, float]]:
     )
 
 
-COMPUTED = ("CTR", "CPIS")
-"""The measures whose figures no table has: contributions, and shares of all weight."""
+COMPUTED, MONTHLY = ("CTR", "CPIS"), "M"
+"""The measures whose figures no table has: contributions, and shares of all weight; and the frequency of those that one has,
+which annual averages aren't."""
 
 # ---- R
 
 RSDMX = """suppressMessages(library(rsdmx))
 found <- as.data.frame(readSDMX(commandArgs(TRUE)[1], isURL = FALSE))
-write.csv(found[c("MEASURE", "TRANSFORMATION", "COICOP18", "TIME_PERIOD", "OBS_VALUE")], row.names = FALSE)
+write.csv(found[c("FREQ", "MEASURE", "TRANSFORMATION", "COICOP18", "TIME_PERIOD", "OBS_VALUE")], row.names = FALSE)
 """
 
 READ_CSV = """found <- read.csv(commandArgs(TRUE)[1], colClasses = c(code = "character"))
@@ -88,10 +93,81 @@ def by_r(program: str, text: str, path: Path) -> list[dict[str, str]]:
 def test_rsdmx_reads_each_figure(needed: Needed, pack: Path, latest: Latest) -> None:
     rows = by_r(needed("Rscript"), RSDMX, pack / "data/cpi.sdmx.xml")
     names = ("MEASURE", "TRANSFORMATION", "COICOP18", "TIME_PERIOD")
-    is_printed = (row for row in rows if row["MEASURE"] not in COMPUTED)
+    is_printed = (row for row in rows if row["FREQ"] == MONTHLY and row["MEASURE"] not in COMPUTED)
     found = sorted((*(row[name] for name in names), float(row["OBS_VALUE"])) for row in is_printed)
     assert found == observations(latest)
     assert len(rows) > len(found)
+
+
+ALL_COLUMNS = """suppressMessages(library(rsdmx))
+found <- as.data.frame(readSDMX(commandArgs(TRUE)[1], isURL = FALSE))
+write.csv(found, row.names = FALSE, na = "")
+"""
+
+KEY = ("FREQ", "REF_AREA", "MEASURE", "UNIT_MEASURE", "COICOP18", "TRANSFORMATION", "TIME_PERIOD")
+
+
+def figures(rows: Iterable[Mapping[str, str]], key: Sequence[str] = KEY) -> dict[tuple[str, ...], Decimal]:
+    """The figures of observations by their keys, each once."""
+    rows = [*rows]
+    found = {tuple(row[name] for name in key): Decimal(row["OBS_VALUE"]) for row in rows}
+    assert len(found) == len(rows) > 0
+    return found
+
+
+def in_csv(path: Path) -> list[dict[str, str]]:
+    with path.open(encoding="utf-8", newline="") as file:
+        return [*csv.DictReader(file)]
+
+
+def test_rsdmx_reads_each_slice(needed: Needed, pack: Path) -> None:
+    """Headline figures, each division and the newest month: all slices together are the whole, with their attributes."""
+    program, whole = needed("Rscript"), in_csv(pack / "data/cpi.sdmx.csv")
+    slices = sorted((pack / "data/slices").glob("*.xml"))
+    assert [path.name for path in slices] == [f"{it}.sdmx.xml" for it in ("01", "07", "08", "headline")]
+    found: dict[tuple[str, ...], Decimal] = {}
+    for path in slices:
+        rows = by_r(program, ALL_COLUMNS, path)
+        found.update(figures(rows))
+        said = {tuple(row[it] for it in KEY): (row["OBS_STATUS"], row.get("BASE_PER", "")) for row in rows}
+        wanted = {tuple(row[it] for it in KEY): (row["OBS_STATUS"], row["BASE_PER"]) for row in whole}
+        assert said.items() <= wanted.items()
+    assert found == figures(whole)
+    newest = by_r(program, ALL_COLUMNS, pack / "data/newest/cpi.sdmx.xml")
+    last = max(row["TIME_PERIOD"] for row in whole if row["FREQ"] == "M")
+    assert figures(newest) == figures(row for row in whole if row["TIME_PERIOD"] == last)
+
+
+def test_rsdmx_reads_a_profile(needed: Needed, cpi: Cpi, office: Office, tmp_path: Path) -> None:
+    """The names are those of the profile, the figures ours."""
+    pack, config = tmp_path / "public", CONFIG._replace(reference="2025", profiles=(read_profile(HICP),))
+    publish(from_file(cpi, office.file, office.at), config, pack, None, lambda _: None)
+    rows = by_r(needed("Rscript"), ALL_COLUMNS, pack / "data/profiles/HICP.sdmx.xml")
+    key = ("FREQ", "UNIT", "COICOP", "GEO", "TIME_PERIOD")
+    found = figures(rows, key)
+    assert found == figures(in_csv(pack / "data/profiles/HICP.sdmx.csv"), key)
+    units = {("CPI", "N"): "I25", ("CPI", "G1"): "RCH_M", ("CPI", "GY"): "RCH_A"}
+    for row in in_csv(pack / "data/slices/headline.sdmx.csv"):
+        unit = units.get((row["MEASURE"], row["TRANSFORMATION"]))
+        if row["FREQ"] == "M" and unit and (unit != "I25" or row["BASE_PER"] == "2025"):
+            code = "CP00" if row["COICOP18"] == "_T" else row["COICOP18"]
+            assert found["M", unit, code, "XX", row["TIME_PERIOD"]] == Decimal(row["OBS_VALUE"])
+
+
+def test_rsdmx_reads_what_a_publication_changed(needed: Needed, cpi: Cpi, office: Office, tmp_path: Path) -> None:
+    """A pack over that of two months less: what is replaced in the file of changes is what the new pack has else or besides."""
+    tables = from_file(cpi, office.file, office.at)
+    out, latest_month = tmp_path / "public", max(it.listed.month for it in tables)
+    publish([it for it in tables if it.listed.month < latest_month], CONFIG, out, None, lambda _: None)
+    before = figures(in_csv(out / "data/cpi.sdmx.csv"))
+    publish(tables, CONFIG, out, None, lambda _: None)
+    now = figures(in_csv(out / "data/cpi.sdmx.csv"))
+    (archive,) = (out / "data/changes").glob("*.xml.zip")
+    with zipfile.ZipFile(archive) as file:
+        path = Path(file.extract(file.namelist()[0], tmp_path))
+    found = figures(row for row in by_r(needed("Rscript"), ALL_COLUMNS, path) if row["OBS_VALUE"])
+    assert {key: value for key, value in now.items() if before.get(key) != value}.items() <= found.items()
+    assert found.items() <= now.items() and len(found) < len(now) / 2
 
 
 def test_rsdmx_reads_the_structure(needed: Needed, pack: Path) -> None:
@@ -126,7 +202,9 @@ def test_pandas_reads_the_files(needed: Needed, pack: Path, latest: Latest) -> N
     found = {(row.month, row.code): (row.weight, row.chained, row.title) for row in tidy.itertuples()}
     assert found == {key: (int(row[1]), float(row[3]), row[7]) for key, row in latest.items()}
     sdmx = pandas.read_csv(pack / "data/cpi.sdmx.csv")
-    rows = sdmx[~sdmx.MEASURE.isin(COMPUTED)][["MEASURE", "TRANSFORMATION", "COICOP18", "TIME_PERIOD", "OBS_VALUE"]]
+    rows = sdmx[(sdmx.FREQ == MONTHLY) & ~sdmx.MEASURE.isin(COMPUTED)][
+        ["MEASURE", "TRANSFORMATION", "COICOP18", "TIME_PERIOD", "OBS_VALUE"]
+    ]
     assert sorted(rows.itertuples(index=False, name=None)) == observations(latest)
     book = pandas.read_excel(pack / "data/cpi.xlsx", sheet_name="Index", dtype={"Code": str}, index_col="Code")
     for (month, code), row in latest.items():

@@ -15,8 +15,8 @@ from typing import NamedTuple
 
 import pytest
 
-from cpi_tools.program import Cpi
-from cpi_tools.second_copies import NAMES, OFFICE, state_of
+from cpi_tools.office.program import Cpi
+from cpi_tools.guard.copies.second_copies import NAMES, OFFICE, state_of
 from lib.places import ROOT
 from tools.accidents import ACCIDENTS, ANSWERED, SAID, WANTED, priced, prices_in
 from tools.offices import lived

@@ -7,7 +7,7 @@ from pathlib import Path
 
 import pytest
 
-from cpi_tools.program import Cpi, record
+from cpi_tools.office.program import Cpi, record
 from tools.ran import run
 from tools.test_take_in import sums
 from tools.wide import in_percent, rewrite, wide_prices

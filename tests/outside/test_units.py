@@ -178,7 +178,7 @@ follower() {{
 await() {{ for _ in $(seq 600); do "$@" && break; sleep 0.1; done; }}
 has_two() {{ [ -e /srv/copy/copy-1/office.db.json ] && [ -e /srv/copy/copy-2/office.db.json ]; }}
 is_stopped() {{ ! systemctl --quiet is-active cpi; }}
-write_key; set_to CPI_COPY_EVERY 1
+write_key; set_to CPI_ZONE Europe/Prague; set_to CPI_COPY_EVERY 1
 echo "# no place is named"
 systemctl start cpi-follow || true
 await systemctl --quiet is-failed cpi-follow; follower

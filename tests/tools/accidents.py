@@ -8,9 +8,9 @@ from pathlib import Path
 
 import pytest
 
-from cpi_tools.copying import log_beside
-from cpi_tools.program import Cpi, record
-from cpi_tools.stored import stored_office
+from cpi_tools.office.copying import log_beside
+from cpi_tools.office.program import Cpi, record
+from cpi_tools.office.stored import stored_office
 from .offices import LOAD_COLLECTOR, LOAD_KEY, LOAD_MONTH, LOAD_SLOTS
 
 ANSWERED = 40

@@ -2,6 +2,8 @@
 
 from __future__ import annotations
 
+import os
+import tempfile
 from collections.abc import Iterator
 from pathlib import Path
 
@@ -13,12 +15,13 @@ FAULT = fault_of("tools/setup")
 """Why there are no tests here: what they need can't be installed."""
 
 if not FAULT:
-    from cpi_tools.pack.public import Published, from_file
-    from cpi_tools.program import Cpi
+    from cpi_tools.office.public import Published, from_file
+    from cpi_tools.office.program import Cpi
     from lib.places import ROOT
     from lib.sample import Sample
 
     from . import surveys
+    from .borgs import loaded_borg
     from .desk_apps import ADA, Application, Person, applied
     from .offices import lived
     from .packages import made_package
@@ -87,5 +90,27 @@ def ada(application: Application) -> Person:
 
 @pytest.fixture(scope="session")
 def package(cpi: Cpi, tmp_path_factory: pytest.TempPathFactory) -> Path:
-    """The package of the program that is tried."""
+    """The package of the program that is tried. The files whose tests read it have the mark `xdist_group("package")`, so
+    one process makes it."""
     return made_package(ROOT, tmp_path_factory.mktemp("package"), cpi)
+
+
+@pytest.fixture(scope="session")
+def borg_folder() -> Iterator[Path]:
+    """The folder of a program `borg` that is loaded once."""
+    with tempfile.TemporaryDirectory(prefix="cpi-borg-") as folder, loaded_borg(Path(folder)) as it:
+        yield it
+
+
+@pytest.fixture
+def quick_borg(borg_folder: Path, monkeypatch: pytest.MonkeyPatch) -> None:
+    """Runs of borg needn't load it. (Those of test_keep_as_root.py and test_kept_repository.py do.)"""
+    monkeypatch.setenv("PATH", f"{borg_folder}:{os.environ['PATH']}")
+
+
+@pytest.fixture
+def memory() -> Iterator[Path]:
+    """A folder in memory, if there is one: an archive is 25 syncs, which a busy disk takes seconds for."""
+    shared = Path("/dev/shm")
+    with tempfile.TemporaryDirectory(dir=shared if os.access(shared, os.W_OK) else None) as name:
+        yield Path(name)

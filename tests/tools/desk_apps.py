@@ -10,13 +10,13 @@ from collections.abc import Iterator
 from pathlib import Path
 from typing import Any, Optional
 
-from cpi_tools.desk_app.app import make_app
-from cpi_tools.desk_app.desk import Desk, Given
-from cpi_tools.desk_app.reached import Reached
-from cpi_tools.desk_app.sent_twice import Once
-from cpi_tools.pack.clocks import clock_of
-from cpi_tools.program import Cpi
-from cpi_tools.speech import SPEAKS_ENGLISH, Speech
+from cpi_tools.desk.serve.app import make_app
+from cpi_tools.desk.serve.desk import Desk, Given
+from cpi_tools.desk.serve.reach import Reached
+from cpi_tools.desk.serve.sent_twice import Once
+from cpi_tools.text.clocks import clock_of
+from cpi_tools.office.program import Cpi
+from cpi_tools.text.speech import SPEAKS_ENGLISH, Speech
 from lib.served import free_port
 from .loads import DESK_KEY, served
 from .page_forms import PageForm, forms_of

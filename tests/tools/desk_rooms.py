@@ -5,12 +5,12 @@ from __future__ import annotations
 
 from pathlib import Path
 
-from cpi_tools.desk_app import field_questions as question
-from cpi_tools.desk_app.desk_log import SAID, DeskLog
-from cpi_tools.desk_app.field_notes import FieldNotes, Of, Said
-from cpi_tools.desk_app.field_questions import FieldQuestions
-from cpi_tools.desk_app.marks import NOTE, Marks, Price
-from cpi_tools.desk_files import seen_in
+from cpi_tools.desk.field import field_questions as question
+from cpi_tools.desk.records.desk_log import SAID, DeskLog
+from cpi_tools.desk.field.field_notes import FieldNotes, Of, Said
+from cpi_tools.desk.field.field_questions import FieldQuestions
+from cpi_tools.desk.looks.price_marks import NOTE, Marks, Price
+from cpi_tools.guard.copies.desk_files import seen_in
 
 MONTHS = 1200
 """For so long notes are kept here."""

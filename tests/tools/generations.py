@@ -11,13 +11,19 @@ from collections.abc import Iterator
 from pathlib import Path
 from typing import NamedTuple
 
-from cpi_tools.access import User, user_of
-from cpi_tools.follow import Follower
-from cpi_tools.generations import repository_of
-from cpi_tools.mirrors import sum_of
-from cpi_tools.copying import log_beside
-from cpi_tools.places import Folder
-from cpi_tools.second_copies import LOG, NAMES, NOTE, OFFICE
+from cpi_tools.office.access import User, user_of
+from cpi_tools.guard.follow import Follower
+from cpi_tools.guard.copies.generations import repository_of
+from cpi_tools.guard.copies.mirrors import sum_of
+from cpi_tools.office.copying import log_beside
+from cpi_tools.guard.copies.places import Folder
+from cpi_tools.guard.copies.second_copies import LOG, NAMES, NOTE, OFFICE
+
+
+NOW = 1_800_000_000
+"""2027-01-15 08:00 UTC."""
+
+HOUR = 3600
 
 
 class Place(NamedTuple):

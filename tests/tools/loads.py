@@ -15,7 +15,7 @@ from collections.abc import Iterator
 from pathlib import Path
 from typing import Optional
 
-from cpi_tools.program import Cpi
+from cpi_tools.office.program import Cpi
 from lib.served import free_port, heard, message, peer_of, reset, words_of
 from .offices import LOAD_COLLECTOR, LOAD_KEY, LOAD_MONTH, LOAD_SLOTS
 

@@ -10,7 +10,7 @@ from __future__ import annotations
 import random
 from collections.abc import Iterator
 
-from cpi_tools.program import record
+from cpi_tools.office.program import record
 from lib.offices import plan_with
 
 KEY, OTHER_KEY, LOAD_KEY = "a" * 32, "b" * 32, "f" * 32

@@ -7,7 +7,7 @@ import re
 import subprocess
 from pathlib import Path
 
-from cpi_tools.program import Cpi
+from cpi_tools.office.program import Cpi
 from lib.places import ROOT
 from .needs import needed
 

@@ -11,7 +11,7 @@ from collections.abc import Iterator
 from pathlib import Path
 from typing import NamedTuple
 
-from cpi_tools.program import Cpi, record
+from cpi_tools.office.program import Cpi, record
 from lib.offices import plan_with
 
 KEY = "0123456789abcdef0123456789abcdef"

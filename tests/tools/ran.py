@@ -9,7 +9,7 @@ from pathlib import Path
 from typing import NamedTuple, Optional
 
 from cpi_tools.command_line import main
-from cpi_tools.program import Cpi
+from cpi_tools.office.program import Cpi
 
 
 class Ran(NamedTuple):

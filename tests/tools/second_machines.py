@@ -20,10 +20,10 @@ from pathlib import Path
 from typing import NamedTuple
 
 from . import clients
-from cpi_tools.follow import mark_beside
-from cpi_tools.gaps import MISSING
-from cpi_tools.program import Cpi
-from cpi_tools.second_copies import state_of
+from cpi_tools.guard.follow import mark_beside
+from cpi_tools.guard.gaps import MISSING
+from cpi_tools.office.program import Cpi
+from cpi_tools.guard.copies.second_copies import state_of
 from lib.places import ROOT
 from lib.served import free_port
 

@@ -7,7 +7,7 @@ import csv
 from collections.abc import Callable, Sequence
 from pathlib import Path
 
-from cpi_tools.program import Cpi, record
+from cpi_tools.office.program import Cpi, record
 
 KEY_7, KEY_8 = "a7" * 16, "b8" * 16
 

@@ -14,7 +14,7 @@ from collections.abc import Iterator
 from pathlib import Path
 from typing import NamedTuple
 
-from cpi_tools.program import Cpi, Reply, Session, record
+from cpi_tools.office.program import Cpi, Reply, Session, record
 from lib.offices import RICE_AND_FLOUR, quoted
 
 DAY = 86_400

@@ -13,13 +13,13 @@ from pathlib import Path
 
 import pytest
 
-from cpi_tools.copying import log_beside
-from cpi_tools.follow import NOT_CARRIED, Follower
-from cpi_tools.marks import LAST_QUOTES, Marks, NotCarried
-from cpi_tools.places import Folder
-from cpi_tools.program import Cpi, record
-from cpi_tools.second_copies import NAMES, NOTE, OFFICE, REFUSED, note_in, note_text, state_of
-from cpi_tools.stored import StoredOffice, stored_office, unchanged_office
+from cpi_tools.office.copying import log_beside
+from cpi_tools.guard.follow import NOT_CARRIED, Follower
+from cpi_tools.guard.copies.office_marks import LAST_QUOTES, Marks, NotCarried
+from cpi_tools.guard.copies.places import Folder
+from cpi_tools.office.program import Cpi, record
+from cpi_tools.guard.copies.second_copies import NAMES, NOTE, OFFICE, REFUSED, fault_of, note_in, note_text, state_of
+from cpi_tools.office.stored import StoredOffice, stored_office, unchanged_office
 from .accidents import ACCIDENTS, ANSWERED, SAID, WANTED, backup_restored, made_anew, page_gone_bad, prices_in, priced
 from .offices import LOAD_COLLECTOR, LOAD_KEY, LOAD_MONTH, lived
 from .ran import Ran, run
@@ -97,6 +97,8 @@ def test_an_accident_of_the_office_stays_out_of_its_copies(
         assert SAID[accident] in ran.err and f"{office} isn't carried to " in ran.err
         assert ("--anew" in ran.err) == (accident != "page gone bad")
     assert max(note.round for note in state_of(dest).notes.values()) == before
+    whole = {name: fault_of(dest / name / OFFICE, note) for name, note in state_of(dest).notes.items()}
+    assert whole == dict.fromkeys(NAMES, "")
     told = probed(seen)
     assert SAID[accident] in told and "second_refused=1" in told
     assert promoted(cpi, dest, tmp_path) == WANTED
@@ -257,7 +259,7 @@ def test_a_follower_that_stays_tells_it_once_and_goes_on_by_itself(
         elif len(rounds) == 7:
             raise KeyboardInterrupt
 
-    monkeypatch.setattr("cpi_tools.follow.time.sleep", pause)
+    monkeypatch.setattr("cpi_tools.guard.follow.time.sleep", pause)
     with pytest.raises(KeyboardInterrupt):
         Follower(office, Folder(dest)).keep(1)
     told = capsys.readouterr()
@@ -277,7 +279,7 @@ def test_a_place_at_which_sqlite_reads_nothing_gets_copies_too(
             raise sqlite3.OperationalError("locking protocol")
         return unchanged_office(path)
 
-    monkeypatch.setattr("cpi_tools.marks.unchanged_office", unread)
+    monkeypatch.setattr("cpi_tools.guard.copies.office_marks.unchanged_office", unread)
     follower = Follower(office, Folder(dest))
     assert follower.round() == "" and len(refused) == 1
     note = state_of(dest).last()

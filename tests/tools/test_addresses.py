@@ -18,10 +18,10 @@ import html5lib
 import pytest
 import rdflib
 
-from cpi_tools.pack.config import Config
-from cpi_tools.pack.planned import Planned
-from cpi_tools.pack.public import Published
-from cpi_tools.publish import publish
+from cpi_tools.publish.figures.config import Config
+from cpi_tools.publish.figures.planned import Planned
+from cpi_tools.office.public import Published
+from cpi_tools.publish.pack import publish
 from .published import LONG_AFTER, REVISED
 from .test_site import words_of
 
@@ -213,14 +213,13 @@ def test_the_page_for_a_wrong_address_works_at_any_depth(site: Path) -> None:
 
 
 def test_new_pages_need_no_script(site: Path) -> None:
-    """Those of releases have one that adds a button, by which a browser makes a PNG of a picture."""
-    own = {'<script type="application/ld+json">'}
+    """All have one that leads from the search in the head; those of releases have one that adds a button, by which a browser
+    makes a PNG of a picture, and one by which pictures tell their months."""
     for page in [*(site / "release").glob("*.html"), *(site / f"{it}.html" for it in ("releases", "calendar", "404"))]:
-        found = {
-            re.sub(' data-fault=.*"', "", it) for it in re.findall(r"<script[^>]*>", page.read_text(encoding="utf-8"))
-        }
+        tags = re.findall(r"<script[^>]*>", page.read_text(encoding="utf-8"))
+        names = {re.sub(r'^<script (?:src|type)="(?:[^"]*/)?([^"/]*)"[^>]*>$', r"\1", tag) for tag in tags}
         is_release = page.parent.name == "release"
-        assert found <= (own | {'<script src="../assets/take.js">'} if is_release else own), page
+        assert names <= {"ld+json", "head.js", *(("take.js", "point.js") if is_release else ())}, page
 
 
 def test_the_first_page_is_small(site: Path) -> None:

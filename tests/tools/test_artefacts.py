@@ -10,11 +10,11 @@ from xml.etree import ElementTree
 
 import pytest
 
-from cpi_tools.pack.artefact_versions import Artefact, BadArtefacts, Versions, versions_after
-from cpi_tools.pack.config import Config
-from cpi_tools.pack.public import Published
-from cpi_tools.pack.specials import Special
-from cpi_tools.publish import check, publish
+from cpi_tools.publish.forms.artefact_versions import Artefact, BadArtefacts, Versions, versions_after
+from cpi_tools.publish.figures.config import Config
+from cpi_tools.office.public import Published
+from cpi_tools.publish.figures.specials import Special
+from cpi_tools.publish.pack import check, publish
 
 CONFIG = Config("NSO", "XX", "Office of prices")
 STRUCTURE = "{http://www.sdmx.org/resources/sdmxml/schemas/v2_1/structure}"

@@ -14,12 +14,13 @@ from pathlib import Path
 
 import pytest
 
-from cpi_tools import backup, copying
-from cpi_tools.backup import BackupFailed, Note, back_up, hash_of, note_beside, note_text, read_note, remove_log
-from cpi_tools.copying import log_beside
-from cpi_tools.drill import drill
-from cpi_tools.program import Cpi, CpiFailed, record
-from cpi_tools.terminal import time_text
+from cpi_tools.guard import backup
+from cpi_tools.office import copying
+from cpi_tools.guard.backup import BackupFailed, Note, back_up, hash_of, note_beside, note_text, read_note, remove_log
+from cpi_tools.office.copying import log_beside
+from cpi_tools.guard.drill import drill
+from cpi_tools.office.program import Cpi, CpiFailed, record
+from cpi_tools.text.terminal import time_text
 from lib.places import ROOT
 from .loads import Connections, Load, Quotes, faults_of
 from .offices import LOAD_KEY, LOAD_MONTH, TABLES

@@ -16,10 +16,12 @@ from typing import Any
 import pytest
 
 from bill import licenses, packages
-from cpi_tools.program import Cpi
+from cpi_tools.office.program import Cpi
 from crates import listed
 from lib.places import ROOT
 from .needs import needed
+
+pytestmark = pytest.mark.xdist_group("package")
 
 FIELDS: dict[str, tuple[set[str], set[str]]] = {
     "bom": ({"bomFormat", "specVersion", "serialNumber", "version", "metadata", "components", "dependencies"}, set()),

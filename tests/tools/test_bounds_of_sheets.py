@@ -13,13 +13,13 @@ from zipfile import ZIP_DEFLATED, ZipFile
 
 import pytest
 
-from cpi_tools.cells import MOST_TOLD
-from cpi_tools.office_sheets import SHEETS
-from cpi_tools.price_store import PriceStore
-from cpi_tools.program import Cpi
-from cpi_tools.sheets import Source
-from cpi_tools.terminal import Fault
-from cpi_tools.workbook_parts import MOST_CELLS, MOST_HELD, MOST_SHEET_ROWS, MOST_TEXT, MOST_UNPACKED
+from cpi_tools.sheets.cells import MOST_TOLD
+from cpi_tools.sheets.office_sheets import SHEETS
+from cpi_tools.sheets.price_store import PriceStore
+from cpi_tools.office.program import Cpi
+from cpi_tools.sheets.sheet_files import Source
+from cpi_tools.text.terminal import Fault
+from cpi_tools.sheets.workbook_parts import MOST_CELLS, MOST_HELD, MOST_SHEET_ROWS, MOST_TEXT, MOST_UNPACKED
 from lib.places import ROOT
 from .habits import base, book, unpacks_to_much
 from .ran import rows_of, run
@@ -193,8 +193,8 @@ def test_a_disk_without_room_for_the_prices_is_one_line(
     """As SQLite tells it, when its file grows no more."""
     before = PriceStore.__init__
 
-    def small(self: PriceStore, file: str) -> None:
-        before(self, file)
+    def small(self: PriceStore) -> None:
+        before(self)
         self._link.execute("PRAGMA max_page_count = 12")
 
     monkeypatch.setattr(PriceStore, "__init__", small)

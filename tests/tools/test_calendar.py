@@ -11,9 +11,9 @@ from pathlib import Path
 
 import pytest
 
-from cpi_tools.calendar_file import windows_since
-from cpi_tools.program import Cpi, record
-from cpi_tools.stored import Window
+from cpi_tools.office.calendar_file import windows_since
+from cpi_tools.office.program import Cpi, record
+from cpi_tools.office.stored import Window
 from .offices import KEY, MONTHS
 from .ran import run
 from .test_take_in import sums

@@ -9,12 +9,12 @@ from pathlib import Path
 
 import pytest
 
-from cpi_tools import card_drawing
-from cpi_tools import publish as publishing
-from cpi_tools.pack.cards import NO_CARDS, Cards, Drawing, is_from, with_source
-from cpi_tools.pack.config import Config
-from cpi_tools.publish import check, publish
-from cpi_tools.terminal import Fault
+from cpi_tools.publish.releases import card_drawing
+from cpi_tools.publish import pack as publishing
+from cpi_tools.publish.releases.cards import NO_CARDS, Cards, Drawing, is_from, with_source
+from cpi_tools.publish.figures.config import Config
+from cpi_tools.publish.pack import check, publish
+from cpi_tools.text.terminal import Fault
 from .ran import run
 from .test_addresses import Head
 from .test_measures import two_years
@@ -111,11 +111,11 @@ def test_without_what_draws_there_are_no_cards(
         meanwhile.setenv("PATH", str(tmp_path))
         publish(two_years()[:4], CONFIG, out, None, quiet)
         assert check(two_years()[:4], CONFIG, pack, None, quiet) == []
-        publishing._told(pack, [])
+        publishing._check_status(pack, [])
     assert cards_in(out) == {} and "og:image" not in Head(out / "index.html").said
     assert "cards of releases weren't compared: rsvg-convert (Debian's librsvg2-bin) or" in capsys.readouterr().out
     assert check(two_years()[:4], CONFIG, out, None, quiet) == []
-    publishing._told(pack, [])
+    publishing._check_status(pack, [])
     assert "cards of releases" not in capsys.readouterr().out
 
 

@@ -10,12 +10,12 @@ import rdflib
 from rdflib import RDF, Literal, URIRef
 from rdflib.namespace import DCAT, DCTERMS, FOAF, XSD  # type: ignore[attr-defined]
 
-from cpi_tools.pack.cards import NO_CARDS
-from cpi_tools.pack.catalog import MAILBOX
-from cpi_tools.pack.config import Config
-from cpi_tools.pack.office_languages import OfficeLanguages, Own
-from cpi_tools.pack.public import Published
-from cpi_tools.publish import publish
+from cpi_tools.publish.releases.cards import NO_CARDS
+from cpi_tools.publish.site.catalog import MAILBOX
+from cpi_tools.publish.figures.config import Config
+from cpi_tools.publish.figures.office_languages import OfficeLanguages, Own
+from cpi_tools.office.public import Published
+from cpi_tools.publish.pack import publish
 
 ADDRESS = "https://prices.example/index/"
 OFFICE = 'Office "of" <prices>\\'
@@ -33,7 +33,7 @@ MEDIA = "https://www.iana.org/assignments/media-types/"
 def pack(published: list[Published], tmp_path_factory: pytest.TempPathFactory) -> Path:
     """The pack of an office in two languages, with archives."""
     with pytest.MonkeyPatch.context() as patch:
-        patch.setattr("cpi_tools.publish.cards_after", lambda _: NO_CARDS)
+        patch.setattr("cpi_tools.publish.pack.cards_after", lambda _: NO_CARDS)
         out = tmp_path_factory.mktemp("catalog") / "public"
         publish(published, CONFIG, out, None, lambda _: None)
     return out

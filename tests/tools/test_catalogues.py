@@ -22,7 +22,7 @@ from lib.places import ROOT
 sys.path.insert(0, str(ROOT / "tools"))
 
 import catalogues  # noqa: E402
-from cpi_tools.months_of_texts import NAMES as NAMES_OF_MONTHS  # noqa: E402
+from cpi_tools.sheets.months_of_texts import NAMES as NAMES_OF_MONTHS  # noqa: E402
 
 LANGUAGES = catalogues.codes(ROOT / "po")
 
@@ -140,14 +140,15 @@ def test_each_text_of_a_page_is_marked(folder: str) -> None:
 
 def test_a_text_that_is_not_marked_is_found() -> None:
     page = (ROOT / "web/collect/index.html").read_text(encoding="utf-8")
-    assert unmarked(page.replace('<h2 id="month">', '<h2 id="month">Some month')) == ["Some month"]
+    assert unmarked(page.replace('<span id="month">', '<span id="month">Some month')) == ["Some month"]
     assert unmarked(page.replace(' data-t="placeholder aria-label"', "")) == [
         "input placeholder: Item or shop", "input aria-label: Find an item, a unit or a shop"
     ]  # fmt: skip
 
 
-FOLDERS = ("pack", "desk_app")
-TEMPLATES = sorted(path for folder in FOLDERS for path in (ROOT / f"tools/cpi_tools/{folder}/templates").glob("*.html"))
+TEMPLATES = sorted(
+    path for folder in ("publish", "desk") for path in (ROOT / f"tools/cpi_tools/{folder}").glob("*/templates/*.html")
+)
 NOT_YET = set[str]()
 """Templates whose texts are in no catalogue yet: a list that only shrinks."""
 
@@ -184,14 +185,14 @@ def test_a_text_of_a_template_that_is_not_marked_is_found() -> None:
     assert left_in(template) == ["Some", "left"]
 
 
-CALLS = ("_", "told", "told_of", "columns", "heads", "marked", "of_others")
+CALLS = ("_", "message", "message_of", "columns", "heads", "marked", "of_others")
 """The functions whose strings catalogues have, and the one whose texts have no language."""
 
 MODULES = sorted(
     path
-    for path in (ROOT / "tools/cpi_tools/desk_app").glob("*.py")
+    for path in (ROOT / "tools/cpi_tools/desk").glob("*/*.py")
     # (what a command prints, and what the log's file has, is English)
-    if path.name not in ("words.py", "serving.py", "desk_log.py")
+    if path.name not in ("serve_cli.py", "server.py", "desk_log.py") and path.parent.name not in ("month", "keys")
 )
 
 
@@ -227,7 +228,9 @@ def test_each_text_of_the_desk_s_application_is_in_the_catalogues(path: Path) ->
     assert outside_of_python(path.read_text(encoding="utf-8")) == []
 
 
-OF_REPORTS = re.findall(r"^\[report: (tools/cpi_tools/[a-z_]+\.py)\]$", (ROOT / "po/babel.cfg").read_text(), re.M)
+OF_REPORTS = re.findall(
+    r"^\[report: (tools/cpi_tools/(?!desk/)[a-z_/]+\.py)\]$", (ROOT / "po/babel.cfg").read_text(), re.M
+)
 """The modules that make texts of reports and are no package of their own: those of take-in, and what all reports have."""
 
 NO_TEXT_OF_REPORTS = re.compile(r"^body \{|^<[a-z!/]|^\"?><|^save it as \.xlsx without a password$")
@@ -246,7 +249,16 @@ def test_each_text_of_a_report_is_in_the_catalogues(path: str) -> None:
 
 def test_the_modules_of_take_in_are_among_those_of_reports() -> None:
     names = {Path(path).stem for path in OF_REPORTS}
-    assert names > {"cells", "desk_words", "judge", "office_files", "plan_rows", "price_cells", "sheets", "taken_page"}
+    assert names > {
+        "cells",
+        "judge",
+        "office_files",
+        "plan_rows",
+        "price_cells",
+        "row_refusals",
+        "sheet_files",
+        "taken_page",
+    }
 
 
 def test_a_text_of_python_outside_of_the_catalogues_is_found() -> None:

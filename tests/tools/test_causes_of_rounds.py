@@ -9,14 +9,14 @@ from pathlib import Path
 
 import pytest
 
-from cpi_tools.carriers import SSH, Rsync, carrier_of
-from cpi_tools.follow import Follower
-from cpi_tools.page_changes import CAME, CHANGES
-from cpi_tools.places import Elsewhere, Folder
-from cpi_tools.program import Cpi
-from cpi_tools.promote import promote
-from cpi_tools.second_copies import NAMES, promotion_of, state_of
-from cpi_tools.terminal import Fault
+from cpi_tools.guard.copies.carriers import SSH, Rsync, carrier_of
+from cpi_tools.guard.follow import Follower
+from cpi_tools.guard.copies.page_changes import CAME, CHANGES
+from cpi_tools.guard.copies.places import Elsewhere, Folder
+from cpi_tools.office.program import Cpi
+from cpi_tools.guard.promote import promote
+from cpi_tools.guard.copies.second_copies import NAMES, promotion_of, state_of
+from cpi_tools.text.terminal import Fault
 from lib.places import ROOT
 from .disks import fill, mounted
 from .second_machines import receiver

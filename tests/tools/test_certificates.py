@@ -9,9 +9,9 @@ from pathlib import Path
 
 import pytest
 
-from cpi_tools.certificates import Certificate, Place, Server, certificate_at, place
-from cpi_tools.machine_clock import MachineClock, machine_clock, timex
-from cpi_tools.terminal import Fault
+from cpi_tools.guard.watch.certificates import Certificate, Place, Server, certificate_at, place
+from cpi_tools.guard.watch.machine_clock import MachineClock, machine_clock, timex
+from cpi_tools.text.terminal import Fault
 from lib.served import free_port
 from .needs import needed
 from .test_probe import answering

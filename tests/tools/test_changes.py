@@ -12,12 +12,12 @@ from typing import Any
 
 import pytest
 
-from cpi_tools.pack.changes import LostChanges
-from cpi_tools.pack.config import Config
-from cpi_tools.pack.public import Published
-from cpi_tools.pack.reasons import Reason
-from cpi_tools.pack.specials import Special
-from cpi_tools.publish import check, publish
+from cpi_tools.publish.forms.pack_changes import LostChanges
+from cpi_tools.publish.figures.config import Config
+from cpi_tools.office.public import Published
+from cpi_tools.publish.figures.reasons import Reason
+from cpi_tools.publish.figures.specials import Special
+from cpi_tools.publish.pack import check, publish
 from lib.pack_forms import Attributes, read_sdmx_ml
 from .published import REVISED
 

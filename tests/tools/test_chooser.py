@@ -16,10 +16,10 @@ from typing import Any
 
 import pytest
 
-from cpi_tools.pack.chooser import ITEM_HEAD, OF_FRAMES, SEARCH, SOURCES, script
-from cpi_tools.pack.config import Config
-from cpi_tools.pack.public import Published
-from cpi_tools.publish import publish
+from cpi_tools.publish.site.chooser import ITEM_HEAD, OF_PAGES, OTHERS_OF_PAGES, SEARCH, SOURCES, script
+from cpi_tools.publish.figures.config import Config
+from cpi_tools.office.public import Published
+from cpi_tools.publish.pack import publish
 from .published import REVISED
 
 CONFIG = Config("NSO", "XX", "Office of prices", reference="2025", rates="published")
@@ -128,8 +128,9 @@ def test_earlier_revisions_are_those_that_are_not_the_latest(pack: Path) -> None
 
 
 def test_the_script_is_one_file_without_imports(pack: Path) -> None:
-    """So is that of the small page to embed."""
-    for name, wanted in (("choose", script()), ("frame", script(OF_FRAMES, {}))):
+    """So are those of other pages."""
+    others = {name: script(modules, OTHERS_OF_PAGES.get(name, {})) for name, modules in OF_PAGES.items()}
+    for name, wanted in {"choose": script(), **others}.items():
         text = (pack / f"assets/{name}.js").read_text(encoding="utf-8")
         assert text == wanted and not [line for line in text.splitlines() if line.startswith(("import ", "export "))]
         (pack / f"assets/{name}.mjs").write_text(text, encoding="utf-8")

@@ -11,13 +11,13 @@ import bibtexparser  # type: ignore[import]
 import pytest
 from bibtexparser.bparser import BibTexParser  # type: ignore[import]
 
-from cpi_tools.pack.cards import NO_CARDS
-from cpi_tools.pack.citations import Citation, bibtex, datacite, ris
-from cpi_tools.pack.clocks import clock_of
-from cpi_tools.pack.config import BadConfig, Config, read_config
-from cpi_tools.pack.office_languages import OfficeLanguages, Own
-from cpi_tools.pack.public import Published
-from cpi_tools.publish import publish
+from cpi_tools.publish.releases.cards import NO_CARDS
+from cpi_tools.publish.releases.citations import Citation, bibtex, datacite, ris
+from cpi_tools.text.clocks import clock_of
+from cpi_tools.publish.figures.config import BadConfig, Config, read_config
+from cpi_tools.publish.figures.office_languages import OfficeLanguages, Own
+from cpi_tools.office.public import Published
+from cpi_tools.publish.pack import publish
 from lib.ris import read_ris
 from .published import REVISED
 from .test_site import words_of
@@ -35,7 +35,7 @@ LANG = "{http://www.w3.org/XML/1998/namespace}lang"
 def site(published: list[Published], tmp_path_factory: pytest.TempPathFactory) -> Path:
     """The site of an office with a revision and a DOI, in two languages."""
     with pytest.MonkeyPatch.context() as patch:
-        patch.setattr("cpi_tools.publish.cards_after", lambda _: NO_CARDS)
+        patch.setattr("cpi_tools.publish.pack.cards_after", lambda _: NO_CARDS)
         out = tmp_path_factory.mktemp("cited") / "public"
         upto = [it for it in published if it.name <= f"{REVISED}-r2.csv"]
         publish(upto, CONFIG, out, None, lambda _: None)

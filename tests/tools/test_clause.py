@@ -3,6 +3,7 @@
 from __future__ import annotations
 
 import json
+import re
 import shutil
 import subprocess
 from fractions import Fraction
@@ -12,15 +13,15 @@ from typing import Any
 import pytest
 
 from lib.places import ROOT
-from cpi_tools.pack.config import Config
-from cpi_tools.pack.public import Published
-from cpi_tools.pack.specials import Special
-from cpi_tools.publish import publish
+from cpi_tools.publish.figures.config import Config
+from cpi_tools.office.public import Published
+from cpi_tools.publish.figures.specials import Special
+from cpi_tools.publish.pack import publish
 from .published import REVISED
 
 pytestmark = pytest.mark.skipif(shutil.which("node") is None, reason="node isn't there")
 
-SCRIPT = ROOT / "tools/cpi_tools/pack/assets/contract.js"
+SCRIPT = ROOT / "tools/cpi_tools/publish/site/assets/contract.js"
 CONFIG = Config(
     "NSO", "XX", "Office of prices", currency="crowns", specials=(Special("FOOD", "All food", ("01",), ()),)
 )
@@ -85,9 +86,7 @@ def test_an_address_gives_the_result_of_its_revisions(levels: Path, published: l
 def test_the_address_of_a_result_gives_it_again(levels: Path) -> None:
     """An address that is read and written again is the same one, and names both revisions and the period."""
     whole = "amount=1000.50&code=00&then=2025-06&now=2026-03&decimals=6&then-revision=1&now-revision=1&hundred=2024-12"
-    read = (
-        "(({ values, revisions }) => c.addressOf(c.computed(values, revisions, data)))(c.readAddress(given[0], data))"
-    )
+    read = "(({ values, revisions }) => c.addressOf(c.computed(values, revisions, data), data.digits))(c.readAddress(given[0], data))"
     assert asked(levels, read, whole) == f"#{whole}"
     assert "now-revision=2" in asked(levels, read, address("2025-06", REVISED, 1))
 
@@ -156,3 +155,70 @@ def test_the_texts_to_take(levels: Path, published: list[Published]) -> None:
     assert f"{now_text} / {then_text} = {minor[:-5]}\u202f{minor[-5:-2]}.{minor[-2:]} crowns." in result.translate(
         plain
     )
+    copied = " ".join(asked(levels, "given.map(c.plain)", clause, result))
+    assert "\u202f" in clause + result
+    assert not re.search("[\u00a0\u2009\u200e\u200f\u202f\u2066-\u2069]", copied)
+    assert f"= {minor[:-5]} {minor[-5:-2]}.{minor[-2:]} crowns." in copied
+
+
+def clause_of(levels: Path, code: str, more: str) -> str:
+    """The text for a contract that an address asks for."""
+    program = "(({ values }) => c.clauseText(c.computed(values, {}, data), data))(c.readAddress(given[0], data))"
+    found: str = asked(levels, program, address("2025-06", REVISED, 1, more, code))
+    return found
+
+
+def test_a_clause_names_the_month_the_revision_and_what_follows(levels: Path) -> None:
+    """At an adjustment date the latest published month is due, by its first revision or by that of the day; if the index
+    falls, the amount falls or stays; if it ends, a successor counts, and of a part else all items."""
+    first = clause_of(levels, "01", "")
+    assert (
+        "At each adjustment date the index of the latest month is due that the office has published by then." in first
+    )
+    assert "It counts as it was first published: a later revision of that month changes nothing." in first
+    assert "If the index that is due is lower than the one before, the amount falls with it." in first
+    assert first.endswith("linked at the last month that has both; if it names none, that of all items does.")
+    other = clause_of(levels, "00", "&later=day&fall=stays")
+    assert (
+        "It counts by its latest revision at the adjustment date: a revision after that date changes nothing." in other
+    )
+    assert "If the new amount would be lower than the amount that is paid, the amount stays as it is." in other
+    assert other.endswith("takes its place, linked at the last month that has both.")
+
+
+def test_an_address_keeps_what_a_contract_says_of_revisions_and_falls(levels: Path) -> None:
+    read = "(({ values }) => c.addressOf(c.computed(values, {}, data), data.digits))(c.readAddress(given[0], data))"
+    kept = asked(levels, read, address("2025-06", REVISED, 1, "&later=day&fall=stays"))
+    assert "&decimals=1&later=day&fall=stays&then-revision=" in kept
+    assert "later" not in asked(levels, read, address("2025-06", REVISED, 1, "&later=first&fall=follows"))
+    found = asked(levels, "c.readAddress(given[0], data)", "later=never")
+    assert found["faults"] == ["The address has later=never. It has to be first or day."]
+
+
+AMOUNTS = {
+    ("1,234.50", 2): "123450",
+    ("1.234,50", 2): "123450",
+    ("1\u2019234.50", 2): "123450",
+    ("12,34,567.8", 2): "123456780",
+    ("\u0661\u066c\u0662\u0663\u0664\u066b\u0665\u0660", 2): "123450",
+    ("\u0967\u0968\u0969.\u096b", 2): "12350",
+    (".5", 2): "50",
+    ("1,234", 0): "1234",
+    ("1,234.567", 3): "1234567",
+    ("1,234", 2): None,
+    ("1.234", 3): None,
+    ("1,23", 0): None,
+    ("1 23", 2): None,
+    ("12.345.6", 2): None,
+}
+"""Amounts as people type them, with so many decimals of the currency, in minor units; None if they can't be read, or in two
+ways."""
+
+
+def test_an_amount_is_read_in_the_digits_of_any_keyboard(levels: Path) -> None:
+    given = [*AMOUNTS]
+    found = asked(levels, "given[0].map(([text, digits]) => c.amountOf(text, digits))", given)
+    assert dict(zip(given, found)) == AMOUNTS
+    said = asked(levels, "c.badAmount(2, '1,234')")
+    assert said == "1,234 can be read as 1234 or as 1.234. Write the amount such as 1234.50."
+    assert asked(levels, "c.badAmount(2, 'x')").endswith("with at most 2 decimals, such as 1234.50.")

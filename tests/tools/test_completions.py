@@ -19,7 +19,7 @@ from completions import SHELLS, completions
 from completions.words import help_of, of_help, of_parser, with_paths
 from lib.places import ROOT
 from cpi_tools.command_line import parser
-from cpi_tools.program import Cpi
+from cpi_tools.office.program import Cpi
 from manual import tools_of
 from .needs import needed
 from .test_ops import script

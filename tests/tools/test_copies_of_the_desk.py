@@ -1,4 +1,4 @@
-"""`cpi_tools.desk_app.copies`: the copies that the pages read, while the office goes on and as the application ends."""
+"""`cpi_tools.desk.serve.copies`: the copies that the pages read, while the office goes on and as the application ends."""
 
 from __future__ import annotations
 
@@ -6,10 +6,10 @@ from pathlib import Path
 
 import pytest
 
-from cpi_tools.copying import right_copy
-from cpi_tools.desk_app.copies import Copies
-from cpi_tools.program import Cpi
-from cpi_tools.terminal import Fault
+from cpi_tools.office.copying import right_copy
+from cpi_tools.desk.serve.copies import Copies
+from cpi_tools.office.program import Cpi
+from cpi_tools.text.terminal import Fault
 from .loads import faults_of
 from .test_copying import send
 
@@ -49,7 +49,7 @@ def test_a_copy_that_is_taken_while_the_application_ends_goes(
         copies.close()
         return right_copy(file, folder)
 
-    monkeypatch.setattr("cpi_tools.desk_app.copies.right_copy", ends_meanwhile)
+    monkeypatch.setattr("cpi_tools.desk.serve.copies.right_copy", ends_meanwhile)
     with pytest.raises(Fault, match="takes no further copy of the office"):
         copies.renew()
     assert list(tmp_path.glob("cpi-desk-*")) == []

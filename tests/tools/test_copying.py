@@ -1,4 +1,4 @@
-"""`cpi_tools.copying`: a copy has each command that was answered before it, whatever the program does meanwhile."""
+"""`cpi_tools.office.copying`: a copy has each command that was answered before it, whatever the program does meanwhile."""
 
 from __future__ import annotations
 
@@ -18,9 +18,9 @@ from typing import Any
 
 import pytest
 
-from cpi_tools import copying
-from cpi_tools.copying import CopyFailed, has_frames, log_beside, mark_of, private_copy, right_copy
-from cpi_tools.program import Cpi, Session
+from cpi_tools.office import copying
+from cpi_tools.office.copying import CopyFailed, has_frames, log_beside, mark_of, private_copy, right_copy
+from cpi_tools.office.program import Cpi, Session
 from .loads import faults_of, price_of, slot_of
 from .offices import LOAD_KEY, LOAD_MONTH
 

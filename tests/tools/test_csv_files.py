@@ -9,8 +9,8 @@ from pathlib import Path
 import pytest
 
 from . import surveys
-from cpi_tools.csv_files import Writer, formulas_told, is_formula
-from cpi_tools.program import Cpi
+from cpi_tools.text.csv_files import Writer, formulas_told, is_formula
+from cpi_tools.office.program import Cpi
 from .ran import rows_of, run
 
 TITLE, OUTLET = "=1+1", "@SUM(A1)"

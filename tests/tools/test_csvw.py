@@ -8,13 +8,13 @@ from pathlib import Path
 
 import pytest
 
-from cpi_tools.pack.config import Config
-from cpi_tools.pack.csvw import COLUMNS
-from cpi_tools.pack.office_languages import OfficeLanguages
-from cpi_tools.pack.public import Published
-from cpi_tools.pack.reasons import Reason
-from cpi_tools.pack.specials import Special
-from cpi_tools.publish import publish
+from cpi_tools.publish.figures.config import Config
+from cpi_tools.publish.site.csvw import COLUMNS
+from cpi_tools.publish.figures.office_languages import OfficeLanguages
+from cpi_tools.office.public import Published
+from cpi_tools.publish.figures.reasons import Reason
+from cpi_tools.publish.figures.specials import Special
+from cpi_tools.publish.pack import publish
 from lib.csvw import faults_of, metadata_of, schema_of
 from .published import CODES, REVISED
 

@@ -11,7 +11,7 @@ from typing import Optional
 
 import pytest
 
-from cpi_tools.program import Cpi
+from cpi_tools.office.program import Cpi
 from lib.places import ROOT
 from .ran import Ran
 

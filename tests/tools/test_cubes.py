@@ -10,11 +10,11 @@ from typing import Optional
 
 import pytest
 
-from cpi_tools.pack.config import Config
-from cpi_tools.pack.office_languages import OfficeLanguages, Own
-from cpi_tools.pack.planned import Planned
-from cpi_tools.pack.public import Listed, Published
-from cpi_tools.publish import publish
+from cpi_tools.publish.figures.config import Config
+from cpi_tools.publish.figures.office_languages import OfficeLanguages, Own
+from cpi_tools.publish.figures.planned import Planned
+from cpi_tools.office.public import Listed, Published
+from cpi_tools.publish.pack import publish
 from lib.pack_forms import read_json_stat, read_px
 from lib.px_format import read_strictly
 from .test_specials import config

@@ -10,8 +10,8 @@ from pathlib import Path
 
 import pytest
 
-from cpi_tools.program import Cpi
-from cpi_tools.stored import read_copy
+from cpi_tools.office.program import Cpi
+from cpi_tools.office.stored import read_copy
 from lib.served import heard, message, peer_of
 from . import surveys
 from .desk_apps import Application, Person, applied, words_of

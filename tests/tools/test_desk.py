@@ -20,8 +20,9 @@ import pytest
 
 from . import surveys
 from cpi_tools.command_line import main
-from cpi_tools.desk import aggregates, influence, unusual
-from cpi_tools.program import Cpi, record
+from cpi_tools.desk.month import influence, unusual
+from cpi_tools.office.formulas import jevons
+from cpi_tools.office.program import Cpi, record
 from lib.places import ROOT
 from lib.served import free_port
 from .loads import served
@@ -250,7 +251,8 @@ def test_prices_to_look_at_again(cpi: Cpi, small: Path, tmp_path: Path) -> None:
     assert cpi.replay(sent, db=small) == [{"high": 492, "last": 246, "low": 123, "refused": 26}, {"receipt": 4}]
     assert run(cpi, "desk", "month", small, "2026-02", "--at", 3600, "--out", tmp_path / "out").status == 0
     (row,) = rows_of(tmp_path / "out" / "outliers.csv")
-    assert [*row.values()][4:] == ["246", "2520", "924.4", "confirmed"]
+    why = "confirmed, the only price that is compared in its aggregate"
+    assert [*row.values()][4:] == ["246", "2520", "924.4", why]
 
 
 def test_tukeys_fences_by_hand() -> None:
@@ -297,8 +299,8 @@ def test_geometric_means_are_those_of_logarithms() -> None:
     for count in (1, 2, 3, 40):
         pairs = [(drawn.randrange(1, 10**9), drawn.randrange(1, 10**9)) for _ in range(count)]
         wanted = math.exp(math.fsum(math.log(now / then) for now, then in pairs) / count)
-        assert aggregates.jevons(pairs) / 10**8 == pytest.approx(wanted, rel=1e-7)
-    assert aggregates.jevons([(4, 1), (1, 1)]) == 2 * 10**8
+        assert jevons(pairs) / 10**8 == pytest.approx(wanted, rel=1e-7)
+    assert jevons([(4, 1), (1, 1)]) == 2 * 10**8
 
 
 def test_who_is_silent_missing_for_long_and_gone(cpi: Cpi, small: Path, tmp_path: Path) -> None:
@@ -425,7 +427,7 @@ def test_a_quote_that_cannot_be_is_told_without_its_key(cpi: Cpi, small: Path) -
     assert (unknown.status, unknown.out) == (1, "") and "nobody has slot 8/2: give COLLECTOR/SLOT" in unknown.err
     greatest = run(cpi, *words, "--price", "8/1=100000001")
     assert greatest.status == 1 and key_of(8) not in greatest.err
-    assert "quote 1 2026-02 price 100000001 confirm: refused by 10: the record has no such form" in greatest.err
+    assert "quote 1 2026-02 price 100000001 confirm: refused by 10: the record's form is wrong" in greatest.err
 
 
 # ---- what can't be, and what is left alone
@@ -436,7 +438,7 @@ def test_what_cannot_be_frozen_is_told_in_words(cpi: Cpi, small: Path, tmp_path:
     unknown = run(cpi, "desk", "month", small, "2026-03", "--at", 1, "--out", out)
     assert unknown.err == (
         "cpi-tools desk month: 2026-03, by the calendar, which ends with 2026-02: refused by 21: the month has no"
-        " calendar row; send it, then the same again\n"
+        " calendar row; send that row, then this record again\n"
     )
     assert not out.exists()
     stands = run(cpi, "desk", "close", small, "2026-01", "--at", 4000)
@@ -447,7 +449,10 @@ def test_what_cannot_be_frozen_is_told_in_words(cpi: Cpi, small: Path, tmp_path:
     assert cpi.replay(["0,desk,calendar,2026-03,4000,6000,7000"], db=small) == [{"done": True}]
     ahead = run(cpi, "desk", "month", small, "2026-03", "--at", 7000, "--out", out)
     assert ahead.status == 1
-    assert "desk month: no provisional table: a freeze of 2026-03: refused by 46: it is neither the last" in ahead.err
+    assert (
+        "desk month: no provisional table: a freeze of 2026-03: refused by 46: the month is neither the last"
+        in ahead.err
+    )
     assert "Response by collector" in ahead.out and (out / "month.html").is_file()
     assert not (out / "provisional.csv").exists()
 
@@ -540,7 +545,7 @@ def test_each_help_has_an_example_and_narrow_lines(capsys: pytest.CaptureFixture
 
 
 def test_who_reads_no_further_ends_the_tool_without_a_traceback(cpi: Cpi, small: Path) -> None:
-    words = [ROOT / "cpi-tools", "explain", small, "2026-01", "01.1.1.1-01"]
+    words = [str(ROOT / "cpi-tools"), "explain", str(small), "2026-01", "01.1.1.1-01"]
     reads, writes = os.pipe()
     os.close(reads)
     ran = subprocess.run(words, stdout=writes, stderr=subprocess.PIPE, text=True, check=False)

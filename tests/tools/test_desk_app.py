@@ -14,16 +14,16 @@ from typing import Any
 import pytest
 
 from . import surveys
-from cpi_tools.desk_app.glance import Glance, Share
-from cpi_tools.desk_app.month_views import time_left
-from cpi_tools.desk_app.observed import Observed, Seen
-from cpi_tools.desk_app.app import make_app
-from cpi_tools.desk_app.reached import Reached
-from cpi_tools.desk_app.sessions import LONGEST_SESSION, NotSignedIn, Sessions
-from cpi_tools.desk_app.tries import FREE_TRIES, MOST_ADDRESSES, Tries
-from cpi_tools.program import Cpi
-from cpi_tools.stored import Window
-from cpi_tools.trial import State
+from cpi_tools.desk.looks.glance import Glance, Share
+from cpi_tools.desk.looks.month_views import time_left
+from cpi_tools.desk.serve.observations import Observed, Seen
+from cpi_tools.desk.serve.app import make_app
+from cpi_tools.desk.serve.reach import Reached
+from cpi_tools.desk.serve.sessions import LONGEST_SESSION, NotSignedIn, Sessions
+from cpi_tools.desk.serve.wrong_keys import FREE_TRIES, MOST_ADDRESSES, Tries
+from cpi_tools.office.program import Cpi
+from cpi_tools.office.stored import Window
+from cpi_tools.office.trial import State
 from .desk_apps import ADA, Application, Person, applied, words_of
 from lib.served import heard, message, peer_of
 from .loads import DESK_KEY

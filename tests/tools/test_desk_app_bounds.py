@@ -8,10 +8,10 @@ from typing import Optional
 
 import pytest
 
-from cpi_tools.copying import private_copy
-from cpi_tools.desk_app.bounds import bound_of, percent_of
-from cpi_tools.program import Cpi
-from cpi_tools.stored import read_copy
+from cpi_tools.office.copying import private_copy
+from cpi_tools.desk.records.item_bounds import bound_of, percent_of
+from cpi_tools.office.program import Cpi
+from cpi_tools.office.stored import read_copy
 
 from . import surveys
 from .desk_apps import ADA, Application, Person, applied, words_of

@@ -15,8 +15,8 @@ from typing import Any, NoReturn
 import pytest
 
 from . import surveys
-from cpi_tools.program import Cpi
-from cpi_tools.speech import Speech, speech_of
+from cpi_tools.office.program import Cpi
+from cpi_tools.text.speech import Speech, speech_of
 from .desk_apps import ADA, BEN, Application, Person, applied
 from lib.served import free_port
 from .loads import served

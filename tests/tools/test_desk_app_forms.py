@@ -9,8 +9,8 @@ from typing import Any
 
 import pytest
 
-from cpi_tools.desk_app.form_bounds import MOST_BYTES, MOST_BYTES_BEFORE, MOST_FIELDS
-from cpi_tools.program import Cpi
+from cpi_tools.desk.serve.form_bounds import MOST_BYTES, MOST_BYTES_BEFORE, MOST_FIELDS
+from cpi_tools.office.program import Cpi
 from . import surveys
 from .desk_apps import ADA, BEN, LISTEN, Application, Person, applied, words_of
 from .offices import LOAD_KEY

@@ -13,11 +13,11 @@ from typing import NoReturn
 
 import pytest
 
-from cpi_tools.desk_app import freeze_steps, freeze_views
-from cpi_tools.desk_app.freezes import PreparedFreeze
-from cpi_tools.others import Worded
-from cpi_tools.program import Cpi
-from cpi_tools.terminal import Fault
+from cpi_tools.desk.freeze import freeze_steps, freeze_views
+from cpi_tools.desk.freeze.freezes import PreparedFreeze
+from cpi_tools.text.others import Worded
+from cpi_tools.office.program import Cpi
+from cpi_tools.text.terminal import Fault
 from lib.served import free_port
 from . import surveys
 from .desk_apps import ADA, BEN, PATIENCE, Application, Person, words_of
@@ -118,7 +118,7 @@ def test_a_full_disk_or_a_wrong_file_is_told(
     application.tried(ada, MONTH)
     file = application.room / "prepared-freeze.json"
     with monkeypatch.context() as patch:
-        patch.setattr("cpi_tools.whole_files.os.fchmod", full)
+        patch.setattr("cpi_tools.text.whole_files.os.fchmod", full)
         answer = ada.fill(PAGE, "/prepare", **WHY)
     assert answer.status_code == 400 and f"{file}: No space left on device" in words_of(answer.text)
     assert not file.exists() and "Prepared, and not sent yet" not in ada.words(PAGE)

@@ -10,8 +10,8 @@ from typing import Any
 import pytest
 
 from . import surveys
-from cpi_tools.program import Cpi
-from cpi_tools.speech import speech_of
+from cpi_tools.office.program import Cpi
+from cpi_tools.text.speech import speech_of
 from .desk_apps import ADA, BEN, LISTEN, Application, Person, applied
 from .nobodys import NAMES, greek, left_in_english, nobodys_in, seen_of, unmarked
 from .test_desk_app_publish import frozen as published_at, waited, with_site

@@ -8,7 +8,7 @@ from pathlib import Path
 
 import pytest
 
-from cpi_tools.desk_app.desk_log import (
+from cpi_tools.desk.records.desk_log import (
     ANSWERED,
     CUT_OFF,
     HIDDEN,
@@ -20,8 +20,8 @@ from cpi_tools.desk_app.desk_log import (
     DeskLog,
     shown,
 )
-from cpi_tools.desk_app.log_views import lines_of, searched
-from cpi_tools.terminal import Fault
+from cpi_tools.desk.records.log_views import lines_of, searched
+from cpi_tools.text.terminal import Fault
 
 DONE = [{"done": True}]
 

@@ -9,12 +9,12 @@ from pathlib import Path
 
 import pytest
 
-from cpi_tools.desk_app.typed_numbers import numbers_in
-from cpi_tools.desk_app.what_if_texts import example, tried_of
-from cpi_tools.money import Money
-from cpi_tools.program import Cpi
-from cpi_tools.terminal import Fault
-from cpi_tools.told import Price, Ticks
+from cpi_tools.desk.serve.typed_texts import numbers_in
+from cpi_tools.desk.looks.what_if_texts import example, tried_of
+from cpi_tools.text.money import Money
+from cpi_tools.office.program import Cpi
+from cpi_tools.text.terminal import Fault
+from cpi_tools.text.message import Price, Ticks
 
 from . import surveys
 from .desk_apps import ADA, Application, Person, applied, words_of
@@ -46,7 +46,7 @@ def test_each_page_with_prices_has_amounts_and_says_in_what(ada: Person) -> None
         words = ada.words(f"/month/{MONTH}/{page}")
         assert "Prices are in crowns ." in words, page
         assert not MINOR.search(words), page
-    assert "last price 2.46 , now 2.52 (2.4" in ada.words(f"/month/{MONTH}/looks")
+    assert "last price 2.46 , now 2.52 (+2.4" in ada.words(f"/month/{MONTH}/looks")
     assert "last price 2.46, now 2.52, 2.4 percent" in ada.get(f"/month/{MONTH}/looks/8.txt").text
     assert 'aria-label="3 prices in 13 months, from 2.40 to 2.52"' in ada.get(f"/month/{MONTH}/looks").text
 

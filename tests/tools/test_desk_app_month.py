@@ -10,13 +10,13 @@ from pathlib import Path
 import pytest
 
 from . import surveys
-from cpi_tools.desk_app.freezes import PreparedFreeze
-from cpi_tools.desk_app.lines import line_of
-from cpi_tools.report_language import ENGLISH
-from cpi_tools.desk_app.marks import NOTE, SEEN, UNSEEN, Marks, Price
-from cpi_tools.desk_app.tables_kept import TablesKept
-from cpi_tools.program import Cpi, record
-from cpi_tools.terminal import Fault
+from cpi_tools.desk.freeze.freezes import PreparedFreeze
+from cpi_tools.desk.looks.price_lines import line_of
+from cpi_tools.text.report_language import ENGLISH
+from cpi_tools.desk.looks.price_marks import NOTE, SEEN, UNSEEN, Marks, Price
+from cpi_tools.desk.looks.kept_tables import TablesKept
+from cpi_tools.office.program import Cpi, record
+from cpi_tools.text.terminal import Fault
 from .desk_apps import ADA, BEN, LISTEN, Application, Person, applied, words_of
 from .page_forms import forms_of
 from lib.served import heard, message, peer_of
@@ -154,7 +154,7 @@ def test_prices_that_are_unusual_come_in_the_order_of_their_weight(cpi: Cpi, tmp
         ]
         words = ada.words(f"/month/{MONTH}/looks")
         assert words.index("Slot 7/1") < words.index("Slot 7/2")
-        assert "last price 210 , now 421 (100.5" in words and "Another product was priced" in words
+        assert "last price 210 , now 421 (+100.5" in words and "Another product was priced" in words
 
 
 def test_marks_are_of_one_price_and_outlive_a_crash(tmp_path: Path) -> None:
@@ -194,9 +194,9 @@ def test_a_full_disk_takes_all_marks_or_none(tmp_path: Path) -> None:
 
 def test_a_history_is_a_line_with_gaps() -> None:
     quotes = {202512: ("price", 200), 202601: ("missing", 0), 202602: ("price", 300)}
-    drawn = str(line_of(quotes, 202602, ENGLISH.say))
+    drawn = str(line_of(quotes, 202602, ENGLISH.render))
     assert drawn.count("<circle") == 2 and drawn.count("M") == 2 and "2 prices in 13 months, from 200 to 300" in drawn
-    assert line_of({}, 202602, ENGLISH.say) == ""
+    assert line_of({}, 202602, ENGLISH.render) == ""
 
 
 # ---- the freeze
@@ -213,7 +213,7 @@ def told(person: Person, step: str, **form: str) -> str:
 
 def frozen_months(application: Application) -> list[tuple[int, tuple[str, ...]]]:
     with application.desk.copies_now() as copy:
-        from cpi_tools.stored import read_copy
+        from cpi_tools.office.stored import read_copy
 
         with read_copy(copy.path) as office:
             return [(it.month, it.carry) for it in office.releases()]

@@ -13,8 +13,8 @@ import pytest
 
 from . import surveys
 from cpi_tools.command_line import main
-from cpi_tools.desk_app.publishing import Planned, Publisher, Site
-from cpi_tools.program import Cpi, record
+from cpi_tools.desk.freeze.publication import Planned, Publisher, Site
+from cpi_tools.office.program import Cpi, record
 from .desk_apps import ADA, BEN, PATIENCE, Application, Person, applied, words_of
 from .ran import run
 

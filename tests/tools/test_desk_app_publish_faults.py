@@ -12,8 +12,8 @@ from typing import NoReturn
 
 import pytest
 
-from cpi_tools.desk_app.publishing import AGAIN_AFTER, LOOKS_EVERY, Planned, Publisher
-from cpi_tools.program import Cpi
+from cpi_tools.desk.freeze.publication import AGAIN_AFTER, LOOKS_EVERY, Planned, Publisher
+from cpi_tools.office.program import Cpi
 from .desk_apps import ADA, Application, Person, applied
 from .test_desk_app_publish import frozen, waited, with_site, written
 
@@ -89,7 +89,7 @@ def test_a_plan_that_can_t_be_kept_is_refused(
     form = ada.form("/publish", "/publish/plan")
     for what in ("plan", "drop"):
         with monkeypatch.context() as patch:
-            patch.setattr("cpi_tools.whole_files.os.fchmod", full)
+            patch.setattr("cpi_tools.text.whole_files.os.fchmod", full)
             answer = ada.give(form, what=what)
         assert answer.status_code == 400 and f"{publisher._plan}: No space left on device" in answer.text
     assert publisher.planned() == []
@@ -122,7 +122,7 @@ def test_an_error_of_the_application_is_told(
 def test_a_tool_that_ends_without_a_word_is_told(
     publisher: Publisher, ada: Person, monkeypatch: pytest.MonkeyPatch
 ) -> None:
-    monkeypatch.setattr("cpi_tools.desk_app.publishing.sys.executable", "/bin/false")
+    monkeypatch.setattr("cpi_tools.desk.freeze.publication.sys.executable", "/bin/false")
     assert f"{NOT_WRITTEN}cpi-tools publish ended with the status 1." in written(publisher, ada)
 
 
@@ -133,7 +133,7 @@ def test_the_end_of_the_application_ends_what_writes(
     slow = tmp_path / "slow"
     slow.write_text("#!/bin/sh\nexec sleep 600\n", encoding="utf-8")
     slow.chmod(0o755)
-    monkeypatch.setattr("cpi_tools.desk_app.publishing.sys.executable", str(slow))
+    monkeypatch.setattr("cpi_tools.desk.freeze.publication.sys.executable", str(slow))
     assert publisher.begin(ADA) and not publisher.begin(ADA)
     waited(lambda: publisher._process)
     publisher.stop()

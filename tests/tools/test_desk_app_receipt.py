@@ -10,15 +10,16 @@ from typing import Any
 
 import pytest
 
-from cpi_tools.backup import last_line_of, read_note
-from cpi_tools.copying import private_copy
-from cpi_tools.desk_app.desk_log import DeskLog
-from cpi_tools.desk_app.held_forms import MOST, MOST_BYTES_OF_ALL, HeldForm, HeldForms
-from cpi_tools.desk_app.second_key import SecondKey
-from cpi_tools.desk_app.sessions import Sessions
-from cpi_tools.desk_app.tries import FREE_TRIES
-from cpi_tools.program import Cpi, Reply
-from cpi_tools.terminal import Fault
+from cpi_tools.guard.backup import last_line_of, read_note
+from cpi_tools.office.copying import private_copy
+from cpi_tools.desk.freeze import freeze_receipts
+from cpi_tools.desk.records.desk_log import DeskLog
+from cpi_tools.desk.serve.held_forms import MOST, MOST_BYTES_OF_ALL, HeldForm, HeldForms
+from cpi_tools.desk.serve.second_key import SecondKey
+from cpi_tools.desk.serve.sessions import Sessions
+from cpi_tools.desk.serve.wrong_keys import FREE_TRIES
+from cpi_tools.office.program import Cpi, Reply
+from cpi_tools.text.terminal import Fault
 from .desk_apps import ADA, BEN, Application, Person, words_of
 from .loads import DESK_KEY
 from .page_forms import forms_of
@@ -97,7 +98,7 @@ def test_a_freeze_ends_on_a_receipt_that_stays(cpi: Cpi, prepared: Application, 
         "All items are at 105.7 (December 2025 = 100): 1.5 percent on the month before",
         "Prepared Ada , ",
         "Confirmed Ben , ",
-        "Is published 1 January 1970, 02:23 CET (01:23 UTC)",
+        "Is published At once: its moment, 1 January 1970, 02:23 CET (01:23 UTC), was over",
         f"Frozen with prices that nobody had seen {SIGNED['because']}",
         f"Carried: {CODE} the shop is closed for a week",
         f"SHA-256 of the table {total}",
@@ -112,6 +113,22 @@ def test_a_freeze_ends_on_a_receipt_that_stays(cpi: Cpi, prepared: Application, 
     assert "is frozen, revision 1. Its receipt" in prepared_page(prepared)
     missing = prepared.person(ADA).get(f"{PAGE}/receipt/2")
     assert missing.status_code == 404 and "Page not found" in words_of(missing.text)
+
+
+@pytest.mark.parametrize(
+    ("later", "says"), [(0, "Is published At once: its moment, "), (60, "Is published 31 January 2026, 23:54 CET")]
+)
+def test_a_receipt_says_whether_the_table_is_out_at_once(
+    prepared: Application, monkeypatch: pytest.MonkeyPatch, later: int, says: str
+) -> None:
+    """It isn't said to be published at a moment before the one at which the freeze was confirmed."""
+    ben = prepared.person(BEN)
+    frozen(prepared, ben)
+    found = freeze_receipts.kept(prepared.desk.log, 202602, 1)
+    assert found
+    receipt = found.receipt._replace(confirmed_at=1_769_900_000, publishes=1_769_900_000 + later)
+    monkeypatch.setattr(freeze_receipts, "kept", lambda *_: found._replace(receipt=receipt))
+    assert says in ben.words(RECEIPT)
 
 
 def prepared_page(application: Application) -> str:

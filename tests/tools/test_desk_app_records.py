@@ -9,9 +9,9 @@ from typing import Any
 
 import pytest
 
-from cpi_tools.desk_app import records_views
-from cpi_tools.desk_app.form_bounds import MOST_BYTES
-from cpi_tools.desk_app.judging import lines_of
+from cpi_tools.desk.records import records_views
+from cpi_tools.desk.serve.form_bounds import MOST_BYTES
+from cpi_tools.desk.records.record_judge import lines_of
 from .desk_apps import LISTEN, Application, Person, words_of
 
 PLAN = """T,00,All
@@ -43,9 +43,9 @@ def test_of_a_file_each_refusal_has_its_line(ada: Person) -> None:
     words = words_of(answer.text)
     assert answer.status_code == 200
     assert "1 would be carried out, 3 refused." in words
-    refused = re.findall('<tr class="refused"><td>([0-9]+)</td>', answer.text)
+    refused = re.findall('<tr class="refused"><th [^>]*>([0-9]+)</th>', answer.text)
     assert refused == ["3", "5", "6"]  # (the second of these records begins in the third line)
-    assert "refused by 40: the code, number, key or slot stands with other content;" in words
+    assert "refused by 40: the code, number, key or slot exists with other content;" in words
     assert "Send one record" in words
     sent = ada.sent("/records/send", offer=offer_of(answer.text), left="")
     assert "1 of 1 done." in words_of(sent.text)
@@ -101,7 +101,7 @@ def test_of_many_rows_the_refused_ones_are_listed_first_and_all_of_them_stay(
     bad = [f"outlet,{number},No" for number in range(10, 12)] + ["item,X"] * 8
     answer = chosen(ada, "\n".join([*good, *bad]).encode())
     assert "20 would be carried out, 10 refused. The first of each are listed." in words_of(answer.text)
-    lines = re.findall('<tr(?: class="refused")?><td>([0-9]+)</td>', answer.text)
+    lines = re.findall('<tr(?: class="refused")?><th [^>]*>([0-9]+)</th>', answer.text)
     assert lines == ["21", "22", "23", "1", "2", "3"]
     left = re.findall('<textarea[^>]* id="text"[^>]*>\n(.*?)</textarea>', answer.text, re.S)[0]
     assert left.splitlines() == bad

@@ -14,12 +14,12 @@ from typing import Any, NoReturn
 
 import pytest
 
-from cpi_tools.desk_app.publishing import Site
-from cpi_tools.desk_app.reason_file import ReasonFile, Row, add, with_row
-from cpi_tools.pack.clocks import UTC, clock_of
-from cpi_tools.pack.config import read_config
-from cpi_tools.pack.reasons import reasons_of
-from cpi_tools.program import Cpi
+from cpi_tools.desk.freeze.publication import Site
+from cpi_tools.desk.freeze.reason_file import ReasonFile, Row, add, with_row
+from cpi_tools.text.clocks import UTC, clock_of
+from cpi_tools.publish.figures.config import read_config
+from cpi_tools.publish.figures.reasons import reasons_of
+from cpi_tools.office.program import Cpi
 from . import surveys
 from .desk_apps import ADA, BEN, Application, Person, applied, words_of
 from .page_forms import forms_of
@@ -158,7 +158,7 @@ def test_what_isn_t_taken_stays_on_the_page(
         assert refused.status_code == 400 and says in words_of(refused.text), words_of(refused.text)
         assert POURQUOI in refused.text and text.strip() in refused.text
     with monkeypatch.context() as patch:
-        patch.setattr("cpi_tools.whole_files.os.fchmod", full)
+        patch.setattr("cpi_tools.text.whole_files.os.fchmod", full)
         refused = ada.fill(PAGE, "/reason", **TEXTS)
     assert refused.status_code == 503 and "The disk is full" in words_of(refused.text) and WHY in refused.text
     form = ada.form(PAGE, "/reason")
@@ -201,7 +201,7 @@ def test_a_file_that_can_t_be_replaced_stops_no_freeze(
 ) -> None:
     """As under /etc, which the service only reads: the page says so, and the month can be frozen."""
     reopens(ada, moment)
-    monkeypatch.setattr("cpi_tools.desk_app.reason_file.os.access", lambda path, mode: False)
+    monkeypatch.setattr("cpi_tools.desk.freeze.reason_file.os.access", lambda path, mode: False)
     assert f"may not write in {reasons.parent} . Write the reason into revisions.csv by hand" in ada.words("/calendar")
     assert prepares(application, ada).status_code == 303
     assert "is frozen, revision 2." in words_of(signed(application.person(BEN)).text)
@@ -211,7 +211,7 @@ def test_a_file_that_can_t_be_replaced_stops_no_freeze(
 def test_a_folder_that_can_t_be_written_any_more_stops_no_freeze(
     prepared: Application, ada: Person, reasons: Path, monkeypatch: pytest.MonkeyPatch
 ) -> None:
-    monkeypatch.setattr("cpi_tools.desk_app.reason_file.os.access", lambda path, mode: False)
+    monkeypatch.setattr("cpi_tools.desk.freeze.reason_file.os.access", lambda path, mode: False)
     assert signed(prepared.person(BEN)).status_code == 503
     assert ada.fill(FREEZE, "/drop").status_code == 303
     words = ada.words(FREEZE)
@@ -259,7 +259,7 @@ def test_what_somebody_wrote_into_the_file_stays(prepared: Application, reasons:
 
 def test_a_full_disk_freezes_nothing(prepared: Application, reasons: Path, monkeypatch: pytest.MonkeyPatch) -> None:
     with monkeypatch.context() as patch:
-        patch.setattr("cpi_tools.desk_app.reason_file.write_whole", full)
+        patch.setattr("cpi_tools.desk.freeze.reason_file.write_whole", full)
         refused = prepared.person(BEN).fill(FREEZE, "/confirm", **SIGNED)
     assert refused.status_code == 503 and "Nothing was sent: The disk is full" in words_of(refused.text)
     assert WHY in words_of(refused.text) and reasons.read_text() == HEAD
@@ -270,7 +270,7 @@ def test_what_can_t_be_written_after_the_freeze_is_told_and_written_later(
     prepared: Application, ada: Person, reasons: Path, monkeypatch: pytest.MonkeyPatch
 ) -> None:
     with monkeypatch.context() as patch:
-        patch.setattr("cpi_tools.desk_app.revision_reasons.add", full_disk)
+        patch.setattr("cpi_tools.desk.freeze.revision_reasons.add", full_disk)
         words = words_of(signed(prepared.person(BEN)).text)
         assert "The reason of January 2026, revision 2, isn't in the website's file yet." in words and WHY in words
         assert "isn't in the website's file yet." in ada.words("/publish") and reasons.read_text() == HEAD
@@ -290,7 +290,7 @@ def test_a_receipt_that_is_there_is_shown_though_the_reason_waits(
 
 
 def full_disk(*_: object) -> NoReturn:
-    from cpi_tools.terminal import Fault, because_of
+    from cpi_tools.text.terminal import Fault, because_of
 
     try:
         full()

@@ -8,13 +8,13 @@ from typing import Any
 
 import pytest
 
-from cpi_tools.copying import private_copy
-from cpi_tools.desk_app.judging import NotRead
-from cpi_tools.desk_app.office import NoReply, Office
-from cpi_tools.desk_app.pasted import pasted
-from cpi_tools.desk_app.sample_kinds import KINDS
-from cpi_tools.desk_app.year_calendar import moved
-from cpi_tools.stored import Assignment, read_copy
+from cpi_tools.office.copying import private_copy
+from cpi_tools.desk.records.record_judge import NotRead
+from cpi_tools.desk.serve.running_office import NoReply, Office
+from cpi_tools.desk.records.pasted_rows import pasted
+from cpi_tools.desk.records.sample_kinds import KINDS
+from cpi_tools.desk.year.year_calendar import moved
+from cpi_tools.office.stored import Assignment, read_copy
 from .desk_apps import ADA, BEN, Application, Person, words_of
 from lib.served import free_port
 from .surveys import key_of
@@ -93,7 +93,7 @@ def test_a_text_that_isn_t_read_says_what_was_read_where_and_what_is_wanted(text
 
 def test_rows_are_judged_on_a_copy_sent_and_only_the_refused_ones_stay(application: Application, ada: Person) -> None:
     words = judged(ada, "outlets", pasted="outlet\tname\n12\tHarbour\n10\tAnother shop\n13\tMarket, <b>east</b>\n")
-    assert "refused by 40: the code, number, key or slot stands with other content" in words and "Send 2 rows" in words
+    assert "refused by 40: the code, number, key or slot exists with other content" in words and "Send 2 rows" in words
     assert "12 Harbour" in words and 12 not in outlets(application)
     assert "Market, <b>east</b>" not in ada.get("/sample/outlets").text
     words = sent(ada, "outlets")

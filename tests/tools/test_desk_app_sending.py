@@ -10,14 +10,14 @@ from typing import Any, Optional
 import pytest
 
 from . import surveys
-from cpi_tools.desk_app.desk_log import ANSWERED, LOOKED_UP, NOT_SENT, SENT, DeskLog, Entry
-from cpi_tools.desk_app.office import MOST_BYTES, NoReply, NotSent, Office, messages_of
-from cpi_tools.desk_app.sending import Sender
-from cpi_tools.desk_app.standing import looked_up
-from cpi_tools.program import Cpi, Reply, record
-from cpi_tools.stored import read_copy
-from cpi_tools.terminal import Fault
-from cpi_tools.copying import private_copy
+from cpi_tools.desk.records.desk_log import ANSWERED, LOOKED_UP, NOT_SENT, SENT, DeskLog, Entry
+from cpi_tools.desk.serve.running_office import MOST_BYTES, NoReply, NotSent, Office, messages_of
+from cpi_tools.desk.records.sending import Sender
+from cpi_tools.desk.records.carried_out import looked_up
+from cpi_tools.office.program import Cpi, Reply, record
+from cpi_tools.office.stored import read_copy
+from cpi_tools.text.terminal import Fault
+from cpi_tools.office.copying import private_copy
 from .desk_apps import ADA, applied
 from lib.served import free_port
 from .loads import DESK_KEY, served

@@ -8,15 +8,15 @@ from pathlib import Path
 
 import pytest
 
-from cpi_tools.desk_app.clock_faults import clock_fault
-from cpi_tools.desk_app.record_names import NO_NAMES, Names, names_in
-from cpi_tools.desk_app.record_sentences import SENTENCES, sentence_of
-from cpi_tools.languages import known
-from cpi_tools.money import Money
-from cpi_tools.pack.clocks import UTC, clock_of
-from cpi_tools.program import Cpi
-from cpi_tools.report_language import Teller
-from cpi_tools.speech import speech_of
+from cpi_tools.desk.year.clock_faults import clock_fault
+from cpi_tools.desk.records.record_names import NO_NAMES, Names, names_in
+from cpi_tools.desk.records.record_sentences import SENTENCES, sentence_of
+from cpi_tools.text.languages import known
+from cpi_tools.text.money import Money
+from cpi_tools.text.clocks import UTC, clock_of
+from cpi_tools.office.program import Cpi
+from cpi_tools.text.report_language import Teller
+from cpi_tools.text.speech import speech_of
 from lib.places import ROOT
 
 from . import surveys
@@ -76,7 +76,7 @@ def test_each_record_of_the_formats_has_a_sentence_in_each_language() -> None:
             for names in (NO_NAMES, NAMES):
                 says = sentence_of(fields, names)
                 assert says is not None, fields
-                text = str(teller.say(says))
+                text = str(teller.render(says))
                 assert text and "{" not in text, fields
                 assert code == "en" or text != str(says), (code, fields)
 
@@ -106,7 +106,7 @@ def test_each_record_of_the_formats_has_a_sentence_in_each_language() -> None:
     ],
 )
 def test_a_sentence_has_what_the_record_has(fields: list[str], says: str) -> None:
-    text = str(Teller(money=lambda: Money(100, "crowns")).say(sentence_of(fields, NAMES)))
+    text = str(Teller(money=lambda: Money(100, "crowns")).render(sentence_of(fields, NAMES)))
     assert says in text
 
 
@@ -155,8 +155,8 @@ def test_texts_of_others_are_texts_in_a_sentence() -> None:
 def test_a_time_that_the_clock_leaves_out_or_has_twice_is_said() -> None:
     prague = Teller(clock=CLOCK)
     left_out, twice = clock_fault("2027-03-28T02:30", CLOCK), clock_fault("2027-10-31T02:30", CLOCK)
-    assert "becomes 28 March 2027, 03:30 CEST (2027-03-28T01:30:00Z)." in str(prague.say(left_out))
-    said = str(prague.say(twice))
+    assert "becomes 28 March 2027, 03:30 CEST (2027-03-28T01:30:00Z)." in str(prague.render(left_out))
+    said = str(prague.render(twice))
     assert "taken, 31 October 2027, 02:30 CEST (2027-10-31T00:30:00Z), and not 31 October 2027, 02:30 CET" in said
     assert "(2027-10-31T01:30:00Z)" in said
     for text in ("2027-03-28T01:59", "2027-03-28T03:00", "2027-10-31T03:00", "1803877200", "soon", ""):

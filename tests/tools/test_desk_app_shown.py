@@ -13,9 +13,10 @@ from typing import Any, NamedTuple
 
 import pytest
 
-from cpi_tools.desk_app import drafts, standing
-from cpi_tools.desk_app.freezes import PreparedFreeze
-from cpi_tools.program import Cpi
+from cpi_tools.desk.year import drafts
+from cpi_tools.desk.records import carried_out
+from cpi_tools.desk.freeze.freezes import PreparedFreeze
+from cpi_tools.office.program import Cpi
 from lib.served import heard, message, peer_of
 from . import surveys
 from .desk_apps import ADA, BEN, LISTEN, PATIENCE, Application, Person, applied, words_of
@@ -305,7 +306,7 @@ def test_a_draft_that_changes_as_it_is_judged_isn_t_sent(
 ) -> None:
     """The page would show another plan than the one that was judged."""
     drafted(application, ada)
-    stands = standing.what_stands
+    stands = carried_out.what_stands
 
     def changes_meanwhile(*of: Any) -> Any:
         assert ben.give(with_row(ben.form(YEAR, "/put"), RICE, weight="590000")).status_code == 303

@@ -9,10 +9,10 @@ from typing import Any, NoReturn
 
 import pytest
 
-from cpi_tools.copying import CopyFailed
-from cpi_tools.desk_app import durations
-from cpi_tools.desk_app.durations import Durations
-from cpi_tools.desk_app.sent_twice import KNOWN_FOR, MOST_WAITING, Answer, NoAnswerYet, Once
+from cpi_tools.office.copying import CopyFailed
+from cpi_tools.desk.serve import durations
+from cpi_tools.desk.serve.durations import Durations
+from cpi_tools.desk.serve.sent_twice import KNOWN_FOR, MOST_WAITING, Answer, NoAnswerYet, Once
 from .desk_apps import PATIENCE, Application, Person, words_of
 from .page_forms import PageForm, forms_of
 from .test_desk_app_shown import another_price

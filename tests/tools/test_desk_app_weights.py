@@ -6,17 +6,19 @@ import csv
 import io
 import subprocess
 import sys
-from collections.abc import Iterator
+from collections.abc import Iterator, Sequence
 from fractions import Fraction
 from pathlib import Path
 
 import pytest
 
-from cpi_tools.copying import private_copy
-from cpi_tools.csv_files import line_of
-from cpi_tools.desk_app.draft_weights import before, in_unit, months_to_move, moved, percent_text, shares_of
-from cpi_tools.program import Cpi
-from cpi_tools.stored import read_copy
+from cpi_tools.office.copying import private_copy
+from cpi_tools.text.csv_files import line_of
+from cpi_tools.desk.year import draft_sheets
+from cpi_tools.desk.year.draft_sheets import read_rows
+from cpi_tools.desk.year.draft_weights import before, in_unit, months_to_move, moved, percent_text, shares_of
+from cpi_tools.office.program import Cpi
+from cpi_tools.office.stored import read_copy
 from lib.places import ROOT
 from .desk_apps import ADA, Application, Person, applied
 from .test_desk_app_year import PAGE, made
@@ -100,3 +102,37 @@ def test_what_prices_make_of_weights_is_shown_before_it_is_chosen(application: A
     for month, name in (("2025-12", "December 2025"), ("2026-12", "December 2026"), ("2031-01", "January 2031")):
         assert f"Weights can't be moved from {name}: " in ada.words(f"{PAGE}?prices={month}")
     assert ada.get(f"{PAGE}?prices=x").status_code == 200
+
+
+TITLES = "?sheet=classification"
+
+
+def test_titles_that_are_put_without_weights_keep_those_that_are_there(application: Application) -> None:
+    ada: Person = application.person(ADA)
+    made(application, ada)
+    titles = f"{RICE};Rice, packed\n{FLOUR};Flour, wheat;410000\n01.1.1.3-01;Oats"
+    assert ada.fill(PAGE + TITLES, "/2027/put", 1, pasted=titles).status_code == 303
+    assert ada.fill(PAGE + TITLES, "/2027/put", 0, code=FLOUR, title="Flour", weight="").status_code == 303
+    draft = application.desk.drafts.draft(2027)
+    assert draft and [row for row in draft.rows("classification") if "-" in row[0]] == [
+        [RICE, "Rice, packed", "600000"],
+        [FLOUR, "Flour", "410000"],
+        ["01.1.1.3-01", "Oats", ""],
+    ]
+    assert "A row that you put without a weight keeps the one that is there." in ada.words(PAGE + TITLES)
+
+
+def test_a_row_that_comes_while_the_page_is_made_is_no_fault(
+    application: Application, monkeypatch: pytest.MonkeyPatch
+) -> None:
+    """Somebody puts a title between any two readings of the sheet."""
+    ada: Person = application.person(ADA)
+    made(application, ada)
+    count = iter(range(100))
+
+    def reads(path: Path, columns: Sequence[str]) -> list[list[str]]:
+        rows = read_rows(path, columns)
+        return [*rows, [f"01.1.1.9-{next(count):02}", "Oats", "1"]] if path.stem == "classification" else rows
+
+    monkeypatch.setattr(draft_sheets, "read_rows", reads)
+    assert "Rice in packets" in ada.words(PAGE)

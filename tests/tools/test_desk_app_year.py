@@ -9,11 +9,11 @@ from pathlib import Path
 
 import pytest
 
-from cpi_tools.copying import private_copy
-from cpi_tools.desk_app.draft_sheets import Draft, Settings
-from cpi_tools.desk_app.drafts import Checked
-from cpi_tools.desk_app.year_views import too_long
-from cpi_tools.stored import StoredOffice, read_copy
+from cpi_tools.office.copying import private_copy
+from cpi_tools.desk.year.draft_sheets import Draft, Settings
+from cpi_tools.desk.year.drafts import Checked
+from cpi_tools.desk.year.year_views import too_long
+from cpi_tools.office.stored import StoredOffice, read_copy
 from .page_forms import forms_of, with_row
 from .desk_apps import ADA, PATIENCE, Application, Person, words_of
 

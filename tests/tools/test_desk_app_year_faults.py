@@ -10,7 +10,7 @@ from typing import NoReturn
 
 import pytest
 
-from cpi_tools.desk_app.office import NotSent
+from cpi_tools.desk.serve.running_office import NotSent
 from .desk_apps import PATIENCE, Application, Person, words_of
 from .test_desk_app_year import PAGE, judged, made, sent, waited
 

@@ -16,16 +16,16 @@ from typing import Any, Optional
 
 import pytest
 
-from cpi_tools import restore
-from cpi_tools.carriers import Rsync
-from cpi_tools.desk_app.desk_log import DeskLog
-from cpi_tools.desk_changes import CARRIED_DESK, Index, index_of, put_in_desk, write_desk_changes
-from cpi_tools.desk_places import copied_desk
-from cpi_tools.follow import Follower
-from cpi_tools.page_changes import CAME, NotFitting
-from cpi_tools.places import Elsewhere, Folder, Place
-from cpi_tools.program import Cpi
-from cpi_tools.second_copies import DESK, INDEX, NAMES, promotion_of
+from cpi_tools.guard import restore
+from cpi_tools.guard.copies.carriers import Rsync
+from cpi_tools.desk.records.desk_log import DeskLog
+from cpi_tools.guard.copies.desk_changes import CARRIED_DESK, Index, index_of, put_in_desk, write_desk_changes
+from cpi_tools.guard.copies.desk_places import copied_desk
+from cpi_tools.guard.follow import Follower
+from cpi_tools.guard.copies.page_changes import CAME, NotFitting
+from cpi_tools.guard.copies.places import Elsewhere, Folder, Place
+from cpi_tools.office.program import Cpi
+from cpi_tools.guard.copies.second_copies import DESK, INDEX, NAMES, promotion_of
 from lib.places import ROOT
 from lib.sample import Sample
 from .desk_rooms import DeskRoom, files_of
@@ -99,7 +99,7 @@ def test_only_what_changed_is_carried(
         write_desk_changes(to, *of)
         sizes.append(to.stat().st_size)
 
-    monkeypatch.setattr("cpi_tools.desk_follow.write_desk_changes", noted)
+    monkeypatch.setattr("cpi_tools.guard.copies.desk_follow.write_desk_changes", noted)
     follower = Follower(office, Folder(dest), desk=desk.path)
     assert follower.desk_round() and sizes[0] > 1_100_000
     assert follower.desk_round() and len(sizes) == 1
@@ -215,7 +215,7 @@ def test_an_office_that_is_not_carried_is_no_reason_for_its_desk(
     def stop(_: float) -> None:
         raise KeyboardInterrupt
 
-    monkeypatch.setattr("cpi_tools.follow.time.sleep", stop)
+    monkeypatch.setattr("cpi_tools.guard.follow.time.sleep", stop)
     with pytest.raises(KeyboardInterrupt):
         follower.keep(1)
     assert files_of(copy_at(dest)) == desk.files
@@ -225,8 +225,8 @@ ENDLESS = """\
 import sys
 from pathlib import Path
 sys.path.insert(0, sys.argv[1])
-from cpi_tools.follow import Follower
-from cpi_tools.places import place_of
+from cpi_tools.guard.follow import Follower
+from cpi_tools.guard.copies.places import place_of
 Follower(Path(sys.argv[2]), place_of(sys.argv[3], Path(sys.argv[4]), sys.argv[5]), desk=Path(sys.argv[6])).keep(0)
 """
 

@@ -16,10 +16,10 @@ from pathlib import Path
 
 import pytest
 
-from cpi_tools.desk_app.reached import Reached
-from cpi_tools.desk_app.sign_in_views import shown
-from cpi_tools.desk_app.words import MOST_OF_SOCKET
-from cpi_tools.program import Cpi
+from cpi_tools.desk.serve.reach import Reached
+from cpi_tools.desk.serve.sign_in_views import shown
+from cpi_tools.desk.serve.serve_cli import MOST_OF_SOCKET
+from cpi_tools.office.program import Cpi
 from lib.places import ROOT
 from lib.served import free_port
 from . import surveys

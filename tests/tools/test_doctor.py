@@ -17,11 +17,11 @@ from typing import Optional
 
 import pytest
 
-from cpi_tools import doctor
-from cpi_tools.copying import log_beside
-from cpi_tools.follow import restoring_beside
-from cpi_tools.holders import LOCK_BEGIN, Holder, holders_of, is_held, unit_in
-from cpi_tools.program import Cpi, CpiFailed
+from cpi_tools.guard import doctor
+from cpi_tools.office.copying import log_beside
+from cpi_tools.guard.follow import restoring_beside
+from cpi_tools.office.holders import LOCK_BEGIN, Holder, holders_of, is_held, unit_in
+from cpi_tools.office.program import Cpi, CpiFailed
 from lib.places import ROOT
 from .disks import fill, mounted
 from .offices import LOAD_KEY, LOAD_MONTH

@@ -9,10 +9,10 @@ from pathlib import Path
 
 import pytest
 
-from cpi_tools import doctor
-from cpi_tools.access import user_of
-from cpi_tools.copying import log_beside
-from cpi_tools.program import Cpi
+from cpi_tools.guard import doctor
+from cpi_tools.office.access import user_of
+from cpi_tools.office.copying import log_beside
+from cpi_tools.office.program import Cpi
 from .test_doctor import INDEX, as_root, by_nobody, open_folder, opens, told
 
 RESTORE = "Restore the last good backup: `cpi-tools restore` puts the file and its log aside."

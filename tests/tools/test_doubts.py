@@ -8,9 +8,9 @@ from pathlib import Path
 import pytest
 
 from cpi_tools.command_line import main
-from cpi_tools.doubts import is_far, is_nines, median_without
-from cpi_tools.program import Cpi
-from cpi_tools.sheets import unmarked
+from cpi_tools.sheets.doubts import is_far, is_nines, median_without
+from cpi_tools.office.program import Cpi
+from cpi_tools.sheets.sheet_files import unmarked
 from .ran import Ran, rows_of, run
 from .spreadsheets import Sheets, sheets, written
 
@@ -181,6 +181,13 @@ def test_the_mark_of_a_text_is_taken_away_and_said(cpi: Cpi, tmp_path: Path) -> 
     ran = taken(cpi, tmp_path, with_prices((("11", "RICE"), ["'2.45", "'2.50"])), "--check")
     assert ran.status == 0
     assert "prices.csv, row 3, 2025-12: \"'2.45\" is read without its first '" in ran.err
+
+
+def test_a_column_is_named_as_the_sheet_has_it(cpi: Cpi, tmp_path: Path) -> None:
+    of = office(with_prices((("11", "RICE"), ["'2.45", "2.50"])))
+    of["prices"][0] = ["outlet", "item", "2025M12", "2026M01"]
+    ran = run(cpi, "take-in", written(tmp_path / "sheets", of), "--minor", 100, "--check")
+    assert ran.status == 0 and "prices.csv, row 3, 2025M12: \"'2.45\" is read without its first '" in ran.err
 
 
 @pytest.mark.parametrize(

@@ -13,10 +13,10 @@ from pathlib import Path
 import pytest
 
 from cpi_tools.command_line import main
-from cpi_tools.anew import Months, differing
-from cpi_tools.backup import Note, hash_of, note_beside, note_text
-from cpi_tools.copying import CopyFailed, log_beside
-from cpi_tools.drill import (
+from cpi_tools.office.anew import Months, differing
+from cpi_tools.guard.backup import Note, hash_of, note_beside, note_text
+from cpi_tools.office.copying import CopyFailed, log_beside
+from cpi_tools.guard.drill import (
     MOST_TOLD,
     Counts,
     Drilled,
@@ -27,8 +27,8 @@ from cpi_tools.drill import (
     note_of,
     told_line,
 )
-from cpi_tools.program import Cpi
-from cpi_tools.stored import Level, stored_office
+from cpi_tools.office.program import Cpi
+from cpi_tools.office.stored import Level, stored_office
 from lib.places import ROOT
 from .offices import LOAD_KEY, LOAD_MONTH, TABLES, registered
 from .ran import Ran, run

@@ -18,10 +18,10 @@ from typing import Any
 
 import pytest
 
-from cpi_tools.pack.config import Config, read_config
-from cpi_tools.pack.public import Listed, Published
-from cpi_tools.pack.sdmx import KNOWN_IDS
-from cpi_tools.publish import check, publish
+from cpi_tools.publish.figures.config import Config, read_config
+from cpi_tools.office.public import Listed, Published
+from cpi_tools.publish.forms.sdmx import KNOWN_IDS
+from cpi_tools.publish.pack import check, publish
 from lib.places import ROOT
 
 PACK = ROOT / "tests/data/a-pack-of-an-earlier-version.tar.xz"

@@ -14,8 +14,8 @@ from typing import NamedTuple
 import pytest
 
 from . import surveys
-from cpi_tools.desk.early import LINK, MONTH, WEIGHTS, YEAR, ways
-from cpi_tools.program import LAST_MOMENT, Cpi, record
+from cpi_tools.desk.month.early import LINK, MONTH, WEIGHTS, YEAR, ways
+from cpi_tools.office.program import LAST_MOMENT, Cpi, record
 from .ran import run
 from .surveys import DAY, MONTHS, bytes_of, closes, opens, publishes
 

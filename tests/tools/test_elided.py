@@ -1,4 +1,5 @@
-"""French joins "de" to a month that begins with a vowel: "d'octobre 2025", and "de mars 2025"."""
+"""French joins "de" to a month that begins with a vowel: "d'octobre 2025", and "de mars 2025". Where French and Spanish texts
+begin with a month, it has a capital letter."""
 
 from __future__ import annotations
 
@@ -12,12 +13,15 @@ from collections.abc import Iterator
 import jinja2
 import pytest
 from babel.messages.catalog import Message
+from markupsafe import Markup
 
-from cpi_tools.elided import Places, of
-from cpi_tools.languages import ENGLISH, language_of
-from cpi_tools.others import worded
-from cpi_tools.pages import environment
-from cpi_tools.speech import speech_of
+from cpi_tools.text.elided import Places, of
+from cpi_tools.text.languages import ENGLISH, language_of
+from cpi_tools.text.message import message as report_text
+from cpi_tools.text.others import of_others, worded
+from cpi_tools.text.page_templates import environment
+from cpi_tools.text.report_language import Teller
+from cpi_tools.text.speech import speech_of
 from lib.places import ROOT
 
 sys.path.insert(0, str(ROOT / "tools"))
@@ -81,6 +85,36 @@ def test_texts_of_all_kinds_join_it(month: str, wanted: str) -> None:
     assert pages.from_string(template).render(it="<i>") == "Tableau de &lt;i&gt;"
 
 
+@pytest.mark.parametrize(
+    ("name", "wanted"),
+    [
+        ("Œufs, 12", "d’Œufs, 12"),
+        ("Huile, 1 l", "d’Huile, 1 l"),
+        ("Riz, 1 kg", "de Riz, 1 kg"),
+        ("Yaourt, 4", "de Yaourt, 4"),
+        ("Haricots, 1 kg", "de Haricots, 1 kg"),
+        ("Homard", "de Homard"),
+        ("Herbes", "d’Herbes"),
+        ("Hôtel", "d’Hôtel"),
+    ],
+)
+def test_the_word_before_the_name_of_an_item(name: str, wanted: str) -> None:
+    """On a page the name stays an element of its own."""
+    told = worded("celui {of_item}", item=of_others(name))
+    assert told == f"celui {wanted}"
+    assert told.__html__() == f"celui {wanted.removesuffix(name)}<bdi>{name}</bdi>"
+
+
+def test_sentences_that_explain_join_it() -> None:
+    """The names in them are put together of a text and its unit."""
+    item = report_text("{text}, {unit}", text=of_others("Œufs"), unit=of_others("12"))
+    form = "Nothing could be compared ({reasons}), so the desk decided to carry the price of {item} at {outlet}: it counts as"
+    source = f"{form} {{now}}, as it did in {{before}}."
+    places = {"reasons": "X", "item": item, "outlet": of_others("Halle"), "now": "1", "before": "X"}
+    told = str(Teller(FRENCH).render(report_text(source, **places)))
+    assert "le prix d’Œufs, 12 (Halle)" in told
+
+
 def test_a_place_that_isnt_there_is_a_fault() -> None:
     with pytest.raises(KeyError):
         Places({"month": "mars"})["of_year"]
@@ -99,7 +133,7 @@ def test_scripts_join_it(month: str) -> None:
         "plural": {"other": 0},
         "texts": {text: "la révision {asked} {of_month}"},
     }
-    script = ROOT / "tools/cpi_tools/pack/assets/spoken.js"
+    script = ROOT / "tools/cpi_tools/publish/site/assets/spoken.js"
     code = (
         f"globalThis.WORDS = {json.dumps(words)}; const {{ t, monthText }} = require({json.dumps(str(script))});"
         f"process.stdout.write(t({json.dumps(text)}, {{ asked: 2, month: monthText({json.dumps(month)}) }}))"
@@ -113,3 +147,62 @@ def test_pages_of_collectors_have_no_such_place() -> None:
     for message in catalogues.read(ROOT / "po", "fr"):
         if any(place.startswith("web/") for place, _ in message.locations):
             assert "of_" not in str(message.string), message.id
+            assert not re.search("[{(][A-Z]", str(message.string)), message.id
+
+
+# ---- a month at the beginning
+
+BEGINS = re.compile(r"(?:\{|%\()([a-z]+)(?:\}|\)s)")
+CAPITAL = re.compile(r"(?:\{|%\()([A-Z][a-z_]*)(?:\}|\)s)")
+
+WITHIN = ("cpi_tools/explain/life.py", "explain/node_level.py", "explain/release_sources.py", "cpi_tools/sheets/")
+"""Where texts go on behind a colon, or stand in a list."""
+
+
+def is_within(message: Message) -> bool:
+    """Whether a text is a part of others."""
+    places = [place for place, _ in message.locations]
+    return message.id == "{month}, revision {number}" or all(any(it in place for it in WITHIN) for place in places)
+
+
+@pytest.mark.parametrize("code", ["fr", "es"])
+def test_a_text_that_begins_with_a_month_begins_with_a_capital(code: str) -> None:
+    begun = 0
+    for message in catalogues.read(ROOT / "po", code):
+        for form in catalogues.forms_of(message) if message.id else ():
+            first = BEGINS.match(form)
+            assert not first or first[1] not in {"month", "release"} or is_within(message), form
+            for place in CAPITAL.finditer(form):
+                assert place[1].lower() in OF_MONTHS and (
+                    not place.start() or form[: place.start()].endswith(". ")
+                ), form
+                begun += 1
+    assert begun > 20
+
+
+def test_texts_of_all_kinds_begin_with_it() -> None:
+    october = FRENCH.month("2026-10")
+    assert FRENCH.t("{month}: {headline}", month=october, headline="X") == "Octobre 2026\u00a0: X"
+    assert worded("{Month}, révision {number}", month=october, number=2) == "Octobre 2026, révision 2"
+    assert Places({"month": october})["Of_month"] == "D’octobre 2026"
+    pages = environment(language=language_of("fr"))
+    template = "{% trans month=it, moment='X' %}{{ month }}, published {{ moment }}{% endtrans %}"
+    assert pages.from_string(template).render(it=october) == "Octobre 2026, publié le X"
+    # (what is in a place is escaped once)
+    assert pages.from_string(template).render(it="a<i>") == "A&lt;i&gt;, publié le X"
+    assert pages.from_string("{{ it|begun }}").render(it=Markup("<i>")) == "<i>"
+
+
+@pytest.mark.parametrize(
+    ("form", "wanted"), [("{Month} a {asked}", "Octobre 2026 a 2"), ("{Year} {month}", "{Year} octobre 2026")]
+)
+def test_scripts_begin_with_it(form: str, wanted: str) -> None:
+    """A place that isn't filled stays."""
+    node = shutil.which("node") or pytest.skip("no node")
+    words = {"tag": "fr", "digits": "latn", "signs": {}, "plural": {"other": 0}, "texts": {"text": form}}
+    script = ROOT / "tools/cpi_tools/publish/site/assets/spoken.js"
+    code = (
+        f"globalThis.WORDS = {json.dumps(words)}; const {{ t, monthText }} = require({json.dumps(str(script))});"
+        "process.stdout.write(t('text', { asked: 2, month: monthText('2026-10') }))"
+    )
+    assert subprocess.run([node, "-e", code], capture_output=True, text=True, check=True).stdout == wanted

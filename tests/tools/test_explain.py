@@ -17,12 +17,12 @@ import pytest
 
 from . import surveys
 from cpi_tools.command_line import main
-from cpi_tools.explain import words as words_of_explain
+from cpi_tools.explain import explain_cli as words_of_explain
 from cpi_tools.explain.expressions import NoExpression, value_of
-from cpi_tools.explain.lines import Explanation, Line, change_expression
-from cpi_tools.explain.sources import Sources
-from cpi_tools.program import Cpi
-from cpi_tools.terminal import month_name
+from cpi_tools.explain.explanation_lines import Explanation, Line, change_expression
+from cpi_tools.explain.release_sources import Sources
+from cpi_tools.office.program import Cpi
+from cpi_tools.text.terminal import month_name
 from .ran import run
 from .surveys import Life, bytes_of, key_of, number_of
 
@@ -216,7 +216,7 @@ def test_each_month_tells_who_had_a_series_then(whole: Whole, tmp_path: Path) ->
         page = tmp_path / f"{month}.html"
         assert run(None, "explain", whole[0], month, "07.2.2.2-01", "--html", page).status == 0
         section = page.read_text(encoding="utf-8").partition('<section id="07.2.2.2-01"')[2]
-        rows = re.findall(r"<tr><td><bdi>(\d/\d+)</bdi></td><td><bdi>(\d)/\d+</bdi></td>", section)
+        rows = re.findall(r'<tr><th scope="row"><bdi>(\d/\d+)</bdi></th><td><bdi>(\d)/\d+</bdi></td>', section)
         assert {series[0] for series, _ in rows} == {"1", "2", "3"} and {by for _, by in rows} == holders
 
 
@@ -356,8 +356,8 @@ def test_the_life_of_a_series_has_a_page(whole: Whole, tmp_path: Path) -> None:
     told = run(None, *words, "--html", page)
     assert (told.status, told.out) == (0, run(None, *words).out)
     text = page.read_text(encoding="utf-8")
-    cells = re.findall(r"<td[^>]*>(?:<bdi>)?([^<]*)(?:</bdi>)?</td>", text)
-    assert cells[::9] == [month_name(month) for month in surveys.MONTHS[:8]]
+    heads = re.findall(r'<th scope="row"[^>]*>(?:<bdi>)?([^<]*)(?:</bdi>)?</th>', text)
+    assert heads == [month_name(month) for month in surveys.MONTHS[:8]]
     title, fact = re.sub("</?bdi>", "", text), told.out.splitlines()[1]
     assert (
         f"<h1>{told.out.splitlines()[0]}</h1>" in title

@@ -10,7 +10,7 @@ from pathlib import Path
 import pytest
 
 from . import surveys
-from cpi_tools.program import Cpi
+from cpi_tools.office.program import Cpi
 from .nobodys import NAMES, left_in_english, nobodys_in, seen
 from .ran import run
 

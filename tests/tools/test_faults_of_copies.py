@@ -16,12 +16,13 @@ from pathlib import Path
 
 import pytest
 
-from cpi_tools import carriers, gaps
-from cpi_tools.backup import back_up, note_beside
-from cpi_tools.copying import right_copy
-from cpi_tools.drill import drill
-from cpi_tools.program import Cpi
-from cpi_tools.second_copies import MARK, NAMES, NOTE, OFFICE, state_of
+from cpi_tools.guard.copies import carriers
+from cpi_tools.guard import gaps
+from cpi_tools.guard.backup import back_up, note_beside
+from cpi_tools.office.copying import right_copy
+from cpi_tools.guard.drill import drill
+from cpi_tools.office.program import Cpi
+from cpi_tools.guard.copies.second_copies import MARK, NAMES, NOTE, OFFICE, state_of
 from .ran import run
 
 HOLDER = "import sys, time\nheld = open(sys.argv[1], 'rb')\nprint('held', flush=True)\ntime.sleep(600)\n"

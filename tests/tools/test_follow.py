@@ -17,14 +17,14 @@ from pathlib import Path
 
 import pytest
 
-from cpi_tools import marks, places
-from cpi_tools.carriers import Rclone, Rsync, carrier_of
-from cpi_tools.copying import log_beside
-from cpi_tools.drill import drill
-from cpi_tools.follow import NOT_CARRIED, PROMOTED, Follower, mark_beside
-from cpi_tools.places import Folder
-from cpi_tools.program import Cpi
-from cpi_tools.second_copies import (
+from cpi_tools.guard.copies import office_marks, places
+from cpi_tools.guard.copies.carriers import Rclone, Rsync, carrier_of
+from cpi_tools.office.copying import log_beside
+from cpi_tools.guard.drill import drill
+from cpi_tools.guard.follow import NOT_CARRIED, PROMOTED, Follower, mark_beside
+from cpi_tools.guard.copies.places import Folder
+from cpi_tools.office.program import Cpi
+from cpi_tools.guard.copies.second_copies import (
     MARK,
     NAMES,
     NOTE,
@@ -35,8 +35,8 @@ from cpi_tools.second_copies import (
     state_of,
     write_promotion,
 )
-from cpi_tools.stored import stored_office
-from cpi_tools.terminal import Fault
+from cpi_tools.office.stored import stored_office
+from cpi_tools.text.terminal import Fault
 from lib.places import ROOT
 from lib.sample import Sample
 from .loads import Quotes, faults_of
@@ -120,7 +120,7 @@ def test_the_note_has_the_last_quotes(cpi: Cpi, office: Path, dest: Path) -> Non
     wanted = [
         [collector, slot, f"{month // 100}-{month % 100:02}", receipt] for collector, slot, month, receipt in rows
     ]
-    assert told == wanted[: -marks.LAST_QUOTES - 1 : -1]
+    assert told == wanted[: -office_marks.LAST_QUOTES - 1 : -1]
 
 
 def test_a_copy_under_load_is_a_whole_office_with_all_that_was_answered(cpi: Cpi, office: Path, dest: Path) -> None:
@@ -142,8 +142,8 @@ ENDLESS = """\
 import sys
 from pathlib import Path
 sys.path.insert(0, sys.argv[1])
-from cpi_tools.follow import Follower
-from cpi_tools.places import place_of
+from cpi_tools.guard.follow import Follower
+from cpi_tools.guard.copies.places import place_of
 Follower(Path(sys.argv[2]), place_of(sys.argv[3], Path(sys.argv[4]), sys.argv[5])).keep(0)
 """
 """A follower that begins a round as soon as the one before it is done, so a kill comes within a round."""
@@ -242,7 +242,7 @@ def test_a_fault_is_told_once_and_the_end_of_it_too(
         elif len(rounds) == 7:
             raise KeyboardInterrupt
 
-    monkeypatch.setattr("cpi_tools.follow.time.sleep", pause)
+    monkeypatch.setattr("cpi_tools.guard.follow.time.sleep", pause)
     with pytest.raises(KeyboardInterrupt):
         Follower(office, Folder(dest)).keep(1)
     told = capsys.readouterr()
@@ -406,6 +406,6 @@ def test_a_place_is_read_from_its_word(monkeypatch: pytest.MonkeyPatch, office: 
     rsync, rclone = carrier_of("cpi@second:/a"), carrier_of("rclone:store:a")
     assert isinstance(rsync, Rsync) and isinstance(rclone, Rclone)
     assert (rsync.name, rclone.name) == ("cpi@second:/a", "rclone:store:a")
-    monkeypatch.setattr("cpi_tools.carriers.shutil.which", lambda _: None)
+    monkeypatch.setattr("cpi_tools.guard.copies.carriers.shutil.which", lambda _: None)
     ran = run(None, "follow", office, "second:a", "--once")
     assert (ran.status, ran.err.count("\n")) == (1, 1) and "there is no rsync" in ran.err

@@ -6,7 +6,7 @@ import subprocess
 
 import pytest
 
-from cpi_tools.program import Cpi
+from cpi_tools.office.program import Cpi
 from lib.places import ROOT
 
 HEAD = "aggregate,weight,2025-12,2026-01,2026-02\n"
@@ -44,8 +44,8 @@ def test_indices_by_hand(cpi: Cpi) -> None:
         (f"{HEAD}tea,100,1,2,3,4\n", "a row has more or fewer cells than the heading"),
         (f"{HEAD}tea,60,1,2,3\n", "the weights 60 aren't whole numbers of percent that add up to 100"),
         (f"{HEAD}tea,1e2,1,2,3\n", "the weights 1e2 aren't whole numbers of percent that add up to 100"),
-        (f"{HEAD}tea,100,1,x,3\n", "quote 1 2026-01 price x: refused by 10: the record has no such form"),
-        (f"{HEAD}tea,100,1,new 2,3\n", "quote 1 2026-01 new 2: refused by 10: the record has no such form"),
+        (f"{HEAD}tea,100,1,x,3\n", "quote 1 2026-01 price x: refused by 10: the record's form is wrong"),
+        (f"{HEAD}tea,100,1,new 2,3\n", "quote 1 2026-01 new 2: refused by 10: the record's form is wrong"),
         (HEAD.replace("2025-12", "2025-11") + "tea,100,1,2,3\n", "a freeze of 2025-11: refused by 46"),
         (HEAD.replace("2026-02", "Feb") + "tea,100,1,2,3\n", "Feb isn't a month like 2026-01"),
     ],

@@ -12,9 +12,9 @@ from pathlib import Path
 
 import pytest
 
-from cpi_tools.copying import log_beside
-from cpi_tools.gaps_of_offices import Entry, last_common
-from cpi_tools.program import Cpi, Reply, record
+from cpi_tools.office.copying import log_beside
+from cpi_tools.guard.gaps_of_offices import Entry, last_common
+from cpi_tools.office.program import Cpi, Reply, record
 from .offices import KEY, LOAD_COLLECTOR, LOAD_KEY, LOAD_MONTH, OTHER_KEY
 from .ran import Ran, rows_of, run
 

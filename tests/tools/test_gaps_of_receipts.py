@@ -10,7 +10,7 @@ from pathlib import Path
 
 import pytest
 
-from cpi_tools.program import Cpi
+from cpi_tools.office.program import Cpi
 from lib.places import ROOT
 from .ran import Ran, run
 
@@ -98,12 +98,12 @@ def test_files_that_cant_be_read_are_told(office: Path, tmp_path: Path) -> None:
 def test_a_module_that_is_missing_is_a_fault_and_not_a_missing_price(office: Path, tmp_path: Path) -> None:
     """So it is for a moment while git, or an upgrade, puts other files in place of the tools."""
     shutil.copytree(ROOT / "tools", tmp_path / "tools")
-    (tmp_path / "tools/cpi_tools/stored.py").unlink()
+    (tmp_path / "tools/cpi_tools/office/stored.py").unlink()
     (tmp_path / "list.csv").write_text(HEADS + "7,1,2026-03,price,5,9\n")
     start, list_ = str(tmp_path / "tools/cpi_tools/start"), str(tmp_path / "list.csv")
     words = [start, "-m", "cpi_tools", "gaps", str(office), "--receipts", list_]
     ran = subprocess.run(words, capture_output=True, text=True, check=False)
-    assert (ran.returncode, ran.stdout) == (1, "") and "cpi_tools.stored" in ran.stderr
+    assert (ran.returncode, ran.stdout) == (1, "") and "cpi_tools.office.stored" in ran.stderr
 
 
 def test_the_office_is_only_read(cpi: Cpi, office: Path) -> None:

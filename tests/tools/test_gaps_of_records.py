@@ -8,7 +8,7 @@ from pathlib import Path
 
 import pytest
 
-from cpi_tools.program import Cpi
+from cpi_tools.office.program import Cpi
 from lib.places import ROOT
 from .ran import Ran, run
 

@@ -7,8 +7,8 @@ import re
 import subprocess
 from pathlib import Path
 
-from cpi_tools.copying import log_beside
-from cpi_tools.program import Cpi
+from cpi_tools.office.copying import log_beside
+from cpi_tools.office.program import Cpi
 from lib.places import ROOT
 from lib.sample import Sample
 from lib.served import free_port

@@ -11,11 +11,11 @@ from typing import NamedTuple
 
 import pytest
 
-from cpi_tools import converted
-from cpi_tools.cells import Origin
-from cpi_tools.program import Cpi
-from cpi_tools.stored import stored_office
-from cpi_tools.taken_page import place
+from cpi_tools.sheets import converted
+from cpi_tools.sheets.cells import Origin
+from cpi_tools.office.program import Cpi
+from cpi_tools.office.stored import stored_office
+from cpi_tools.sheets.taken_page import place
 from lib.places import ROOT
 from .habits import HABITS, MINOR, Habit, Quotes, base
 from .ran import Ran, rows_of, run

@@ -11,17 +11,26 @@ from typing import Any
 
 import pytest
 
-from cpi_tools.desk_changes import CARRIED_DESK, index_of, put_in_desk
-from cpi_tools.follow import Follower
-from cpi_tools.page_changes import CAME, CARRIED, NotFitting, put_in
-from cpi_tools.places import Folder
-from cpi_tools.plain_json import LAST_SECOND, moment_of, plain_json, whole_number
-from cpi_tools.program import Cpi
-from cpi_tools.second_copies import DESK, DRILLED, INDEX, MARK, NAMES, NOTE, OFFICE, state_of
-from cpi_tools.terminal import Fault
+from cpi_tools.guard.copies.desk_changes import CARRIED_DESK, index_of, put_in_desk
+from cpi_tools.guard.follow import Follower
+from cpi_tools.guard.copies.page_changes import CAME, CARRIED, NotFitting, put_in
+from cpi_tools.guard.copies.places import Folder
+from cpi_tools.office.plain_json import LAST_SECOND, moment_of, plain_json, whole_number
+from cpi_tools.office.program import Cpi
+from cpi_tools.guard.copies.second_copies import DESK, DRILLED, INDEX, MARK, NAMES, NOTE, OFFICE, state_of
+from cpi_tools.text.terminal import Fault
 from .desk_rooms import DeskRoom
 from .generations import Place, made_place
 from .ran import run
+
+pytestmark = pytest.mark.usefixtures("quick_borg")
+
+
+@pytest.fixture
+def tmp_path(memory: Path) -> Path:
+    """A test's own folder."""
+    return memory
+
 
 NESTED = "[" * 60_000
 """Python's reader of JSON goes no deeper than some thousand times."""

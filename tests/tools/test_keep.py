@@ -18,11 +18,11 @@ from typing import Optional
 
 import pytest
 
-from cpi_tools import borg, generations, open_copies
-from cpi_tools import keep as keeping
-from cpi_tools.borg import Repository, cause_in
-from cpi_tools.copying import log_beside
-from cpi_tools.generations import (
+from cpi_tools.guard.copies import borg, generations, open_copies
+from cpi_tools.guard import keep as keeping
+from cpi_tools.guard.copies.borg import Repository, cause_in
+from cpi_tools.office.copying import log_beside
+from cpi_tools.guard.copies.generations import (
     FAILED,
     KEEP,
     KEEP_FAILED,
@@ -32,19 +32,22 @@ from cpi_tools.generations import (
     last_drill_of,
     repository_of,
 )
-from cpi_tools.keep import FAILED_DRILL, keep
-from cpi_tools.program import Cpi
-from cpi_tools.second_copies import DRILLED, LOG, NAMES, NOTE, OFFICE, state_of
-from cpi_tools.terminal import Fault
+from cpi_tools.guard.keep import FAILED_DRILL, keep
+from cpi_tools.office.program import Cpi
+from cpi_tools.guard.copies.second_copies import DRILLED, LOG, NAMES, NOTE, OFFICE, state_of
+from cpi_tools.text.terminal import Fault
 from .accidents import priced
-from .generations import Place, carried, forged, made_place
+from .generations import HOUR, NOW, Place, carried, forged, made_place
 from .ran import Ran, run
 from .second_machines import led_away
 
-NOW = 1_800_000_000
-"""2027-01-15 08:00 UTC."""
+pytestmark = pytest.mark.usefixtures("quick_borg")
 
-HOUR = 3600
+
+@pytest.fixture
+def tmp_path(memory: Path) -> Path:
+    """A test's own folder."""
+    return memory
 
 
 @pytest.fixture
@@ -179,7 +182,7 @@ def test_if_both_are_changed_meanwhile_they_are_tried_again(
         if len(pauses) == 2:
             (place.dest / NAMES[0] / OFFICE).write_bytes(whole[NAMES[0]])
 
-    monkeypatch.setattr("cpi_tools.keep.time.sleep", pause)
+    monkeypatch.setattr("cpi_tools.guard.keep.time.sleep", pause)
     assert kept(cpi, place).status == 0 and len(pauses) == 2
     for name in NAMES:
         damage(place.dest / name / OFFICE, 6000)
@@ -334,7 +337,7 @@ def test_one_that_passed_counts_though_older_ones_cant_go(cpi: Cpi, place: Place
 
 
 def test_without_borg_its_package_is_named(cpi: Cpi, place: Place, monkeypatch: pytest.MonkeyPatch) -> None:
-    monkeypatch.setattr("cpi_tools.borg.shutil.which", lambda _: None)
+    monkeypatch.setattr("cpi_tools.guard.copies.borg.shutil.which", lambda _: None)
     ran = kept(cpi, place)
     assert (ran.status, ran.err) == (
         1,
@@ -393,11 +396,10 @@ def pruned(folder: Path, moments: list[int], keep_words: tuple[str, ...], failed
     (folder / "keep").mkdir()
     repository = repository_of(folder / "keep")
     repository.make()
-    for moment in moments:
-        repository.put(f"{PASSED}{generation_of(moment)}", moment, folder, ["file"])
-    for turn in range(1, failed + 1):
-        moment = moments[-1] + turn * HOUR
-        repository.put(f"{FAILED}{generation_of(moment)}", moment, folder, ["file"])
+    archives = {f"{PASSED}{generation_of(moment)}": moment for moment in moments}
+    later = [moments[-1] + turn * HOUR for turn in range(1, failed + 1)]
+    for name, moment in (archives | {f"{FAILED}{generation_of(moment)}": moment for moment in later}).items():
+        repository.put(name, moment, folder, ["file"])
     repository.prune(PASSED, keep_words)
     repository.prune(FAILED, KEEP_FAILED)
     names = repository.names()

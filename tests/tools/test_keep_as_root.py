@@ -14,12 +14,12 @@ from typing import Any
 
 import pytest
 
-from cpi_tools.access import User, this_user, user_of
-from cpi_tools.done_as import done_as
-from cpi_tools.generations import PASSED, last_drill_of
-from cpi_tools.program import Cpi
-from cpi_tools.second_copies import DRILLED, MARK, NAMES, OFFICE
-from cpi_tools.terminal import Fault
+from cpi_tools.office.access import User, this_user, user_of
+from cpi_tools.office.done_as import done_as
+from cpi_tools.guard.copies.generations import PASSED, last_drill_of
+from cpi_tools.office.program import Cpi
+from cpi_tools.guard.copies.second_copies import DRILLED, MARK, NAMES, OFFICE
+from cpi_tools.text.terminal import Fault
 from lib.places import ROOT
 from .accidents import ANSWERED, WANTED, prices_in, priced
 from .generations import Place, Users, as_user, given, made_place, owners_below, two_users
@@ -46,7 +46,7 @@ def place(cpi: Cpi, office: Path, users: Users) -> Iterator[Place]:
         priced(cpi, office, 1, ANSWERED)
         made = made_place(office, Path(room))
         given(made, users)
-        if as_user(users.keeper, f"test -x {cpi.path} && test -r {ROOT}/tools/cpi_tools/keep.py").returncode:
+        if as_user(users.keeper, f"test -x {cpi.path} && test -r {ROOT}/tools/cpi_tools/guard/keep.py").returncode:
             pytest.skip("another user can't read the repository, or run the program")
         yield made
 
@@ -201,7 +201,7 @@ def test_what_the_other_user_answers_is_looked_at(cpi: Cpi, place: Place, monkey
     name = "2026-01-01-000000"
     lines = [{"generation": name, part: "a\nb"} for part in ("failed", "left", "desk", "damaged")]
     for change in ({}, {"generation": f"{PASSED}x"}, *lines):
-        monkeypatch.setattr("cpi_tools.keep._answer", lambda *_, change=change: {**answer, **change})
+        monkeypatch.setattr("cpi_tools.guard.keep._answer", lambda *_, change=change: {**answer, **change})
         ran = run(cpi, "keep", *place)
         assert (ran.status, ran.out) == (1, "") and "isn't of a generation" in ran.err
     last = json.loads((place.dest / DRILLED).read_text())
@@ -209,7 +209,7 @@ def test_what_the_other_user_answers_is_looked_at(cpi: Cpi, place: Place, monkey
     # (a note with a moment that none has would be read by no later run)
     sums = {"file": [1, "x"], "log": [0, "y"]}
     wrong = {**answer, **sums, "generation": name, "checked": -1, "tried": 1 << 60}
-    monkeypatch.setattr("cpi_tools.keep._answer", lambda *_: wrong)
+    monkeypatch.setattr("cpi_tools.guard.keep._answer", lambda *_: wrong)
     assert run(cpi, "keep", *place).status == 0
     kept = last_drill_of(place.dest)
     assert kept and (kept.generation, kept.checked, kept.tried) == (name, 0, 0)

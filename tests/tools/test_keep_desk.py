@@ -14,26 +14,29 @@ from typing import Optional
 
 import pytest
 
-from cpi_tools import keep as keeping
-from cpi_tools.borg import Repository
-from cpi_tools.desk_changes import index_of
-from cpi_tools.follow import Follower
-from cpi_tools.generations import PASSED, LastDrill, generation_of, last_drill_of, repository_of
-from cpi_tools.keep import FAILED_DRILL, keep
-from cpi_tools.kept_desk import kept_desk_in, open_desk, take_desk
-from cpi_tools.places import Folder
-from cpi_tools.program import Cpi
-from cpi_tools.rooms import new_room
-from cpi_tools.second_copies import DESK, INDEX, MARK, second_text
+from cpi_tools.guard import keep as keeping
+from cpi_tools.guard.copies.borg import Repository
+from cpi_tools.guard.copies.desk_changes import index_of
+from cpi_tools.guard.follow import Follower
+from cpi_tools.guard.copies.generations import PASSED, LastDrill, generation_of, last_drill_of, repository_of
+from cpi_tools.guard.keep import FAILED_DRILL, keep
+from cpi_tools.guard.copies.kept_desk import kept_desk_in, open_desk, take_desk
+from cpi_tools.guard.copies.places import Folder
+from cpi_tools.office.program import Cpi
+from cpi_tools.office.rooms import new_room
+from cpi_tools.guard.copies.second_copies import DESK, INDEX, MARK, second_text
 from .desk_rooms import DeskRoom, files_of
-from .generations import Place, made_place
+from .generations import HOUR, NOW, Place, made_place
 from .ran import Ran, run
 from .second_machines import led_away
 
-NOW = 1_800_000_000
-"""2027-01-15 08:00 UTC."""
+pytestmark = pytest.mark.usefixtures("quick_borg")
 
-HOUR = 3600
+
+@pytest.fixture
+def tmp_path(memory: Path) -> Path:
+    """A test's own folder."""
+    return memory
 
 
 @pytest.fixture
@@ -53,7 +56,7 @@ def place(office: Path, desk: DeskRoom, tmp_path: Path) -> Place:
 @pytest.fixture
 def quick(monkeypatch: pytest.MonkeyPatch) -> None:
     """Nobody waits for a round."""
-    monkeypatch.setattr("cpi_tools.keep.time.sleep", lambda _: None)
+    monkeypatch.setattr("cpi_tools.guard.keep.time.sleep", lambda _: None)
 
 
 def carried_desk(office: Path, desk: DeskRoom, place: Place) -> None:
@@ -111,7 +114,7 @@ def test_a_desk_that_can_not_be_taken_is_refused_before_anything_is_promoted(
     def full(*_: object) -> None:
         raise OSError(errno.ENOSPC, os.strerror(errno.ENOSPC))
 
-    monkeypatch.setattr("cpi_tools.promote.shutil.move", full)
+    monkeypatch.setattr("cpi_tools.guard.promote.shutil.move", full)
     ran, files = promoted(cpi, place, generation_of(NOW))
     assert (ran.status, ran.out, files) == (1, "", {}) and os.strerror(errno.ENOSPC) in ran.err
     assert not (place.dest / MARK).exists() and not [*place.dest.parent.glob("home-*/*")]
@@ -126,7 +129,7 @@ def test_the_desk_waits_on_the_disk_of_the_office(cpi: Cpi, place: Place, monkey
         rooms.append((prefix, folder))
         return new_room(prefix, folder)
 
-    monkeypatch.setattr("cpi_tools.promote.new_room", made)
+    monkeypatch.setattr("cpi_tools.guard.promote.new_room", made)
     assert promoted(cpi, place, generation_of(NOW))[0].status == 0
     home = rooms[0][1]
     assert home and rooms == [(".cpi-promote-desk-", home), (".cpi-promote-", home)]
@@ -175,7 +178,7 @@ def test_a_round_that_changes_it_meanwhile_is_waited_for(
         pauses.append(seconds)
         (place.dest / DESK / "1/rows.json").write_bytes(whole)
 
-    monkeypatch.setattr("cpi_tools.keep.time.sleep", pause)
+    monkeypatch.setattr("cpi_tools.guard.keep.time.sleep", pause)
     assert kept_at(cpi, place, NOW).last.fault == "" and len(pauses) == 1
     assert promoted(cpi, place, generation_of(NOW))[1] == desk.files
 

@@ -15,14 +15,14 @@ from typing import Any
 
 import pytest
 
-from cpi_tools import borg
-from cpi_tools import keep as keeping
-from cpi_tools.borg import HOST, LOCKED, ROSTER, Repository, Start, this_start
-from cpi_tools.generations import LastDrill, last_drill_of, repository_of, write_last_drill
-from cpi_tools.held_folders import held
-from cpi_tools.kept_desk import OpenDesk
-from cpi_tools.program import Cpi
-from cpi_tools.terminal import Fault
+from cpi_tools.guard.copies import borg
+from cpi_tools.guard import keep as keeping
+from cpi_tools.guard.copies.borg import HOST, LOCKED, ROSTER, Repository, Start, this_start
+from cpi_tools.guard.copies.generations import LastDrill, last_drill_of, repository_of, write_last_drill
+from cpi_tools.office.held_folders import held
+from cpi_tools.guard.copies.kept_desk import OpenDesk
+from cpi_tools.office.program import Cpi
+from cpi_tools.text.terminal import Fault
 from .generations import made_place
 from .ran import run
 

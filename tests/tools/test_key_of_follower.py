@@ -13,13 +13,13 @@ from pathlib import Path
 
 import pytest
 
-from cpi_tools.carriers import Rsync
-from cpi_tools.follow import Follower
-from cpi_tools.generations import LastDrill, last_drill_of, write_last_drill
-from cpi_tools.mirrors import PAGE
-from cpi_tools.page_changes import CAME, CHANGES, put_in
-from cpi_tools.places import Elsewhere, Folder
-from cpi_tools.second_copies import (
+from cpi_tools.guard.copies.carriers import Rsync
+from cpi_tools.guard.follow import Follower
+from cpi_tools.guard.copies.generations import LastDrill, last_drill_of, write_last_drill
+from cpi_tools.guard.copies.mirrors import PAGE
+from cpi_tools.guard.copies.page_changes import CAME, CHANGES, put_in
+from cpi_tools.guard.copies.places import Elsewhere, Folder
+from cpi_tools.guard.copies.second_copies import (
     DRILLED,
     LOG,
     MARK,
@@ -33,8 +33,8 @@ from cpi_tools.second_copies import (
     state_of,
     write_promotion,
 )
-from cpi_tools.program import Cpi
-from cpi_tools.terminal import Fault
+from cpi_tools.office.program import Cpi
+from cpi_tools.text.terminal import Fault
 from lib.places import ROOT
 from .offices import LOAD_KEY, LOAD_MONTH
 from .second_machines import led_away, receiver

@@ -16,8 +16,8 @@ from urllib.parse import parse_qsl, urlsplit
 import pytest
 
 from cpi_tools.command_line import main
-from cpi_tools.keys.page import code_of
-from cpi_tools.program import Cpi, record
+from cpi_tools.desk.keys.key_sheets import code_of
+from cpi_tools.office.program import Cpi, record
 from .offices import KEY, LOAD_KEY, OTHER_KEY
 from .ran import Ran, run
 from .test_take_in import sums

@@ -11,11 +11,11 @@ from typing import Any
 
 import pytest
 
-from cpi_tools.desk.unusual import CONFIRMED, OF_AGGREGATE
-from cpi_tools.desk_app.looks import OTHER, Look, change_of
-from cpi_tools.desk_app.looks_chosen import SHOWN, Chosen, chosen_of, key_of, part_of
-from cpi_tools.desk_app.trials import Running
-from cpi_tools.program import Cpi, record
+from cpi_tools.desk.month.unusual import CONFIRMED, OF_AGGREGATE, OTHER
+from cpi_tools.desk.looks.looks import Look, change_of
+from cpi_tools.desk.looks.look_filters import SHOWN, Chosen, chosen_of, key_of, part_of
+from cpi_tools.desk.looks.month_trials import Running
+from cpi_tools.office.program import Cpi, record
 from . import surveys
 from .desk_apps import ADA, BEN, LISTEN, Application, Person, applied, words_of
 from .surveys import key_of as key_of_collector
@@ -106,6 +106,20 @@ def application(cpi: Cpi, tmp_path: Path) -> Iterator[Application]:
     with applied(cpi, file, tmp_path / "room") as it:
         it.tried(it.person(ADA), MONTH)
         yield it
+
+
+def test_each_page_counts_the_same_prices(application: Application) -> None:
+    """Rice of 7 and 8 and the replacement of 7: the card and the part of the table, the table of prices, the freeze."""
+    ada = application.person(BEN)
+    table, shown = ada.get(f"/month/{MONTH}/table").text, ada.get(f"{LOOKS}?show=all").text
+    (card,) = re.findall(r"<dt>to look at</dt><dd>([0-9,]+)", table)
+    (part,) = re.findall(r'<h2>Prices to look at <span class="count">([0-9,]+)</span>', table)
+    rows, trial = re.findall(r'<tr class="look', shown), application.desk.trials.latest(202602)
+    assert trial and int(card) == int(part) == len(rows) == len(trial.looks)
+    assert "a replacement of another quality" in table
+    assert f"{card} of {card}" in words_of(ada.get(f"/month/{MONTH}/freeze").text)
+    slots = [it.split(",")[0] for it in ada.get(f"/month/{MONTH}/table/outliers.csv").text.splitlines()[1:]]
+    assert "7/2" in slots and len(slots) == len(rows)
 
 
 def test_the_same_item_elsewhere_and_the_aggregate_stand_beside_a_price(application: Application) -> None:

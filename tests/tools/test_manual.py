@@ -10,7 +10,7 @@ import pytest
 
 from lib.places import ROOT
 from cpi_tools.command_line import parser
-from cpi_tools.words import PLAN_FAULTS, REFUSALS, Words
+from cpi_tools.office.refusals import PLAN_FAULTS, REFUSALS, Words
 from manual import manual
 from .needs import needed
 

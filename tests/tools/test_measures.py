@@ -1,4 +1,4 @@
-"""`cpi_tools.pack.measures`: contributions, averages and other reference periods, by hand in fractions."""
+"""`cpi_tools.publish.figures.measures`: contributions, averages and other reference periods, by hand in fractions."""
 
 from __future__ import annotations
 
@@ -7,8 +7,8 @@ from typing import Optional
 
 import pytest
 
-from cpi_tools.exact import Ratio, decimal
-from cpi_tools.pack.measures import (
+from cpi_tools.text.exact import Ratio, decimal
+from cpi_tools.publish.figures.measures import (
     Contributions,
     average,
     average_change,
@@ -18,8 +18,8 @@ from cpi_tools.pack.measures import (
     rereferenced,
     twelve_month_rate,
 )
-from cpi_tools.pack.public import Listed, Published
-from cpi_tools.pack.tables import Series
+from cpi_tools.office.public import Listed, Published
+from cpi_tools.office.tables import Series
 from .published import HIDDEN_REVISION
 
 # ---- two years by hand

@@ -1,4 +1,4 @@
-"""`cpi_tools.mirrors`: a mirror has the bytes of its source, writes the pages that changed and no other, and knows the
+"""`cpi_tools.guard.copies.mirrors`: a mirror has the bytes of its source, writes the pages that changed and no other, and knows the
 sum of each block."""
 
 from __future__ import annotations
@@ -10,10 +10,10 @@ from pathlib import Path
 
 import pytest
 
-from cpi_tools import mirrors
-from cpi_tools.copying import BLOCK, CopyFailed, log_beside
-from cpi_tools.mirrors import PAGE, SUMMED, Mirror, MirroredOffice, sum_of
-from cpi_tools.program import Cpi
+from cpi_tools.guard.copies import mirrors
+from cpi_tools.office.copying import BLOCK, CopyFailed, log_beside
+from cpi_tools.guard.copies.mirrors import PAGE, SUMMED, Mirror, MirroredOffice, sum_of
+from cpi_tools.office.program import Cpi
 from .loads import Quotes, faults_of
 
 

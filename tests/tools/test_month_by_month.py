@@ -17,14 +17,14 @@ import icalendar  # type: ignore[import]
 import pytest
 import rdflib
 
-from cpi_tools.pack.clocks import clock_of
-from cpi_tools.pack.config import Config
-from cpi_tools.pack.dated import Dated
-from cpi_tools.pack.planned import Planned
-from cpi_tools.pack.public import Published
-from cpi_tools.pack.reasons import Reason
-from cpi_tools.pack.specials import Special
-from cpi_tools.publish import publish
+from cpi_tools.text.clocks import clock_of
+from cpi_tools.publish.figures.config import Config
+from cpi_tools.publish.figures.config import Dated
+from cpi_tools.publish.figures.planned import Planned
+from cpi_tools.office.public import Published
+from cpi_tools.publish.figures.reasons import Reason
+from cpi_tools.publish.figures.specials import Special
+from cpi_tools.publish.pack import publish
 from .published import HIDDEN_REVISION, LAST, REVISED
 
 ADDRESS = "https://prices.example/index/"
@@ -190,7 +190,7 @@ def test_what_is_written_month_by_month_is_what_is_written_at_once(
 ) -> None:
     tables = [it for it in published if it.name[:-4] in {name for run in runs for name in run.new} or not it.table]
     site, last, before = tmp_path / "public", runs[-1].files, tmp_path / "before"
-    for name in ("manifest.json", "data/artefacts.json"):
+    for name in ("manifest.json", "data/artefacts.json", "data/revision-reasons.csv"):
         (before / name).parent.mkdir(parents=True, exist_ok=True)
         (before / name).write_bytes(last[name])
     config = CONFIG._replace(planned=planned(published))

@@ -4,8 +4,8 @@ from __future__ import annotations
 
 import pytest
 
-from cpi_tools import months_of_texts
-from cpi_tools.months_of_texts import NAMES, month_of, months_of, told_no_month
+from cpi_tools.sheets import months_of_texts
+from cpi_tools.sheets.months_of_texts import NAMES, month_of, months_of, told_no_month
 
 
 @pytest.mark.parametrize(

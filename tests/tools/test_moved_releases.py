@@ -13,15 +13,15 @@ from xml.etree import ElementTree
 import icalendar  # type: ignore[import]
 import pytest
 
-from cpi_tools import publish as publish_module
-from cpi_tools.pack.announced import Announced, BadAnnounced, announced_after, announced_in
-from cpi_tools.pack.cards import NO_CARDS
-from cpi_tools.pack.clocks import UTC
-from cpi_tools.pack.config import Config
-from cpi_tools.pack.office_languages import OfficeLanguages
-from cpi_tools.pack.planned import BadCalendar, Planned, planned_of
-from cpi_tools.pack.tables import Series
-from cpi_tools.publish import check, publish
+from cpi_tools.publish import pack as publish_module
+from cpi_tools.publish.figures.announced import Announced, BadAnnounced, announced_after, announced_in
+from cpi_tools.publish.releases.cards import NO_CARDS
+from cpi_tools.text.clocks import UTC
+from cpi_tools.publish.figures.config import Config
+from cpi_tools.publish.figures.office_languages import OfficeLanguages
+from cpi_tools.publish.figures.planned import BadCalendar, Planned, planned_of
+from cpi_tools.office.tables import Series
+from cpi_tools.publish.pack import check, publish
 from .test_measures import two_years
 
 DAY = 86_400
@@ -170,6 +170,16 @@ def test_the_calendar_of_an_earlier_version_counts(tmp_path: Path) -> None:
     assert event(out)["SEQUENCE"] == 1 and "was announced for 28 January 2027" in words(out)
 
 
+@pytest.mark.parametrize("turned", [False, True])
+def test_of_two_packs_the_one_counts_in_which_a_release_moved(tmp_path: Path, turned: bool) -> None:
+    """Whichever pack is named first: one that --previous names may be older than the one that is replaced."""
+    one = written(tmp_path / "one", Planned(MONTH, 1, FIRST))
+    other = written(tmp_path / "other", Planned(MONTH, 1, FIRST))
+    written(other, Planned(MONTH, 1, SECOND))
+    found = announced_in([other, one] if turned else [one, other])
+    assert found == announced_in([other]) and found[MONTH, 1].moves == 1
+
+
 ROW = Announced(MONTH, 1, FIRST)._asdict()
 
 
@@ -177,7 +187,7 @@ ROW = Announced(MONTH, 1, FIRST)._asdict()
     "text",
     ["", "[]", "{}", '{"announced": [[]]}', '{"announced": [{}]}', "[" * 100_000]
     + [json.dumps({"announced": [{**ROW, name: value}]}) for name, value in
-       [("month", "2027-13"), ("moment", "1"), ("moves", -1), ("before", 0.5), ("reason", 1), ("more", 1)]],
+       [("month", "2027-13"), ("moment", "1"), ("moves", -1), ("before", 0.5), ("planned", "1"), ("reason", 1), ("more", 1)]],
 )  # fmt: skip
 def test_a_damaged_file_is_refused_with_its_remedy(tmp_path: Path, text: str) -> None:
     (tmp_path / "data").mkdir()

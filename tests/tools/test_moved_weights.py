@@ -11,10 +11,10 @@ from pathlib import Path
 import pytest
 
 from cpi_tools.command_line import main
-from cpi_tools.moved_weights import CannotMove, moved, read_spent
-from cpi_tools.pack.public import Listed, Published
-from cpi_tools.pack.tables import Series
-from cpi_tools.program import Cpi, record
+from cpi_tools.sheets.year.moved_weights import CannotMove, moved, read_spent
+from cpi_tools.office.public import Listed, Published
+from cpi_tools.office.tables import Series
+from cpi_tools.office.program import Cpi, record
 from lib.offices import plan_with
 from .published import ITEMS, KEY, TITLES, Office, lived, registered
 

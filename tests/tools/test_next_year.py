@@ -9,8 +9,8 @@ from pathlib import Path
 
 import pytest
 
-from cpi_tools.program import Cpi, Session, record
-from cpi_tools.stored import Release, stored_office
+from cpi_tools.office.program import Cpi, Session, record
+from cpi_tools.office.stored import Release, stored_office
 from .ran import Ran, rows_of, run
 from .spreadsheets import replayed
 from .test_take_in import sums

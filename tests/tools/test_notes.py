@@ -10,13 +10,13 @@ from pathlib import Path
 
 import pytest
 
-from cpi_tools.pack.config import BadConfig, Config, read_config
-from cpi_tools.pack.example import change
-from cpi_tools.pack.notes import Notes
-from cpi_tools.pack.public import Published
-from cpi_tools.pack.shown import Shown
-from cpi_tools.pack.tables import Series
-from cpi_tools.publish import publish
+from cpi_tools.publish.figures.config import BadConfig, Config, read_config
+from cpi_tools.publish.site.example import change
+from cpi_tools.publish.figures.notes import Notes
+from cpi_tools.office.public import Published
+from cpi_tools.publish.figures.shown_figures import Shown
+from cpi_tools.office.tables import Series
+from cpi_tools.publish.pack import publish
 from .published import REVISED
 from .test_measures import over_another_december, tea_again, two_years
 from .test_site import words_of

@@ -16,8 +16,8 @@ import pytest
 from PIL import Image
 
 from . import surveys
-from cpi_tools.desk_app import field_limits, field_notes, photographs
-from cpi_tools.desk_app.field_limits import (
+from cpi_tools.desk.field import field_limits, field_notes, photographs
+from cpi_tools.desk.field.field_limits import (
     MOST_BRAND_LETTERS,
     MOST_LETTERS,
     MOST_MESSAGE_BYTES,
@@ -26,10 +26,10 @@ from cpi_tools.desk_app.field_limits import (
     MOST_QUANTITY_LETTERS,
     MOST_SENT_SIDE,
 )
-from cpi_tools.desk_app.field_notes import FieldNotes, Of, Said, TooMany
-from cpi_tools.desk_app.photographs import NotAPicture, without_traces
-from cpi_tools.program import Cpi
-from cpi_tools.terminal import Fault
+from cpi_tools.desk.field.field_notes import FieldNotes, Of, Said, TooMany
+from cpi_tools.desk.field.photographs import NotAPicture, without_traces
+from cpi_tools.office.program import Cpi
+from cpi_tools.text.terminal import Fault
 from .desk_apps import ADA, LISTEN, Application, Person, applied, words_of
 from lib.hostile import HOSTILE
 from lib.places import ROOT
@@ -305,11 +305,12 @@ def test_phone_front_and_guide_have_the_same_limits() -> None:
     assert f" > {MOST_MESSAGE_BYTES}`" in caddy
     guide = (ROOT / "docs/run/FRONT.md").read_text(encoding="utf-8")
     assert (
-        f"| text, brand, quantity | {MOST_LETTERS}, {MOST_BRAND_LETTERS} and {MOST_QUANTITY_LETTERS} letters |" in guide
+        f"| text, brand, quantity | {MOST_LETTERS}, {MOST_BRAND_LETTERS} and {MOST_QUANTITY_LETTERS} characters |"
+        in guide
     )
     assert f"| photograph | {MOST_PHOTO_BYTES:,} bytes, and {MOST_PHOTO_SIDE:,} pixels on its longer side |" in guide
-    assert f"| notes of a collector and month | {field_limits.MOST_NOTES} |" in guide
-    assert f"| question, answer | {MOST_LETTERS} letters |" in guide
+    assert f"| notes per collector and month | {field_limits.MOST_NOTES} |" in guide
+    assert f"| question, answer | {MOST_LETTERS} characters |" in guide
     most = f"{field_limits.MOST_OPEN} and {field_limits.MOST_OPEN_IN_ALL:,}"
     assert f"| open questions to a collector, and to all | {most} |" in guide
     assert f"| answers to a question | {field_limits.MOST_ANSWERS} |" in guide

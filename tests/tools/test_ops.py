@@ -19,8 +19,8 @@ from zoneinfo import ZoneInfo
 
 import pytest
 
-from cpi_tools.program import Cpi
-from cpi_tools.stored import SCHEMA
+from cpi_tools.office.program import Cpi
+from cpi_tools.office.stored import SCHEMA
 from lib.places import ROOT
 from .needs import needed
 
@@ -69,7 +69,7 @@ ADDED = {"CPI_ZONE", "CPI_COPY", "CPI_COPY_EVERY"} | {
 def test_each_variable_of_the_scripts_is_in_the_configuration() -> None:
     told = set(re.findall(r"^(CPI_\w+)=", (OPS / "office.conf").read_text(), re.M))
     guide = guides()
-    assert [name for name in sorted(ADDED) if f"a line `{name}=" not in guide] == []
+    assert [name for name in sorted(ADDED) if f"`{name}=" not in guide] == []
     scripts = ("cpi-serve", "cpi-stopped", "cpi-backup", "cpi-follow", "cpi-desk")
     used = {name for path in scripts for name in re.findall(r"CPI_\w+", (OPS / path).read_text())}
     assert told == used - ADDED

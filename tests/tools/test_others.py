@@ -13,11 +13,11 @@ from typing import Any, Optional
 import pytest
 
 from . import surveys
-from cpi_tools.others import Worded, apart, cited, closed, isolated, others
-from cpi_tools.pack.config import Config
-from cpi_tools.pack.public import from_file
-from cpi_tools.program import Cpi, record
-from cpi_tools.publish import publish
+from cpi_tools.text.others import Worded, apart, cited, closed, isolated, others
+from cpi_tools.publish.figures.config import Config
+from cpi_tools.office.public import from_file
+from cpi_tools.office.program import Cpi, record
+from cpi_tools.publish.pack import publish
 from .ran import run
 from .test_measures import two_years
 
@@ -171,20 +171,23 @@ def test_on_the_pages_of_a_website(cpi: Cpi, office: Path, tmp_path: Path) -> No
 
 
 def test_what_people_copy_has_no_signs_that_nobody_sees(tmp_path: Path) -> None:
-    """Names of pages, what they say to other programs, the calculator's texts, the feed, the calendar, and data."""
+    """Names of pages and of pictures, what they say to other programs, the calculator's texts, the feed, the calendar, and
+    data."""
     out = tmp_path / "public"
     config = Config("NSO", "XX", "Office of prices", currency="crowns", address="https://prices.example/")
     publish(two_years()[:14], config, out, None, lambda _: None)
     hidden = re.compile("[\u2066-\u2069\u200e\u200f]")
-    heads = re.compile(r"<title>.*?</title>|<meta [^>]*>|<script type=.application/ld.json.>.*?</script>", re.S)
+    heads = re.compile(
+        r"<(title|desc|text)\b.*?</\1>|<meta [^>]*>|<script type=.application/ld.json.>.*?</script>", re.S
+    )
     for page in out.rglob("*.html"):
-        for head in heads.findall(page.read_text(encoding="utf-8")):
-            assert not hidden.search(head), (page, head)
+        for head in heads.finditer(page.read_text(encoding="utf-8")):
+            assert not hidden.search(head[0]), (page, head[0])
     names = [
         "assets/levels.js",
         "feed.xml",
         "calendar.ics",
-        *(f"data/{it.name}" for it in (out / "data").glob("*.csv")),
+        *(str(it.relative_to(out)) for kind in ("data/*.csv", "picture/*.svg") for it in out.glob(kind)),
     ]
     for name in names:
         assert not hidden.search((out / name).read_text(encoding="utf-8").replace("\\u2068", "\u2068")), name

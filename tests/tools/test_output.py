@@ -12,8 +12,8 @@ import pytest
 
 from . import surveys
 from lib.places import ROOT
-from cpi_tools.output import shown
-from cpi_tools.program import Cpi
+from cpi_tools.text.output import shown
+from cpi_tools.office.program import Cpi
 from .ran import Ran, run
 
 FULL = Path("/dev/full")

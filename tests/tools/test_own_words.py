@@ -12,12 +12,12 @@ from typing import Optional
 import html5lib
 import pytest
 
-from cpi_tools.pack.config import Config, read_config
-from cpi_tools.pack.logos import BadLogo, read_logo
-from cpi_tools.pack.own_words import SECTIONS, BadOwnWords, read_own_words
-from cpi_tools.pack.plain_markdown import BadMarkdown, html_of, read_markdown
-from cpi_tools.pack.public import Published
-from cpi_tools.publish import publish
+from cpi_tools.publish.figures.config import Config, read_config
+from cpi_tools.publish.figures.logos import BadLogo, read_logo
+from cpi_tools.publish.figures.own_words import SECTIONS, BadOwnWords, read_own_words
+from cpi_tools.publish.figures.plain_markdown import BadMarkdown, html_of, read_markdown
+from cpi_tools.office.public import Published
+from cpi_tools.publish.pack import publish
 from lib.places import ROOT
 from .test_site import words_of
 
@@ -80,6 +80,15 @@ def test_links_lead_to_the_web_or_to_a_mailbox() -> None:
         "a\x1bb",
         "a&#12;b",
         "a\ufffe",
+        "gpj.\u202egnp",
+        "gpj.&#x202e;gnp",
+        "gpj.&#8238;gnp",
+        "*a&#x2067;b*",
+        "# a&#x202a;b",
+        "|a&#x2066;b|\n|---|",
+        "[a&#x202C;b](https://a.example)",
+        "[a](https://a.example 'a&#x202e;b')",
+        "[a](https://a.example 'a&#12;b')",
     ],
 )
 def test_what_else_is_in_markdown_is_refused_with_its_line(text: str) -> None:
@@ -116,6 +125,11 @@ def test_what_looks_like_markup_stays_a_text() -> None:
         assert {tag for tag, _ in found} <= allowed, text
         assert {name for _, names in found for name in names} <= {"href", "title", "class", "tabindex"}, text
         html5lib.HTMLParser(strict=True).parseFragment(html_of(text))  # type: ignore[no-untyped-call]
+
+
+def test_a_mark_that_an_arabic_text_needs_is_taken() -> None:
+    """U+200F reaches only its neighbours: without it the figures would be those of the Latin word."""
+    assert html_of("COICOP 2018: \u200f309 &rlm;") == "<p>COICOP 2018: \u200f309 \u200f</p>\n"
 
 
 def test_a_file_that_is_no_text_is_refused(tmp_path: Path) -> None:

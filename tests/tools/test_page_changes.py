@@ -11,18 +11,18 @@ from pathlib import Path
 
 import pytest
 
-from cpi_tools import places
-from cpi_tools.carriers import Rsync
-from cpi_tools.copying import log_beside
-from cpi_tools.drill import drill
-from cpi_tools.follow import Follower
-from cpi_tools.marks import Known
-from cpi_tools.mirrors import PAGE
-from cpi_tools.page_changes import CHANGES, NotFitting, put_in
-from cpi_tools.places import Elsewhere
-from cpi_tools.program import Cpi
-from cpi_tools.second_copies import NAMES, NOTE, OFFICE, RECEIVED, fault_of, state_of, write_promotion
-from cpi_tools.terminal import Fault
+from cpi_tools.guard.copies import places
+from cpi_tools.guard.copies.carriers import Rsync
+from cpi_tools.office.copying import log_beside
+from cpi_tools.guard.drill import drill
+from cpi_tools.guard.follow import Follower
+from cpi_tools.guard.copies.office_marks import Known
+from cpi_tools.guard.copies.mirrors import PAGE
+from cpi_tools.guard.copies.page_changes import CHANGES, NotFitting, put_in
+from cpi_tools.guard.copies.places import Elsewhere
+from cpi_tools.office.program import Cpi
+from cpi_tools.guard.copies.second_copies import NAMES, NOTE, OFFICE, RECEIVED, fault_of, state_of, write_promotion
+from cpi_tools.text.terminal import Fault
 from .loads import Quotes, faults_of
 from .offices import TABLES
 from .ran import run

@@ -6,12 +6,14 @@ import re
 
 import pytest
 
-from cpi_tools.desk_app.observed import Seen
-from cpi_tools.desk_app.response_chart import DAYS, HIGH, WIDE, chart_of
-from cpi_tools.page_columns import cell_figure, head
-from cpi_tools.report_language import ENGLISH
-from cpi_tools.sections import Cell
+from cpi_tools.desk.serve.observations import Seen
+from cpi_tools.desk.looks.month_views import DAYS, HIGH, WIDE, chart_of
+from cpi_tools.text.section_pages import cell_figure, head
+from cpi_tools.text.report_language import ENGLISH
+from cpi_tools.text.sections import Cell
 from .desk_apps import Application, Person, words_of
+from .test_desk_app_year import PAGE as YEAR
+from .test_desk_app_year import made
 
 MONTH = "2026-02"
 DAY = 86_400
@@ -28,6 +30,7 @@ DAY = 86_400
         ("106.3", "level", "106.3"),
         ("", "year %", ""),
         (2553, "slots", "2,553"),
+        (155141, "weight", "155,141"),
         (2553, "collector", "2553"),
     ],
 )
@@ -61,8 +64,13 @@ def test_the_response_by_day_is_a_picture_and_rows(application: Application, ada
 
 def test_each_table_has_a_caption_and_each_head_its_scope(application: Application, ada: Person) -> None:
     application.tried(ada, MONTH)
+    made(application, ada)
     paths = [f"/month/{MONTH}/{it}" for it in ("", "table", "freeze", "looks", "explain/01.1.1.1-01")]
-    for path in (*paths, "/calendar", "/sample/items", "/sample/calendar", "/log", "/publish", "/records"):
+    paths += [f"{YEAR}?sheet={it}" for it in ("weights", "classification", "series", "leaving")]
+    paths += [f"/sample/{it}" for it in ("items", "outlets", "collectors", "assignments", "calendar")]
+    for path in (*paths, "/calendar", "/log", "/publish", "/records"):
         text = ada.get(path).text
         assert text.count("<table") == len(re.findall("<table[^>]*>\\s*<caption", text)), path
         assert text.count("<th ") == len(re.findall('<th scope="(?:col|row)"', text)) and "<th>" not in text, path
+        rows = [it for body in re.findall("<tbody>(.*?)</tbody>", text, re.S) for it in body.split("<tr")[1:]]
+        assert [it for it in rows if '<th scope="row"' not in it] == [], path

@@ -2,6 +2,7 @@
 
 from __future__ import annotations
 
+import contextlib
 import re
 import subprocess
 from fractions import Fraction
@@ -10,9 +11,11 @@ from xml.etree import ElementTree
 
 import jinja2
 import pytest
+from jinja2 import nodes
 
-from cpi_tools import charts, exact, pages, terminal
-from cpi_tools.charts import OTHER, OWN, Line, Picture
+from cpi_tools.text import charts, exact, languages, page_templates, section_pages, terminal
+from cpi_tools.text.charts import OTHER, OWN, Line, Picture
+from cpi_tools.text.report_language import teller_of
 from lib.places import ROOT
 
 MONTHS = [f"{2025 + at // 12}-{at % 12 + 1:02}" for at in range(24)]
@@ -34,8 +37,8 @@ def test_figures_as_texts() -> None:
     assert [exact.points(105_714_286, digits) for digits in (1, 3, 6)] == ["105.7", "105.714", "105.714286"]
     assert [exact.tenths(it) for it in (-3, 0, 12, None)] == ["-0.3", "0.0", "1.2", ""]
     assert [exact.with_sign(it) for it in ("-0.31", "0.00", "0.31", "12.0")] == ["\u22120.31", "0.00", "+0.31", "+12.0"]
-    assert [pages.percent(it) for it in (-3, 0, None)] == ["\u22120.3\u202f%", "0.0\u202f%", "\u2013"]
-    assert pages.size(-3) == "0.3"
+    assert [page_templates.percent(it) for it in (-3, 0, None)] == ["\u22120.3\u202f%", "0.0\u202f%", "\u2013"]
+    assert page_templates.size(-3) == "0.3"
     total = exact.Ratio(1, 6).plus(exact.Ratio(-1, 4))
     assert Fraction(*total) == Fraction(-1, 12)
 
@@ -132,7 +135,9 @@ def test_a_page_stands_alone_and_its_texts_are_escaped(tmp_path: Path) -> None:
     )
     picture = charts.columns(Picture("c", "<script>", "<b>"), MONTHS[:1], [1.0])
     bar = charts.track([1.0]).bars[0]
-    pages.write_page(pages.environment(own), "page.html", tmp_path / "x.html", name="<i>&", picture=picture, bar=bar)
+    page_templates.write_page(
+        page_templates.environment([own]), "page.html", tmp_path / "x.html", name="<i>&", picture=picture, bar=bar
+    )
     text = (tmp_path / "x.html").read_text(encoding="utf-8")
     assert text.count("&lt;i&gt;&amp;") == 3 and "<i>&" not in text and "<script>" not in text
     assert "--accent" in text and '<link rel="stylesheet"' not in text
@@ -144,8 +149,64 @@ def test_a_page_that_fails_leaves_nothing(tmp_path: Path) -> None:
     own.mkdir()
     (own / "page.html").write_text("{{ forgotten }}")
     with pytest.raises(jinja2.UndefinedError):
-        pages.write_page(pages.environment(own), "page.html", tmp_path / "x.html")
+        page_templates.write_page(page_templates.environment([own]), "page.html", tmp_path / "x.html")
     assert [it.name for it in tmp_path.iterdir()] == ["own"]
+
+
+def test_a_template_is_compiled_once_in_each_language(tmp_path: Path, monkeypatch: pytest.MonkeyPatch) -> None:
+    """By each environment of a process, and anew if it was changed."""
+    compiled, compile_ = list[str](), jinja2.Environment.compile
+
+    def counted(self: jinja2.Environment, source: str, name: str, filename: str) -> object:
+        compiled.append(source)
+        return compile_(self, source, name, filename)
+
+    def written(language: languages.Language) -> str:
+        return page_templates.environment([tmp_path], language).get_template("own.html").render()
+
+    monkeypatch.setattr(jinja2.Environment, "compile", counted)
+    first, other = "{% trans %}Open{% endtrans %}", "{% trans %}Shut{% endtrans %}"
+    upper = languages.ENGLISH._replace(gettext=str.upper)
+    (tmp_path / "own.html").write_text(first)
+    assert [written(it) for it in (languages.ENGLISH, upper) * 2] == ["Open", "OPEN"] * 2
+    assert compiled == [first] * 2
+    (tmp_path / "own.html").write_text(other)
+    assert [written(it) for it in (languages.ENGLISH, upper) * 2] == ["Shut", "SHUT"] * 2
+    assert compiled == [first] * 2 + [other] * 2
+
+
+def test_a_figure_of_a_template_has_the_digits_of_its_environment(tmp_path: Path) -> None:
+    """Though the code of the template has what the filter gave."""
+    (tmp_path / "own.html").write_text("{{ '12.5'|in_percent }}")
+    tellers = [teller_of("ar", digits) for digits in ("latn", "arab")] * 2
+    written = [section_pages.environment([tmp_path], it).get_template("own.html").render() for it in tellers]
+    assert ["12" in it for it in written] == [True, False] * 2
+    assert ["\u0661\u0662" in it for it in written] == [False, True] * 2
+
+
+def constants_through_filters(source: str) -> list[str]:
+    """The filters of a template that are given only what is known when it is compiled."""
+    names = list[str]()
+    for each in page_templates.environment().parse(source).find_all(nodes.Filter):
+        with contextlib.suppress(nodes.Impossible):
+            for given in (each.node, *each.args):
+                if given is None:
+                    raise nodes.Impossible
+                given.as_const()
+            names.append(each.name)
+    return names
+
+
+def test_what_a_filter_gives_for_a_constant_depends_on_language_and_digits_only() -> None:
+    """It is in the code of a template, which all environments of a language and its digits have. Those that tools share
+    have none, since a filter of one tool may be another's of the same name."""
+    source = '{{ 1|points }}{{ at|points }}{{ 1|points(at) }}{{ ("a" ~ "b")|of }}{% filter of %}a{% endfilter %}'
+    assert constants_through_filters(source) == ["points", "of"]
+    templates = sorted((ROOT / "tools/cpi_tools").glob("**/templates/*.html"))
+    assert len(templates) > 50
+    given = {path: constants_through_filters(path.read_text(encoding="utf-8")) for path in templates}
+    assert {name for names in given.values() for name in names} == {"figure", "in_percent", "share"}
+    assert [path.name for path, names in given.items() if names and path.parent == page_templates.TEMPLATES] == []
 
 
 def test_a_package_that_is_missing_is_one_line() -> None:
@@ -155,7 +216,7 @@ def test_a_package_that_is_missing_is_one_line() -> None:
 
 
 def test_the_style_reaches_its_pages_by_a_link_where_it_is_told_to() -> None:
-    text = pages.environment().get_template("base.html").render(style_at="assets/style.css")
+    text = page_templates.environment().get_template("base.html").render(style_at="assets/style.css")
     assert '<link rel="stylesheet" href="assets/style.css">' in text and "<style>" not in text
 
 

@@ -16,11 +16,11 @@ from typing import Any
 import pytest
 from PIL import Image
 
-from cpi_tools.desk_app import field_notes, field_views, one_photograph, photographs
-from cpi_tools.desk_app.field_limits import MOST_PHOTO_SIDE, MOST_SENT_SIDE
-from cpi_tools.desk_app.one_photograph import MOST_MEMORY, MOST_SECONDS, pixels_of
-from cpi_tools.desk_app.photographs import Busy, NotAPicture, Turns, without_traces
-from cpi_tools.program import Cpi
+from cpi_tools.desk.field import field_notes, field_views, one_photograph, photographs
+from cpi_tools.desk.field.field_limits import MOST_PHOTO_SIDE, MOST_SENT_SIDE
+from cpi_tools.desk.field.one_photograph import MOST_MEMORY, MOST_SECONDS, pixels_of
+from cpi_tools.desk.field.photographs import Busy, NotAPicture, Turns, without_traces
+from cpi_tools.office.program import Cpi
 from lib.places import ROOT
 from . import surveys
 from .desk_apps import ADA, Application, applied
@@ -205,7 +205,7 @@ def test_a_process_that_takes_too_long_is_ended(tmp_path: Path, monkeypatch: pyt
 
 BOUNDED = """
 import resource, os
-from cpi_tools.desk_app.one_photograph import bound
+from cpi_tools.desk.field.one_photograph import bound
 bound()
 print(*(resource.getrlimit(it)[0] for it in (resource.RLIMIT_AS, resource.RLIMIT_CPU, resource.RLIMIT_FSIZE)))
 print("PIL" in __import__("sys").modules)
@@ -224,7 +224,7 @@ def test_the_process_bounds_itself_before_it_reads_a_picture() -> None:
 
 HOSTILE_MEMORY = """
 import sys
-from cpi_tools.desk_app import one_photograph
+from cpi_tools.desk.field import one_photograph
 one_photograph.pixels_of = lambda data: bytes(1 << 30)
 sys.exit(one_photograph.main())
 """

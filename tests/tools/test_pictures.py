@@ -2,25 +2,26 @@
 
 from __future__ import annotations
 
+import html
 import re
 import xml.etree.ElementTree as ET
 from pathlib import Path
 
 import pytest
 
-from cpi_tools.charts import Bar
-from cpi_tools.exact import Ratio
-from cpi_tools.pack.bar_pictures import Change
-from cpi_tools.pack.config import PICTURES, Config
-from cpi_tools.pack.drawings import LOOKS, drawing
-from cpi_tools.pack.given import Given
-from cpi_tools.pack.pictures import of_imputed, of_node
-from cpi_tools.pack.public import Listed, Published
-from cpi_tools.pack.shown import Shown
-from cpi_tools.pack.tables import Series
-from cpi_tools.pages import TEMPLATES
-from cpi_tools.publish import publish
-from cpi_tools.speech import SPEAKS_ENGLISH, speech_of
+from cpi_tools.text.charts import Bar
+from cpi_tools.text.exact import Ratio
+from cpi_tools.publish.releases.bar_pictures import Change
+from cpi_tools.publish.figures.config import PICTURES, Config
+from cpi_tools.publish.releases.drawings import LOOKS, drawing
+from cpi_tools.publish.figures.contributions import Given
+from cpi_tools.publish.releases.pictures import of_imputed, of_node
+from cpi_tools.office.public import Listed, Published
+from cpi_tools.publish.figures.shown_figures import Shown
+from cpi_tools.office.tables import Series
+from cpi_tools.text.page_templates import TEMPLATES
+from cpi_tools.publish.pack import publish
+from cpi_tools.text.speech import SPEAKS_ENGLISH, speech_of
 from .test_measures import tea_again, two_years
 from .test_site import words
 
@@ -127,7 +128,7 @@ def test_each_picture_of_a_page_is_a_file(pack: Path) -> None:
             drawn = path.read_text(encoding="utf-8")
             assert re.findall(r' d="([^"]*)"', figure) == re.findall(r' d="([^"]*)"', drawn)
             name_of, unit = re.findall(r"<figcaption>(.*?)<small>(.*?)</small>", figure)[0]
-            assert {name_of, unit} <= {*texts_of(path)}, path
+            assert {html.unescape(name_of), html.unescape(unit)} <= {*texts_of(path)}, path
             found.add(path)
     # (those of releases, such as 2026-01-r1-level.svg, are below the pages of these)
     of_items = {it for it in (pack / "picture").resolve().iterdir() if not re.match(r"\d{4}-\d\d-r\d-", it.name)}
@@ -136,10 +137,10 @@ def test_each_picture_of_a_page_is_a_file(pack: Path) -> None:
 
 def test_a_file_says_whose_it_is(pack: Path) -> None:
     title, *others = texts_of(pack / "picture/02-level.svg")
-    assert title == "\u2068Title of 02\u2069" and others[0] == "Index"
+    assert title == "Title of 02" and others[0] == "Index"
     whole = " ".join(others)
-    assert "Full line: \u2068Title of 02\u2069 Broken line: \u2068Title of 00\u2069" in whole
-    assert "Source: \u2068Office <of> prices\u2069, \u2068Prices & more\u2069, up to December 2027" in whole
+    assert "Full line: Title of 02 Broken line: Title of 00" in whole
+    assert "Source: Office <of> prices, Prices & more, up to December 2027" in whole
     root = ET.parse(pack / "picture/02-level.svg").getroot()
     named = [root.find(f"{SVG}{it}") for it in ("title", "desc")]
     assert root.get("aria-labelledby") == " ".join(it.get("id", "") for it in named if it is not None)
@@ -193,7 +194,7 @@ def test_a_file_has_the_words_of_its_language() -> None:
     whole = Shown(Series(two_years()))
     french, arabic = (whole.spoken(speech_of(tag)) for tag in ("fr", "ar"))
     texts = " ".join(re.findall(r">([^<>]+)</text>", drawing(of_node(french, "02")[0], "T", "Source")))
-    assert "Trait plein\u00a0: \u2068Title of 02\u2069 Pointillés\u00a0: \u2068Title of 00\u2069" in texts
+    assert "Trait plein\u00a0: Title of 02 Pointillés\u00a0: Title of 00" in texts
     assert not re.search("line|Index", texts)
     rows = [
         Given("01", "A", None, Ratio(3, 1), Bar("25", "75", False)),
@@ -221,7 +222,7 @@ def test_the_label_of_a_bar_is_whole(pack: Path) -> None:
     *lines, value = texts
     assert value == "\u22120.33" and len(lines) > 3 and max(map(len, lines)) <= 48
     assert " ".join(it.strip("\u2068\u2069") for it in lines) == " ".join(title.split())
-    assert all(it.startswith("\u2068") and it.endswith("\u2069") for it in lines)
+    assert all((it[0] == "\u2068" and it[-1] == "\u2069") == ("\u202e" in it) for it in lines)
     assert chart.unit == "Percentage points of the change on the month before, December 2026"
     assert float(root.get("height", "")) > chart.height
 
@@ -237,7 +238,8 @@ def test_a_page_to_embed_has_each_picture_with_its_source(pack: Path) -> None:
         assert kinds == [*(["contributions", "imputed"] if code == "00" else []), "month", "year", "level"]
         assert "Source: Office <of> prices , Prices & more . Tables up to December 2027" in words(text)
         link = "../index.html" if code == "00" else f"../node/{code}.html"
-        assert f'<a href="{link}" target="_blank" rel="noopener">' in text and "<script" not in text
+        assert f'<a href="{link}" target="_blank" rel="noopener">' in text
+        assert text.count("<script") == text.count('<script src="../assets/point.js"') == 1
         for kind in kinds:
             at = "" if code == "00" and kind == "imputed" else "node/"
             page = (pack / (f"{at}{code}.html" if at else "index.html")).read_text(encoding="utf-8")

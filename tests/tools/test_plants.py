@@ -18,6 +18,7 @@ from crates import listed
 COUNTS = (
     "planted-in=6 untested=3 no-ensures=1 proves=1 same=1 refused=2 elsewhere=0 not-judged=0 not-source=5 not-run=0"
 )
+HOUSE = "proves=0 refused=0 elsewhere=0 not-judged=0 not-source=0 own-answer-not-judged=0"
 LOG = f"""\
 proves      src/list.rt:66 Rows<T>::is_empty: {{ true }}
 no-ensures  src/list.rt:60 Rows<T>::len()
@@ -26,11 +27,14 @@ untested    src/list.rt:37 Rows<T>::into_vec()
 untested    src/list.rt:45 Rows<T>::push()
 note: a body that only returns the out-of-memory error or fmt::Error is not planted, since it passes good contracts too: test that a call can succeed
 plants crate=cpi_rows {COUNTS}
+house crate=cpi_rows {HOUSE}
 """  # noqa: E501
-"""What `rt plant --only src/list.rt` printed of cpi_rows when two clauses were weakened there."""
+"""What `rt plant --only src/list.rt` printed of cpi_rows when two clauses were weakened there, and that none of the
+house's bodies was let through."""
 
 IS_EMPTY = "proves src/list.rt Rows<T>::is_empty: { true }"
 LEN = "no-ensures src/list.rt Rows<T>::len()"
+CUT_OFF = "house src/list.rt list::send: { Ok(Served::Cut) }"
 RIGHT = f"""\
 # What the contracts of cpi_rows let through.
 
@@ -41,7 +45,7 @@ RIGHT = f"""\
 {LEN}
     Nobody reads it.
 """
-TOLD = f"cpi_rows: 2 let through; {COUNTS}"
+TOLD = f"cpi_rows: 2 let through; {COUNTS}; {HOUSE}"
 
 
 class Ran(NamedTuple):
@@ -64,8 +68,8 @@ class Small:
         self.write("crates/cpi_rows/src/lib.rt", "")
         self.write("tests/plants/cpi_rows.txt", RIGHT)
         self.write("logs/cpi_rows.txt", LOG)
-        for name in ("plants", "crates.py"):
-            self.write(f"tools/{name}", (ROOT / "tools" / name).read_text())
+        for path in (ROOT / "tools/plants", ROOT / "tools/crates.py", *ROOT.glob("tools/[eh]*/*.py")):
+            self.write(str(path.relative_to(ROOT)), path.read_text())
 
     def write(self, name: str, text: str) -> None:
         (self.top / name).parent.mkdir(parents=True, exist_ok=True)
@@ -134,16 +138,28 @@ def test_a_weak_reason_is_told(small: Small) -> None:
 @pytest.mark.parametrize(
     "log, why",
     [
-        (LOG.partition("plants crate=")[0], "the run has not ended"),
-        ("", "the run has not ended"),
-        (LOG.replace("crate=cpi_rows", "crate=cpi_more"), "the run is of cpi_more"),
+        ("", ["the run of rt plant has not ended", "the run of the house's bodies has not ended"]),
+        (LOG.replace("crate=cpi_rows", "crate=cpi_more"), ["the run is of cpi_more"]),
     ],
 )
-def test_a_log_that_says_nothing_of_its_crate_is_no_run(small: Small, log: str, why: str) -> None:
+def test_a_log_that_says_nothing_of_its_crate_is_no_run(small: Small, log: str, why: list[str]) -> None:
     ran = small.compared(log=log)
-    assert (ran.status, len(ran.out), ran.out[0].startswith("cpi_rows: ")) == (1, 2, True)
-    assert why in ran.out[0]
+    assert (ran.status, ran.out[:-1]) == (1, [f"cpi_rows: {it}" for it in why])
     assert ran.out[-1] == "1 crates, 1 without a whole run: 0 new, 0 gone, 0 weak"
+
+
+def test_a_run_without_the_house_says_nothing_of_its_bodies(small: Small) -> None:
+    ran = small.compared(kept=f"{RIGHT}\n{CUT_OFF}\n    Nothing is written.\n", log=LOG.partition("house crate")[0])
+    assert (ran.status, ran.out[0]) == (1, "cpi_rows: the run of the house's bodies has not ended")
+    assert ran.out[-1] == "1 crates, 1 without a whole run: 0 new, 0 gone, 0 weak"
+
+
+def test_a_body_of_the_house_has_its_reason_or_is_new_or_gone(small: Small) -> None:
+    log = LOG.replace("house crate", "house src/list.rt:9 list::send: { Ok(Served::Cut) }\nhouse crate")
+    assert f"cpi_rows: new: {CUT_OFF}" in small.compared(log=log).out
+    kept = f"{RIGHT}\n{CUT_OFF}\n    Nothing is written.\n"
+    assert small.compared(kept=kept, log=log).status == 0
+    assert f"cpi_rows: gone: {CUT_OFF}" in small.compared(kept=kept).out
 
 
 def test_a_run_that_left_out_some_plants_says_what_is_new_and_not_what_is_gone(small: Small) -> None:
@@ -195,7 +211,7 @@ def test_the_lists_of_this_repository_are_of_functions_that_are_there() -> None:
     ran = subprocess.run([ROOT / "tools/plants", "--list"], capture_output=True, text=True, check=False)
     assert (ran.returncode, ran.stderr) == (0, "")
     for line in re.sub(r"^    .*\n", "", ran.stdout, flags=re.M).splitlines():
-        found = re.fullmatch(r"(\w+): (?:proves|no-ensures) (\S+) .*?(\w+)(?:: \{ .*|\(\).*)", line)
+        found = re.fullmatch(r"(\w+): (?:proves|no-ensures|house) (\S+) .*?(\w+)(?:: \{ .*|\(\).*)", line)
         assert found, line
         source = (ROOT / "crates" / found[1] / found[2]).read_text(encoding="utf-8")
         assert re.search(rf"\bfn {found[3]}\b", source), line
@@ -211,7 +227,7 @@ def stand_in(small: Small, text: str) -> None:
 
 
 def test_a_crate_is_run_and_its_log_is_kept(small: Small) -> None:
-    stand_in(small, "cat ../../logs/cpi_rows.txt")
+    stand_in(small, "grep -v ^house ../../logs/cpi_rows.txt")
     ran = small.run("cpi_rows", "--jobs", "2")
     assert (ran.status, ran.err) == (0, ["cpi_rows plant --jobs 2 --max 1000000 --minutes 6000"])
     assert (small.top / "out/plants/cpi_rows.txt").read_text() == LOG
@@ -221,11 +237,23 @@ def test_a_crate_is_run_and_its_log_is_kept(small: Small) -> None:
 
 def test_a_run_that_fails_keeps_no_other_from_running(small: Small) -> None:
     small.write("crates/cpi_more/src/lib.rt", "")
-    stand_in(small, "[ ${PWD##*/} = cpi_more ] || exit 2\nsed s/cpi_rows/cpi_more/ ../../logs/cpi_rows.txt")
+    stand_in(
+        small, "[ ${PWD##*/} = cpi_more ] || exit 2\nsed 's/cpi_rows/cpi_more/; /^house/d' ../../logs/cpi_rows.txt"
+    )
+    small.write("crates/cpi_rows/out/rlib/cpi_rows.rlib/format", "")
     ran = small.run()
-    assert (ran.status, ran.out[0]) == (1, "cpi_rows: the run has not ended")
-    assert ran.out[1:3] == [f"cpi_more: new: {IS_EMPTY}", f"cpi_more: new: {LEN}"]
+    assert (ran.status, ran.out[0]) == (1, "cpi_rows: the run of rt plant has not ended")
+    assert ran.out[2:4] == [f"cpi_more: new: {IS_EMPTY}", f"cpi_more: new: {LEN}"]
     assert ran.out[-1] == "2 crates, 1 without a whole run: 2 new, 0 gone, 0 weak"
+
+
+def test_the_house_alone_needs_the_libraries_below_and_says_nothing_of_other_lines(small: Small) -> None:
+    stand_in(small, "exit 3")
+    ran = small.run("--house", "cpi_rows")
+    assert (ran.status, ran.out[0]) == (0, f"cpi_rows: 0 let through; {HOUSE}")
+    ran = small.run("--house", "cpi_more", "--only", "send")
+    assert ran.out[0] == "cpi_more: the run of the house's bodies has not ended" and "cpi_rows" in ran.err[0]
+    assert small.run("cpi_rows", "--from", "..").status == 2
 
 
 def test_crates_and_logs_that_are_not_there_are_refused(small: Small) -> None:

@@ -12,11 +12,11 @@ from xml.etree import ElementTree
 
 import pytest
 
-from cpi_tools.pack.config import Config, read_config
-from cpi_tools.pack.profiles import BadProfile, Profile, read_profile
-from cpi_tools.pack.public import Published
-from cpi_tools.pack.specials import Special
-from cpi_tools.publish import check, publish
+from cpi_tools.publish.figures.config import Config, read_config
+from cpi_tools.publish.figures.profiles import BadProfile, Profile, read_profile
+from cpi_tools.office.public import Published
+from cpi_tools.publish.figures.specials import Special
+from cpi_tools.publish.pack import check, publish
 from lib.pack_faults import text
 from lib.places import ROOT
 from lib.quality import rows_of

@@ -1,4 +1,4 @@
-"""`cpi_tools.program`: records in, replies out, where the program is found, and what a fault tells."""
+"""`cpi_tools.office.program`: records in, replies out, where the program is found, and what a fault tells."""
 
 from __future__ import annotations
 
@@ -11,8 +11,8 @@ from pathlib import Path
 
 import pytest
 
-from cpi_tools import program
-from cpi_tools.program import Cpi, CpiFailed, find_program, record
+from cpi_tools.office import program
+from cpi_tools.office.program import Cpi, CpiFailed, find_program, record
 from lib.places import ROOT
 
 
@@ -41,7 +41,7 @@ def test_the_program_is_the_named_one_then_that_of_the_variable_the_repository_a
     given, by_variable, on_path = (executable(tmp_path / name / "cpi") for name in ("given", "variable", "path"))
     of_repository = executable(tmp_path / "repository/cpi")
     executable(tmp_path / "repository/examples/recompute")
-    monkeypatch.setattr(program, "__file__", str(tmp_path / "repository/tools/cpi_tools/program.py"))
+    monkeypatch.setattr(program, "__file__", str(tmp_path / "repository/tools/cpi_tools/office/program.py"))
     monkeypatch.setenv("CPI", str(by_variable))
     monkeypatch.setenv("PATH", str(on_path.parent))
     assert find_program(given) == given
@@ -74,7 +74,7 @@ def test_a_program_that_is_none_is_told(tmp_path: Path, monkeypatch: pytest.Monk
         find_program()
     monkeypatch.delenv("CPI")
     monkeypatch.setenv("PATH", str(tmp_path))
-    monkeypatch.setattr(program, "__file__", str(tmp_path / "far/away/cpi_tools/program.py"))
+    monkeypatch.setattr(program, "__file__", str(tmp_path / "far/away/cpi_tools/office/program.py"))
     with pytest.raises(CpiFailed, match="wasn't found: name it by --program"):
         find_program()
     (tmp_path / "text").chmod(0o755)

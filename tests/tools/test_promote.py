@@ -11,13 +11,13 @@ from pathlib import Path
 
 import pytest
 
-from cpi_tools import promote
-from cpi_tools.copying import log_beside
-from cpi_tools.follow import Follower, mark_beside
-from cpi_tools.mirrors import sum_of
-from cpi_tools.places import Folder
-from cpi_tools.program import Cpi
-from cpi_tools.second_copies import MARK, NAMES, NOTE, OFFICE, CopyNote, second_text, state_of
+from cpi_tools.guard import promote
+from cpi_tools.office.copying import log_beside
+from cpi_tools.guard.follow import Follower, mark_beside
+from cpi_tools.guard.copies.mirrors import sum_of
+from cpi_tools.guard.copies.places import Folder
+from cpi_tools.office.program import Cpi
+from cpi_tools.guard.copies.second_copies import MARK, NAMES, NOTE, OFFICE, CopyNote, second_text, state_of
 from .offices import LOAD_KEY, LOAD_MONTH, TABLES
 from .ran import Ran, run
 

@@ -17,11 +17,11 @@ from pathlib import Path
 
 import pytest
 
-from cpi_tools import promote as promoting
-from cpi_tools.follow import Follower, mark_beside
-from cpi_tools.places import Folder
-from cpi_tools.program import Cpi
-from cpi_tools.second_copies import LOG, MARK, NAMES, NOTE, OFFICE, second_text, state_of
+from cpi_tools.guard import promote as promoting
+from cpi_tools.guard.follow import Follower, mark_beside
+from cpi_tools.guard.copies.places import Folder
+from cpi_tools.office.program import Cpi
+from cpi_tools.guard.copies.second_copies import LOG, MARK, NAMES, NOTE, OFFICE, second_text, state_of
 from .desk_rooms import DeskRoom, files_of
 from .offices import LOAD_KEY, LOAD_MONTH
 from .ran import Ran, run

@@ -9,16 +9,24 @@ from typing import Optional
 
 import pytest
 
-from cpi_tools.borg import FOLDER, Repository
-from cpi_tools.follow import mark_beside
-from cpi_tools.generations import FAILED, PASSED, last_drill_of, repository_of
-from cpi_tools.keep import FAILED_DRILL
-from cpi_tools.program import Cpi
-from cpi_tools.second_copies import MARK, NAMES, OFFICE, second_text, state_of
+from cpi_tools.guard.copies.borg import FOLDER, Repository
+from cpi_tools.guard.follow import mark_beside
+from cpi_tools.guard.copies.generations import FAILED, PASSED, last_drill_of, repository_of
+from cpi_tools.guard.keep import FAILED_DRILL
+from cpi_tools.office.program import Cpi
+from cpi_tools.guard.copies.second_copies import MARK, NAMES, OFFICE, second_text, state_of
 from .accidents import ACCIDENTS, ANSWERED, WANTED, page_gone_bad, prices_in, priced
 from .generations import Place, carried, forged, made_place
 from .offices import LOAD_KEY, LOAD_MONTH
 from .ran import Ran, run
+
+pytestmark = pytest.mark.usefixtures("quick_borg")
+
+
+@pytest.fixture
+def tmp_path(memory: Path) -> Path:
+    """A test's own folder."""
+    return memory
 
 
 @pytest.fixture

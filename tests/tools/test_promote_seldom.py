@@ -7,10 +7,10 @@ import shutil
 import sqlite3
 from pathlib import Path
 
-from cpi_tools.follow import Follower
-from cpi_tools.places import Folder
-from cpi_tools.program import Cpi
-from cpi_tools.second_copies import MARK, NAMES, NOTE, state_of
+from cpi_tools.guard.follow import Follower
+from cpi_tools.guard.copies.places import Folder
+from cpi_tools.office.program import Cpi
+from cpi_tools.guard.copies.second_copies import MARK, NAMES, NOTE, state_of
 from .test_promote import dest, left_in, place, promoted
 
 __all__ = ["dest", "place"]

@@ -11,9 +11,9 @@ from xml.etree import ElementTree
 
 import pytest
 
-from cpi_tools.pack.config import Config
-from cpi_tools.pack.public import Published
-from cpi_tools.publish import publish
+from cpi_tools.publish.figures.config import Config
+from cpi_tools.office.public import Published
+from cpi_tools.publish.pack import publish
 
 CONFIG = Config("NSO", "XX", "Office", provisional=3, reference="2025")
 LAST = ["2027-03", "2027-04", "2027-05"]

@@ -1,4 +1,4 @@
-"""`cpi_tools.pack.public`: published tables by the public way alone, so that nothing under embargo can leak."""
+"""`cpi_tools.office.public`: published tables by the public way alone, so that nothing under embargo can leak."""
 
 from __future__ import annotations
 
@@ -12,9 +12,9 @@ from typing import Optional
 
 import pytest
 
-from cpi_tools.pack.public import Listed, NotPublic, Published, from_file, from_url, listed_in
-from cpi_tools.pack.tables import NotATable, Series, table_of
-from cpi_tools.program import Cpi
+from cpi_tools.office.public import Listed, NotPublic, Published, from_file, from_url, listed_in
+from cpi_tools.office.tables import NotATable, Series, table_of
+from cpi_tools.office.program import Cpi
 from lib.places import ROOT
 from .published import HIDDEN_REVISION, LAST, LONG_AFTER, MONTHS, Office, shown
 

@@ -28,14 +28,14 @@ import openpyxl
 import pytest
 
 from cpi_tools.command_line import main
-from cpi_tools.folders import NotPlaced, written_folder
-from cpi_tools.pack.config import BadConfig, Config, read_config
-from cpi_tools.pack.manifest import Change, manifest_text, previous_of, read_manifest
-from cpi_tools.pack.public import Listed, Published, from_file
-from cpi_tools.pack.sdmx import KNOWN_IDS
-from cpi_tools.pack.tables import Series
-from cpi_tools.program import Cpi
-from cpi_tools.publish import CannotPublish, check, publish
+from cpi_tools.office.folders import NotPlaced, written_folder
+from cpi_tools.publish.figures.config import BadConfig, Config, read_config
+from cpi_tools.publish.forms.manifest import Change, manifest_text, previous_of, read_manifest
+from cpi_tools.office.public import Listed, Published, from_file
+from cpi_tools.publish.forms.sdmx import KNOWN_IDS
+from cpi_tools.office.tables import Series
+from cpi_tools.office.program import Cpi
+from cpi_tools.publish.pack import CannotPublish, check, publish
 from lib.pack_forms import px_cells, read_json_stat, read_sdmx_ml
 from lib.places import ROOT
 from lib.served import free_port

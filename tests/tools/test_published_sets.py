@@ -11,15 +11,15 @@ from pathlib import Path
 
 import pytest
 
-from cpi_tools.folders import files_of
-from cpi_tools.pack.aggregated import series_of, vintages_of
-from cpi_tools.pack.config import FORMS, Config
-from cpi_tools.pack.public import Listed, Published
-from cpi_tools.pack.published_sets import OtherSets
-from cpi_tools.pack.reasons import BadReasons, Reason
-from cpi_tools.pack.specials import BadSpecials, Special, specials_of
-from cpi_tools.publish import check, publish
-from cpi_tools.terminal import Fault
+from cpi_tools.office.folders import files_of
+from cpi_tools.publish.figures.aggregated import series_of, vintages_of
+from cpi_tools.publish.figures.config import FORMS, Config
+from cpi_tools.office.public import Listed, Published
+from cpi_tools.publish.forms.published_sets import OtherSets
+from cpi_tools.publish.figures.reasons import BadReasons, Reason
+from cpi_tools.publish.figures.specials import BadSpecials, Special, specials_of
+from cpi_tools.publish.pack import check, publish
+from cpi_tools.text.terminal import Fault
 from .published import REVISED
 from .test_measures import over_another_december
 from .test_site import words_of
@@ -115,9 +115,27 @@ def test_a_pack_whose_manifest_has_no_sets_is_guarded_too_and_goes_on(published:
 def test_a_manifest_from_elsewhere_guards_sets_by_their_sums(
     published: list[Published], pack: Path, tmp_path: Path
 ) -> None:
-    with pytest.raises(OtherSets, match="^CORE, 2025-01 to 2027-05: its figures aren't those that were published"):
-        put(published, tmp_path / "other", with_sets(OTHER, FUELS), pack / "manifest.json")
-    put(published, tmp_path / "other", CONFIG, pack / "manifest.json")
+    """Its pack isn't beside it. If it is, the figure is named."""
+    alone = tmp_path / "kept/manifest.json"
+    alone.parent.mkdir()
+    shutil.copy(pack / "manifest.json", alone)
+    for path, says in (
+        (alone, "^CORE, 2025-01 to 2027-05: its figures aren't those that were published"),
+        (pack / "manifest.json", "^CORE, 2025-01: [0-9.]+ was published, and [0-9.]+ is computed now"),
+    ):
+        with pytest.raises(OtherSets, match=says):
+            put(published, tmp_path / "other", with_sets(OTHER, FUELS), path)
+    put(published, tmp_path / "other", CONFIG, alone)
+
+
+def test_the_earlier_figures_of_a_definition_come_from_the_pack_that_is_followed(
+    published: list[Published], pack: Path, tmp_path: Path
+) -> None:
+    """A pack that --previous names has them, though none is replaced."""
+    put(published, pack, with_sets(OTHER, FUELS, reasons=(WHY,)))
+    put(published, tmp_path / "other", with_sets(OTHER, FUELS, reasons=(WHY,)), pack / "manifest.json")
+    wanted, found = (rows_of(it / "data/vintages.csv") for it in (pack, tmp_path / "other"))
+    assert found == wanted and any(row["code"] == "CORE" for row in found)
 
 
 def test_the_manifest_has_the_sum_of_each_set(pack: Path) -> None:

@@ -5,11 +5,11 @@ from __future__ import annotations
 
 import pytest
 
-from cpi_tools.pack.config import Config
-from cpi_tools.pack.office_languages import OfficeLanguages, Own
-from cpi_tools.pack.planned import Planned
-from cpi_tools.pack.public import Listed, Published
-from cpi_tools.publish import publish
+from cpi_tools.publish.figures.config import Config
+from cpi_tools.publish.figures.office_languages import OfficeLanguages, Own
+from cpi_tools.publish.figures.planned import Planned
+from cpi_tools.office.public import Listed, Published
+from cpi_tools.publish.pack import publish
 from lib.px_format import MANDATORY, NotPx, joined, read_strictly, statements_of
 
 ROWS = """00,1000000,{level},{level},{change},,0,All items

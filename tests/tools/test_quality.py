@@ -19,20 +19,32 @@ from typing import NamedTuple
 import pytest
 
 from cpi_tools.command_line import main
-from cpi_tools.pack.announced import Announced
-from cpi_tools.pack.clocks import clock_of
-from cpi_tools.pack.config import BadConfig, Config, read_config
-from cpi_tools.pack.planned import Planned
-from cpi_tools.pack.public import Published
-from cpi_tools.pack.survey_counts import HEAD, BadCounts, counts_of, hidden_divisions, is_total_shown
-from cpi_tools.program import Cpi, record
-from cpi_tools.publish import publish
-from cpi_tools.quality import read_office, write_counts
-from cpi_tools.terminal import Fault
+from cpi_tools.publish.figures.announced import Announced
+from cpi_tools.text.clocks import clock_of
+from cpi_tools.publish.figures.config import BadConfig, Config, read_config
+from cpi_tools.publish.figures.planned import Planned
+from cpi_tools.office.public import Published
+from cpi_tools.publish.figures.survey_counts import HEAD, BadCounts, Choice, choice_of, counts_of
+from cpi_tools.office.program import Cpi, record
+from cpi_tools.publish.pack import publish
+from cpi_tools.publish.quality_counts import read_office, untold, write_counts
+from cpi_tools.text.terminal import Fault
 from lib.offices import plan_with
 from lib.pack_faults import text
 from lib.page_texts import Texts
-from lib.quality import COUNTS, Slot, days_after, exposed, imputed_weight, percent, response, revision_sizes, triangle
+from lib.quality import (
+    COUNTS,
+    Shown,
+    Slot,
+    days_after,
+    exposed,
+    exposed_between,
+    imputed_weight,
+    percent,
+    response,
+    revision_sizes,
+    triangle,
+)
 
 CONFIG = Config("NSO", "XX", "Office of prices", has_quality=True)
 
@@ -44,6 +56,11 @@ def quiet(_: str) -> None:
 # ---- the rule
 
 
+def names_of(choice: Choice) -> frozenset[str]:
+    """What has figures."""
+    return choice.divisions - choice.hidden | ({"00"} if choice.has_total else set())
+
+
 @pytest.mark.parametrize("least", [2, 3, 5])
 def test_no_group_of_few_outlets_can_be_computed(least: int) -> None:
     """Of two thousand random surveys; in some all is shown, in some one division is hidden for another."""
@@ -52,12 +69,11 @@ def test_no_group_of_few_outlets_can_be_computed(least: int) -> None:
         divisions = [f"{number:02}" for number in range(1, drawn.randint(2, 7))]
         numbers = range(drawn.randint(1, 12))
         outlets = {it: frozenset(drawn.sample(numbers, drawn.randint(0, len(numbers)))) for it in divisions}
-        hidden = hidden_divisions(outlets, least)
-        shown = [*(["00"] if is_total_shown(outlets, least) else []), *sorted(outlets.keys() - hidden)]
-        assert not exposed(shown, outlets, least), outlets
+        choice = choice_of(outlets, least, ())
+        assert not exposed(sorted(names_of(choice)), outlets, least), outlets
         if all(len(own) >= least for own in outlets.values()):
-            assert not hidden
-        hidden_counts.add(len(hidden))
+            assert not choice.hidden
+        hidden_counts.add(len(choice.hidden))
     assert {0, 2, 3} <= hidden_counts and (1 not in hidden_counts or least)
 
 
@@ -65,11 +81,89 @@ def test_a_hidden_division_takes_that_with_the_fewest_outlets_along() -> None:
     """02 has one outlet. With 04, which has five, both have six; 01 and 03 stay. If both had the same outlets, one more
     has to go."""
     outlets = {"01": frozenset(range(9)), "02": frozenset({1}), "03": frozenset(range(6)), "04": frozenset(range(2, 7))}
-    assert hidden_divisions(outlets, 5) == {"02", "04"}
+    assert choice_of(outlets, 5, ()) == Choice(frozenset(outlets), frozenset({"02", "04"}), True)
     few = {"01": frozenset(range(9)), "02": frozenset({1}), "03": frozenset({2}), "04": frozenset(range(6))}
-    assert hidden_divisions(few, 5) == {"02", "03", "04"}
-    assert hidden_divisions({"01": frozenset(range(9))}, 5) == frozenset()
-    assert not is_total_shown({"01": frozenset({1, 2})}, 5)
+    assert choice_of(few, 5, ()).hidden == {"02", "03", "04"}
+    assert choice_of({"01": frozenset(range(9))}, 5, ()).hidden == frozenset()
+    assert not choice_of({"01": frozenset({1, 2})}, 5, ()).has_total
+
+
+# ---- the rule between releases
+
+Outlets = dict[str, frozenset[int]]
+
+
+def surveys(drawn: random.Random, count: int) -> Iterator[Outlets]:
+    """Those of releases one after the other: outlets come and go, and now and then a whole division."""
+    numbers, all_divisions = range(drawn.randint(3, 12)), [f"{number:02}" for number in range(1, drawn.randint(3, 7))]
+    outlets = {it: {*drawn.sample(numbers, drawn.randint(1, len(numbers)))} for it in all_divisions}
+    absent = set[str]()
+    for _ in range(count):
+        for own in outlets.values():
+            for number in drawn.sample(numbers, drawn.randint(0, 2)):
+                own.symmetric_difference_update({number})
+        absent ^= {drawn.choice(all_divisions)} if drawn.random() < 0.15 else set()
+        yield {it: frozenset(own) for it, own in outlets.items() if own and it not in absent}
+
+
+def released(outlets: Outlets, choice: Choice) -> Shown:
+    assert choice.divisions == outlets.keys() and choice.hidden <= choice.divisions
+    return Shown(outlets, names_of(choice))
+
+
+@pytest.mark.parametrize("least", [2, 3, 5])
+def test_no_two_releases_give_a_hidden_division_by_subtraction(least: int) -> None:
+    """Each of eight releases with each other one, for 150 random offices. The totals aren't just left out: of offices in which
+    something is hidden from the first release on, many show all items in all eight."""
+    drawn, hides, shows = random.Random(100 + least), 0, 0
+    for _ in range(150):
+        choices, found = list[Choice](), list[Shown]()
+        for outlets in surveys(drawn, 8):
+            choices.append(choice_of(outlets, least, choices))
+            found.append(released(outlets, choices[-1]))
+            assert not exposed(sorted(names_of(choices[-1])), outlets, least)
+        for one in found:
+            for other in found:
+                assert exposed_between(one, other, least) == [], (one, other)
+        hides += any(choice.hidden for choice in choices)
+        shows += all(choice.has_total for choice in choices) and any(choice.hidden for choice in choices)
+    assert hides > 50 and shows > 5
+
+
+def test_the_subtraction_is_found_where_a_partner_changes() -> None:
+    """04 is hidden with 08 in one release and 07 in the next: what the first one hides of 08 is the sum of both less the
+    04 of the second."""
+    outlets = {"01": frozenset(range(9)), "04": frozenset(range(5)), "07": frozenset(range(5)), "08": frozenset({9})}
+    first, second = Shown(outlets, frozenset({"00", "01", "07"})), Shown(outlets, frozenset({"00", "01", "04"}))
+    assert exposed_between(first, second, 5) == [{"04"}, {"08"}][1:]
+    assert exposed_between(first, first, 5) == []
+
+
+def test_what_is_hidden_first_stays_hidden() -> None:
+    """The partner stays though another division has fewer outlets later, and though nothing has to be hidden any more."""
+    few = {"01": frozenset(range(9)), "04": frozenset(range(5)), "07": frozenset(range(6)), "08": frozenset({9})}
+    first = choice_of(few, 5, ())
+    other = {**few, "04": frozenset(range(8)), "07": frozenset(range(5))}
+    assert (set(first.hidden), first.has_total) == ({"04", "08"}, True) and choice_of(other, 5, [first]) == first
+    enough = {**few, "08": frozenset(range(7))}
+    assert choice_of(enough, 5, [first]) == first
+    # (a division that was shown has too few: it goes alone, and all items with it, for that release)
+    fewer = {**few, "07": frozenset({1})}
+    second = choice_of(fewer, 5, [first])
+    assert (set(second.hidden), second.has_total) == ({"04", "07", "08"}, False)
+    assert choice_of(few, 5, [first, second]) == first
+    all_shown = choice_of(enough, 5, ())
+    assert choice_of(few, 5, [all_shown]) == Choice(frozenset(few), frozenset({"08"}), False)
+
+
+def test_releases_that_are_out_stay_as_they_are() -> None:
+    """A file of an earlier version hid 04 with 08, then 07: both stay hidden, and as no sum of theirs is safe any more, all
+    items have no figures."""
+    outlets = {"01": frozenset(range(9)), "04": frozenset(range(5)), "07": frozenset(range(5)), "08": frozenset({9})}
+    every = frozenset(outlets)
+    known = [Choice(every, frozenset({"04", "08"}), True), Choice(every, frozenset({"07", "08"}), True)]
+    assert choice_of(outlets, 5, known) == Choice(every, frozenset({"04", "07", "08"}), False)
+    assert choice_of(outlets, 5, known[:1]) == known[0]
 
 
 # ---- an office with few outlets in a division
@@ -207,6 +301,45 @@ def test_the_tool_writes_what_publish_takes(
     other.write_text("a,b\n")
     assert run(*words[:-4], "--out", other, "--program", cpi.path, "--at", 1950) == 1
     assert "no file of counts" in capsys.readouterr().err and other.read_text() == "a,b\n"
+
+
+def test_the_tool_goes_on_from_what_the_file_shows(
+    cpi: Cpi, survey: Survey, tmp_path: Path, capsys: pytest.CaptureFixture[str]
+) -> None:
+    """An earlier version hid 07 with 08: it stays so, though 04 would be the one now. A file that was changed by hand, or
+    shows divisions with fewer outlets than are wanted now, is refused."""
+    file, every = tmp_path / "counts.csv", frozenset({"01", "04", "07", "08"})
+    known = {("2026-01", 1): Choice(every, frozenset({"07", "08"}), True)}
+    write_counts(read_office(cpi, survey.file, 1950, 5, known), file)
+    first = file.read_text()
+    words = ("quality", "--db", survey.file, "--out", file, "--program", cpi.path, "--at", 1_700_000_000)
+    assert run(*words) == 0 and file.read_text().startswith(first)
+    rows = [row for row in csv.reader(io.StringIO(file.read_text())) if not any(row[3:])]
+    releases = {("2026-01", "1"), ("2026-02", "1"), ("2026-02", "2")}
+    assert {tuple(row[:3]) for row in rows} == {(*of, division) for of in releases for division in ("07", "08")}
+    whole, edited = file.read_text(), [row.split(",") for row in file.read_text().splitlines()]
+    place = next(at for at, row in enumerate(edited) if row[2] == "01")
+    edited[place][5:9] = str(int(edited[place][5]) + 1), *edited[place][6:8], str(int(edited[place][8]) - 1)
+    less = [line for line in whole.splitlines() if not line.startswith("2026-01,1,04,")]
+    for other in ("\n".join(map(",".join, edited)), "\n".join(less)):
+        file.write_text(other)
+        assert run(*words) == 1 and file.read_text() == other
+        assert "has another row of 2026-01, revision 1, division 0" in capsys.readouterr().err
+    file.write_text(whole)
+    ini = tmp_path / "office.ini"
+    ini.write_text("[office]\nagency = NSO\narea = XX\noffice = Office\nleast_outlets = 7\n")
+    assert run(*words, "--config", ini) == 1 and file.read_text() == whole
+    assert "has 04 of 2026-01, revision 1, with 6 outlets, and least_outlets is 7: take" in capsys.readouterr().err
+
+
+def test_all_items_without_figures_are_said(cpi: Cpi, survey: Survey) -> None:
+    """A file that shows 08 in January: later it has too few outlets, and so have all items no figures."""
+    known = {("2026-01", 1): Choice(frozenset({"01", "04", "07", "08"}), frozenset(), True)}
+    cells = read_office(cpi, survey.file, 1_700_000_000, 5, known)
+    assert {(cell.of[0], cell.division) for cell in cells if not cell.figures} == {("2026-02", "00"), ("2026-02", "08")}
+    (line,) = untold(cells)
+    assert line.startswith("all items have no figures in 2026-02, revision 2: ")
+    assert [*untold(read_office(cpi, survey.file, 1_700_000_000, 5))] == []
 
 
 # ---- a file with a fault
@@ -374,7 +507,7 @@ def test_delays_are_against_what_was_announced(published: list[Published], tmp_p
 
 def test_the_page_and_the_files_have_the_counts(cpi: Cpi, survey: Survey, tmp_path: Path) -> None:
     """Those that are hidden are in no form."""
-    from cpi_tools.pack.public import from_file
+    from cpi_tools.office.public import from_file
 
     cells = read_office(cpi, survey.file, 1_700_000_000, 5)
     config = CONFIG._replace(counts=tuple(cells))
@@ -407,7 +540,7 @@ def test_the_page_and_the_files_have_the_counts(cpi: Cpi, survey: Survey, tmp_pa
         assert row == [f"Node {code}", *(["not shown"] if code in ("04", "08") else figures)]
     assert "at least 5 outlets" in " ".join(page.of("p"))
     assert "6 of 15 rows aren't shown" in " ".join(page.of("p"))
-    publish(public, config._replace(counts=tuple(cells[:5])), folder, None, quiet, tell=told.append)
+    publish(public, config._replace(counts=tuple(cells[:5])), tmp_path / "fewer", None, quiet, tell=told.append)
     assert told == [
         "the counts of quality lack 2 releases, such as 2026-02, revision 2: cpi-tools quality writes them anew"
     ]
@@ -462,8 +595,8 @@ def test_a_file_that_cannot_be_written_is_one_line(tmp_path: Path) -> None:
 )
 def test_the_page_is_there_in_each_language(cpi: Cpi, survey: Survey, tmp_path: Path, tag: str, says: str) -> None:
     """With counts that are hidden and others, and a release that came late; no English heading is left."""
-    from cpi_tools.pack.office_languages import OfficeLanguages
-    from cpi_tools.pack.public import from_file
+    from cpi_tools.publish.figures.office_languages import OfficeLanguages
+    from cpi_tools.office.public import from_file
 
     public = from_file(cpi, survey.file, 1_700_000_000)
     late = Planned("2026-02", 1, max(each.listed.moment for each in public) - 3600)

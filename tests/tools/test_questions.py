@@ -13,9 +13,9 @@ from typing import Any
 
 import pytest
 
-from cpi_tools.desk_app import field_questions
-from cpi_tools.desk_app.field_limits import MOST_ANSWERS, MOST_LETTERS
-from cpi_tools.desk_app.field_questions import (
+from cpi_tools.desk.field import field_questions
+from cpi_tools.desk.field.field_limits import MOST_ANSWERS, MOST_LETTERS
+from cpi_tools.desk.field.field_questions import (
     ANSWERED,
     CONFIRMED,
     OPEN,
@@ -30,9 +30,9 @@ from cpi_tools.desk_app.field_questions import (
     TooManyAnswers,
     TooManyOpen,
 )
-from cpi_tools.desk_app.looks_chosen import chosen_of, part_of
-from cpi_tools.program import Cpi
-from cpi_tools.terminal import Fault
+from cpi_tools.desk.looks.look_filters import chosen_of, part_of
+from cpi_tools.office.program import Cpi
+from cpi_tools.text.terminal import Fault
 from . import surveys
 from .desk_apps import ADA, BEN, LISTEN, Application, Person, applied, words_of
 from lib.hostile import HOSTILE

@@ -11,17 +11,17 @@ from pathlib import Path
 import feedparser  # type: ignore[import]
 import pytest
 
-from cpi_tools.csv_files import formulas_told
-from cpi_tools.pack.clocks import UTC, clock_of
-from cpi_tools.pack.config import Config, read_config
-from cpi_tools.pack.office_languages import OfficeLanguages
-from cpi_tools.pack.planned import Planned
-from cpi_tools.pack.public import Published
-from cpi_tools.pack.reason_files import REASONS
-from cpi_tools.pack.reasons import BadReasons, GivenReason, Reason, reasons_of
-from cpi_tools.pack.rows import NO_ROWS
-from cpi_tools.pack.tables import Table
-from cpi_tools.publish import check, publish
+from cpi_tools.text.csv_files import formulas_told
+from cpi_tools.text.clocks import UTC, clock_of
+from cpi_tools.publish.figures.config import Config, read_config
+from cpi_tools.publish.figures.office_languages import OfficeLanguages
+from cpi_tools.publish.figures.planned import Planned
+from cpi_tools.office.public import Published
+from cpi_tools.publish.forms.reason_files import REASONS
+from cpi_tools.publish.figures.reasons import BadReasons, GivenReason, Reason, reasons_of
+from cpi_tools.office.table_rows import NO_ROWS
+from cpi_tools.office.tables import Table
+from cpi_tools.publish.pack import check, publish
 from .published import HIDDEN_REVISION, REVISED
 from .test_site import words_of
 

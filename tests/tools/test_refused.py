@@ -2,6 +2,7 @@
 
 from __future__ import annotations
 
+import contextlib
 import json
 import os
 import re
@@ -19,13 +20,15 @@ import proved
 import pytest
 
 from lib.places import ROOT
-from edits.cache import Cache, sum_crate
+from lib.sample import Sample
+from edits.cache import Cache, choose_folder, sum_crate, sum_files, sum_kit
 from edits.edits import Edit, Pair, apply, list_edits, read_edit, read_edits
 from edits.groups import group_edits
 from edits.prover import Libraries
 from edits.report import Report, find_refusal, find_unread, find_unreadable, is_proved
 from edits.slots import Slots
 from edits.sources import Crate, list_items, name_module, read_crate
+from edits.stubs import find_faulty, stub_others
 
 ROWS = """\
 //! Rows.
@@ -224,10 +227,21 @@ def test_an_edit_outside_of_functions_is_tried_alone(low: Crate) -> None:
     assert not more.is_wide
 
 
+def test_an_edit_of_definitions_names_the_law_that_fails(low: Crate) -> None:
+    text = "at: rows::count\nfile: specs/Lib.antt\nold: a ≡ b\nnew: a ≡ a\n"
+    edit = read_edit("one", text, low)
+    assert (edit.fault, edit.names(), edit.is_of_definitions(), edit.is_alone()) == ("", {"rows::count"}, True, True)
+    unknown = read_edit("one", text.replace("count", "counts"), low)
+    assert unknown.fault == "there is no function rows::counts"
+    code = read_edit("one", "at: rows::count\nfile: src/rows.rt\nold:     rows.len()\nnew:     0\n", low)
+    assert code.fault == "an 'at:' line is for an edit of definitions, in specs/"
+
+
 def test_each_edit_of_this_repository_changes_a_function_that_is_known() -> None:
     for folder in (ROOT / "crates").iterdir():
         for edit in read_edits(folder, read_crate(folder)):
-            assert (edit.fault, edit.is_alone()) == ("", False), (folder.name, edit.name)
+            assert (edit.fault, bool(edit.names())) == ("", True), (folder.name, edit.name)
+            assert edit.is_alone() == edit.is_of_definitions(), (folder.name, edit.name)
 
 
 def test_all_pairs_are_applied_or_none() -> None:
@@ -236,6 +250,52 @@ def test_all_pairs_are_applied_or_none() -> None:
     assert texts == {"a": "one two", "b": "three"}
     assert apply([Pair("a", "one", "1"), Pair("a", "1 two", "3"), Pair("b", "three", "")], texts) == ""
     assert texts == {"a": "3", "b": ""}
+
+
+# ---- stubs
+
+
+def test_functions_that_no_edit_changes_become_stubs(low: Crate) -> None:
+    proofs = {"proofs/rows/count/Answers.antt": "a", "proofs/rows/Rows/len/Answers.antt": "b", "proofs/Lib.antt": "c"}
+    texts = {**low.texts, **proofs}
+    stubs = stub_others(low, {"rows::count"}, texts)
+    assert set(stubs) == {"rows::Rows::len", "rows::Rows::is_full", "rows::RowsClone::clone", "both::count_both"}
+    made = {f"proofs/{name.replace('::', '/')}/Proof.antt" for name in stubs}
+    assert texts.keys() - made == {*low.texts, *proofs} - {"proofs/rows/Rows/len/Answers.antt"}
+    hole = texts["proofs/rows/Rows/len/Proof.antt"]
+    assert hole.startswith("use Rattle.low.proofs.rows.Rows.len.Statement as stated\n")
+    assert hole.endswith("\npub len_spec : {M : Type 1} → stated.statement M\nlen_spec = ?\n")
+
+
+def test_a_stub_has_the_contract_and_the_lines_of_its_function(low: Crate) -> None:
+    texts = dict(low.texts)
+    stub_others(low, {"rows::count"}, texts)
+    before, after = ROWS.split("\n"), texts["src/rows.rt"].split("\n")
+    changed = [(at, line) for at, (line, was) in enumerate(zip(after, before), 1) if line != was]
+    assert changed == [(19, "        loop {}"), (23, "        loop {}"), (31, "        loop {}"), (32, ""), (33, "")]
+    assert len(after) == len(before)
+
+
+@pytest.mark.parametrize(
+    "function",
+    [
+        "#[cycle(parity)]\npub fn even(n: u32) -> bool {\n    odd(n)\n}\n",
+        "#[test]\nfn tries() {\n    run();\n}\n",
+        "pub const fn most() -> u32 {\n    2\n}\n",
+        "pub trait Book {\n    fn read(&self) -> u32;\n}\n",
+        "impl From<Fault> for Unread {\n    fn from(fault: Fault) -> Unread {\n        Unread\n    }\n}\n",
+    ],
+)
+def test_a_function_without_a_body_or_a_proof_of_its_own_is_no_stub(function: str) -> None:
+    crate = make_crate({"src/lib.rt": function})
+    assert [it.kind for it in crate.items] == ["fn"]
+    assert not stub_others(crate, set(), dict(crate.texts))
+
+
+def test_a_stub_at_which_an_error_is_has_its_name(low: Crate) -> None:
+    stubs = stub_others(low, set(), dict(low.texts)).values()
+    assert find_faulty(stubs, {("src/rows.rt", 17), ("src/rows.rt", 1), ("src/lib.rt", 17)}) == {"rows::Rows::len"}
+    assert find_faulty(stubs, {("proofs/rows/count/Proof.antt", 0)}) == {"rows::count"}
 
 
 # ---- groups
@@ -290,6 +350,22 @@ def test_an_edit_is_refused_at_a_line_of_the_proof_of_its_function(low: Crate) -
     gone = wrong.replace("the two types differ", "`goal.returns`: module `a` has no `returns`")
     assert find_refusal(edit, make_report(gone, NOT_PROVED)).startswith(f"{place} (little: ")
     assert find_refusal(edit, make_report(gone, OPEN, NOT_PROVED)) == "rows::count, src/rows.rt:42, returns-in-Ok"
+
+
+def test_an_edit_of_definitions_is_refused_at_a_lemma(low: Crate) -> None:
+    text = "at: rows::count\nfile: specs/Lib.antt\nold: a ≡ b\nnew: a ≡ a\n"
+    edit = read_edit("one", text, low)
+    wrong = "./proofs/Rows.antt:6:12: error: `is_law`: expected type `a`, but this has type `b`"
+    follows = (
+        "./proofs/rows/count/Answers.antt:4:5: error: 1 declaration that depends on `is_law`, which was not admitted, "
+        "was not checked: returns"
+    )
+    assert find_refusal(edit, make_report(wrong, follows, NOT_PROVED)) == "rows::count, proofs/Rows.antt:6, is_law"
+    assert find_refusal(edit, make_report(follows, NOT_PROVED)) == ""
+    assert find_refusal(edit, make_report(wrong, "fn low::rows::count: proved")) == ""
+    gone = wrong.replace("expected type `a`, but this has type `b`", "`half` is not in scope")
+    assert find_refusal(edit, make_report(gone, NOT_PROVED)) == ""
+    assert find_refusal(make_edit(low, "    rows.len()", "    0"), make_report(wrong, NOT_PROVED)) == ""
 
 
 def test_a_function_that_only_calls_a_refused_one_is_not_refused(low: Crate) -> None:
@@ -665,7 +741,7 @@ def test_a_crate_that_is_proved_with_an_edit_does_not_refuse_it(clone: Clone, st
     ran = clone.run(kit=stand_in.folder)
     assert find_verdict(ran, "low/two") == "NOT REFUSED: the crate is still proved with this edit"
     group, whole = stand_in.runs()
-    assert "--only one" in group and "--incremental" in group
+    assert "--only one" in group and "--incremental" in group and "--allow-holes" in group
     assert "--only" not in whole and "--incremental" not in whole
 
 
@@ -745,6 +821,32 @@ def test_no_more_runs_begin_than_may() -> None:
     with ThreadPoolExecutor(8) as lanes:
         lanes.map(take, range(24))
     assert (max(seen), slots.running) == (3, 0)
+
+
+@pytest.mark.parametrize(
+    "wrong",
+    [
+        "./proofs/a/a/Proof.antt:3:5: error: `a_spec`: expected a type",
+        "error: `proofs/a/a/Proof.antt` is the proof of no function",
+        "src/a.rt:2:5: error[mismatched-types]: expected `u32`",
+    ],
+)
+def test_a_function_that_can_not_be_a_stub_is_proved(clone: Clone, stand_in: StandIn, wrong: str) -> None:
+    for name in ("a", "b"):
+        clone.write(f"low/src/{name}.rt", f"pub fn {name}() -> u32 {{\n    2\n}}\n")
+    stand_in.write(
+        f"ls -d proofs/*/* >> {stand_in.calls()}\n[ ! -e proofs/a/a ] || echo '{wrong}'\n{write_ending(SEEN, 1)}"
+    )
+    assert clone.run(kit=stand_in.folder).status == 0
+    assert [it for it in stand_in.runs() if it.startswith("proofs")] == ["proofs/a/a", "proofs/b/b", "proofs/b/b"]
+
+
+def test_a_run_without_a_verdict_is_made_once_more_without_stubs(clone: Clone, stand_in: StandIn) -> None:
+    clone.write("low/src/a.rt", "pub fn a() -> u32 {\n    2\n}\n")
+    stand_in.write(f"[ ! -e proofs/a/a ] || {{ echo 'rattle: no verdict'; exit 3; }}\n{write_ending(SEEN, 1)}")
+    ran = clone.run(kit=stand_in.folder)
+    assert (ran.status, find_verdict(ran, "low/two")) == (0, "refused: one, src/lib.rt:4, returns")
+    assert ["--allow-holes" in it for it in stand_in.runs()] == [True, True]
 
 
 def has_running(group: int) -> bool:
@@ -889,8 +991,21 @@ SMALL_EDITS = {
 }
 
 
+def file_of_pass() -> Path:
+    """The user's file that is there once the next test passed with the same tool, crate, edits and toolchain."""
+    tool = [ROOT / "tools" / name for name in ("refused", "crates.py", "proved.py")]
+    tool += sorted((ROOT / "tools/edits").glob("*.py"))
+    kit = Path(os.path.realpath(shutil.which("rt") or "rt")).parents[1]
+    sums = sum_files([Path(__file__), *tool]), sum_kit(kit)
+    return choose_folder().with_name("refused-small") / "-".join(sums)
+
+
 @pytest.mark.skipif(not shutil.which("rt"), reason="there is no rt, the Rattle toolchain")
-def test_the_prover_refuses_what_it_must(tmp_path: Path) -> None:
+def test_the_prover_refuses_what_it_must(tmp_path: Path, sample: Sample) -> None:
+    """A short run doesn't repeat it as long as nothing changed that it reads."""
+    passed = file_of_pass()
+    if passed.exists() and not sample.is_long:
+        return
     clone = Clone(tmp_path / "here", SMALL, "small:\n")
     for name, (old, new) in SMALL_EDITS.items():
         clone.write_edit(f"small/{name}", "src/lib.rt", old, new)
@@ -907,3 +1022,6 @@ def test_the_prover_refuses_what_it_must(tmp_path: Path) -> None:
     assert said["bad-name"].startswith("BAD EDIT: it can't be read, so no contract was tried: src/lib.rt:45:")
     assert (ran.status, ran.out[-1]) == (1, "3 passed, 5 failed")
     assert clone.files() == before
+    with contextlib.suppress(OSError):
+        passed.parent.mkdir(parents=True, exist_ok=True)
+        passed.touch()

@@ -8,12 +8,12 @@ from pathlib import Path
 import icalendar  # type: ignore[import]
 import pytest
 
-from cpi_tools.judge import moments_of
-from cpi_tools.pack.clocks import UTC, NoZone, clock_of
-from cpi_tools.pack.config import BadConfig, Config, read_config
-from cpi_tools.pack.planned import BadCalendar, Planned, planned_of
-from cpi_tools.program import Cpi
-from cpi_tools.publish import check, publish
+from cpi_tools.sheets.judge import moments_of
+from cpi_tools.text.clocks import UTC, NoZone, clock_of
+from cpi_tools.publish.figures.config import BadConfig, Config, read_config
+from cpi_tools.publish.figures.planned import BadCalendar, Planned, planned_of
+from cpi_tools.office.program import Cpi
+from cpi_tools.publish.pack import check, publish
 from .test_measures import two_years
 from .test_site import words_of
 

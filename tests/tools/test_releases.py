@@ -10,14 +10,14 @@ from pathlib import Path
 
 import pytest
 
-from cpi_tools.pack.aggregated import series_of
-from cpi_tools.pack.config import Config
-from cpi_tools.pack.dated import Dated, dated_of, value_in
-from cpi_tools.pack.public import Listed, Published
-from cpi_tools.pack.reasons import Reason
-from cpi_tools.pack.releases import releases_of
-from cpi_tools.publish import publish
-from cpi_tools.speech import SPEAKS_ENGLISH
+from cpi_tools.publish.figures.aggregated import series_of
+from cpi_tools.publish.figures.config import Config
+from cpi_tools.publish.figures.config import Dated, dated_of, value_in
+from cpi_tools.office.public import Listed, Published
+from cpi_tools.publish.figures.reasons import Reason
+from cpi_tools.publish.releases.releases import releases_of
+from cpi_tools.publish.pack import publish
+from cpi_tools.text.speech import SPEAKS_ENGLISH
 from .published import REVISED, TITLES
 from .test_measures import tea_again, two_years
 from .test_site import words_of
@@ -37,6 +37,12 @@ def by_hand(tmp_path_factory: pytest.TempPathFactory) -> Path:
     """The site of the two years that were worked by hand, and of January 2028, in which tea is back."""
     out = tmp_path_factory.mktemp("by-hand") / "public"
     return made([*two_years(), tea_again()], out, CONFIG._replace(reference=""))
+
+
+@pytest.fixture(scope="module")
+def site(published: list[Published], tmp_path_factory: pytest.TempPathFactory) -> Path:
+    """The pack of all tables; no test writes to it."""
+    return made(published, tmp_path_factory.mktemp("site") / "public")
 
 
 def main_of(page: Path) -> str:
@@ -91,15 +97,15 @@ def told_then(page: Path) -> dict[str, object]:
     return found
 
 
+@pytest.mark.sampled(3)
 @pytest.mark.parametrize("month", ["2025-01", "2025-12", REVISED, "2026-04", "2027-01", "2027-05"])
 def test_a_page_says_what_the_first_page_said_on_its_day(
-    published: list[Published], tmp_path: Path, month: str
+    published: list[Published], site: Path, tmp_path: Path, month: str
 ) -> None:
     """The first page of the pack that was made on the day of the release is the other way to the same figures."""
     (of,) = (it for it in published if it.listed[:2] == (month, 1))
     then = made([it for it in published if it.listed.moment <= of.listed.moment], tmp_path / "then", reference(month))
-    now = made(published, tmp_path / "now")
-    assert told_then(now / f"release/{month}-r1.html") == told_then(then / "index.html")
+    assert told_then(site / f"release/{month}-r1.html") == told_then(then / "index.html")
 
 
 def reference(month: str) -> Config:
@@ -121,8 +127,7 @@ def thousandths(number: Decimal) -> str:
     return rounded(number, "0.001")
 
 
-def test_a_revision_says_what_it_changed(published: list[Published], tmp_path: Path) -> None:
-    site = made(published, tmp_path / "public")
+def test_a_revision_says_what_it_changed(published: list[Published], site: Path) -> None:
     told = words_of(site / f"release/{REVISED}-r2.html")
     assert "March 2026, revision 2, published" in told and "This is a further revision of March 2026." in told
     old, new = (levels_in(published, REVISED, it) for it in (1, 2))
@@ -144,9 +149,8 @@ def test_a_revision_says_what_it_changed(published: list[Published], tmp_path: P
 # ---- notes at the headline
 
 
-def test_a_headline_has_the_letters_of_its_day(published: list[Published], tmp_path: Path) -> None:
+def test_a_headline_has_the_letters_of_its_day(site: Path) -> None:
     """Only a further revision is marked as revised, and it says what was published first."""
-    site = made(published, tmp_path / "public", CONFIG)
     marks: dict[int, list[str]] = {}
     said: dict[int, list[str]] = {}
     for revision in (1, 2):

@@ -8,9 +8,9 @@ from pathlib import Path
 import pytest
 
 from . import surveys
-from cpi_tools.program import Cpi
-from cpi_tools.report_language import VARIABLE, teller_of
-from cpi_tools.told import Figure, moment_of, month_of, row, sentences, told, told_of, whole
+from cpi_tools.office.program import Cpi
+from cpi_tools.text.report_language import VARIABLE, teller_of
+from cpi_tools.text.message import Figure, moment_of, month_of, row, sentences, message, message_of, whole
 from .nobodys import greek, left_in_english, nobodys_in, seen
 from .ran import Ran, run
 from .surveys import closes
@@ -53,7 +53,9 @@ def test_a_refusal_is_said_in_the_language(cpi: Cpi, tmp_path: Path, nobodys: st
     out = tmp_path / "report"
     ran = run(cpi, "desk", "month", path, "2026-03", "--at", 7000, "--out", out, "--language", nobodys)
     assert ran.status == 1
-    assert "desk month: no provisional table: a freeze of 2026-03: refused by 46: it is neither the last" in ran.err
+    assert (
+        "desk month: no provisional table: a freeze of 2026-03: refused by 46: the month is neither the last" in ran.err
+    )
     page = seen(out / "month.html")
     assert greek("Refused by ") in " ".join(page.texts)
     assert left_in_english(page) == []
@@ -102,23 +104,23 @@ def test_the_language_of_the_office_is_in_the_environment(
 def test_what_is_in_a_place_is_said_in_the_language() -> None:
     """By hand: the decimal mark, months and moments of CLDR, and a code whose signs stay in their order."""
     french, arabic = (teller_of(code) for code in ("fr", "ar"))
-    level = told("level {level}", level=Figure("1,626.55"))
-    assert str(french.say(level)) == "niveau 1\u202f626,55"
-    assert str(arabic.say(level)) == "المستوى \u20661,626.55\u2069"
-    assert str(french.say(month_of(202602))) == "février 2026"
-    assert str(french.say(moment_of(1_769_590_800))) == "28 janvier 2026 à 09:00 UTC"
-    assert str(arabic.say(moment_of(1_769_590_800))) == "28 يناير 2026 في \u206609:00 UTC\u2069"
+    level = message("level {level}", level=Figure("1,626.55"))
+    assert str(french.render(level)) == "niveau 1\u202f626,55"
+    assert str(arabic.render(level)) == "المستوى \u20661,626.55\u2069"
+    assert str(french.render(month_of(202602))) == "février 2026"
+    assert str(french.render(moment_of(1_769_590_800))) == "28 janvier 2026 à 09:00 UTC"
+    assert str(arabic.render(moment_of(1_769_590_800))) == "28 يناير 2026، الساعة \u206609:00 UTC\u2069"
     assert arabic.code("01.1.1.1-01") == "\u206601.1.1.1-01\u2069" and french.code("01") == "01"
-    assert str(arabic.say(row([told("price"), told("other")]))) == "السعر، آخر"
-    assert str(sentences(told("None."), told("never"))) == "None. never" and str(row([])) == ""
-    assert str(told_of("One more row.", "{count} rows.", 1_000)) == "1,000 rows." and whole(1_000) == "1,000"
+    assert str(arabic.render(row([message("price"), message("other")]))) == "السعر، آخر"
+    assert str(sentences(message("None."), message("never"))) == "None. never" and str(row([])) == ""
+    assert str(message_of("One more row.", "{count} rows.", 1_000)) == "1,000 rows." and whole(1_000) == "1,000"
 
 
 def test_a_text_in_a_place_stays_the_text_of_others() -> None:
     """No override in a title turns the words of the sentence, in whatever language."""
-    from cpi_tools.others import of_others, others
+    from cpi_tools.text.others import of_others, others
 
-    text = told("{title} (left the plan)", title=of_others("<b>\u202e"))
+    text = message("{title} (left the plan)", title=of_others("<b>\u202e"))
     assert others(text) == "<bdi>&lt;b&gt;\u202e</bdi> (left the plan)"
-    french = teller_of("fr").say(text)
+    french = teller_of("fr").render(text)
     assert others(french) == "<bdi>&lt;b&gt;\u202e</bdi> (sorti du plan)"

@@ -17,11 +17,11 @@ from typing import IO
 
 import pytest
 
-from cpi_tools import restore
-from cpi_tools.copying import has_frames, log_beside
-from cpi_tools.follow import mark_beside, restoring_beside
-from cpi_tools.places import LOCK
-from cpi_tools.program import Cpi, record
+from cpi_tools.guard import restore
+from cpi_tools.office.copying import has_frames, log_beside
+from cpi_tools.guard.follow import mark_beside, restoring_beside
+from cpi_tools.guard.copies.places import LOCK
+from cpi_tools.office.program import Cpi, record
 from lib.places import ROOT
 from .accidents import ANSWERED, WANTED, killed_after, priced, prices_in
 from .offices import LOAD_KEY, LOAD_MONTH, TABLES
@@ -386,3 +386,18 @@ def test_the_log_of_another_office_is_found(cpi: Cpi, made: Path, backup: Path, 
     shutil.copy(log_beside(other), log_beside(place))
     ran = run(cpi, "doctor", place, "--log")
     assert ran.status == 1 and "is that of another file: " in ran.out
+
+
+@pytest.mark.parametrize("name, told", [("Another sort", "item RICE"), ("An item", "")])
+def test_the_log_of_an_office_with_other_texts_is_found(name: str, told: str, cpi: Cpi, tmp_path: Path) -> None:
+    """All numbers and keys are those of the file, but the item's name in a page of the log isn't."""
+    here, other = tmp_path / "here.db", tmp_path / "other.db"
+    for file, text in ((here, "An item"), (other, name)):
+        assert cpi.replay([record(0, "desk", "item", "RICE", text, "1 kg", 500, 2000)], db=file) == [{"done": True}]
+    with pytest.raises(KeyboardInterrupt), cpi.session(other) as session:
+        assert session.ask(record(0, "desk", "item", "TEA", "Tea", "100 g", 500, 2000)) == {"done": True}
+        raise KeyboardInterrupt
+    shutil.copy(log_beside(other), log_beside(here))
+    ran = run(cpi, "doctor", here, "--log")
+    assert (ran.status, ran.err) == (int(bool(told)), "")
+    assert (f"is that of another file: with it the file's {told} is another one. " in ran.out) == bool(told)

@@ -1,4 +1,4 @@
-"""`cpi_tools.rooms`: the folders of tools go, also those that a killed tool left."""
+"""`cpi_tools.office.rooms`: the folders of tools go, also those that a killed tool left."""
 
 from __future__ import annotations
 
@@ -8,8 +8,8 @@ import subprocess
 import time
 from pathlib import Path
 
-from cpi_tools.program import Cpi
-from cpi_tools.rooms import MARK, YOUNG, new_room, stays
+from cpi_tools.office.program import Cpi
+from cpi_tools.office.rooms import MARK, YOUNG, new_room, stays
 from lib.places import ROOT
 
 

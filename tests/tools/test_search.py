@@ -13,7 +13,7 @@ from lib.places import ROOT
 
 pytestmark = pytest.mark.skipif(shutil.which("node") is None, reason="node isn't there")
 
-SCRIPT = ROOT / "tools/cpi_tools/pack/assets/search.js"
+SCRIPT = ROOT / "tools/cpi_tools/publish/site/assets/search.js"
 
 ITEMS = [
     "00 All items", "01.1.1.3 Bread and bakery products", "01.1.1.3-01 Brown bread, sliced", "01.1.4.5 Cheese and curd",

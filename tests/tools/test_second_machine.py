@@ -8,8 +8,8 @@ from pathlib import Path
 
 import pytest
 
-from cpi_tools.gaps import MISSING
-from cpi_tools.program import Cpi
+from cpi_tools.guard.gaps import MISSING
+from cpi_tools.office.program import Cpi
 from .second_machines import LEAST, Answered, gaps_of, kill_and_promote, machine, receiver, surveyed
 
 SHELL = '#!/bin/sh\nshift\nexec sh -c "$*"\n'

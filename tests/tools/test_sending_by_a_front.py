@@ -10,10 +10,10 @@ from pathlib import Path
 
 import pytest
 
-from cpi_tools.desk_app.desk_log import ANSWERED, LOOKED_UP, SENT
-from cpi_tools.desk_app.office import NoReply, Office
-from cpi_tools.program import Cpi
-from cpi_tools.terminal import Fault
+from cpi_tools.desk.records.desk_log import ANSWERED, LOOKED_UP, SENT
+from cpi_tools.desk.serve.running_office import NoReply, Office
+from cpi_tools.office.program import Cpi
+from cpi_tools.text.terminal import Fault
 from lib.served import free_port
 from .desk_apps import ADA
 from .loads import DESK_KEY, served

@@ -16,10 +16,10 @@ from typing import Optional
 import pytest
 
 from . import surveys
-from cpi_tools.explain import wording
+from cpi_tools.explain import sentence_texts
 from cpi_tools.explain.sentences import way
-from cpi_tools.explain.spoken import count_words
-from cpi_tools.program import Cpi
+from cpi_tools.explain.sentence_places import count_words
+from cpi_tools.office.program import Cpi
 from .ran import run
 from .surveys import key_of
 
@@ -360,8 +360,8 @@ def test_small_changes_in_a_year(cpi: Cpi, tmp_path: Path) -> None:
 
 
 @pytest.mark.parametrize(("change", "then", "now", "wanted"), [
-    (0, 10**8, 10**8, wording.SAME), (0, 10**8, 10**8 + 1, wording.SMALL), (0, 10**8, 10**8 - 49_999, wording.SMALL),
-    (1, 10**8, 10**8 + 50_000, wording.ROSE), (-1, 10**8, 10**8 - 50_000, wording.FELL), (None, None, 10**8, wording.NONE),
+    (0, 10**8, 10**8, sentence_texts.SAME), (0, 10**8, 10**8 + 1, sentence_texts.SMALL), (0, 10**8, 10**8 - 49_999, sentence_texts.SMALL),
+    (1, 10**8, 10**8 + 50_000, sentence_texts.ROSE), (-1, 10**8, 10**8 - 50_000, sentence_texts.FELL), (None, None, 10**8, sentence_texts.NONE),
 ])  # fmt: skip
 def test_which_way_prices_went(change: Optional[int], then: Optional[int], now: int, wanted: str) -> None:
     assert way(change, then, now) == wanted
@@ -562,8 +562,8 @@ def nodes_of(path: Path, month: str) -> list[str]:
 
 # ---- wording
 
-ALL_FORMS = [it for it in vars(wording).values() if isinstance(it, str) and re.search(r"\{.*\.$", it)]
-ALL_FORMS += [*wording.CHANGES.values(), *wording.ONE_IMPUTED.values()]
+ALL_FORMS = [it for it in vars(sentence_texts).values() if isinstance(it, str) and re.search(r"\{.*\.$", it)]
+ALL_FORMS += [*sentence_texts.CHANGES.values(), *sentence_texts.ONE_IMPUTED.values()]
 
 PLACES = {
     "title", "change", "year_change", "before", "month", "year_before", "item", "outlet", "outlets", "then", "now",
@@ -581,13 +581,13 @@ def test_each_sentence_is_whole_and_has_named_places() -> None:
 
 
 def test_the_change_of_each_kind_names_what_it_says() -> None:
-    ways = (wording.ROSE, wording.FELL, wording.SMALL, wording.SAME)
-    assert {*wording.CHANGES} == {(month, year) for month in ways for year in (*ways, wording.NONE)}
-    for (month, year), form in wording.CHANGES.items():
-        assert ("{change}" in form) == (month in (wording.ROSE, wording.FELL))
-        assert form.count("less than 0.05 percent") == (wording.SMALL in (month, year))
-        assert ("{year_change}" in form) == (year in (wording.ROSE, wording.FELL))
-        assert ("{year_before}" in form) == (year == wording.NONE)
+    ways = (sentence_texts.ROSE, sentence_texts.FELL, sentence_texts.SMALL, sentence_texts.SAME)
+    assert {*sentence_texts.CHANGES} == {(month, year) for month in ways for year in (*ways, sentence_texts.NONE)}
+    for (month, year), form in sentence_texts.CHANGES.items():
+        assert ("{change}" in form) == (month in (sentence_texts.ROSE, sentence_texts.FELL))
+        assert form.count("less than 0.05 percent") == (sentence_texts.SMALL in (month, year))
+        assert ("{year_change}" in form) == (year in (sentence_texts.ROSE, sentence_texts.FELL))
+        assert ("{year_before}" in form) == (year == sentence_texts.NONE)
 
 
 # ---- pages, and what isn't true
@@ -612,4 +612,4 @@ def test_a_figure_that_isnt_true_is_put_in_no_words(small: Path, tmp_path: Path)
         link.commit()
     told = run(None, "explain", path, "2026-02", "01.1.1.1-01")
     assert told.status == 1
-    assert told.out.partition("\n\n")[0].splitlines()[1:] == [wording.UNTRUE]
+    assert told.out.partition("\n\n")[0].splitlines()[1:] == [sentence_texts.UNTRUE]

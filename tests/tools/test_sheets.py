@@ -1,4 +1,4 @@
-"""`cpi_tools.sheets`: spreadsheets as texts that know their file, row and column; and numbers as offices write them."""
+"""`cpi_tools.sheets.sheet_files`: spreadsheets as texts that know their file, row and column; and numbers as offices write them."""
 
 from __future__ import annotations
 
@@ -14,11 +14,11 @@ from zipfile import ZipFile
 import openpyxl
 import pytest
 
-from cpi_tools.cells import BadSheet, Columns, Numeral, Origin, Sheet, SheetFault, shown
-from cpi_tools.numbers_of_texts import Numbers, decimal
-from cpi_tools.sheets import Source
-from cpi_tools.terminal import Fault
-from cpi_tools.workbooks import currency_of
+from cpi_tools.sheets.cells import BadSheet, Columns, Numeral, Origin, Sheet, SheetFault, shown
+from cpi_tools.sheets.numbers_of_texts import Numbers, decimal
+from cpi_tools.sheets.sheet_files import Source
+from cpi_tools.text.terminal import Fault
+from cpi_tools.sheets.workbooks import currency_of
 
 NAMES = {
     "outlets": Columns(("outlet", "name"), texts=("name",)),
@@ -80,7 +80,7 @@ def test_a_csv_file_of_each_separator(tmp_path: Path, delimiter: str) -> None:
         (b'outlet,name\n10,x\n11,"x\n12,y\n', 3, "no CSV"),
         (b"", 1, "first row is empty"),
         (b",\n1,2\n", 1, "first row is empty"),
-        (b"outlet,name,Outlet\n10,x,11\n", 1, "column outlet is there twice"),
+        (b"outlet,name,Outlet\n10,x,11\n", 1, "column Outlet is there twice"),
     ],
 )
 def test_a_csv_file_that_is_no_table(tmp_path: Path, content: bytes, row: int, because: str) -> None:

@@ -13,14 +13,14 @@ import openpyxl
 import pytest
 
 from cpi_tools.command_line import main
-from cpi_tools.exact import decimal
-from cpi_tools.pack.config import Config
-from cpi_tools.pack.public import Published
-from cpi_tools.pack.shown import NotCovered, Shown
-from cpi_tools.pack.specials import Special
-from cpi_tools.pack.tables import Series
-from cpi_tools.program import Cpi
-from cpi_tools.publish import publish
+from cpi_tools.text.exact import decimal
+from cpi_tools.publish.figures.config import Config
+from cpi_tools.office.public import Published
+from cpi_tools.publish.figures.shown_figures import NotCovered, Shown
+from cpi_tools.publish.figures.specials import Special
+from cpi_tools.office.tables import Series
+from cpi_tools.office.program import Cpi
+from cpi_tools.publish.pack import publish
 from .published import Office
 from .test_measures import tea_again, two_years
 from .test_site import are_near, drawn_in, words_of
@@ -206,7 +206,7 @@ def test_an_item_that_is_not_linked_keeps_its_december(tmp_path: Path) -> None:
     assert "Index 2026 = 100, from January 2028 on December 2027 = 100" in told
     assert "Index, December 2027 = 100 110.0" in told
     assert "Break: from January 2028 on, December 2027 = 100." in told
-    assert "Index December 2026 = 100 " in words_of(tmp_path / "public/node/03.html")
+    assert "Index December 2026 = 100; the axis doesn't begin at zero" in words_of(tmp_path / "public/node/03.html")
     lacking = words_of(tmp_path / "public/data.html")
     assert "These items have none in the whole reference period" in lacking and ": 03 ." in lacking
 

@@ -10,12 +10,12 @@ from pathlib import Path
 import pytest
 
 from cpi_tools.command_line import main
-from cpi_tools.pack.config import Config
-from cpi_tools.pack.public import Published
-from cpi_tools.pack.signature import CannotSign
-from cpi_tools.program import Cpi
-from cpi_tools.publish import CannotPublish, check, publish
-from cpi_tools.signing import signed
+from cpi_tools.publish.figures.config import Config
+from cpi_tools.office.public import Published
+from cpi_tools.publish.forms.signature import CannotSign
+from cpi_tools.office.program import Cpi
+from cpi_tools.publish.pack import CannotPublish, check, publish
+from cpi_tools.publish.forms.signing import signed
 from .published import Office
 from .test_site import words_of
 

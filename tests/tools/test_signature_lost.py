@@ -8,10 +8,10 @@ from pathlib import Path
 
 import pytest
 
-from cpi_tools.pack.public import Published
-from cpi_tools.pack.signature import CannotSign, signature_in
-from cpi_tools.publish import CannotPublish, check, publish
-from cpi_tools.signing import signed
+from cpi_tools.office.public import Published
+from cpi_tools.publish.forms.signature import CannotSign, signature_in
+from cpi_tools.publish.pack import CannotPublish, check, publish
+from cpi_tools.publish.forms.signing import signed
 from .test_signature import CONFIG, FILES, as_told, key, quiet
 
 __all__ = ["key"]

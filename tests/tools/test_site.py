@@ -15,13 +15,14 @@ from typing import Optional
 import pytest
 
 from . import surveys
-from cpi_tools.pack.config import Config
-from cpi_tools.pack.pictures import of_imputed, of_node
-from cpi_tools.pack.public import Listed, Published, from_file
-from cpi_tools.pack.shown import Shown
-from cpi_tools.pack.tables import Series
-from cpi_tools.program import Cpi
-from cpi_tools.publish import publish
+from cpi_tools.publish.figures.config import Config
+from cpi_tools.publish.releases.pictures import of_imputed, of_node
+from cpi_tools.office.public import Listed, Published, from_file
+from cpi_tools.publish.figures.shown_figures import Shown
+from cpi_tools.office.tables import Series
+from cpi_tools.office.program import Cpi
+from cpi_tools.publish.pack import publish
+from cpi_tools.publish.site.chooser import OF_PAGES
 from .published import CODES, LONG_AFTER, REVISED, shown
 from .test_measures import over_another_december, tea_again, two_years
 
@@ -99,7 +100,7 @@ def test_what_left_and_came_again_has_two_bases(again: Path) -> None:
     told = words_of(again / "node/02.html")
     assert "Index December 2025 = 100, from January 2028 on December 2027 = 100" in told
     assert "Index, December 2027\u00a0=\u00a0100 110.0".replace("\u00a0", " ") in told
-    assert "Index December 2025 = 100 " in words_of(again / "node/01.html")
+    assert "Index December 2025 = 100; the axis doesn't begin at zero " in words_of(again / "node/01.html")
     # of the items of 2026 the calculator offers December 2025, and tea has nothing in 2027
     data = json.loads((again / "assets/levels.js").read_text(encoding="utf-8")[len("window.LEVELS = ") : -2])
     tea = dict(zip(data["months"], data["items"]["02"]["levels"]))
@@ -426,7 +427,7 @@ def test_pages_lead_to_what_is_there_and_to_nothing_else(site: Path) -> None:
     # (each item and each release that has rows has a page, and one that other sites embed; besides these there are the
     # list of releases, the calendar, the page that is shown if there is none, and the one that shows a reader's choice in
     # other sites)
-    assert len(pages) == 8 + 2 * CODES + 2 * (len(shown()) - 1) + 4
+    assert len(pages) == 10 + 2 * CODES + 2 * (len(shown()) - 1) + 4
     for page in pages:
         links = Links()
         links.feed(page.read_text(encoding="utf-8"))
@@ -435,7 +436,7 @@ def test_pages_lead_to_what_is_there_and_to_nothing_else(site: Path) -> None:
                 assert "//" not in link
                 path, _, anchor = link.partition("#")
                 name, _, choice = path.partition("?")
-                assert not choice or name.endswith("choose.html")
+                assert not choice or name.endswith(("choose.html", "then-and-now.html"))
                 assert (page.parent / name).resolve().is_file(), (page.name, link)
                 assert not anchor or f'id="{anchor}"' in (page.parent / name).read_text(encoding="utf-8"), link
         assert len(links.ids) == len(set(links.ids)) and links.unnamed == 0, page
@@ -445,7 +446,7 @@ def test_pages_lead_to_what_is_there_and_to_nothing_else(site: Path) -> None:
 def test_a_page_asks_nothing_of_another_machine(site: Path) -> None:
     for path in [*site.rglob("*.html"), *site.glob("assets/*")]:
         text = path.read_text(encoding="utf-8")
-        if path.name in ("choose.js", "frame.js"):
+        if path.suffix == ".js" and path.stem in ("choose", *OF_PAGES):
             # (they ask for files of the site, by their names from their page on)
             assert [*re.findall(r"fetch\((.*?)[,)]", text)] == ["name"]
             assert not re.search(r"(?:textOf|itemOf)\([`\"](?:/|\.|[a-z]+:)", text)

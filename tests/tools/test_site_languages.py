@@ -12,14 +12,14 @@ from xml.etree import ElementTree
 
 import pytest
 
-from cpi_tools import languages
-from cpi_tools import publish as publish_module
-from cpi_tools.pack.cards import NO_CARDS
-from cpi_tools.pack.config import BadConfig, Config, read_config
-from cpi_tools.pack.office_languages import OfficeLanguages, Own
-from cpi_tools.pack.public import Published
-from cpi_tools.pack.specials import Special
-from cpi_tools.publish import check, publish
+from cpi_tools.text import languages
+from cpi_tools.publish import pack as publish_module
+from cpi_tools.publish.releases.cards import NO_CARDS
+from cpi_tools.publish.figures.config import BadConfig, Config, read_config
+from cpi_tools.publish.figures.office_languages import OfficeLanguages, Own
+from cpi_tools.office.public import Published
+from cpi_tools.publish.figures.specials import Special
+from cpi_tools.publish.pack import check, publish
 from lib.places import ROOT
 from lib.pack_forms import read_json_stat, read_px
 from lib.pseudo import write_catalogue
@@ -205,7 +205,9 @@ OF_ALL = re.compile(
     r"[\w./-]*\.(?:csv|xlsx|xml|json|px|ics|html|zip|png)\b|[0-9a-f]{16,}"
     r"|\b(?:SDMX|CSV|ML|SVG|SHA|UTC|StructureSpecificData|BibTeX|RIS)\b"
 )
-HEADS = re.compile(r"<title>.*?</title>|<meta [^>]*>|<option.*?</option>", re.S)
+HEADS = re.compile(
+    r"<(title|desc|text)\b[^>]*>.*?</\1>|<meta [^>]*>|<option.*?</option>|(?:aria-label|title|alt)=\"[^\"]*\"", re.S
+)
 COLUMNS = re.compile(r'<th scope="row">[a-z_, ]+</th>')
 
 

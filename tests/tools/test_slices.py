@@ -18,10 +18,10 @@ from pathlib import Path
 
 import pytest
 
-from cpi_tools.pack.config import Config
-from cpi_tools.pack.public import Published
-from cpi_tools.pack.specials import Special
-from cpi_tools.publish import check, publish
+from cpi_tools.publish.figures.config import Config
+from cpi_tools.office.public import Published
+from cpi_tools.publish.figures.specials import Special
+from cpi_tools.publish.pack import check, publish
 from lib.pack_forms import Attributes, read_json_stat, read_sdmx_ml
 
 SETS = (Special("FRUIT", "Fruit", ("01.1.6",)), Special("REST", "Without food", ("00",), ("01",)))

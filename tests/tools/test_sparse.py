@@ -6,8 +6,8 @@ from pathlib import Path
 
 import pytest
 
-from cpi_tools.desk.sparse import is_quarterly, months_until
-from cpi_tools.program import Cpi, record
+from cpi_tools.desk.month.sparse import is_quarterly, months_until
+from cpi_tools.office.program import Cpi, record
 from lib.offices import key_of, plan_with
 from .ran import rows_of, run
 

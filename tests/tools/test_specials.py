@@ -15,14 +15,14 @@ import pytest
 from xml.etree import ElementTree
 
 from cpi_tools.command_line import main
-from cpi_tools.pack.aggregated import series_of
-from cpi_tools.pack.config import Config, read_config
-from cpi_tools.pack.measures import Contributions
-from cpi_tools.pack.public import Published
-from cpi_tools.pack.specials import BadSpecials, Special, read_specials
-from cpi_tools.pack.tables import Series
-from cpi_tools.program import Cpi
-from cpi_tools.publish import publish
+from cpi_tools.publish.figures.aggregated import series_of
+from cpi_tools.publish.figures.config import Config, read_config
+from cpi_tools.publish.figures.measures import Contributions
+from cpi_tools.office.public import Published
+from cpi_tools.publish.figures.specials import BadSpecials, Special, read_specials
+from cpi_tools.office.tables import Series
+from cpi_tools.office.program import Cpi
+from cpi_tools.publish.pack import publish
 from lib.sets import Elementary, Figures, figures, given
 from .published import HIDDEN_REVISION, Office
 from .test_measures import over_another_december
@@ -348,7 +348,7 @@ def test_the_command_tells_what_no_table_has(
     monkeypatch: pytest.MonkeyPatch,
 ) -> None:
     """A code may come with a later table, or be a slip; a set without an aggregate is left out."""
-    monkeypatch.setattr("cpi_tools.publish.SHOWN_DIFFERENCES", 10_000)
+    monkeypatch.setattr("cpi_tools.publish.pack.SHOWN_DIFFERENCES", 10_000)
     (tmp_path / "sets.csv").write_text(
         "\ufeffid,title,in,out\n\nTEA,Tea,01.2.1,\nFOOD,Food,01 01.3,\n", encoding="utf-8"
     )

@@ -7,13 +7,13 @@ from datetime import datetime
 import jinja2
 import pytest
 
-from cpi_tools.languages import ENGLISH, Language
-from cpi_tools.pack.clocks import clock_of
-from cpi_tools.pack.headline import headline
-from cpi_tools.pack.notes import note_names
-from cpi_tools.pack.tables import Row
-from cpi_tools.pages import environment
-from cpi_tools.speech import SPEAKS_ENGLISH, Speech, speech_of
+from cpi_tools.text.languages import ENGLISH, Language
+from cpi_tools.text.clocks import clock_of
+from cpi_tools.publish.figures.headline import headline
+from cpi_tools.publish.figures.notes import note_names
+from cpi_tools.office.tables import Row
+from cpi_tools.text.page_templates import environment
+from cpi_tools.text.speech import SPEAKS_ENGLISH, Speech, speech_of
 
 AT = datetime(2026, 1, 28, 9, 5)
 
@@ -28,7 +28,7 @@ SAID = {
     ("es", "latn"): ["105,7", "+0,3\xa0%", "−0,3\xa0%", "12,50\xa0%", "1.234.567", "enero de 2026", "2026", "ene",
                      "28 de enero de 2026, 9:05 CET", "a, b y c"],
     ("ar", "arab"): ["١٠٥٫٧", "\u061c+٠٫٣٪\u061c", "\u061c−٠٫٣٪\u061c", "١٢٫٥٠٪\u061c", "١٬٢٣٤٬٥٦٧", "يناير ٢٠٢٦",
-                     "٢٠٢٦", "يناير", "٢٨ يناير ٢٠٢٦ في \u2066٠٩:٠٥ CET\u2069", "a وb وc"],
+                     "٢٠٢٦", "يناير", "٢٨ يناير ٢٠٢٦، الساعة \u2066٠٩:٠٥ CET\u2069", "a وb وc"],
 }  # fmt: skip
 """By CLDR's tables: number symbols, percent patterns, dates and lists."""
 
@@ -75,7 +75,7 @@ LOUD = Language(
 
 
 def rendered(template: str, language: Language, **named: object) -> str:
-    pages = environment(None, language)
+    pages = environment((), language)
     pages.loader = jinja2.DictLoader({"page": template})
     return pages.get_template("page").render(**named)
 
@@ -108,7 +108,7 @@ def test_a_note_is_translated_apart_from_the_heading_of_the_same_word(tag: str, 
 
 def test_english_pays_nothing_for_other_languages() -> None:
     """The compiled template of a text has no call in it."""
-    pages = environment(None, ENGLISH)
+    pages = environment((), ENGLISH)
     pages.loader = jinja2.DictLoader({"page": "{% trans name=it %}of {{ name }}{% endtrans %}"})
     made = pages.compile("{% trans %}all of it{% endtrans %}", raw=True)
     assert "yield 'all of it'" in made and "gettext" not in made

@@ -10,8 +10,8 @@ from collections.abc import Iterable
 from pathlib import Path
 from typing import Any
 
-from cpi_tools.program import Cpi
-from cpi_tools.stored import Series, StoredOffice
+from cpi_tools.office.program import Cpi
+from cpi_tools.office.stored import Series, StoredOffice
 from . import surveys
 
 SLOT, SLOTS = (7, 1), [(7, 1), (8, 1), (9, 9)]

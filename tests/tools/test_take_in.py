@@ -11,17 +11,17 @@ from typing import Optional
 import openpyxl
 import pytest
 
-from cpi_tools.cells import Origin
-from cpi_tools.desk_words import WANTED
-from cpi_tools.judge import Judge
-from cpi_tools.known import NOTHING
-from cpi_tools.office_files import OfficeFiles, Options
-from cpi_tools.office_sheets import SHEETS
-from cpi_tools.program import Cpi, record
-from cpi_tools.sent import Bundle, Sent, bundled
-from cpi_tools.sheets import Source
-from cpi_tools.stored import stored_office
-from cpi_tools.take_in import parted
+from cpi_tools.sheets.cells import Origin
+from cpi_tools.sheets.row_refusals import WANTED
+from cpi_tools.sheets.judge import Judge
+from cpi_tools.sheets.known_rows import NOTHING
+from cpi_tools.sheets.office_files import OfficeFiles, Options
+from cpi_tools.sheets.office_sheets import SHEETS
+from cpi_tools.office.program import Cpi, record
+from cpi_tools.sheets.record_rows import Bundle, Sent, bundled
+from cpi_tools.sheets.sheet_files import Source
+from cpi_tools.office.stored import stored_office
+from cpi_tools.sheets.take_in import parted
 from .ran import Ran, rows_of, run
 from .spreadsheets import KEY_7, KEY_8, Change, Sheets, add, drop, put, replayed, sheets, tables, without, written
 

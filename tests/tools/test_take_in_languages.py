@@ -12,8 +12,8 @@ import openpyxl
 import pytest
 from openpyxl.styles import Font
 
-from cpi_tools.program import Cpi
-from cpi_tools.report_language import VARIABLE
+from cpi_tools.office.program import Cpi
+from cpi_tools.text.report_language import VARIABLE
 from .nobodys import left_in_english, nobodys_in, seen
 from .ran import Ran, run
 from .spreadsheets import Change, add, drop, put, sheets, written

@@ -11,7 +11,7 @@ from typing import Any
 import openpyxl
 import pytest
 
-from cpi_tools.program import Cpi, record
+from cpi_tools.office.program import Cpi, record
 from .offices import KEY, TABLES
 from .ran import rows_of, run
 from .spreadsheets import replayed, sheets, tables, written

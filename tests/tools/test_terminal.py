@@ -1,4 +1,4 @@
-"""`cpi_tools.terminal`: progress, signals, and how values are written."""
+"""`cpi_tools.text.terminal`: progress, signals, and how values are written."""
 
 from __future__ import annotations
 
@@ -10,8 +10,8 @@ import time
 
 import pytest
 
-from cpi_tools import terminal
-from cpi_tools.terminal import (
+from cpi_tools.text import terminal
+from cpi_tools.text.terminal import (
     Progress,
     at_least,
     because_of,

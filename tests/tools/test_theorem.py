@@ -49,6 +49,30 @@ def test_a_changed_formula_is_found_and_printed(clone: Path) -> None:
     assert run(clone) == (0, "") and "\nround a b = (2 * a + b + 1) / (2 * b)\n" in (clone / PAGE).read_text("utf-8")
 
 
+@pytest.mark.parametrize(
+    "crate, file, old, new",
+    [
+        ("cpi_office", "Projections", "own Public o = None", "own Public o = Some x"),
+        ("cpi_office", "ProjectedChanges", "sights k t (PutsOutlet u) = []", "sights k t (PutsOutlet u) = x"),
+        ("cpi_office", "IsolationOfRequests", "IsOrderly o → NonePassesOn asks", "IsOrderly o → IsFalse x"),
+        ("cpi_office", "Theorem", "NoneFails rs →", "⊤ →"),
+        ("cpi_release", "Theorem", "observed = false; imputed = true }", "observed = true; imputed = true }"),
+        ("cpi_store", "Theorem", "× (r.carried ≡ carried p", "× (r.carried ≡ carry p"),
+    ],
+)
+def test_any_formula_and_statement_that_changed_is_found(
+    clone: Path, crate: str, file: str, old: str, new: str
+) -> None:
+    change(clone / "crates" / crate / "specs" / f"{file}.antt", old, new)
+    status, told = run(clone, "--check")
+    assert status == 1 and told.startswith("THEOREM.md: not as the specs say: ") and old in told
+
+
+def test_a_statement_that_is_in_no_block_is_named(clone: Path) -> None:
+    change(clone / PAGE, "```antt cpi_office Theorem ACrashLeavesIt\n", "```\n")
+    assert run(clone, "--check") == (1, "THEOREM.md: no block has ACrashLeavesIt\n")
+
+
 def test_a_definition_more_is_counted(clone: Path) -> None:
     """`round` rests on one more, and so do the tables."""
     change(
@@ -62,7 +86,7 @@ def test_a_definition_more_is_counted(clone: Path) -> None:
 
 
 def test_a_definition_that_is_gone_is_named(clone: Path) -> None:
-    change(clone / PAGE, "Isolation ViewsAreRebuilt ", "Isolation ViewsAreMade ")
+    change(clone / PAGE, " ViewsAreRebuilt RepliesAreFromViews ", " ViewsAreMade RepliesAreFromViews ")
     assert run(clone) == (2, "theorem: THEOREM.md names ViewsAreMade, which isn't there\n")
 
 

@@ -31,11 +31,14 @@ def list_read(*words: str) -> set[str]:
 
 def test_a_tool_reads_no_other_tools_modules() -> None:
     read = list_read("probe", "--help")
-    assert "cpi_tools.probe" in read
-    others = {f"cpi_tools.{module}" for module in TOOLS.values()} - {"cpi_tools.probe", "cpi_tools.backup"}
+    assert "cpi_tools.guard.watch.probe" in read
+    others = {f"cpi_tools.{module}" for module in TOOLS.values()} - {
+        "cpi_tools.guard.watch.probe",
+        "cpi_tools.guard.backup",
+    }
     # (a probe reads what a backup notes)
     assert not read & others
-    assert not {name for name in read if name.startswith(("cpi_tools.pack", "cpi_tools.desk_app"))}
+    assert not {name for name in read if name.startswith(("cpi_tools.publish", "cpi_tools.desk"))}
 
 
 @pytest.mark.parametrize("words", [["--help"], ["nonsense"], []])

@@ -9,10 +9,10 @@ from pathlib import Path
 import pytest
 
 from . import surveys
-from cpi_tools.copying import private_copy
-from cpi_tools.program import Cpi, record
-from cpi_tools.stored import NotAnOffice, read_copy
-from cpi_tools.trial import Refused, as_frozen, freeze_on_copy, reopened, state_of
+from cpi_tools.office.copying import private_copy
+from cpi_tools.office.program import Cpi, record
+from cpi_tools.office.stored import NotAnOffice, read_copy
+from cpi_tools.office.trial import Refused, as_frozen, freeze_on_copy, reopened, state_of
 from .surveys import bytes_of, key_of
 
 
@@ -75,7 +75,7 @@ def test_what_cannot_be_frozen_is_told_in_words(cpi: Cpi, small: Path) -> None:
             ahead = state_of(office, 202603)
             with pytest.raises(Refused, match="2026-04, by the calendar, which ends with 2026-03: refused by 21: "):
                 state_of(office, 202604)
-        with pytest.raises(Refused, match="a freeze of 2026-03: refused by 46: it is neither the last frozen "):
+        with pytest.raises(Refused, match="a freeze of 2026-03: refused by 46: the month is neither the last frozen "):
             freeze_on_copy(cpi, copy, ahead, 6000)
 
 

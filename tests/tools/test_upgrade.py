@@ -14,6 +14,8 @@ import pytest
 from lib.places import ROOT
 from .test_package import dpkg
 
+pytestmark = pytest.mark.xdist_group("package")
+
 OFFICE_CONF = """\
 # /etc/cpi/office.conf: what the units hand to the programs. No secret stands here.
 CPI_OFFICE=/var/lib/cpi/office.db

@@ -12,7 +12,8 @@ from pathlib import Path
 
 import pytest
 
-from cpi_tools import program, version
+from cpi_tools.office import program
+from cpi_tools import version
 from lib.places import ROOT
 from .ran import Ran
 
@@ -110,7 +111,7 @@ def test_no_dist_and_no_program_are_told_in_words(top: Path, monkeypatch: pytest
     assert told[1:] == [unknown, f"runs: {top}/cpi, which has to build a program of the sources at hand first"]
     monkeypatch.delenv("CPI")
     monkeypatch.setenv("PATH", str(top / "nothing"))
-    monkeypatch.setattr(program, "__file__", str(top / "far/away/cpi_tools/program.py"))
+    monkeypatch.setattr(program, "__file__", str(top / "far/away/cpi_tools/office/program.py"))
     assert runs(top) == "no program: the program cpi wasn't found: name it by --program FILE or by the variable CPI"
     monkeypatch.setenv("CPI", "/nothing")
     assert runs(top) == "no program: /nothing, named by the variable CPI, is no program"

@@ -8,7 +8,7 @@ from typing import NoReturn
 
 import pytest
 
-from cpi_tools.copying import CopyFailed
+from cpi_tools.office.copying import CopyFailed
 from .desk_apps import Application, Person
 
 PAGE = "/month/2026-02/"

@@ -1,4 +1,4 @@
-"""`cpi_tools.weights`: parts per million by greatest remainders. Each result here was worked by hand."""
+"""`cpi_tools.sheets.weights`: parts per million by greatest remainders. Each result here was worked by hand."""
 
 from __future__ import annotations
 
@@ -7,7 +7,7 @@ from fractions import Fraction
 
 import pytest
 
-from cpi_tools.weights import scaled
+from cpi_tools.sheets.weights import scaled
 
 
 @pytest.mark.parametrize(

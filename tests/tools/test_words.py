@@ -1,4 +1,4 @@
-"""`cpi_tools.words`: the words of refusals and faults are those of the guides."""
+"""`cpi_tools.office.refusals`: the words of refusals and faults are those of the guides."""
 
 from __future__ import annotations
 
@@ -8,7 +8,7 @@ from pathlib import Path
 
 import pytest
 
-from cpi_tools.words import COLLECTOR, DESK, FAULTS, PLAN_FAULTS, REFUSALS, Refusal, refusal_words, told_fault
+from cpi_tools.office.refusals import COLLECTOR, DESK, FAULTS, PLAN_FAULTS, REFUSALS, Refusal, refusal_words, told_fault
 
 DOCS = Path(__file__).resolve().parents[2] / "docs"
 

@@ -16,14 +16,14 @@ from pathlib import Path
 
 import pytest
 
-from cpi_tools import said as said_module
+from cpi_tools.guard import units
 from cpi_tools.command_line import main
-from cpi_tools.connections import connections_left
-from cpi_tools.copying import log_beside
-from cpi_tools.program import Cpi
-from cpi_tools.said import Journal, Line, OutputFile
-from cpi_tools.terminal import Fault
-from cpi_tools.writes import Writes, last_commit, writes_of
+from cpi_tools.guard.watch.serve_log import connections_left
+from cpi_tools.office.copying import log_beside
+from cpi_tools.office.program import Cpi
+from cpi_tools.guard.watch.serve_log import Journal, Line, OutputFile
+from cpi_tools.text.terminal import Fault
+from cpi_tools.guard.watch.last_writes import Writes, last_commit, writes_of
 from lib.served import SECONDS, free_port, heard, message, peer_of, words_of
 from .loads import DESK_KEY, price_of, slot_of
 from .offices import LOAD_KEY, LOAD_MONTH
@@ -277,7 +277,7 @@ class Machine:
         self.journal()
 
     def knows(self, state: str) -> None:
-        script(self.folder / "systemctl", f"echo {state}\n")
+        script(self.folder / "systemctl", f"printf 'LoadState=%s\\nId=x.service\\n' {state}\n")
 
     def journal(self, *lines: str) -> None:
         """The last entry that matches, as `journalctl --grep .. --lines=1 --output=json` writes it; an entry a second,
@@ -331,7 +331,7 @@ def test_a_journal_that_has_nothing_of_an_unknown_unit_is_none(machine: Machine)
 def test_a_journal_that_can_not_be_read_is_told(
     text: str, told: str, machine: Machine, monkeypatch: pytest.MonkeyPatch
 ) -> None:
-    monkeypatch.setattr(said_module, "SECONDS", 1)
+    monkeypatch.setattr(units, "SECONDS", 1)
     script(machine.folder / "journalctl", f"{text}\n")
     with pytest.raises(Fault, match=told):
         Journal("cpi.service").last("^cpi: ")

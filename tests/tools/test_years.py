@@ -20,16 +20,16 @@ from typing import Optional
 
 import pytest
 
-from cpi_tools.csv_files import formulas_told
-from cpi_tools.exact import Ratio
-from cpi_tools.folders import files_of
-from cpi_tools.languages import PO
-from cpi_tools.pack import tidy, years
-from cpi_tools.pack.aggregated import series_of
-from cpi_tools.pack.artefact_versions import Versions
-from cpi_tools.pack.before import Before
-from cpi_tools.pack.config import BadConfig, Config, read_config
-from cpi_tools.pack.figures import (
+from cpi_tools.text.csv_files import formulas_told
+from cpi_tools.text.exact import Ratio
+from cpi_tools.office.folders import files_of
+from cpi_tools.text.languages import PO
+from cpi_tools.publish.forms import tidy, years
+from cpi_tools.publish.figures.aggregated import series_of
+from cpi_tools.publish.forms.artefact_versions import Versions
+from cpi_tools.publish.forms.pack_before import Before
+from cpi_tools.publish.figures.config import BadConfig, Config, read_config
+from cpi_tools.publish.figures.figures import (
     GIVEN_MONTH,
     GIVEN_YEAR,
     LEVEL,
@@ -40,15 +40,15 @@ from cpi_tools.pack.figures import (
     Figure,
     Known,
 )
-from cpi_tools.pack.manifest import differences
-from cpi_tools.pack.measures import average
-from cpi_tools.pack.public import Listed, Published
-from cpi_tools.pack.shown import Shown
-from cpi_tools.pack.specials import Special
-from cpi_tools.pack.structure import structure_of
-from cpi_tools.pack.tables import Series, Table
-from cpi_tools.pack.tidy import Lines
-from cpi_tools.publish import check, publish
+from cpi_tools.publish.forms.manifest import differences
+from cpi_tools.publish.figures.measures import average
+from cpi_tools.office.public import Listed, Published
+from cpi_tools.publish.figures.shown_figures import Shown
+from cpi_tools.publish.figures.specials import Special
+from cpi_tools.publish.forms.structure import structure_of
+from cpi_tools.office.tables import Series, Table
+from cpi_tools.publish.forms.tidy import Lines
+from cpi_tools.publish.pack import check, publish
 from lib.places import ROOT
 from .published import REVISED
 
@@ -542,8 +542,8 @@ RUN = """
 import pickle, sys
 from pathlib import Path
 sys.path[:0] = [{tools!r}]
-from cpi_tools.pack.config import Config
-from cpi_tools.publish import publish
+from cpi_tools.publish.figures.config import Config
+from cpi_tools.publish.pack import publish
 published, config, out = pickle.load(sys.stdin.buffer)
 def now(what):
     print(what, flush=True)

@@ -25,7 +25,7 @@ from selenium.webdriver.common.by import By
 from selenium.webdriver.remote.webelement import WebElement
 from selenium.webdriver.support.wait import WebDriverWait
 
-from cpi_tools.front import system_program
+from cpi_tools.tryout.front import system_program
 from lib.served import free_port
 
 SECONDS = 60.0

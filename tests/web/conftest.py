@@ -13,7 +13,7 @@ FAULT = fault_of("tests/web/setup.sh")
 """Why there are no tests here: what they need can't be installed."""
 
 if not FAULT:
-    from cpi_tools.program import Cpi
+    from cpi_tools.office.program import Cpi
 
     from .browser import Browser
     from .desk_pages import DeskPages, Person, desk_pages
@@ -23,6 +23,7 @@ if not FAULT:
     from .pseudo import pages_with
     from .stage import Stage
     from .websites import published
+    from .years import lived as lived_three_years
 
 
 def pytest_ignore_collect() -> None:
@@ -87,6 +88,22 @@ def speech(request: pytest.FixtureRequest, stage: Stage) -> Iterator[Speech]:
     else:
         with spoken(stage, ARABIC):
             yield ARABIC
+
+
+@pytest.fixture(scope="session")
+def of_years(cpi: Cpi, tmp_path_factory: pytest.TempPathFactory) -> Path:
+    """The website of the office of three years."""
+    folder = tmp_path_factory.mktemp("years")
+    assert [reply for reply in cpi.replay([*lived_three_years()], db=folder / "years.db") if "refused" in reply] == []
+    return published(cpi, folder / "years.db", folder)
+
+
+@pytest.fixture
+def years(browser: Browser, stage: Stage, of_years: Path) -> Browser:
+    """A browser before the website of the office of three years."""
+    stage.published.symlink_to(of_years)
+    browser.size(1280, 800)
+    return browser
 
 
 @pytest.fixture

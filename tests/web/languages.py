@@ -55,9 +55,10 @@ class Words:
             read = json.loads((ROOT / f"web/{page}/languages/{speech.language}.json").read_text(encoding="utf-8"))
             self._texts, self._forms = read["texts"], read["plural"]
 
-    def said(self, text: str, **values: str) -> str:
-        """A text; figures in the values are in the digits of the office, and a place without a value stays."""
-        found = self._texts.get(text, text)
+    def said(self, text: str, context: str = "", **values: str) -> str:
+        """A text, in a context if it has one; figures in the values are in the digits of the office, and a place without a
+        value stays."""
+        found = self._texts.get(f"{context}\u0004{text}" if context else text, text)
         assert isinstance(found, str), text
         return self._filled(found, values)
 

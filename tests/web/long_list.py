@@ -4,7 +4,7 @@ from __future__ import annotations
 
 import time
 
-from cpi_tools.program import record
+from cpi_tools.office.program import record
 from .offices import BEFORE, DESK, MONTH_SECONDS, NOBODY, NOW
 from .phone import Phone
 from .stage import Stage
@@ -46,5 +46,5 @@ def open_list(phone: Phone, stage: Stage, slots: int) -> None:
     """Opens the page with such a list, without the notice that the browser may clear its storage."""
     give_list(stage, slots)
     phone.sign_in(NOBODY)
-    phone.browser.click("#storage-read")
+    phone.notice_is_read()
     phone.browser.run("scrollTo(0, 0)")

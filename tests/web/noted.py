@@ -30,7 +30,8 @@ def takes_notes(stage: Stage, pages: DeskPages, speech: Speech = ENGLISH) -> Ite
     """The front hands notes to an application, and the pages say that the office takes them, meanwhile."""
     file = stage.folder / "config.js"
     file.write_text(CONFIG.format(**speech._asdict()).replace("\n});", "\n  notes: true,\n});"), encoding="utf-8")
-    own, listening = f"{ROOT / 'web'}/config.js", f"127.0.0.1:{pages.port}"
+    own = f"{ROOT / 'web'}/config.js"
+    listening = str(pages.socket) if pages.front else f"127.0.0.1:{pages.port}"
 
     def changed(text: str) -> str:
         assert own in text and listening in text

@@ -6,7 +6,7 @@ import datetime
 import time
 from collections.abc import Iterator
 
-from cpi_tools.program import record
+from cpi_tools.office.program import record
 from lib.offices import RICE_AND_FLOUR
 
 DESK, ANNA, BENO, NOBODY = "d" * 32, "a" * 32, "b" * 32, "c" * 32

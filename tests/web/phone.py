@@ -33,6 +33,9 @@ return [...parts].map((part) => part.textContent.trim()).filter(Boolean).join("\
 """
 
 
+RECEIPT = "return (await import('/collect/state.js')).storedOf(arguments[0])?.[4] ?? null"
+
+
 class Phone:
     """A browser with the page of a collector."""
 
@@ -75,6 +78,27 @@ class Phone:
     def wait_told(self, slot: int, text: str) -> None:
         self.browser.wait(lambda: text in self.told(slot), f"{text!r} of slot {slot}")
 
+    def receipt(self, slot: int) -> Optional[int]:
+        """The receipt of a slot of the month that is shown, if the list says that it is stored: the form has its number."""
+        if self.said("Stored", context="state of a row") not in self.told(slot).split("\n"):
+            return None
+        found: Optional[int] = self.browser.run_until(RECEIPT, slot)
+        return found
+
+    def wait_receipt(self, slot: int, number: int) -> None:
+        """Waits until the list says that a slot is stored, by this receipt."""
+        self.browser.wait(lambda: self.receipt(slot) == number, f"receipt {number} of slot {slot}")
+
+    def notice_is_read(self) -> None:
+        """The collector has read before that the browser may clear its storage."""
+        self.browser.run_until("await (await import('/collect/store.js')).keepNoticeRead()")
+
+    def search(self, text: str) -> None:
+        """Types a text into the field of the search, which is behind its icon."""
+        if self.browser.run("return document.getElementById('search').hidden"):
+            self.browser.click("#seek")
+        self.browser.type("#search", text)
+
     def edit(self, slot: int) -> None:
         """Opens the form of a slot."""
         self.browser.click(f'[data-slot="{slot}"]')
@@ -103,7 +127,7 @@ class Phone:
         """Corrects slot 1 of last month, whose window has closed: the office has 3.20, and refuses 3.10 by 24."""
         self.browser.click("#month-before")
         self.show("all")
-        self.wait_told(1, self.said("Receipt {number}", number="7"))
+        self.wait_receipt(1, 7)
         self.enter(1, "3.10")
         self.wait_told(1, self.said("Refused"))
 

@@ -33,7 +33,7 @@ def is_line(phone: Phone, line: str) -> None:
 
 
 def sign_in(phone: Phone, walk: Walk) -> None:
-    """Signing in, a wrong key, the languages, and the list; a browser that may clear what it keeps."""
+    """Signing in, a wrong key, the languages, and the list."""
     browser = phone.browser
     phone.open()
     browser.wait_shown("#sign-in")
@@ -55,7 +55,7 @@ def sign_in(phone: Phone, walk: Walk) -> None:
 
 
 def enter(phone: Phone, walk: Walk) -> None:
-    """The form, with all that it says and asks."""
+    """The form, with all that it says and asks, and the notice of a browser that may clear what it keeps."""
     browser = phone.browser
     phone.edit(3)
     walk.look("a form without a last price")
@@ -78,6 +78,10 @@ def enter(phone: Phone, walk: Walk) -> None:
     phone.wait_edited(3)
     walk.look("the next form, of another shop")
     phone.close()
+    browser.wait_shown("#storage p")
+    walk.look_at_form("a browser that may clear what it keeps")
+    browser.click("#storage-read")
+    browser.wait(lambda: not browser.find("#storage").is_displayed(), "a notice that was read")
 
 
 def find(phone: Phone, walk: Walk) -> None:
@@ -88,9 +92,9 @@ def find(phone: Phone, walk: Walk) -> None:
     phone.edit(2)
     walk.look("a stored entry")
     phone.close()
-    browser.type("#search", "Rice")
+    phone.search("Rice")
     walk.look("what is found")
-    browser.type("#search", "\u03b6\u05d6")
+    phone.search("\u03b6\u05d6")
     walk.look("what isn't found")
     browser.choose("search", "")
 

@@ -14,7 +14,7 @@ from typing import Any
 import pytest
 
 from .browser import Browser
-from cpi_tools.program import Cpi
+from cpi_tools.office.program import Cpi
 from .offices import SCRIPT, TURNING
 from .readable import MARKS, faults_enlarged, faults_for_keys, faults_of_page, faults_of_texts
 from .stage import Stage
@@ -37,22 +37,6 @@ KEPT = "return location.search"
 def shown(browser: Browser, stage: Stage, website: Path) -> Browser:
     """A browser before the office's website."""
     stage.published.symlink_to(website)
-    return browser
-
-
-@pytest.fixture(scope="module")
-def of_years(cpi: Cpi, tmp_path_factory: pytest.TempPathFactory) -> Path:
-    """The website of the office of three years."""
-    folder = tmp_path_factory.mktemp("years")
-    assert [reply for reply in cpi.replay([*lived()], db=folder / "years.db") if "refused" in reply] == []
-    return published(cpi, folder / "years.db", folder)
-
-
-@pytest.fixture
-def years(browser: Browser, stage: Stage, of_years: Path) -> Browser:
-    """A browser before the website of the office of three years."""
-    stage.published.symlink_to(of_years)
-    browser.size(1280, 800)
     return browser
 
 
@@ -316,7 +300,8 @@ def test_one_line_over_22_months_costs_little(browser: Browser, stage: Stage, of
     opened(browser)
     assert len(browser.run(CELLS)) == 22
     asked: list[list[Any]] = browser.run(COST)
-    assert len(asked) <= 6 and all(size > 0 for _, size in asked), asked
+    files = ["choose.html", "style.css", "choose.css", "head.js", "spoken.js", "choose.js", "00.csv"]
+    assert sorted(name for name, _ in asked) == sorted(files) and all(size > 0 for _, size in asked), asked
     assert sum(size for _, size in asked) < 40_000, asked
 
 

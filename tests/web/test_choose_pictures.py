@@ -12,7 +12,7 @@ from typing import Any
 import pytest
 
 from .browser import Browser
-from cpi_tools.program import Cpi
+from cpi_tools.office.program import Cpi
 from .other_site import other_site
 from .readable import faults_enlarged, faults_of_page
 from .stage import Stage
@@ -71,9 +71,7 @@ def test_a_picture_is_taken_as_svg(browser: Browser, stage: Stage, later: Path, 
     svg = ET.fromstring(taken(browser, "SVG", "cpi-index-2011-01-2013-02.svg", tmp_path))
     texts = ["".join(it.itertext()).strip("\u2068\u2069") for it in svg.iter(f"{SVG}text")]
     assert texts[:2] == ["Index", "December 2010 = 100"] and texts[-3:-1] == ["All items", "Rice"]
-    assert texts[-1].startswith(
-        "Source: \u2068Office of prices\u2069, \u2068Consumer price index\u2069, up to February"
-    )
+    assert texts[-1].startswith("Source: Office of prices, Consumer price index, up to February")
     lines = [it.get("d", "") for it in svg.iter(f"{SVG}path") if "L" in it.get("d", "")]
     by_colour = {
         it.get("stroke"): values_of(svg, it.get("d", "")) for it in svg.iter(f"{SVG}path") if it.get("d") in lines

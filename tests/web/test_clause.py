@@ -8,10 +8,11 @@ from pathlib import Path
 import pytest
 
 from .browser import Browser
-from cpi_tools.pack.clocks import clock_of
-from cpi_tools.pack.config import Config
-from cpi_tools.pack.public import Listed, Published
-from cpi_tools.publish import publish
+from cpi_tools.text.clocks import clock_of
+from cpi_tools.publish.figures.config import Config
+from cpi_tools.publish.figures.office_languages import OfficeLanguages
+from cpi_tools.office.public import Listed, Published
+from cpi_tools.publish.pack import publish
 
 BEFORE, JANUARY, FEBRUARY = (Published(Listed("2025-12", 1, 0), b""), *(
     Published(Listed(f"2026-{month}", 1, moment), f"00,1000000,{level},{level},{change},,0,All items\n".encode())
@@ -43,6 +44,11 @@ def open_page(browser: Browser, out: Path, after: str = "") -> None:
     browser.driver.get(f"{(out / 'contract.html').as_uri()}{after}")
 
 
+def folded(browser: Browser, selector: str) -> str:
+    """A text of the fold with the tables and their sums."""
+    return str(browser.run("return document.querySelector(arguments[0]).textContent", selector))
+
+
 def shown(browser: Browser, selector: str) -> str:
     return browser.text(selector).translate({ord(it): None for it in "\u2068\u2069"}).replace("\u202f", " ")
 
@@ -62,7 +68,7 @@ def test_the_address_of_a_result_gives_it_after_a_revision(browser: Browser, out
     assert shown(browser, "#value") == "1 023.69 crowns"
     assert "its index is 105.0 by revision 2" in shown(browser, "#notices")
     assert "By the latest revisions the new amount is 1 036.53 crowns." in shown(browser, "#notices")
-    assert "revision 1, published 1 January 1970, 00:00 UTC" in shown(browser, "#now-source")
+    assert "revision 1, published 1 January 1970, 00:00 UTC" in folded(browser, "#now-source")
     browser.click("#latest")
     assert shown(browser, "#value") == "1 036.53 crowns" and shown(browser, "#notices") == ""
     assert "now-revision=2" in browser.driver.current_url and not browser.find("#latest").is_displayed()
@@ -78,7 +84,7 @@ def test_the_address_of_a_result_is_that_of_the_site(browser: Browser, out: Path
     assert address.startswith("https://prices.example/contract.html#amount=") and address in shown(
         browser, "#result-text"
     )
-    assert "published 1 January 1970, 01:00 CET (00:00 UTC)" in shown(browser, "#now-source")
+    assert "published 1 January 1970, 01:00 CET (00:00 UTC)" in folded(browser, "#now-source")
 
 
 def test_an_address_is_read_or_said_to_be_wrong(browser: Browser, out: Path) -> None:
@@ -89,7 +95,7 @@ def test_an_address_is_read_or_said_to_be_wrong(browser: Browser, out: Path) -> 
     browser.driver.forward()
     browser.type("#amount", "1,000")
     assert not browser.find("#result").is_displayed() and not browser.find("#texts").is_displayed()
-    assert "without commas" in browser.text("#fault") and browser.text("#address-faults") == ""
+    assert "1,000 can be read as 1000 or as 1.000." in browser.text("#fault") and browser.text("#address-faults") == ""
     browser.type("#amount", "1000")
     assert shown(browser, "#value") == "1 023.69 crowns"
 
@@ -107,3 +113,30 @@ def test_the_texts_are_copied(browser: Browser, out: Path) -> None:
     assert re.search(
         "It counts from the index of December 2025: 100.0 .*to the nearest 0.01", browser.text("#clause-text")
     )
+
+
+COPIED = """
+const texts = [];
+Object.defineProperty(navigator, "clipboard", { value: { writeText: async (text) => { texts.push(text); } } });
+for (const button of document.querySelectorAll("[data-copies]")) {
+  button.click();
+  getSelection().selectAllChildren(document.getElementById(button.dataset.copies));
+  const event = new ClipboardEvent("copy", { clipboardData: new DataTransfer(), cancelable: true });
+  document.dispatchEvent(event);
+  texts.push(event.defaultPrevented ? event.clipboardData.getData("text/plain") : String(getSelection()));
+}
+return texts;
+"""
+"""What each button copies, and what is copied by hand of the same text."""
+
+
+def test_what_is_copied_has_no_sign_that_nobody_sees(browser: Browser, tmp_path: Path) -> None:
+    """A page from right to left keeps its English names apart by such signs."""
+    config = CONFIG._replace(speaks=OfficeLanguages(("ar",), "arab", {}))
+    publish([BEFORE, JANUARY, FEBRUARY], config, tmp_path / "public", None, lambda _: None)
+    open_page(browser, tmp_path / "public")
+    signs = "[\u2066-\u2069\u200e\u200f]"
+    assert re.search(signs, browser.run("return document.getElementById('clause-text').textContent"))
+    texts = browser.run(COPIED)
+    assert len(texts) == 4 and all("Office of prices" in it for it in texts)
+    assert [it for it in texts if re.search(signs, it)] == []

@@ -11,14 +11,14 @@ from pathlib import Path
 
 from selenium.webdriver.common.keys import Keys
 
-from cpi_tools.csv_files import line_of
-from cpi_tools.desk_app.desk_log import DeskLog
+from cpi_tools.text.csv_files import line_of
+from cpi_tools.desk.records.desk_log import DeskLog
 from lib import hostile
 from lib.sample import Sample
 
 from .browser import Browser
 from .desk_pages import Person, desk_pages
-from .offices import ANNA, ARABIC, BENO, DESK, IMAGE, LEAVING, OVERRIDE, SCRIPT
+from .offices import ANNA, ARABIC, BENO, DESK, IMAGE, LEAVING, NOW, OVERRIDE, SCRIPT
 from .readable import faults_at_sizes, faults_of_page
 from .stage import Stage
 
@@ -194,6 +194,27 @@ def posted(browser: Browser, port: int, selector: str) -> None:
     with contextlib.closing(line), contextlib.suppress(OSError, http.client.HTTPException):
         line.request("POST", "/records/send", body, fields)
         line.getresponse().read()
+
+
+HEAD = """
+const boxOf = (selector) => document.querySelector(selector).getBoundingClientRect();
+const isInSight = ({ left, right }) => left >= 0 && right <= innerWidth;
+const links = [...document.querySelectorAll("header nav a")];
+const current = isInSight(boxOf("header nav [aria-current]"));
+const reached = links.filter((link) => { link.focus(); return isInSight(link.getBoundingClientRect()); });
+return [boxOf("header.site").height, current, links.length - reached.length];
+"""
+"""How high the head of a page is, whether the name of this page is in sight, and how many links aren't if they have the focus."""
+
+
+def test_the_head_of_a_narrow_page_is_two_lines(ada: Person, browser: Browser) -> None:
+    """Whoever goes through its links by Tab has each in sight."""
+    browser.size(360, 740)
+    for path in (f"/month/{NOW}/freeze", "/log"):
+        ada.open(path)
+        browser.in_front()
+        high, is_current_in_sight, out_of_sight = browser.run(HEAD)
+        assert high < 110 and is_current_in_sight and not out_of_sight, (path, high)
 
 
 PATHS = (

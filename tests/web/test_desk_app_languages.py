@@ -24,8 +24,15 @@ SAME = re.compile(
 )
 """What each language has: files, zones, words of the program, codes, and texts of others in a title."""
 
-OVER = COVERED.replace('"#notice, ', '".scroll, .skip, .hidden, #notice, ')
-"""The same faults as in other walks; a wide table scrolls by itself."""
+OVER = COVERED.replace('"#notice, ', '".scroll, header.site nav, .skip, .hidden, #notice, ')
+"""The same faults as in other walks; a wide table scrolls by itself, and so do the links of the head."""
+
+STUCK = """
+const nav = document.querySelector("header.site nav");
+const isWide = nav && nav.scrollWidth > nav.clientWidth;
+return isWide && getComputedStyle(nav).overflowX !== "auto" ? ["the links of the head are cut, and don't scroll"] : [];
+"""
+"""Links of the head that nobody can reach."""
 
 PATHS = (
     *(f"/month/{MONTH}/{page}" for page in ("", "looks?all=1", "table", "freeze", "what-if", "explain/01.1.1.2-01")),
@@ -57,7 +64,7 @@ def faults(browser: Browser) -> list[str]:
     """What is wrong with the page that is open."""
     browser.run("document.querySelectorAll('code, textarea, option').forEach((it) => it.remove())")
     left = [it for it in browser.run(LEFT) if re.search("[A-Za-z]{2,}", SAME.sub("", it.partition(": ")[2]))]
-    wide = [*faults_of_page(browser), *browser.run(CUT), *browser.run(OVER), *browser.run(HIDDEN)]
+    wide = [*faults_of_page(browser), *browser.run(CUT), *browser.run(OVER), *browser.run(HIDDEN), *browser.run(STUCK)]
     return [*left, *wide]
 
 

@@ -5,7 +5,7 @@ from __future__ import annotations
 from collections.abc import Sequence
 from pathlib import Path
 
-from cpi_tools.csv_files import line_of
+from cpi_tools.text.csv_files import line_of
 from lib import hostile
 from lib.sample import Sample
 

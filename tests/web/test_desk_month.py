@@ -13,7 +13,7 @@ import pytest
 from selenium.common.exceptions import WebDriverException
 from selenium.webdriver.common.keys import Keys
 
-from cpi_tools.desk_app.desk_log import SENT, DeskLog
+from cpi_tools.desk.records.desk_log import SENT, DeskLog
 from lib.offices import RICE_AND_FLOUR
 
 from .browser import Browser
@@ -176,7 +176,7 @@ def priced(desk: Desk, key: str, *prices: tuple[int, str], asks: int = 0) -> Non
         phone.enter(slot, price)
         if slot == asks:
             phone.confirm()
-        phone.wait_told(slot, "Receipt")
+        phone.wait_told(slot, "Stored")
     desk.browser.fresh()
     desk.browser.size(1280, 900)
 

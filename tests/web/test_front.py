@@ -20,7 +20,7 @@ import pytest
 
 from lib.places import ROOT
 from cpi_tools.command_line import main
-from cpi_tools.front import Front, standing
+from cpi_tools.tryout.front import Front, standing
 from .offices import ANNA, BENO, DESK, NOBODY, NOW
 from .peers import Peer, address_of, all_at_once, answered_within, asked, drawn_key, once, timed
 from .stage import Stage

@@ -36,7 +36,7 @@ def reads(page: Browser, texts: list[str], minor_digits: int, currency: str = ""
         minor_digits,
         currency,
     )
-    assert all(it is None or len(it) == 1 for it in found)
+    assert all(it is None or set(it) in ({"price"}, {"readings", "isRounded"}) for it in found)
     return [None if it is None else it["price"] if "price" in it else it["readings"] for it in found]
 
 
@@ -75,10 +75,10 @@ PLAIN: dict[str, tuple[Wanted, Wanted, Wanted]] = {
 """Without groups: a price of 3.50 is 350 with two minor digits and 3500 with three."""
 
 GROUPED: dict[str, tuple[Wanted, Wanted, Wanted]] = {
-    "1,459": (1459, [145_900], [1459, 1_459_000]),
-    "1.459": (1459, [145_900], [1459, 1_459_000]),
-    "12.500": (12_500, [1_250_000], [12_500, 12_500_000]),
-    "999,999": (999_999, [99_999_900], [999_999]),
+    "1,459": (1459, [146, 145_900], [1459, 1_459_000]),
+    "1.459": (1459, [146, 145_900], [1459, 1_459_000]),
+    "12.500": (12_500, [1250, 1_250_000], [12_500, 12_500_000]),
+    "999,999": (999_999, [100_000, 99_999_900], [999_999]),
     "1 459": (1459, 145_900, 1_459_000),
     "1\u00a0459": (1459, 145_900, 1_459_000),
     "1\u2009459": (1459, 145_900, 1_459_000),
@@ -103,7 +103,8 @@ GROUPED: dict[str, tuple[Wanted, Wanted, Wanted]] = {
     "9 99 999,99": (None, 99_999_999, None),
     "10,00,00,000": (100_000_000, None, None),
 }
-"""With groups of three digits or India's; one point or comma before three digits is asked if there are minor digits."""
+"""With groups of three digits or India's. One point or comma before three digits is asked if there are minor digits; as a
+decimal mark it may leave more digits than an office with two writes: the nearest price is 1.46, halves up."""
 
 REFUSED = (
     "", " ", ".", "3.", "3,", "0", "0.00", "-3", "+3", "3 50", "3 5", "3-50", "1e3", "0x10", "three", "3.50.", "..5",
@@ -137,7 +138,7 @@ ARABIC: dict[str, tuple[Wanted, Wanted, Wanted]] = {
     "\u0663\u060c\u0662\u0661": (None, 321, 3210),
     "\u0661\u066b\u0664\u0665\u0669": (None, None, 1459),
     "\u0661\u066c\u0664\u0665\u0669": (1459, 145_900, 1_459_000),
-    "\u0661\u060c\u0664\u0665\u0669": (1459, [145_900], [1459, 1_459_000]),
+    "\u0661\u060c\u0664\u0665\u0669": (1459, [146, 145_900], [1459, 1_459_000]),
     "\u0661\u066c\u0664\u0665\u0669\u066b\u0665": (None, 145_950, 1_459_500),
     "\u0661\u060c\u0664\u0665\u0669.\u0665\u0660": (None, 145_950, 1_459_500),
     "\u06f1\u06f2\u06f3\u066b\u06f4\u06f5": (None, 12_345, 123_450),
@@ -158,7 +159,7 @@ OTHERS: dict[str, tuple[Wanted, Wanted, Wanted]] = {
     "\u1049,\u1040\u1041\u1042.\u1045\u1040": (None, 901_250, 9_012_500),  # Myanmar
     "\uff13\uff0e\uff12\uff11": (None, 321, 3210),  # full-width
     "\uff13\uff0c\uff12\uff11": (None, 321, 3210),
-    "\uff11\uff0c\uff14\uff15\uff19": (1459, [145_900], [1459, 1_459_000]),
+    "\uff11\uff0c\uff14\uff15\uff19": (1459, [146, 145_900], [1459, 1_459_000]),
     "\U0001d7cf\U0001d7d8\U0001d7ff": (109, 10_900, 109_000),  # three styles of mathematical digits side by side
     "1\u0662\u0e53.4\uff15": (None, 12_345, 123_450),
 }
@@ -179,7 +180,7 @@ def test_each_decimal_digit_has_its_value(page: Browser) -> None:
 CURRENCIES: dict[str, dict[str, tuple[Wanted, Wanted, Wanted]]] = {
     "EUR": {
         "EUR 3.50": (None, 350, 3500), "3.50EUR": (None, 350, 3500), "\u200e3\u00a0EUR\u200e": (3, 300, 3000),
-        "1,459 EUR": (1459, [145_900], [1459, 1_459_000]), "EUR .99": (None, 99, 990),
+        "1,459 EUR": (1459, [146, 145_900], [1459, 1_459_000]), "EUR .99": (None, 99, 990),
         "3.50 USD": (None, None, None), "EUR 3 EUR": (None, None, None), "3 EUR 50": (None, None, None),
         "EUR": (None, None, None), "3 EURO": (None, None, None), "-3 EUR": (None, None, None),
     },
@@ -198,8 +199,14 @@ def test_the_currency_of_the_office_is_passed_over(page: Browser, currency: str)
 def test_what_is_typed_is_read_for_the_office(page: Browser) -> None:
     """`typed` reads with the minor digits of web/config.js, which are two."""
     module = "const { typed } = await import('/shared/money.js'); return arguments[0].map(typed);"
-    found = page.run_until(module, ["3.21", "1,459", "3.210"])
-    assert found == [{"price": 321}, {"readings": [145_900]}, {"readings": [321_000]}]
+    found = page.run_until(module, ["3.21", "1,459", "3.210", "1.005", "1.004"])
+    assert found == [
+        {"price": 321},
+        {"readings": [146, 145_900], "isRounded": True},
+        {"readings": [321, 321_000], "isRounded": False},
+        {"readings": [101, 100_500], "isRounded": True},
+        {"readings": [100, 100_400], "isRounded": True},
+    ]
 
 
 # ---- what others write

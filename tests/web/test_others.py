@@ -9,7 +9,7 @@ import pytest
 
 from .browser import Browser
 from cpi_tools.command_line import main
-from cpi_tools.program import Cpi
+from cpi_tools.office.program import Cpi
 from .offices import ARABIC, LEAVING, OVERRIDE, TURNING, lived
 from .readable import faults_for_keys, faults_of_texts
 

@@ -15,7 +15,7 @@ from .stage import Stage
 def test_a_key_that_opens_nothing_is_told_in_words(phone: Phone) -> None:
     phone.open()
     phone.browser.wait_shown("#sign-in")
-    for key, words in (("abc", "32 characters"), (NOBODY, "Nobody bears this key"), (DESK, "isn’t a collector’s")):
+    for key, words in (("abc", "32 characters"), (NOBODY, "Nobody has this key"), (DESK, "isn’t a collector’s")):
         phone.give_key(key)
         phone.browser.wait_text("#key-fault", words)
     assert phone.browser.faults() == []
@@ -39,7 +39,7 @@ def test_a_key_that_the_front_denies_is_told_and_what_waits_stays(phone: Phone, 
         assert stage.ask("GET", f"/api/work/{NOW}", Authorization=field).status == 401, field
     assert stage.ask("GET", f"/api/work/{NOW}", BENO).status == 200
     phone.send()
-    phone.browser.wait_text("#notice", "Nobody bears this key")
+    phone.browser.wait_text("#notice", "Nobody has this key")
     assert "To be sent" in phone.told(1)
     assert stage.relay.rows("quote,") == 0
     stage.front.stop()
@@ -99,7 +99,7 @@ def test_a_price_gets_its_receipt(phone: Phone, stage: Stage, speech: Speech) ->
     phone.sign_in()
     phone.enter(1, "3,21" if speech == ENGLISH else figure("3.21"))
     phone.show("all")
-    phone.wait_told(1, phone.said("Receipt {number}", number=str(NEXT)))
+    phone.wait_receipt(1, NEXT)
     assert figure("3.21") in phone.told(1)
     assert stored(stage, 1) == [("price", 321, NEXT)]
     phone.show("quotes")
@@ -158,7 +158,7 @@ def test_a_price_far_from_the_last_is_confirmed(phone: Phone, stage: Stage, spee
     assert stored(stage, 2) == []
     phone.confirm()
     phone.show("all")
-    phone.wait_told(2, phone.said("Receipt {number}", number=str(NEXT)))
+    phone.wait_receipt(2, NEXT)
     assert stored(stage, 2) == [("price", 999, NEXT)]
 
 
@@ -170,7 +170,7 @@ def test_a_slip_is_mended(phone: Phone, stage: Stage) -> None:
     assert phone.browser.text("#entry-refusal") == ""
     phone.save()
     phone.show("all")
-    phone.wait_told(2, f"Receipt {NEXT}")
+    phone.wait_receipt(2, NEXT)
     assert stored(stage, 2) == [("price", 485, NEXT)]
 
 
@@ -178,17 +178,17 @@ def test_missing_and_replacements(phone: Phone, stage: Stage) -> None:
     phone.sign_in()
     phone.show("all")
     phone.enter(1, mark="missing", reason="stock")
-    phone.wait_told(1, "Receipt 10")
+    phone.wait_receipt(1, 10)
     assert "Sold out" in phone.told(1)
     phone.enter(2, "4.90", mark="comparable")
-    phone.wait_told(2, "Receipt 11")
+    phone.wait_receipt(2, 11)
     phone.enter(4, "9", mark="other")
-    phone.wait_told(4, "Receipt 12")
+    phone.wait_receipt(4, 12)
     phone.edit(3)
     assert not phone.browser.find('#entry input[value="other"]').is_enabled()  # (there is no last price)
     phone.browser.click("#entry-cancel")
     phone.enter(1, "3.00")
-    phone.wait_told(1, "Receipt 13")
+    phone.wait_receipt(1, 13)
     assert stage.quotes(ANNA) == [
         [1, NOW, "price", 300, 13],
         [2, NOW, "comparable", 490, 11],
@@ -202,7 +202,7 @@ def test_each_other_reason(phone: Phone, stage: Stage) -> None:
     phone.show("all")
     for at, (reason, words) in enumerate((("closed", "Shop closed"), ("gone", "No longer sold"), ("refused", "tell"))):
         phone.enter(2, mark="missing", reason=reason)
-        phone.wait_told(2, f"Receipt {NEXT + at}")
+        phone.wait_receipt(2, NEXT + at)
         assert words in phone.told(2)
         assert stored(stage, 2) == [("missing", reason, NEXT + at)]
 
@@ -219,7 +219,7 @@ def test_a_refusal_is_told_in_words(phone: Phone) -> None:
     phone.edit(1)
     assert "Refused (24). The window has closed. Tell the desk" in phone.browser.text("#entry-refusal")
     phone.browser.click("#entry-drop")
-    phone.wait_told(1, "Receipt 7")
+    phone.wait_receipt(1, 7)
     phone.browser.click("#month-before")
     phone.browser.click("#month-before")
     phone.browser.wait_text("#notice", "The month has no window yet")
@@ -234,7 +234,7 @@ def test_the_month_that_is_shown_is_asked_for_however_fast_one_turns(phone: Phon
         phone.browser.click("#month-before")
         phone.browser.click("#month-before")
     phone.show("all")
-    phone.wait_told(1, "Receipt 7")
+    phone.wait_receipt(1, 7)
     phone.browser.click("#month-after")
     phone.send()  # (its list is new, so it is asked for only by hand)
-    phone.wait_told(1, f"Receipt {NEXT}")
+    phone.wait_receipt(1, NEXT)

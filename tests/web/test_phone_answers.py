@@ -119,7 +119,7 @@ def test_an_answer_that_makes_no_sense_is_said_so_and_asked_again(phone: Phone, 
     assert [(row[0], row[3]) for row in stage.quotes(NOBODY)] == [(slot, 100 * slot + 50) for slot in slots]
     assert sorted(row[4] for row in stage.quotes(NOBODY)) == [*slots]
     for slot, _, _, _, receipt in stage.quotes(NOBODY):
-        assert f"Receipt {receipt}" in phone.told(slot)
+        assert phone.receipt(slot) == receipt
 
 
 def test_a_line_that_is_cut_before_a_price_arrives_or_behind_it_loses_and_doubles_nothing(
@@ -153,7 +153,7 @@ def test_a_slow_answer_is_waited_for(phone: Phone, stage: Stage) -> None:
     assert phone.browser.text("#line") == "1 to be sent"
     assert "To be sent" in phone.told(1)
     stage.relay.held.clear()
-    phone.wait_told(1, f"Receipt {NEXT}")
+    phone.wait_receipt(1, NEXT)
     assert stage.relay.rows("quote,1,") == 1
     assert said(phone) <= {"1 to be sent", "All sent", ""}
 

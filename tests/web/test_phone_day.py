@@ -236,7 +236,8 @@ class Hand:
             self.write(money(found.value))
             self.tap("#entry-save")
         else:
-            self.tap("#entry-confirm" if found.then == "confirmed" else "#entry-refusal [data-reading]")
+            reading = f"#entry-refusal [data-reading='{found.value}']"
+            self.tap("#entry-confirm" if found.then == "confirmed" else reading)
 
 
 def progress(words: Words, stored: int) -> str:

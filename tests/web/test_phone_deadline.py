@@ -251,7 +251,7 @@ def test_a_window_that_has_closed_at_the_office_isnt_open_on_the_phone(phone: Ph
     phone.send()
     phone.browser.wait_text("#deadline", "The window closed on")
     phone.enter(1, "3.21")
-    phone.wait_told(1, "Receipt")
+    phone.wait_told(1, "Stored")
     phone.browser.wait_text("#line", "")
     assert "The window closed on" in phone.browser.text("#deadline")
     sets(stage, DAY, 2 * DAY)

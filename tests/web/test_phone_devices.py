@@ -5,6 +5,7 @@ from __future__ import annotations
 
 from collections.abc import Iterator
 from pathlib import Path
+from typing import Optional
 
 import pytest
 from selenium.webdriver.common.keys import Keys
@@ -58,7 +59,7 @@ def test_the_collector_chooses_the_price_of_this_device(phone: Phone, stage: Sta
     phone.browser.click("#entry-mine")
     phone.browser.wait_text("#line", "All sent")
     phone.show("all")
-    phone.wait_told(1, f"Receipt {NEXT + 1}")
+    phone.wait_receipt(1, NEXT + 1)
     assert stored(stage) == [[1, 315, NEXT + 1]]
 
 
@@ -80,7 +81,7 @@ def test_the_collector_chooses_the_stored_price(phone: Phone, stage: Stage) -> N
     asked(phone)
     phone.browser.click("#entry-theirs")
     phone.browser.wait_text("#line", "All sent")
-    assert phone.told(1).split("\n") == ["3.50", f"Receipt {NEXT}"]
+    assert (phone.told(1).split("\n"), phone.receipt(1)) == (["3.50", "Stored"], NEXT)
     assert listed(phone) == {}
     assert stage.relay.rows("quote,1,") == 0
     assert stored(stage) == [[1, 350, NEXT]]
@@ -190,7 +191,7 @@ def test_what_is_taken_back_after_a_lost_reply_has_its_receipt(phone: Phone, sta
     phone.browser.click("#entry-drop")
     phone.wait_told(1, "To do")
     phone.browser.offline(False)
-    phone.wait_told(1, f"Receipt {NEXT}")
+    phone.wait_receipt(1, NEXT)
     assert phone.browser.text("#line") == "All sent"
 
 
@@ -207,9 +208,11 @@ def test_a_second_tab_shows_what_the_first_one_enters_stores_and_drops(phone: Ph
     phone.show("all")
     second = browser.driver.current_window_handle
 
-    def seen_by_second(text: str) -> None:
+    def seen_by_second(text: str, receipt: Optional[int] = None) -> None:
         browser.driver.switch_to.window(second)
         phone.wait_told(1, text)
+        if receipt is not None:
+            phone.wait_receipt(1, receipt)
         browser.driver.switch_to.window(first)
 
     browser.driver.switch_to.window(first)
@@ -217,7 +220,7 @@ def test_a_second_tab_shows_what_the_first_one_enters_stores_and_drops(phone: Ph
     phone.enter(1, "3.10")
     seen_by_second("3.10\nTo be sent")
     stage.relay.held.clear()
-    seen_by_second(f"3.10\nReceipt {NEXT}")
+    seen_by_second("3.10\nStored", NEXT)
     desk(stage, CLOSED)
     phone.enter(1, "3.20")
     seen_by_second("3.20\nRefused\nStored: 3.10")
@@ -227,7 +230,7 @@ def test_a_second_tab_shows_what_the_first_one_enters_stores_and_drops(phone: Ph
     press_alarm(phone)
     act(phone, "drop", 1)
     browser.click('#dropping [value="drop"]')
-    seen_by_second(f"3.10\nReceipt {NEXT}")
+    seen_by_second("3.10\nStored", NEXT)
     browser.driver.switch_to.window(second)
     wait_alarm(phone, "")
     assert not [lines for lines in listed(phone).values() if "Stored." in lines]
@@ -256,7 +259,8 @@ def test_a_browser_that_is_killed_loses_and_doubles_nothing(mortal: Phone, stage
     mortal.open()
     mortal.browser.wait_text("#line", "All sent")
     mortal.show("all")
-    mortal.wait_told(1, f"3.10\nReceipt {NEXT}")
+    mortal.wait_told(1, "3.10\nStored")
+    mortal.wait_receipt(1, NEXT)
     without_line(mortal)
     mortal.edit(2)
     mortal.fill("4.90")

@@ -19,7 +19,7 @@ def many(phone: Phone, stage: Stage) -> Phone:
 
 def searched(phone: Phone, text: str) -> list[str]:
     """The slots that a search finds, in the order of the list."""
-    phone.browser.type("#search", text)
+    phone.search(text)
     found: list[str] = phone.browser.run(
         "return [...document.querySelectorAll('[data-slot]')].filter((it) => it.checkVisibility())"
         ".map((it) => it.dataset.slot)"
@@ -101,7 +101,7 @@ def test_what_is_stored_is_found_too(mixed: Phone) -> None:
     mixed.enter(3, "2.30")
     mixed.browser.wait_text("#line", "All sent")
     mixed.show("quotes")
-    mixed.browser.type("#search", "losos")
+    mixed.search("losos")
     assert [row.is_displayed() for row in mixed.browser.all("[data-quote]")] == [False, True]
     assert mixed.browser.text("#found") == "1 found"
 
@@ -136,8 +136,8 @@ def test_an_outlet_folds_and_a_search_opens_it(many: Phone) -> None:
 
 
 def test_by_keyboard_one_finds_a_row_and_enters_it(many: Phone, stage: Stage) -> None:
-    many.browser.run("document.getElementById('search').focus()")
-    many.press("102", "\ue004", "\ue007")  # (Tab, Enter: the jump)
+    many.browser.run("document.getElementById('seek').focus()")
+    many.press("\ue007", "102", "\ue004", "\ue007")  # (Tab, Enter: the jump)
     many.browser.wait(lambda: many.focused() == "41", "the first row that is found")
     many.press("\ue007")
     many.wait_edited(41)

@@ -45,7 +45,7 @@ def test_a_correction_closes_the_form(phone: Phone) -> None:
     phone.sign_in()
     phone.show("all")
     phone.enter(1, "3.21")
-    phone.wait_told(1, "Receipt")
+    phone.wait_told(1, "Stored")
     phone.edit(1)
     phone.fill("3.22")
     phone.wait_edited(None)
@@ -240,15 +240,16 @@ def test_digits_of_any_keyboard_are_taken(phone: Phone, stage: Stage) -> None:
 
 
 def test_what_can_be_two_prices_is_asked(phone: Phone, stage: Stage) -> None:
-    """An office with two decimals reads 1,459 as 1459.00 only if its collector says so."""
+    """An office with two decimals reads 1,459 as 1459.00, or as 1.459 rounded, only if its collector says so."""
     phone.sign_in()
     phone.edit(3)
     phone.press("1,459", Keys.ENTER)
     phone.browser.wait_text("#entry-refusal", "Which price is it?")
-    assert phone.browser.text("[data-reading]") == "1459.00" and stage.relay.quotes(NOW) == []
+    assert [one.text for one in phone.browser.all("[data-reading]")] == ["1.46, rounded", "1459.00"]
+    assert stage.relay.quotes(NOW) == []
     phone.press(Keys.ENTER)
     assert (phone.edited(), stage.relay.quotes(NOW)) == (f"{NOW}/3", [])
-    phone.browser.tap("[data-reading]")
+    phone.browser.tap("[data-reading='145900']")
     phone.wait_edited(4)
     assert [row[:1] + row[3:4] for row in stage.wait_for_quotes(ANNA)] == [[3, 145_900]]
 
@@ -260,7 +261,7 @@ def test_a_stored_price_is_withdrawn_by_no_price_and_its_reason(phone: Phone, st
     phone.sign_in()
     phone.show("all")
     phone.enter(1, "3.21")
-    phone.wait_told(1, "Receipt")
+    phone.wait_told(1, "Stored")
     phone.edit(1)
     assert phone.browser.text("#withdraw-text").startswith("A stored price can’t be deleted.")
     phone.browser.click("#entry-withdraw")
@@ -270,7 +271,7 @@ def test_a_stored_price_is_withdrawn_by_no_price_and_its_reason(phone: Phone, st
     phone.browser.click("#entry-save")
     phone.wait_edited(None)
     phone.wait_told(1, "No longer sold")
-    phone.wait_told(1, "Receipt")
+    phone.wait_told(1, "Stored")
     assert [row[:4] for row in stage.quotes(ANNA)] == [[1, NOW, "missing", "gone"]]
     phone.edit(1)
     assert not phone.browser.find("#entry-withdraw").is_displayed()
@@ -339,7 +340,7 @@ def test_what_was_written_is_there_again_when_the_form_is_opened(phone: Phone, s
     assert phone.browser.find("#price").get_attribute("value") == "3.1"
     assert phone.browser.text("#price-fault") == "You wrote this before, and didn’t save it."
     phone.save()
-    phone.wait_told(1, "Receipt")
+    phone.wait_told(1, "Stored")
     assert "not saved" not in phone.told(1)
     phone.edit(1)
     assert phone.browser.text("#price-fault") == ""
@@ -363,11 +364,11 @@ def test_what_was_written_isnt_saved_by_a_second_enter_of_the_row_before(phone: 
     phone.edit(1)
     phone.retype("3.21")
     phone.browser.run_until(TWICE)
-    phone.wait_told(1, "Receipt")
+    phone.wait_told(1, "Stored")
     assert (phone.edited(), phone.browser.find("#price").get_attribute("value")) == (f"{NOW}/2", "4.8")
     phone.retype("4.80")
     phone.save()
-    phone.wait_told(2, "Receipt")
+    phone.wait_told(2, "Stored")
     assert [row[:1] + row[3:4] for row in stage.quotes(ANNA)] == [[1, 321], [2, 480]]
 
 

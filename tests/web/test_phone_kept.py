@@ -316,7 +316,7 @@ def test_it_can_be_read_touched_and_enlarged(phone: Phone, width: int) -> None:
     phone.sign_in()
     phone.show("all")
     phone.enter(1, "3.21")
-    phone.wait_told(1, f"Receipt {NEXT}")
+    phone.wait_receipt(1, NEXT)
     assert looked_at(browser) == []
     phone.show("quotes")
     assert looked_at(browser) == []

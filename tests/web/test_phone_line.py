@@ -40,8 +40,8 @@ def test_without_a_line_entries_are_kept_and_sent_once(phone: Phone, stage: Stag
     phone.send()
     phone.browser.wait_text("#line", "All sent")
     phone.show("all")
-    phone.wait_told(1, "Receipt 10")
-    phone.wait_told(2, "Receipt 11")
+    phone.wait_receipt(1, 10)
+    phone.wait_receipt(2, 11)
     assert stage.quotes(ANNA) == [[1, NOW, "price", 315, 10], [2, NOW, "price", 999, 11]]
     assert (stage.relay.rows("quote,1,"), stage.relay.rows("quote,2,")) == (1, 1)
     assert next_receipt(stage) == 12
@@ -65,7 +65,7 @@ def test_a_reply_that_is_lost_is_asked_again_and_has_its_receipt(phone: Phone, s
     assert stage.relay.lost.wait(60)
     assert stored(stage, 1) == [("price", 321, NEXT)]  # (stored, and the page doesn't know)
     phone.show("all")
-    phone.wait_told(1, f"Receipt {NEXT}")  # (sent again by itself)
+    phone.wait_receipt(1, NEXT)  # (sent again by itself)
     assert stage.relay.rows("quote,1,") == 2
     assert stored(stage, 1) == [("price", 321, NEXT)]
     assert next_receipt(stage) == NEXT + 1
@@ -78,11 +78,11 @@ def test_a_receipt_is_kept_though_the_lists_behind_it_dont_come(phone: Phone) ->
     phone.browser.cdp("Network.setBlockedURLs", urls=["*/api/work/*", "*/api/quotes/*"])
     try:
         phone.enter(1, "3.21")
-        phone.wait_told(1, f"Receipt {NEXT}")
+        phone.wait_receipt(1, NEXT)
         phone.open()
         phone.browser.wait_text("#line", "No line")
         phone.show("all")
-        phone.wait_told(1, f"Receipt {NEXT}")
+        phone.wait_receipt(1, NEXT)
         assert "3.21" in phone.told(1)
     finally:
         phone.browser.cdp("Network.setBlockedURLs", urls=[])
@@ -117,7 +117,7 @@ def test_a_day_whose_line_breaks_within_an_import(phone: Phone, stage: Stage) ->
     assert [row[2:4] for row in found] == wanted
     assert sorted(row[4] for row in found) == [*slots]
     for slot, _, _, _, receipt in found:
-        assert f"Receipt {receipt}" in phone.told(slot).split("\n")
+        assert phone.receipt(slot) == receipt
     assert (stage.relay.rows("quote,1,"), stage.relay.rows("quote,2,")) == (2, 1)
     assert stage.ask("PUT", f"/api/quote/1/{NOW}", NOBODY, "price,322").reply == {"receipt": len(slots) + 1}
 
@@ -180,7 +180,7 @@ def test_what_finds_no_room_at_the_office_waits_and_the_rest_is_settled(phone: P
     phone.browser.run(DISK_IS_FULL)
     stage.front.start()
     phone.send()
-    phone.browser.wait_text("#notice", "Memory or the disk failed. Nothing was stored; send the same again.")
+    phone.browser.wait_text("#notice", "Memory or the disk failed. Nothing was stored; send it again.")
     assert [phone.told(slot).split("\n")[1] for slot in (2, 4)] == ["To be sent"] * 2
     assert phone.browser.text("#line") == "Not taken: 2 entries kept on this phone"
     phone.open()  # (the office has room again)
@@ -197,7 +197,7 @@ def test_the_office_dies_and_comes_back(phone: Phone, stage: Stage) -> None:
     phone.browser.wait_text("#line", "The office is busy: 1 entry kept")
     stage.start_office()
     phone.show("all")
-    phone.wait_told(1, f"Receipt {NEXT}")
+    phone.wait_receipt(1, NEXT)
     assert next_receipt(stage) == NEXT + 1
 
 
@@ -211,7 +211,7 @@ def test_a_mark_that_is_changed_while_it_is_under_way(phone: Phone, stage: Stage
     phone.wait_told(1, "3.30")
     assert "To be sent" in phone.told(1)
     stage.relay.held.clear()
-    phone.wait_told(1, f"Receipt {NEXT + 1}")
+    phone.wait_receipt(1, NEXT + 1)
     assert stored(stage, 1) == [("price", 330, NEXT + 1)]
 
 

@@ -44,11 +44,11 @@ def lost(phone: Phone, stage: Stage) -> None:
     phone.sign_in()
     phone.show("all")
     phone.enter(1, "3.10")
-    phone.wait_told(1, f"Receipt {NEXT}")
+    phone.wait_receipt(1, NEXT)
     copy = stage.copied()
     for at, (slot, price) in enumerate(((2, "4.90"), (3, "0.77"), (4, "1.10")), NEXT + 1):
         phone.enter(slot, price)
-        phone.wait_told(slot, f"Receipt {at}")
+        phone.wait_receipt(slot, at)
     stage.restore(copy)
     assert stored(stage) == [[1, 310, NEXT]]
 
@@ -65,7 +65,7 @@ def test_what_the_office_lacks_is_sent_again_and_told(phone: Phone, stage: Stage
     copy = stage.copied()
     for slot, price in ((1, "3.10"), (2, "4.90"), (4, "1.10")):
         phone.enter(slot, figure(price))
-        phone.wait_told(slot, phone.said("Receipt {number}", number=str(NEXT + min(slot - 1, 2))))
+        phone.wait_receipt(slot, NEXT + min(slot - 1, 2))
     stage.restore(copy)
     phone.send()
     wait_told(phone, 3, figure("10") + "–" + figure("12"))
@@ -90,7 +90,7 @@ def test_the_next_receipt_shows_that_the_office_was_restored(phone: Phone, stage
     phone.enter(1, "3.15")
     wait_told(phone, 3, "12–14")
     assert stored(stage) == [[1, 315, 11], [2, 490, 12], [3, 77, 13], [4, 110, 14]]
-    phone.wait_told(4, "Receipt 14")
+    phone.wait_receipt(4, 14)
 
 
 def test_a_phone_that_was_closed_meanwhile_sends_it_when_it_is_opened(phone: Phone, stage: Stage) -> None:
@@ -106,10 +106,10 @@ def test_a_batch_that_was_under_way_is_sent_too(phone: Phone, stage: Stage) -> N
     phone.sign_in()
     phone.show("all")
     phone.enter(1, "3.10")
-    phone.wait_told(1, f"Receipt {NEXT}")
+    phone.wait_receipt(1, NEXT)
     copy = stage.copied()
     phone.enter(2, "4.90")
-    phone.wait_told(2, f"Receipt {NEXT + 1}")
+    phone.wait_receipt(2, NEXT + 1)
     stage.relay.lose = 1
     stage.relay.paused.set()
     phone.enter(3, "0.77")
@@ -130,7 +130,7 @@ def test_receipts_that_arrive_after_the_office_was_restored_count_for_nothing(ph
     phone.browser.wait(lambda: stored(stage) == [[1, 310, NEXT]], "it is stored")
     stage.restore(copy)
     stage.relay.held.clear()
-    phone.wait_told(1, f"Receipt {NEXT}")
+    phone.wait_receipt(1, NEXT)
     phone.send()
     wait_told(phone, 1, "10")
     assert stored(stage) == [[1, 310, NEXT]]
@@ -157,11 +157,11 @@ def test_a_correction_that_is_lost_takes_the_place_of_what_it_corrected_again(ph
     phone.sign_in()
     phone.show("all")
     phone.enter(1, "3.10")
-    phone.wait_told(1, f"Receipt {NEXT}")
+    phone.wait_receipt(1, NEXT)
     copy = stage.copied()
     phone.enter(1, "9.99")
     phone.confirm()
-    phone.wait_told(1, f"Receipt {NEXT + 1}")
+    phone.wait_receipt(1, NEXT + 1)
     stage.restore(copy)
     phone.send()
     wait_told(phone, 1, "11")
@@ -173,11 +173,11 @@ def test_marks_come_back_as_they_were(phone: Phone, stage: Stage) -> None:
     phone.show("all")
     copy = stage.copied()
     phone.enter(1, mark="missing", reason="stock")
-    phone.wait_told(1, "Receipt 10")
+    phone.wait_receipt(1, 10)
     phone.enter(2, "4.90", mark="comparable")
-    phone.wait_told(2, "Receipt 11")
+    phone.wait_receipt(2, 11)
     phone.enter(4, "9", mark="other")
-    phone.wait_told(4, "Receipt 12")
+    phone.wait_receipt(4, 12)
     stage.restore(copy)
     phone.send()
     wait_told(phone, 3, "10–12")
@@ -255,7 +255,7 @@ def test_the_collector_may_keep_the_price_of_the_other_device(phone: Phone, stag
     phone.edit(2)
     phone.browser.click("#entry-theirs")
     phone.browser.wait_text("#line", "All sent")
-    assert phone.told(2).split("\n") == ["5.00", "Receipt 11"]
+    assert (phone.told(2).split("\n"), phone.receipt(2)) == (["5.00", "Stored"], 11)
     assert stored(stage) == [[1, 310, 10], [2, 500, 11], [3, 77, 12], [4, 110, 13]]
 
 
@@ -274,14 +274,14 @@ def test_two_devices_of_a_collector_send_each_price_once(phone: Phone, tablet: P
     phone.sign_in()
     phone.show("all")
     phone.enter(1, "3.10")
-    phone.wait_told(1, "Receipt 10")
+    phone.wait_receipt(1, 10)
     tablet.sign_in()
     tablet.show("all")
-    tablet.wait_told(1, "Receipt 10")
+    tablet.wait_receipt(1, 10)
     tablet.enter(2, "4.90")
-    tablet.wait_told(2, "Receipt 11")
+    tablet.wait_receipt(2, 11)
     phone.enter(1, "3.20")
-    phone.wait_told(1, "Receipt 12")
+    phone.wait_receipt(1, 12)
     stage.restore(copy)
     tablet.send()
     wait_told(tablet, 2, "10–11")
@@ -290,7 +290,7 @@ def test_two_devices_of_a_collector_send_each_price_once(phone: Phone, tablet: P
     wait_told(phone, 1, "12")
     assert stored(stage) == [[1, 320, 12], [2, 490, 11]]
     tablet.send()
-    tablet.wait_told(1, "Receipt 12")
+    tablet.wait_receipt(1, 12)
     assert tablet.told(1).split("\n")[0] == "3.20"
     assert put(stage, 4, "price,101") == 13
 
@@ -300,13 +300,13 @@ def test_what_another_device_has_stored_since_the_list_came_asks_nothing(phone: 
     phone.sign_in()
     phone.show("all")
     phone.enter(1, "3.10")
-    phone.wait_told(1, "Receipt 10")
+    phone.wait_receipt(1, 10)
     assert put(stage, 1, "price,330") == 11
     phone.enter(2, "4.90")
-    phone.wait_told(2, "Receipt 12")
+    phone.wait_receipt(2, 12)
     copy = stage.copied()
     phone.enter(4, "1.10")
-    phone.wait_told(4, "Receipt 13")
+    phone.wait_receipt(4, 13)
     stage.restore(copy)
     phone.send()
     wait_told(phone, 1, "13")
@@ -320,10 +320,10 @@ def test_an_equal_price_of_another_device_says_nothing(phone: Phone, stage: Stag
     phone.show("all")
     assert put(stage, 1, "price,310") == 10
     phone.enter(2, "4.90")
-    phone.wait_told(2, "Receipt 11")
+    phone.wait_receipt(2, 11)
     asked = len(stage.relay.asked())
     phone.enter(1, "3.10")
-    phone.wait_told(1, "Receipt 10")
+    phone.wait_receipt(1, 10)
     phone.browser.wait(lambda: f"GET /quotes/{NOW}/{NOW}" in stage.relay.asked()[asked:], "the page looks")
     phone.browser.wait_text("#line", "All sent")
     assert phone.browser.text("#notice") == ""
@@ -373,7 +373,7 @@ def test_what_cant_be_sent_again_is_shown_until_the_collector_drops_it(
     wait_alarm(phone, "3 refused")
     why = (
         "The office had stored this, with receipt 11, and was restored from a copy that lacks it. The window has closed. "
-        "Tell the desk; the month goes without it, unless the desk opens it again."
+        "Tell the desk; the month goes without the price unless the desk opens the window again."
     )
     assert press_alarm(phone)[f"{NOW}/2"][1:3] == ["Flour, wheat, 1 kg: 4.90", why]
     row = file_of(phone.browser, "#unsent [data-do=save]", tmp_path)[1]
@@ -408,7 +408,7 @@ def test_what_the_copy_has_no_slot_for_is_sent_once_the_desk_has_sent_that_again
     phone.sign_in()
     phone.show("all")
     phone.enter(5, "1.10")
-    phone.wait_told(5, f"Receipt {NEXT}")
+    phone.wait_receipt(5, NEXT)
     stage.restore(copy)
     phone.send()
     wait_alarm(phone, "1 refused")
@@ -426,9 +426,9 @@ def test_what_the_office_lacks_of_last_month_comes_back_too(phone: Phone, stage:
     copy = stage.copied()
     phone.browser.click("#month-before")
     phone.show("all")
-    phone.wait_told(2, "Receipt 8")
+    phone.wait_receipt(2, 8)
     phone.enter(2, "4.70")
-    phone.wait_told(2, "Receipt 10")
+    phone.wait_receipt(2, 10)
     phone.browser.click("#month-after")
     phone.browser.wait(lambda: phone.month() == NOW, "this month")
     stage.restore(copy)

@@ -32,7 +32,7 @@ def test_a_saved_row_stays_until_the_view_is_chosen_again(many: Phone) -> None:
     many.browser.tap("#entry-cancel")
     many.wait_edited(None)
     assert many.places() == before
-    many.wait_told(2, "Receipt")
+    many.wait_told(2, "Stored")
     many.browser.wait_text("#line", "All sent")
     assert many.places() == before
     many.update()
@@ -47,7 +47,7 @@ def test_a_tap_where_a_row_was_before_opens_that_row(many: Phone) -> None:
     many.tap_save("2.10")
     many.wait_edited(3)
     many.browser.tap("#entry-cancel")
-    many.wait_told(2, "Receipt")
+    many.wait_told(2, "Stored")
     many.browser.touch(*place)
     many.wait_edited(3)
 
@@ -55,14 +55,14 @@ def test_a_tap_where_a_row_was_before_opens_that_row(many: Phone) -> None:
 def test_rows_below_a_correction_dont_move_at_its_receipt(many: Phone, stage: Stage) -> None:
     many.enter(2, "2.10")
     many.show("all")
-    many.wait_told(2, "Receipt")
+    many.wait_told(2, "Stored")
     stage.relay.held.set()
     many.enter(2, "2.20")
     many.wait_told(2, "Stored: 2.10")
     before = many.places()
     stage.relay.held.clear()
-    many.wait_told(2, "Receipt")
-    assert many.places() == before and "Stored" not in many.told(2)
+    many.wait_told(2, "Stored")
+    assert many.places() == before and "Stored: " not in many.told(2)
 
 
 def test_rows_dont_move_when_the_line_goes_or_comes(many: Phone, stage: Stage) -> None:
@@ -202,7 +202,7 @@ def test_the_list_can_be_read_touched_and_enlarged(phone: Phone, stage: Stage, w
     phone.enter(1, "2.10")
     browser.wait_text("#line", "All sent")
     found = {"list": looked_at(browser)}
-    browser.type("#search", "rice")
+    phone.search("rice")
     found["search"] = looked_at(browser)
     browser.click("summary")
     found["folded"] = looked_at(browser)

@@ -9,7 +9,7 @@ from urllib.parse import quote
 
 from selenium.webdriver.common.keys import Keys
 
-from cpi_tools.check_character import check_character
+from cpi_tools.desk.keys.sign_in import check_character
 from .offices import ANNA, BENO, LEAVING, NOBODY, SCRIPT
 from .phone import Phone
 from .readable import faults_enlarged, faults_for_keys, faults_of_page, faults_of_texts
@@ -119,7 +119,7 @@ def test_on_a_line_that_hangs_a_link_is_answered_at_once(phone: Phone, stage: St
 
 def test_a_link_that_opens_nothing_says_why(phone: Phone, stage: Stage) -> None:
     follow(phone, NOBODY)
-    phone.browser.wait_text("#key-fault", "Nobody bears this key")
+    phone.browser.wait_text("#key-fault", "Nobody has this key")
     follow(phone, ANNA[:31])
     phone.browser.wait_text("#key-fault", "This one has 31.")
     follow(phone, "")
@@ -211,16 +211,26 @@ def test_signing_in_can_be_read_touched_and_done_by_keys(phone: Phone) -> None:
 def test_a_browser_that_may_clear_storage_is_told_until_it_was_read(phone: Phone) -> None:
     with phone.browser.on_each_page("navigator.storage.persisted = navigator.storage.persist = async () => false;"):
         phone.sign_in()
+        assert not phone.browser.find("#storage").is_displayed()
+        before = phone.places()
+        phone.enter(1, "3.21")
+        phone.browser.wait_shown("#storage p")
         assert "This browser may clear what isn’t sent yet" in phone.browser.text("#storage")
+        assert phone.places() == before
         phone.open()
-        phone.browser.wait_shown("#storage")
+        phone.browser.wait_text("#line", "All sent")
+        phone.enter(2, "4.90")
+        phone.browser.wait(lambda: phone.browser.find("#storage").is_displayed(), "the notice")
         phone.browser.click("#storage-read")
         phone.open()
         phone.browser.wait_text("#line", "All sent")
+        phone.enter(3, "1.05")
         assert not phone.browser.find("#storage").is_displayed()
     phone.browser.fresh()
     with phone.browser.on_each_page("navigator.storage.persisted = navigator.storage.persist = async () => true;"):
         phone.sign_in()
+        phone.enter(4, "1.05")
+        phone.browser.wait_text("#line", "All sent")
         assert not phone.browser.find("#storage").is_displayed()
 
 

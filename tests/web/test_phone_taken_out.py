@@ -63,8 +63,8 @@ def test_what_waits_behind_a_key_that_is_denied_can_be_taken_out(phone: Phone, s
     stage.front.stop()
     stage.front.start(lambda text: text.replace("default 0;\n", f'default 0;\n"~*{ANNA}" 1;\n', 1))
     phone.enter(1, "3.10")
-    phone.browser.wait_text("#notice", "Nobody bears this key")
-    waits(phone, "Nobody bears this key. Look at the key; if it is right, ask the desk.", tmp_path)
+    phone.browser.wait_text("#notice", "Nobody has this key")
+    waits(phone, "Nobody has this key. Check the key; if it is right, ask the desk.", tmp_path)
     stage.front.stop()
     stage.front.start()
     phone.send()
@@ -81,7 +81,7 @@ def test_what_waits_for_an_office_without_room_can_be_taken_out(phone: Phone, st
         if "To do" in phone.told(1):
             phone.enter(1, "3.10")
         phone.browser.wait_text("#notice", "Memory or the disk failed. Nothing was stored")
-        waits(phone, "Memory or the disk failed. Nothing was stored; send the same again.", tmp_path)
+        waits(phone, "Memory or the disk failed. Nothing was stored; send it again.", tmp_path)
     stage.relay.answers()
     phone.browser.wait_text("#line", "All sent")
     assert stored(stage) == [[1, 310, NEXT]]

@@ -35,7 +35,7 @@ def three_kinds(phone: Phone, stage: Stage) -> None:
     phone.sign_in()
     phone.browser.click("#month-before")
     phone.show("all")
-    phone.wait_told(4, "Receipt 9")
+    phone.wait_receipt(4, 9)
     without_line(phone)
     phone.enter(4, "1.10")
     phone.browser.click("#month-after")
@@ -62,7 +62,7 @@ def test_the_head_counts_what_isnt_stored_of_all_months_and_leads_to_it(phone: P
     assert handed_over[0].endswith(" · Corner shop")
     assert handed_over[1:3] == [
         "Rice, white, 1 kg: 3.10",
-        "The slot isn’t yours in that month, or isn’t any more. Look at the work list of the month.",
+        "The slot isn’t yours in that month, or no longer is. Check the work list of the month.",
     ]
     assert moved[1:3] == [
         "Flour, wheat, 1 kg: 4.90",
@@ -268,7 +268,7 @@ LIST_CAME = "return (await import('/collect/state.js')).state.list.at"
 def test_rows_stay_in_to_do_until_a_view_is_chosen(phone: Phone, stage: Stage) -> None:
     phone.sign_in()
     phone.enter(1, "3.10")
-    phone.wait_told(1, f"Receipt {NEXT}")
+    phone.wait_receipt(1, NEXT)
     before = phone.browser.run_until(LIST_CAME)
     phone.send()
     phone.browser.wait(lambda: phone.browser.run_until(LIST_CAME) > before, "the list comes again")
@@ -281,13 +281,13 @@ def test_rows_dont_move_when_a_correction_is_stored(phone: Phone, stage: Stage) 
     phone.sign_in()
     phone.show("all")
     phone.enter(1, "3.10")
-    phone.wait_told(1, f"Receipt {NEXT}")
+    phone.wait_receipt(1, NEXT)
     stage.relay.held.set()
     phone.enter(1, "3.15")
     phone.wait_told(1, "Stored: 3.10")
     before = tops(phone.browser, "[data-slot]")
     stage.relay.held.clear()
-    phone.wait_told(1, f"Receipt {NEXT + 1}")
+    phone.wait_receipt(1, NEXT + 1)
     assert tops(phone.browser, "[data-slot]") == before
 
 

@@ -8,9 +8,9 @@ from pathlib import Path
 import pytest
 
 from .browser import Browser
-from cpi_tools.pack.config import Config
-from cpi_tools.pack.public import Listed, Published
-from cpi_tools.publish import publish
+from cpi_tools.publish.figures.config import Config
+from cpi_tools.office.public import Listed, Published
+from cpi_tools.publish.pack import publish
 
 TITLES = {
     "00": "All items", "01": "Food", "01.1": "Bread & caf\u00e9s", "02": "Bi\u00e8re", "03": "Chocolate", "03.1": "Chocolate drinks",

@@ -15,9 +15,9 @@ import pytest
 
 from .browser import Browser
 from lib.places import ROOT
-from cpi_tools import languages
-from cpi_tools.pack.office_languages import OfficeLanguages
-from cpi_tools.publish import publish
+from cpi_tools.text import languages
+from cpi_tools.publish.figures.office_languages import OfficeLanguages
+from cpi_tools.publish.pack import publish
 from lib.pseudo import write_catalogue
 from lib.sample import Sample
 from .readable import CUT, NAMELESS, SEEN, WIDE
@@ -32,9 +32,9 @@ TONGUES = ("el", "he")
 LEFT = (
     SEEN
     + r"""
-const plain = /[\w.-]*\.(csv|xlsx|xml|json|px|ics|html|zip)\b|\b(SVG|PNG|CSV|SDMX|ML|SHA|UTC|StructureSpecificData|CORE)\b/g; // (CORE is the code of an item)
+const plain = /[\w./-]*\.(csv|xlsx|xml|jsonld|json|px|ics|html|zip)\b|\b(SVG|PNG|CSV|SDMX|ML|SHA|UTC|StructureSpecificData|BibTeX|RIS|CORE)\b/g; // (CORE is the code of an item)
 const addressed = /https?:\/\/\S+|[\w-]+=\S+|[0-9a-f]{64}/g;
-const others = /Title of [\w.-]+, a long one with commas|Office of prices and other things|Consumer price index|All items without food, energy and administered prices|crowns/gi;
+const others = /Title of [\w.-]+, a long one with commas|Office of prices and other things|Consumer price index|All items without food, energy and administered prices|All items without food, energy and|administered prices|crowns/gi;
 const isEnglish = (text) => /[A-Za-z]{2,}/.test(text.replace(others, "").replace(addressed, "").replace(plain, "").replace(/\u2068.*?\u2069/gs, ""));
 const ours = "bdi, code, pre, script, style, noscript, .code, .hash, .formula, .languages, sup, b, option";
 const found = [];
@@ -174,7 +174,7 @@ def test_a_picture_has_the_months_of_its_language(arabic: Browser) -> None:
     arabic.open("/published/choose.html?items=00&revision=2026-01-28T08:30:00Z")
     arabic.wait(lambda: arabic.all("#parts tbody tr"), "figures")
     chosen = arabic.run("return document.getElementById('revision').selectedOptions[0].textContent")
-    assert chosen.startswith("كما نُشر في ٢٨ يناير ٢٠٢٦ ") and chosen.endswith("٠٨:٣٠ UTC")
+    assert chosen.startswith("كما نُشر في ٢٨ يناير ٢٠٢٦، الساعة ") and chosen.endswith("٠٨:٣٠ UTC")
     assert arabic.faults() == []
 
 

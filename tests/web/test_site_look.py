@@ -15,12 +15,12 @@ import pytest
 
 from . import readable
 from .browser import Browser
-from cpi_tools.front import system_program
-from cpi_tools.pack.config import Config
-from cpi_tools.pack.public import Listed, Published
-from cpi_tools.pack.reasons import Reason
-from cpi_tools.pack.specials import Special
-from cpi_tools.publish import publish
+from cpi_tools.tryout.front import system_program
+from cpi_tools.publish.figures.config import Config
+from cpi_tools.office.public import Listed, Published
+from cpi_tools.publish.figures.reasons import Reason
+from cpi_tools.publish.figures.specials import Special
+from cpi_tools.publish.pack import publish
 from lib.sample import Sample
 from .other_site import other_site
 
@@ -178,19 +178,23 @@ return all.filter((it) => !it.startsWith("data:"));
 
 
 def test_a_page_asks_for_few_files_and_for_none_elsewhere(browser: Browser, site: Path) -> None:
+    """At most five, besides the script of the search in the head, which a page to embed doesn't have."""
     with other_site(site) as address:
         for name in PAGES:
             browser.driver.get(f"{address}/{name}")
             asked = browser.run(ASKED)
-            assert 2 <= len(asked) <= 5 and all(it.startswith(f"{address}/") for it in asked), asked
+            heads = [it for it in asked if it == f"{address}/assets/head.js"]
+            assert len(heads) == (not name.startswith("embed/")), asked
+            assert 2 <= len(asked) - len(heads) <= 5 and all(it.startswith(f"{address}/") for it in asked), asked
 
 
 def test_the_first_page_is_light(browser: Browser, site: Path) -> None:
-    """With 13 divisions, 61 months and all notes it takes less than 15 kB, as a server packs it, in three messages."""
+    """With 13 divisions, 61 months and all notes it takes less than 15 kB, as a server packs it, in five messages."""
     with other_site(site) as address:
         browser.driver.get(f"{address}/index.html")
         names = [it.removeprefix(f"{address}/") for it in browser.run(ASKED)]
-    assert sorted(names) == ["assets/style.css", "assets/take.js", "index.html"]
+    scripts = [f"assets/{name}.js" for name in ("head", "point", "take")]
+    assert sorted(names) == sorted([*scripts, "assets/style.css", "index.html"])
     assert sum(len(gzip.compress((site / name).read_bytes(), 1)) for name in names) < BOUND
 
 

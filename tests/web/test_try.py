@@ -20,8 +20,8 @@ from pathlib import Path
 import pytest
 
 from lib.places import ROOT
-from cpi_tools.front import children_of, fingerprint
-from cpi_tools.program import Cpi
+from cpi_tools.tryout.front import children_of, fingerprint
+from cpi_tools.office.program import Cpi
 from lib.served import free_port
 from .offices import ANNA, NOW
 from .stage import Stage
@@ -121,6 +121,7 @@ def test_it_tells_where_to_point_a_phone_and_stops_at_ctrl_c(trial: Trial) -> No
     assert [trial.get(path)[0] for path in ("/", "/tables/", "/desk/")] == [302, 301, 302]
     assert b"Sign in at the desk" in trial.get("/desk/sign-in")[1]
     assert "in February 2011" in trial.get("/published/")[1].decode().partition("<h1>")[2].replace("In ", "in ")
+    assert f'href="{url}/published/"' in trial.get("/published/")[1].decode()
     assert trial.get("/ca.crt") == (200, (trial.folder / "ca.crt").read_bytes())
     assert trial.get(f"/api/work/{NOW}", ANNA)[0] == 200
     assert trial.get(f"/api/work/{NOW}", desk[1])[0] == 403  # (the desk has no work list)
@@ -130,6 +131,8 @@ def test_it_tells_where_to_point_a_phone_and_stops_at_ctrl_c(trial: Trial) -> No
     assert not (trial.folder / "ca.key").exists()
     assert len(trial.children) == 3
     trial.signs_in_at_the_desk(desk[1])
+    assert b"  notes: true,\n" in trial.get("/config.js")[1]
+    assert trial.get("/notes/questions", ANNA) == (200, b'{"questions":[]}\n')
     assert trial.stop(signal.SIGINT) == 0
     assert trial.left() == []
 
@@ -152,7 +155,7 @@ def test_its_pages_speak_a_language(cpi: Cpi, made: Path, tmp_path: Path) -> Non
     trial = Trial(cpi, tmp_path / "try", "--db", str(made), "--language", "fr")
     try:
         config = trial.get("/config.js")[1].decode()
-        assert 'language: "fr",' in config and 'decimal: ",",' in config
+        assert 'language: "fr",' in config and 'decimal: ",",' in config and "notes: true," in config
         assert b'<html lang="fr"' in trial.get("/published/")[1]
         assert b'<html lang="en"' in trial.get("/published/en/")[1]
     finally:

@@ -61,7 +61,9 @@ def stored(stage: Stage) -> list[list[Any]]:
     return [[slot, value, receipt] for slot, _, _, value, receipt in stage.quotes(ANNA)]
 
 
-CLOSED_TEXT = "The window has closed. Tell the desk; the month goes without it, unless the desk opens it again."
+CLOSED_TEXT = (
+    "The window has closed. Tell the desk; the month goes without the price unless the desk opens the window again."
+)
 
 
 def refused(phone: Phone, stage: Stage, *prices: tuple[int, str]) -> None:

@@ -52,9 +52,10 @@ for (let node = walker.nextNode(); node; node = walker.nextNode()) {
     }
   }
 }
+const isOver = ({ node }) => node.parentElement.closest("#storage") !== null; // (it lies over the page until it was read)
 for (const [n, one] of texts.entries()) {
   for (const other of texts.slice(n + 1)) {
-    if (one.node === other.node) continue;
+    if (one.node === other.node || isOver(one) !== isOver(other)) continue;
     const wide = Math.min(one.box.right, other.box.right) - Math.max(one.box.left, other.box.left);
     const high = Math.min(one.box.bottom, other.box.bottom) - Math.max(one.box.top, other.box.top);
     if (wide > 1 && high > 5) found.push(`covered: ${one.node.data} / ${other.node.data}`);

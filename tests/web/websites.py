@@ -5,7 +5,7 @@ from __future__ import annotations
 from pathlib import Path
 
 from cpi_tools.command_line import main
-from cpi_tools.program import Cpi
+from cpi_tools.office.program import Cpi
 
 CONFIG = "[office]\nagency = NSO\narea = XX\noffice = Office of prices\n"
 LONG_AFTER = 1_000_000

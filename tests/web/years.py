@@ -15,7 +15,7 @@ from __future__ import annotations
 
 from collections.abc import Iterator
 
-from cpi_tools.program import record
+from cpi_tools.office.program import record
 from lib.offices import plan_with
 from .offices import ANNA
 

@@ -27,8 +27,8 @@ from lib.served import free_port
 
 sys.path.insert(0, os.path.join(TOP, "tools"))
 
-from cpi_tools import front as fronts  # noqa: E402
-from cpi_tools.terminal import Fault  # noqa: E402
+from cpi_tools.tryout import front as fronts  # noqa: E402
+from cpi_tools.text.terminal import Fault  # noqa: E402
 
 from . import clock as clocks  # noqa: E402
 from .asked import Asked  # noqa: E402
@@ -41,7 +41,9 @@ PATIENCE = 30
 """Real seconds within which nginx listens, or obeys a signal."""
 
 KEY = re.compile("[0-9a-f]{32}")
-DRAW = "import pathlib, sys, cpi_tools.front as f; f.draw_certificate(pathlib.Path(sys.argv[1]), 'localhost', {})"
+DRAW = (
+    "import pathlib, sys, cpi_tools.tryout.front as f; f.draw_certificate(pathlib.Path(sys.argv[1]), 'localhost', {})"
+)
 
 
 def more_often(text: str) -> str:
