@@ -199,6 +199,8 @@ def lanes(it: Repository) -> Iterator[Seen]:
     for count in ("1", "2"):
         for folder in it.crates.glob("*/out"):
             shutil.rmtree(folder)
+        for side in ("left", "right"):
+            it.write(side, "meeting" if count == "2" else "")
         ran, told = it.run("cpi-build", "--lanes", count, "--jobs", "4"), it.told()
         yield f"{count}: all is built, here", ran.status == 0 and len([*it.crates.glob("*/out/rlib/stamp")]) == 4
         yield f"{count}: the jobs are shared", ("with 2 jobs" in ran.err) == (count == "2")
@@ -338,11 +340,14 @@ def what_is_tried(it: Repository) -> Iterator[Seen]:
     calls = it.calls("tests/run")
     yield "without dist/ the tests run over what the gate built", calls[0].startswith(f"tests {built} ")
     yield "a short run, by the seed", "--seed=7" in calls[0] and "--long" not in calls[0]
-    yield "at last dist/ is compared", calls[1:] == [f"tests/test_shipped_program.py {built}"]
+    yield "at last dist/ is compared", calls[1:] == [f"tests/test_shipped_program.py {built} --seed=7"]
     it.ship()
-    it.run("test", "--long", "--processes", "3")
+    it.run("test", "--seed", "7", "--long", "--processes", "3")
     calls = it.calls("tests/run")
-    yield "over dist/ if it was made of the sources at hand", calls[0] == f"tests {shipped} -n 3 --long --coverage"
+    yield "over dist/ if it was made of the sources at hand", calls[0] == f"tests {shipped} --seed=7 -n 3 --long --coverage"
+    it.run("test")
+    seeds = {call.partition("--seed=")[2].partition(" ")[0] for call in it.calls("tests/run")}
+    yield "a seed that is drawn is the same in all parts", len(seeds) == 1 and seeds.pop().isdecimal()
     it.ship(sources="0")
     ran = it.run("test")
     yield "not if it was made of others", it.calls("tests/run")[0].startswith(f"tests {built} ")
@@ -357,6 +362,14 @@ def second_tries(it: Repository) -> Iterator[Seen]:
     yield "they are named beside the last line", ran.status == 0 and ran.out.endswith(
         f"{line}{PASSED} passed, 0 failed\n"
     )
+
+
+def names_of_failures(it: Repository) -> Iterator[Seen]:
+    begin_test(it)
+    it.stand_in("tests/run", "failed: test_a.py::test_b\n10 passed, 1 failed", 1)
+    ran = it.run("test")
+    line = "failed: tests: test_a.py::test_b\n"
+    yield "each is named beside the last line", ran.status == 1 and line in ran.out.partition("processor minutes:")[2]
 
 
 def tests_broken_off(it: Repository, number: int) -> Iterator[Seen]:
@@ -458,7 +471,7 @@ CASES: dict[str, Callable[[Repository], Iterator[Seen]]] = {
     **{case.__name__: case for case in (edits_beside_the_gate, second_tries, green_tests_and_shipping, comparing)},
     **{case.__name__: case for case in (a_fresh_clone, sources_that_did_not_change, many_at_once, damage, lanes, sums)},
     **{case.__name__: case for case in (a_checkout_that_can_not_be_written, sources_that_changed, programs_of_no_use)},
-    **{case.__name__: case for case in (proofs_that_fail, notices_of_libraries)},
+    **{case.__name__: case for case in (proofs_that_fail, notices_of_libraries, names_of_failures)},
     **{f"broken_off_by_{it.name}": partial(broken_off, number=it) for it in signal.Signals if it in (2, 9, 15)},
     **{
         f"tests_broken_off_by_{it.name}": partial(tests_broken_off, number=it) for it in signal.Signals if it in (2, 15)

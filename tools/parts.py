@@ -24,13 +24,20 @@ LAST = re.compile(r"(\d+) passed, (\d+) failed")
 SECOND_TRY = "passed at its second try only: "
 """How a line begins that names a test which failed at first."""
 
+FAILED = "failed: "
+"""How a line begins that names a test which failed."""
+
 
 class Result(NamedTuple):
-    """What a part came to: how many of its tests passed and failed, and which passed only at their second try."""
+    """What a part came to: how many of its tests passed and failed, and the names of those that it told.
+
+    They are the tests that passed only at their second try, and those that failed.
+    """
 
     passed: int
     failed: int
     second_tries: tuple[str, ...] = ()
+    failures: tuple[str, ...] = ()
 
 
 def result_of(lines: Sequence[str], status: int) -> tuple[Result, str]:
@@ -38,14 +45,19 @@ def result_of(lines: Sequence[str], status: int) -> tuple[Result, str]:
 
     A part that fails without saying so in its last line, or that has no such line, counts as one failure.
     """
-    second = tuple(line[len(SECOND_TRY) :] for line in lines if line.startswith(SECOND_TRY))
-    found = LAST.fullmatch(lines[-1]) if lines else None
-    if not found:
-        return Result(0, 1, second), f"status {status}, and no last line 'N passed, M failed'"
-    passed, failed = int(found[1]), int(found[2])
+    second, failures = names_after(SECOND_TRY, lines), names_after(FAILED, lines)
+    last = LAST.fullmatch(lines[-1]) if lines else None
+    if not last:
+        return Result(0, 1, second, failures), f"status {status}, and no last line 'N passed, M failed'"
+    passed, failed = int(last[1]), int(last[2])
     if status != 0 and failed == 0:
-        return Result(passed, 1, second), f"status {status}"
-    return Result(passed, failed, second), ""
+        return Result(passed, 1, second, failures), f"status {status}"
+    return Result(passed, failed, second, failures), ""
+
+
+def names_after(start: str, lines: Sequence[str]) -> tuple[str, ...]:
+    """The names in the lines that begin so, in their order."""
+    return tuple(line[len(start) :] for line in lines if line.startswith(start))
 
 
 class Parts:
@@ -102,8 +114,10 @@ class Parts:
     def total(self) -> Result:
         """What all parts come to."""
         results = self.results.values()
-        second = tuple(name for it in results for name in it.second_tries)
-        return Result(sum(it.passed for it in results), sum(it.failed for it in results), second)
+        second = tuple(name for result in results for name in result.second_tries)
+        failures = tuple(f"{part}: {name}" for part, result in self.results.items() for name in result.failures)
+        passed, failed = (sum(result[place] for result in results) for place in (0, 1))
+        return Result(passed, failed, second, failures)
 
     def _give_up(self, name: str, hours: float, running: subprocess.Popen[str]) -> None:
         self.say(f"{name}: it goes on after {hours * 60:.0f} minutes, and is ended")

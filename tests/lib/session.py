@@ -240,5 +240,7 @@ class Counts:
             print(f"processor minutes: {sum(self.seconds.values()) / 60:.1f}: {', '.join(minutes)} ..")
         for name in self.second:
             print(f"passed at its second try only: {name}")
+        for name in sorted(self.failed):
+            print(f"failed: {name}")
         failed = len(self.failed) + self.unread or int(status != 0)
         print(f"{len(self.passed)} passed, {failed} failed", flush=True)

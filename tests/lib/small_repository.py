@@ -39,7 +39,8 @@ realpath rm sed sh sha256sum sleep sort sync tail tee timeout touch tr true unam
 """
 
 # Words in the text of a crate tell the stand-in what to do: slow (never end, unless it was begun before), wrong (prove
-# nothing), moving (change the sources meanwhile), stuck (a gate that ends before it begins).
+# nothing), moving (change the sources meanwhile), stuck (a gate that ends before it begins), meeting (go on only when left
+# and right have both begun, or after ten seconds).
 RT = """#!/usr/bin/env bash
 set -eu
 below() { sed -n "s/#.*//; s/^$1: *//p" ../../crates.txt; }
@@ -75,7 +76,9 @@ lib | run)
     for _ in {1..200}; do sleep 0.1; done
     exit 3
   fi
-  sleep 0.2
+  if grep -q meeting src/*; then
+    for _ in {1..100}; do [ "$(grep -cE '^begins (left|right)' "$RT_LOG")" -lt 2 ] || break; sleep 0.1; done
+  fi
   stamp $name > out/rlib/stamp
   [ $1 = lib ] || { echo '#!/bin/bash'; echo "text='$(cat ../low/src/*)'"; cat "$PROGRAM"; } > out/cpi
   [ $1 = lib ] || chmod +x out/cpi
