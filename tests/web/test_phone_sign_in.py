@@ -234,6 +234,24 @@ def test_a_browser_that_may_clear_storage_is_told_until_it_was_read(phone: Phone
         assert not phone.browser.find("#storage").is_displayed()
 
 
+def test_the_notice_comes_back_at_a_start_with_entries_that_wait(phone: Phone, stage: Stage) -> None:
+    with phone.browser.on_each_page("navigator.storage.persisted = navigator.storage.persist = async () => false;"):
+        phone.sign_in()
+        stage.front.stop()
+        try:
+            phone.enter(1, "3.21")
+            phone.browser.wait_text("#line", "No line: 1 entry kept on this phone")
+            phone.open()
+            phone.browser.wait_shown("#storage p")
+            phone.browser.click("#storage-read")
+            phone.open()
+            phone.browser.wait_text("#list", "To be sent")
+            assert not phone.browser.find("#storage").is_displayed()
+        finally:
+            stage.front.start()
+        phone.browser.wait_text("#line", "All sent")
+
+
 def test_each_icon_of_the_manifest_is_there(stage: Stage) -> None:
     icons = json.loads(stage.ask("GET", "/collect/manifest.webmanifest").body)["icons"]
     for icon in icons:

@@ -15,6 +15,7 @@ import { showSentAgain } from "./restored.js";
 import * as search from "./search.js";
 import * as shownMonth from "./shown-month.js";
 import { signedOut, state, takeKept } from "./state.js";
+import { showStorage } from "./storage.js";
 import * as store from "./store.js";
 import * as tabs from "./tabs.js";
 import * as unsent from "./unsent.js";
@@ -98,6 +99,7 @@ async function enter(key, name) {
   find("sign-in").hidden = true;
   find("work").hidden = find("leave").hidden = false;
   await show();
+  if (state.entries.length > 0) await showStorage();
   choose();
   await notes.begin();
   await questions.begin();

@@ -1,5 +1,5 @@
-// A browser that may clear what it keeps: said once something is kept, until the collector has read it. The notice lies over
-// the end of the page, so no row moves.
+// A browser that may clear what it keeps: said once something is kept, and at a start with entries that wait, until the
+// collector has read it. The notice lies over the end of the page, so no row moves.
 import { find } from "../shared/dom.js";
 import * as store from "./store.js";
 
