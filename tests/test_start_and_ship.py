@@ -343,8 +343,8 @@ def what_is_tried(it: Repository) -> Iterator[Seen]:
     yield "at last dist/ is compared", calls[1:] == [f"tests/test_shipped_program.py {built} --seed=7"]
     it.ship()
     it.run("test", "--seed", "7", "--long", "--processes", "3")
-    calls = it.calls("tests/run")
-    yield "over dist/ if it was made of the sources at hand", calls[0] == f"tests {shipped} --seed=7 -n 3 --long --coverage"
+    words = f"tests {shipped} --seed=7 -n 3 --long --coverage"
+    yield "over dist/ if it was made of the sources at hand", it.calls("tests/run")[0] == words
     it.run("test")
     seeds = {call.partition("--seed=")[2].partition(" ")[0] for call in it.calls("tests/run")}
     yield "a seed that is drawn is the same in all parts", len(seeds) == 1 and seeds.pop().isdecimal()
