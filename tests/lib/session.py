@@ -6,7 +6,8 @@
 - The tests of a file go to one process, as they share what is dear to make, unless the file is marked `spread`.
 - A few tests that failed are tried once more, each in a process of its own after all others. One that passes then counts
   as passed, and is printed. tests/second_tries.txt has how many these may be, and which are known.
-- The processor minutes of each file are printed: those of its tests, and of what they ran and waited for.
+- The processor minutes of each file are printed: those of its tests, and of what they ran and waited for. So are its
+  minutes by the clock.
 - The last line is 'N passed, M failed'. A file that can't be read is a failure, and so is a run that tries nothing.
 """
 
@@ -159,6 +160,13 @@ def known_second_tries(text: str) -> tuple[int, list[str]]:
     return int(lines[0]), [line.split()[0] for line in lines[1:]]
 
 
+def minutes_of(seconds: dict[str, float]) -> str:
+    """The minutes that all files took, and those of the twelve that took longest."""
+    longest = sorted(seconds, key=lambda file: -seconds[file])[:12]
+    minutes = [f"{file} {seconds[file] / 60:.1f}" for file in longest]
+    return f"{sum(seconds.values()) / 60:.1f}: {', '.join(minutes)} .."
+
+
 class Counts:
     """Counts what passed and what failed, and tells it at the end."""
 
@@ -170,6 +178,7 @@ class Counts:
         self.unread = 0
         self.left_out: list[str] = []
         self.seconds: dict[str, float] = defaultdict(float)
+        self.waited: dict[str, float] = defaultdict(float)
 
     def pytest_sessionstart(self) -> None:
         """The first line names what is taken."""
@@ -189,6 +198,7 @@ class Counts:
         self.seconds[file_of(name)] += sum(
             float(str(value)) for key, value in report.user_properties if key == PROCESSOR
         )
+        self.waited[file_of(name)] += report.duration
 
     def pytest_collectreport(self, report: pytest.CollectReport) -> None:
         """A file that can't be read is one failure."""
@@ -235,9 +245,8 @@ class Counts:
         for line in sorted(self.left_out):
             print(f"left out: {line}")
         if sum(self.seconds.values()) >= 60:
-            longest = sorted(self.seconds, key=lambda file: -self.seconds[file])[:12]
-            minutes = [f"{file} {self.seconds[file] / 60:.1f}" for file in longest]
-            print(f"processor minutes: {sum(self.seconds.values()) / 60:.1f}: {', '.join(minutes)} ..")
+            print(f"processor minutes: {minutes_of(self.seconds)}")
+            print(f"minutes by the clock: {minutes_of(self.waited)}")
         for name in self.second:
             print(f"passed at its second try only: {name}")
         for name in sorted(self.failed):
