@@ -333,6 +333,18 @@ def edits_beside_the_gate(it: Repository) -> Iterator[Seen]:
     yield "the gate ends after that", ran.status == 0 and (it.out / "proved/.ended").exists()
 
 
+def edits_beside_the_tests(it: Repository) -> Iterator[Seen]:
+    begin_test(it)
+    begun, last = it.room / "calls/begun", "echo 3 passed, 0 failed"
+    waits = f"n=0; until [ -e '{begun}' ] || [ $n = 300 ]; do sleep 0.1; n=$((n + 1)); done"
+    put(it.top / "tools/refused", "\n".join(["#!/bin/sh", f"touch '{begun}'", last, ""]), 0o755)
+    tried = f"[ ! -e '{begun}' ] || echo the edits have begun"
+    put(it.top / "tests/run", "\n".join(["#!/bin/sh", waits, tried, last, ""]), 0o755)
+    it.ship()
+    ran = it.run("test")
+    yield "they begin when the gate ends", "tests | the edits have begun" in ran.out.splitlines() and ran.status == 0
+
+
 def what_is_tried(it: Repository) -> Iterator[Seen]:
     begin_test(it)
     built, shipped = f"--program={it.crates}/cpi/out/cpi", f"--program={it.shipped}"
@@ -468,7 +480,10 @@ def notices_of_libraries(it: Repository) -> Iterator[Seen]:
 
 CASES: dict[str, Callable[[Repository], Iterator[Seen]]] = {
     **{case.__name__: case for case in (parts_that_fail, a_gate_that_fails, a_copy_for_the_gate, what_is_tried)},
-    **{case.__name__: case for case in (edits_beside_the_gate, second_tries, green_tests_and_shipping, comparing)},
+    **{
+        case.__name__: case
+        for case in (edits_beside_the_gate, edits_beside_the_tests, second_tries, green_tests_and_shipping, comparing)
+    },
     **{case.__name__: case for case in (a_fresh_clone, sources_that_did_not_change, many_at_once, damage, lanes, sums)},
     **{case.__name__: case for case in (a_checkout_that_can_not_be_written, sources_that_changed, programs_of_no_use)},
     **{case.__name__: case for case in (proofs_that_fail, notices_of_libraries, names_of_failures)},
