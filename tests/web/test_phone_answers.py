@@ -4,6 +4,7 @@ from __future__ import annotations
 
 import time
 from collections.abc import Callable
+from itertools import dropwhile
 from typing import NamedTuple
 
 from .offices import NOBODY
@@ -69,9 +70,15 @@ for (const id of ["line", "notice"]) {
 """From then on the page writes down what its head and its notice say."""
 
 
-def said(phone: Phone) -> set[str]:
-    """What head and notice have said since they were asked last."""
-    return set(phone.browser.run("return said.splice(0)"))
+def said(phone: Phone) -> list[str]:
+    """What head and notice have said since they were asked last, in turn."""
+    heard: list[str] = phone.browser.run("return said.splice(0)")
+    return heard
+
+
+def said_of_entry(phone: Phone) -> set[str]:
+    """What they have said of an entry: all from the first text on that isn't of the time before it."""
+    return set(dropwhile(lambda text: text in ("", "All sent"), said(phone)))
 
 
 def one_case(phone: Phone, stage: Stage, slot: int, case: Case, is_stored: bool) -> None:
@@ -83,7 +90,7 @@ def one_case(phone: Phone, stage: Stage, slot: int, case: Case, is_stored: bool)
     told = f"{case.name}, {'stored' if is_stored else 'not stored'}"
     phone.browser.wait(lambda: phone.browser.text("#line") == case.said, f"{case.said}, of {told}")
     phone.browser.wait(lambda: stage.relay.rows(f"quote,{slot},") >= asked + 2, f"it is sent again, of {told}")
-    heard = said(phone)
+    heard = said_of_entry(phone)
     assert case.said in heard and not [text for text in heard if "All sent" in text or "Nothing" in text], (told, heard)
     stage.relay.answers()
     phone.browser.wait_text("#line", "All sent")
@@ -155,7 +162,7 @@ def test_a_slow_answer_is_waited_for(phone: Phone, stage: Stage) -> None:
     stage.relay.held.clear()
     phone.wait_receipt(1, NEXT)
     assert stage.relay.rows("quote,1,") == 1
-    assert said(phone) <= {"1 to be sent", "All sent", ""}
+    assert set(said(phone)) <= {"1 to be sent", "All sent", ""}
 
 
 GETS = """

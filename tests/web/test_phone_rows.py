@@ -61,8 +61,8 @@ def test_rows_below_a_correction_dont_move_at_its_receipt(many: Phone, stage: St
     many.wait_told(2, "Stored: 2.10")
     before = many.places()
     stage.relay.held.clear()
-    many.wait_told(2, "Stored")
-    assert many.places() == before and "Stored: " not in many.told(2)
+    many.browser.wait(lambda: "Stored: " not in many.told(2), "the receipt of the correction")
+    assert many.places() == before and "Stored" in many.told(2)
 
 
 def test_rows_dont_move_when_the_line_goes_or_comes(many: Phone, stage: Stage) -> None:

@@ -124,12 +124,12 @@ def test_one_goes_through_the_list_without_losing_ones_place(phone: Phone, stage
         act(phone, "open", 1)
         phone.press(*keys)
         phone.browser.wait(lambda: phone.edited() is None, "the form is closed")
-        assert phone.browser.run(FOCUSED) == f"{NOW}/1"
+        phone.browser.wait(lambda: phone.browser.run(FOCUSED) == f"{NOW}/1", "the row has the focus")
     for slot, focused in ((1, "unsent-title"), (2, "show-todo")):
         act(phone, "drop", slot)
         phone.browser.click('#dropping [value="drop"]')
         phone.browser.wait_text("#alarm" if slot == 1 else "#line", "1 refused" if slot == 1 else "All sent")
-        assert phone.browser.run(FOCUSED) == focused
+        phone.browser.wait(lambda: phone.browser.run(FOCUSED) == focused, f"{focused} has the focus")
 
 
 def test_what_waits_without_a_row_in_the_list_is_listed(phone: Phone, stage: Stage) -> None:
