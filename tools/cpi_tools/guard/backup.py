@@ -261,21 +261,23 @@ def _sync(path: Path) -> None:
 
 
 DESCRIPTION = """\
-Copies an office's file with its log, whether cpi runs or not; lets cpi open the copy and put the
-log into it; and writes one file DEST, and beside it DEST.sha256 with its sum, which
-`sha256sum --check` reads too. Both have mode 0600, since the collectors' keys are in the file.
-The office isn't locked, and nothing is written to it. Every command that was answered before the
-copy began is in it. `cpi-tools drill DEST` looks whether it is whole. With --desk the folder of the
-desk's pages goes along, as one file DEST.desk.tar, whose sum is in the note too.
+Copies an office's file and its log, whether cpi is running or not. cpi opens the copy, which puts
+the log into it. The result is one file, DEST, and next to it DEST.sha256 with its checksum, which
+`sha256sum --check` can read. Both have mode 0600, because the file contains the collectors' keys.
+The tool doesn't lock the office, and writes nothing to it. The backup contains every command that
+was answered before the copying began. `cpi-tools drill DEST` checks whether it is whole. With
+--desk, the tool also backs up the folder of the desk's pages, in one file, DEST.desk.tar, and adds
+its checksum to the note DEST.sha256.
 
-To restore, stop the office, and let `cpi-tools restore DEST` put the old file aside with its log.
+To restore, stop the office, and run `cpi-tools restore DEST`, which puts the old file and its log
+aside.
 """
 
 EPILOG = """\
 example: cpi-tools backup office.db backup/office.db
 
-exit status: 0 if the backup is there; 1 with one line why it isn't, and nothing is left; 2 if the
-words are refused; 4 if it is there without the desk's folder, and a line says why
+exit status: 0 if the backup was made; 1 if it wasn't, and nothing is left (one line says why); 2
+if the arguments are refused; 4 if it was made without the desk's folder (one line says why)
 """
 
 WITHOUT_DESK = 4
@@ -286,33 +288,33 @@ def add_words(tools: argparse._SubParsersAction[ToolWords]) -> None:
     """The tool `backup`."""
     words = tools.add_parser(
         "backup",
-        help="copies an office's file, while cpi runs or not",
+        help="Back up an office's file, whether cpi is running or not",
         description=DESCRIPTION,
         epilog=EPILOG,
     )
     words.add_argument("file", type=Path, metavar="FILE", help="the office's file, which is only read")
-    words.add_argument("dest", type=a_file, metavar="DEST", help="the backup: a file that isn't there yet")
-    words.add_argument("--desk", type=Path, metavar="FOLDER", help="the folder of the desk's pages, which goes along")
-    words.add_argument("--replace", action="store_true", help="DEST and its note take the place of another backup")
+    words.add_argument("dest", type=a_file, metavar="DEST", help="the backup: a file that doesn't exist yet")
+    words.add_argument("--desk", type=Path, metavar="FOLDER", help="also back up this folder of the desk's pages")
+    words.add_argument("--replace", action="store_true", help="replace another backup at DEST, with its note")
     words.add_argument(
         "--desk-log",
         type=Path,
         metavar="LOG",
-        help="the log of the desk's pages: the note has the sum of its last line",
+        help="the log of the desk's pages: the note records the checksum of its last line",
     )
     words.add_argument(
         "--patience",
         type=at_least(0),
         default=PATIENCE,
         metavar="SECONDS",
-        help="how long to wait for a stretch of time in which the log isn't emptied (%(default)s)",
+        help="how long to wait for a period in which the log isn't emptied (%(default)s)",
     )
     words.add_argument(
         "--pause",
         type=at_least(2),
         metavar="PROCESS",
-        help="the number of the process of cpi: it stands still while the file is read, for a file that is large and is"
-        " written all the time",
+        help="the process number of cpi, to pause it while the file is read: for a large file that is written all the"
+        " time",
     )
     add_program(words)
     words.set_defaults(run=run, tool="backup", words=words)

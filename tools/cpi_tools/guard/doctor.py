@@ -379,31 +379,32 @@ def _of_tables(copy: Path) -> Iterator[Cause]:
 # ---- words
 
 DESCRIPTION = """\
-Says in one line why cpi can't open FILE as an office, and what to do. FILE may be held by another
-program, may not be permitted to the user, may not be there, may not be an office, or may be
-damaged or of another schema; its disk may be full or read-only. The causes that need no copy of
-FILE come first. Then cpi opens a private copy of FILE and its log, in the folder that TMPDIR
-names, and SQLite checks it. FILE itself is only read: it is neither written nor locked.
+Says in one line why cpi can't open FILE as an office, and what to do. Another program may hold
+FILE; the user may lack permission; FILE may not exist, not be an office, be damaged, or have
+another schema; its disk may be full or read-only. The tool first checks the causes that need no
+copy of FILE. Then cpi opens a private copy of FILE and its log, in the folder that TMPDIR names,
+and SQLite checks it. FILE itself is only read: it is neither written nor locked.
 
-The user is the one that runs this; for root, who may open every file, it is the owner of FILE's
-folder, so a file that root made in the folder of a service is found. Without root, a process of
-another user that holds FILE isn't seen, and the line says so.
+The user is the one who runs this tool. For root, who may open every file, it is the owner of
+FILE's folder, so the tool finds a file that root created in the folder of a service. Without root,
+the tool can't see that another user's process holds FILE, and the line says so.
 
-An open takes memory and time by the rows of FILE. If it takes more memory than cpi.service (of
-/var/lib/cpi/office.db) or this machine allows, that is a cause; from half of it on a warning says
-so.
+The memory and time that an open takes grow with the rows of FILE. If it takes more memory than
+cpi.service (for /var/lib/cpi/office.db) or this machine allows, that is a cause; from half of it
+on, there is a warning.
 
-A log next to FILE that is that of another file would be put into FILE as cpi opens it. It is found
-by what both hold: FILE is whole by itself, and with the log it is damaged, another office, or an
-earlier one. With --log only this is looked at, as cpi-serve does before each start with a log. If
-both fit together, but FILE came after the log, a warning says so.
+If the log next to FILE belongs to another file, cpi would put it into FILE on opening. The tool
+finds such a log from its content and that of FILE: FILE is whole by itself, and with the log it is
+damaged, another office, or an earlier one. With --log, the tool checks only this, as cpi-serve
+does before each start with a log. If both fit together, but FILE is newer than the log, a warning
+says so.
 """
 
 EPILOG = """\
 example: cpi-tools doctor office.db
 
-exit status: 0 if nothing is wrong: cpi opens FILE; 1 if something is wrong, or if it can't be
-found out, which a line on standard error says; 2 if the words are refused
+exit status: 0 if nothing is wrong, and cpi opens FILE; 1 if something is wrong, or if a line on
+standard error says that this can't be found out; 2 if the arguments are refused
 """
 
 
@@ -411,13 +412,13 @@ def add_words(tools: argparse._SubParsersAction[ToolWords]) -> None:
     """The tool `doctor`."""
     words = tools.add_parser(
         "doctor",
-        help="says why an office can't be opened, and what to do",
+        help="Say why an office can't be opened, and what to do",
         description=DESCRIPTION,
         epilog=EPILOG,
     )
     words.add_argument("file", type=Path, metavar="FILE", help="the office's file, which is only read")
-    words.add_argument("--user", metavar="NAME", help="the user that is to open it")
-    words.add_argument("--log", action="store_true", help="only look whether the log next to it is its own")
+    words.add_argument("--user", metavar="NAME", help="the user who is to open it")
+    words.add_argument("--log", action="store_true", help="only check whether the log next to it belongs to it")
     add_program(words)
     words.set_defaults(run=run, tool="doctor", words=words)
 

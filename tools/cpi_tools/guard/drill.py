@@ -246,25 +246,27 @@ def differences(office: StoredOffice, wanted: Computed, printed: Optional[Printe
 # ---- words
 
 DESCRIPTION = """\
-Checks whether a copy of an office's file is a whole office: its bytes are those of its note
-COPY.sha256, cpi opens it, every table of every revision is what its frozen quotes give, with each
-carried price, and is printed so, and the C library of SQLite finds no fault (integrity_check,
-foreign_key_check). One line gives the result and how much was checked; each fault is a line on
-standard error. The drill works on a copy of COPY, so COPY is never changed. A log next to COPY,
-COPY-wal, belongs to it. An office that is being served may be drilled too. If the note says that
-the desk's folder is in the backup, COPY.desk.tar has to be there with its sum.
+Checks whether a copy of an office's file is a whole office. Its bytes must match its note
+COPY.sha256, if there is one. cpi must open it. Every table of every revision, with each carried
+price, must follow from its frozen quotes, and cpi must print it so. The C library of SQLite must
+find no fault (integrity_check, foreign_key_check). One line gives the result and how much was
+checked; each fault is a line on standard error. The drill works on a copy of COPY, so COPY never
+changes. A log next to COPY, COPY-wal, belongs to it. You can also drill an office that is being
+served. If the note says that the backup includes the desk's folder, COPY.desk.tar must be there
+and match its checksum.
 
-After a kill most of an office can be in its log, and the file without the log is then a sound but
+After a kill, most of an office can be in its log. Without the log, the file is then a sound but
 older office, perhaps an empty one. So a warning on standard error names a COPY that has neither a
 note nor a log, and an office without a collector that has no note. With its note, an office
-without a collector is a right backup of an office before its survey.
+without a collector is a correct backup of an office before its survey.
 """
 
 EPILOG = """\
 example: cpi-tools drill backup/office.db
 
-exit status: 0 if nothing is wrong; 1 if something is wrong, or COPY can't be read; 2 if the words
-are refused; 3 if nothing is wrong, but a warning says why COPY may lack a part of its office
+exit status: 0 if nothing is wrong; 1 if something is wrong, or COPY can't be read; 2 if the
+arguments are refused; 3 if nothing is wrong, but a warning says why COPY may lack a part of its
+office
 """
 
 WARNED = 3
@@ -275,11 +277,11 @@ def add_words(tools: argparse._SubParsersAction[ToolWords]) -> None:
     """The tool `drill`."""
     words = tools.add_parser(
         "drill",
-        help="shows that a copy of an office's file is a whole office",
+        help="Check that a copy of an office's file is a whole office",
         description=DESCRIPTION,
         epilog=EPILOG,
     )
-    words.add_argument("copy", type=Path, metavar="COPY", help="a backup, or any copy of file and log")
+    words.add_argument("copy", type=Path, metavar="COPY", help="a backup, or any copy of an office's file and log")
     add_program(words)
     words.set_defaults(run=run, tool="drill", words=words)
 

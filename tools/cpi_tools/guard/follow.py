@@ -191,67 +191,68 @@ class Follower:
 # ---- words
 
 DESCRIPTION = """\
-Keeps a second copy of an office's file at DEST, while cpi serves. Each round copies file and log
-at one moment, and writes and carries only the pages that changed. The office isn't locked, and
-nothing is written to it. DEST holds two copies that take turns, copy-1 and copy-2: one of them is
-whole at any time, whatever stops a round. Next to each lies office.db.json with its sums, its
-moment, and the receipts of the last new quotes.
+Keeps a second copy of an office's file at DEST while cpi serves. Each round copies the file and
+its log as of one moment, and writes and carries only the pages that changed. It doesn't lock the
+office, and writes nothing to it. DEST contains two copies, copy-1 and copy-2, which take turns:
+one of them is whole at any time, whatever stops a round. Next to each, office.db.json contains its
+checksums, its time, and the receipts of the last new quotes.
 
 DEST is one of these:
 
-    FOLDER                   a folder of this machine that is there, as on another disk
+    FOLDER                   an existing folder of this machine, for example on another disk
     [USER@]MACHINE:FOLDER    a folder of another machine, by rsync over ssh; if cpi-receive is the
                              command of its key there, a round carries the changed pages as one file
     rclone:REMOTE:FOLDER     a folder of a store that rclone knows; it carries whole files
 
-Each copy says which office it is of, how many rows that has, and the sum of its receipts: these
-only grow. Before a round counts, SQLite looks at each page (quick_check). A round isn't carried,
-and cpi-tools probe --copy is critical, if a page is damaged, if it is another office, or if it
-would take back what the copy has, as after a backup was restored or a lost file was made anew.
-Both copies stay, and in a FOLDER what isn't carried is in FOLDER/aside as long as that lasts.
-Then the copy may be what you want: promote it. Or carry the office of now once, by --anew.
+Each copy says which office it is of, how many rows the office has, and the sum of its receipts:
+these numbers only grow. Before a round counts, SQLite checks each page (quick_check). A round
+isn't carried, and cpi-tools probe --copy is critical, if a page is damaged, if FILE is another
+office, or if it would take back what the copy contains, for example after a backup was restored or
+a lost file was created again. Both copies stay. If DEST is a FOLDER, the office that isn't carried
+is in FOLDER/aside as long as that lasts. If the copy is the right one, promote it. If the present
+office is, carry it once with --anew.
 
-With --desk the folder of the desk's pages goes along to DEST/desk after each round: its log, notes,
-and what waits there. Only changes are carried, and a log is only appended to. If one doesn't go on
-from its copy, the copy stays, and the folder is put next to it, which a line says. To another
-machine that needs cpi-receive there.
+With --desk, the folder of the desk's pages is carried to DEST/desk after each round: its log, its
+notes, and what waits there. Only changes are carried, and logs are only appended to. If a log
+doesn't continue its copy, the copy stays, the folder is put next to it, and a line says so.
+Another machine needs cpi-receive for that.
 
-A round that fails is one line, and the next round tries again. If the copy at DEST was promoted
-(cpi-tools promote), the follower puts FILE.promoted next to FILE, so that cpi-serve doesn't start
-any more, and ends. Keys and prices are in the copies: let nobody else read them.
+If a round fails, one line says so, and the next round tries again. If the copy at DEST was
+promoted (cpi-tools promote), the follower puts FILE.promoted next to FILE, so that cpi-serve no
+longer starts, and ends. The copies contain keys and prices: let nobody else read them.
 """
 
 EPILOG = """\
 example: cpi-tools follow office.db backup-machine:/var/lib/cpi-copy
 
 exit status: 0 after --once or --ask; 1 if that failed, or another follower keeps DEST; 2 if the
-words are refused; 4 if the copy at DEST was promoted; 5 if FILE isn't carried, since it is damaged
-or would take back what the copy has
+arguments are refused; 4 if the copy at DEST was promoted; 5 if FILE isn't carried, because it is
+damaged or would take back what the copy contains
 """
 
 
 def add_words(tools: argparse._SubParsersAction[ToolWords]) -> None:
     """The tool `follow`."""
     words = tools.add_parser(
-        "follow", help="keeps a second copy on another machine", description=DESCRIPTION, epilog=EPILOG
+        "follow", help="Keep a second copy on another machine", description=DESCRIPTION, epilog=EPILOG
     )
     add = words.add_argument
     add("file", type=Path, metavar="FILE", help="the office's file, which is only read")
     add("dest", metavar="DEST", help="where the second copy is kept")
-    add("--every", type=at_least(1), default=EVERY, metavar="SECONDS", help="from one round to the next (%(default)s)")
+    add("--every", type=at_least(1), default=EVERY, metavar="SECONDS", help="from the start of one round to the next (%(default)s)")
     how = words.add_mutually_exclusive_group()
-    how.add_argument("--once", action="store_true", help="carry one copy, and end")
-    how.add_argument("--ask", action="store_true", help="only ask whether the copy was promoted, and end")
-    add("--anew", action="store_true", help="let the first round take back what the copy has, or be another office")
-    add("--desk", type=Path, metavar="FOLDER", help="the folder of the desk's pages, which goes along")
-    add("--room", type=Path, metavar="FOLDER", help="for a DEST elsewhere: what is carried lies here (FILE.follow)")
-    add("--ssh", metavar="COMMAND", help="the program by which rsync reaches the other machine, with its words")
+    how.add_argument("--once", action="store_true", help="carry one copy, then end")
+    how.add_argument("--ask", action="store_true", help="only ask whether the copy was promoted, then end")
+    add("--anew", action="store_true", help="let the first round take back what the copy contains, or carry another office")
+    add("--desk", type=Path, metavar="FOLDER", help="also carry this folder of the desk's pages")
+    add("--room", type=Path, metavar="FOLDER", help="if DEST is elsewhere: where to prepare what is carried (FILE.follow)")
+    add("--ssh", metavar="COMMAND", help="the program with which rsync reaches the other machine, and its arguments")
     add(
         "--patience",
         type=at_least(0),
         default=PATIENCE,
         metavar="SECONDS",
-        help="how long a round waits for a stretch of time in which the log isn't emptied (%(default)s)",
+        help="how long a round waits for a period in which the log isn't emptied (%(default)s)",
     )
     words.set_defaults(run=run, tool="follow", words=words)
 

@@ -155,28 +155,29 @@ def _because(row: Sent, there: Optional[Entry]) -> str:
 # ---- words
 
 DESCRIPTION = """\
-Compares a list of prices that somebody has receipts for with an office's file, and writes a CSV row
-for each that the office doesn't have: after a second copy was promoted, or a backup was restored,
-these have to be sent again. FILE is only read, and cpi may serve it.
+Compares prices for which somebody has receipts with an office's file, and writes a CSV row for
+each price that the office doesn't have. After a second copy was promoted, or a backup was
+restored, these have to be sent again. The tool only reads FILE, and cpi may be serving it.
 
-LIST is a CSV file with a line of heads: collector, slot, month, mark, value, receipt. The mark is
-price, comparable or other, with a price in minor units as its value, or missing with its reason.
-Of several rows for a slot and month the one with the greatest receipt counts.
+LIST is a CSV file with a header row: collector, slot, month, mark, value, receipt. The mark is
+price, comparable or other, with a price in minor units as its value, or missing, with its reason.
+If a slot and month have several rows, the one with the greatest receipt counts.
 
-Receipts are given again after a promotion. So a row is there if the office has the same mark and
-value for its slot and month, or a later receipt, under which the price was put right meanwhile.
-The same price sent again is safe: a stored one keeps its receipt.
+Receipts are given again after a promotion. So a row counts as present if the office has the same
+mark and value for its slot and month, or a later receipt, with which the price was corrected
+meanwhile. Sending the same price again is safe: a stored one keeps its receipt.
 
-With --records LIST is what the desk sent: records without moment and caller, as the rows of an
-import. Those that the office doesn't have are written as they were sent, so that the desk can send
-the output. Of an item, an outlet, a key, a calendar row or a plan the last one of LIST counts.
+With --records, LIST contains what the desk sent: records without time and caller, as in the rows
+of an import. Records that the office doesn't have are written as they were sent, so the desk can
+send the output. For an item, an outlet, a key, a calendar row or a plan, only the last record in
+LIST counts.
 
-With --office OLD is a file of the same office, with its log: that of a machine that was cut off, or
-one that was put aside. Both are only read. Each row that only OLD has is written as it is to be
-sent, after the person who sends it: the desk's records, the prices by collector, and the freezes
-last. With --to FOLDER there is a file for each person. What both have and what differs is a line
-each. By its receipt a price is known to be the later one, in OLD or in FILE; if nobody knows, or
-nothing can be sent for it, a person decides, and it is in different.csv.
+With --office, OLD is a file of the same office, with its log: from a machine that was cut off, or
+one that was put aside. Both files are only read. Each row that only OLD contains is written as it
+has to be sent, grouped by sender: the desk's records, the prices by collector, and the freezes
+last. With --to FOLDER, each sender gets a file. If both contain a row, but it differs, a line says
+so. A price's receipt shows whether OLD or FILE contains the later price. If it doesn't, or if
+nothing can be sent for the row, a person has to decide, and the row is in different.csv.
 """
 
 EPILOG = """\
@@ -184,7 +185,7 @@ example: cpi-tools gaps office.db --receipts sent.csv > missing.csv
          cpi-tools gaps office.db --records calendar.csv --zone CET-1CEST,M3.5.0,M10.5.0/3
          cpi-tools gaps office.db --office aside/office.db --to missing
 
-exit status: 0 if nothing is missing; 1 if LIST, FILE or OLD can't be read; 2 if the words are
+exit status: 0 if nothing is missing; 1 if LIST, FILE or OLD can't be read; 2 if the arguments are
 refused; 3 if something is missing or differs
 """
 
@@ -193,17 +194,17 @@ def add_words(tools: argparse._SubParsersAction[ToolWords]) -> None:
     """The tool `gaps`."""
     words = tools.add_parser(
         "gaps",
-        help="lists the prices with a receipt that an office doesn't have",
+        help="List prices that have a receipt but are missing from the office",
         description=DESCRIPTION,
         epilog=EPILOG,
     )
     words.add_argument("file", type=Path, metavar="FILE", help="the office's file, which is only read")
     lists = words.add_mutually_exclusive_group(required=True)
-    lists.add_argument("--receipts", type=Path, metavar="LIST", help="prices with receipts; - is standard input")
-    lists.add_argument("--records", type=Path, metavar="LIST", help="records of the desk; - is standard input")
+    lists.add_argument("--receipts", type=Path, metavar="LIST", help="prices with receipts (-: standard input)")
+    lists.add_argument("--records", type=Path, metavar="LIST", help="records of the desk (-: standard input)")
     lists.add_argument("--office", type=Path, metavar="OLD", help="the old file of the same office")
-    words.add_argument("--to", type=Path, metavar="FOLDER", help="with --office: write files into this new folder")
-    words.add_argument("--zone", default="UTC0", metavar="Z", help="the clock of civil times, as cpi has it (UTC0)")
+    words.add_argument("--to", type=Path, metavar="FOLDER", help="with --office: write files to this new folder")
+    words.add_argument("--zone", default="UTC0", metavar="Z", help="the clock for civil times, as for cpi (UTC0)")
     add_program(words)
     add_safe_csv(words)
     words.set_defaults(run=run, tool="gaps", words=words)

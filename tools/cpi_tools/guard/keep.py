@@ -254,29 +254,31 @@ def _fault_of(cpi: Cpi, repository: Repository, archive: str, back: Path, desk: 
 # ---- words
 
 DESCRIPTION = """\
-Keeps a generation of the second copy that cpi-tools follow keeps in the folder DEST. The newest
-whole copy goes into a repository of borg in FOLDER, is taken out of it again, and drilled. Only if
-it passes, it counts, and older generations go: those of 24 hours, 31 days and 12 months stay. A
-copy with the bytes of the last generation is no new one. cpi-tools promote --generation takes one.
+Keeps generations of the second copy that cpi-tools follow keeps in the folder DEST. The newest
+whole copy goes into a borg repository in FOLDER, is taken out of it again, and is drilled. It
+counts only if it passes. Then older generations are removed: 24 hourly, 31 daily and 12 monthly
+ones stay. A copy with the same bytes as the last generation isn't a new one. cpi-tools promote
+--generation promotes a generation.
 
-The desk's folder is in it too, if DEST has one. Once a week the repository is checked as a whole.
+If DEST contains the desk's folder, so does the generation. Once a week the whole repository is
+checked.
 
-FOLDER belongs to a user of its own, which the machine that carries to DEST can't reach. Root runs
+FOLDER belongs to a user of its own, whom the machine that carries to DEST can't reach. Root runs
 this tool: it opens the copies, and writes DEST/drilled.json, which cpi-tools probe --copy reads on
-both machines. Everything else is done by the user of FOLDER. Besides what is kept, its disk needs
-as much room as a copy and 600 MB for borg, and the folder for temporary files as much as a copy.
+both machines. FOLDER's user does everything else. Besides the generations, the disk needs as much
+room as a copy and 600 MB for borg, and the folder for temporary files needs as much as a copy.
 
-cpi-keep.timer runs it each hour. The first run makes the repository; one that is gone later is a
-fault.
+cpi-keep.timer runs the tool every hour. The first run creates the repository; if it is gone later,
+that is a fault.
 """
 
 EPILOG = """\
 example: cpi-tools keep /var/lib/cpi-copy/office /var/lib/cpi-keep
 
-exit status: 0 if the newest copy is a generation that passed its drill; 1 with one line why none
-was kept, or what else is wrong: older ones couldn't be removed, the desk's folder isn't whole, the
-repository is damaged; 2 if the words are refused; 6 if it failed its drill: it is kept aside and
-doesn't count
+exit status: 0 if the newest copy is a generation that passed its drill; 1 if none was kept, or if
+older ones couldn't be removed, the desk's folder isn't whole, or the repository is damaged (one
+line says which); 2 if the arguments are refused; 6 if the copy failed its drill: it is kept aside
+and doesn't count
 """
 
 
@@ -284,12 +286,12 @@ def add_words(tools: argparse._SubParsersAction[ToolWords]) -> None:
     """The tool `keep`."""
     words = tools.add_parser(
         "keep",
-        help="keeps generations of a second copy, each once it is drilled",
+        help="Keep generations of a second copy that passed a drill",
         description=DESCRIPTION,
         epilog=EPILOG,
     )
     words.add_argument("dest", type=Path, metavar="DEST", help="the folder with the two copies")
-    words.add_argument("folder", type=Path, metavar="FOLDER", help=f"the folder of the generations, such as {KEPT}")
+    words.add_argument("folder", type=Path, metavar="FOLDER", help=f"the folder for the generations, such as {KEPT}")
     add_program(words)
     words.set_defaults(run=run, tool="keep", words=words)
 

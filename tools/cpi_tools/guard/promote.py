@@ -357,49 +357,52 @@ def _give(opened: int, owner: os.stat_result) -> None:
 # ---- words
 
 DESCRIPTION = f"""\
-Makes the copy that cpi-tools follow kept in the folder DEST the office of this machine. The newest
-copy is compared with its note and drilled. Then DEST gets a mark, by which the follower of the
-first machine stops the office there, and the copy gets its place FILE. A copy that isn't whole is
-refused, and nothing is changed.
+Makes the copy that cpi-tools follow kept in the folder DEST the office of this machine. The tool
+compares the newest copy with its note, and drills it. Then it marks DEST, so that the follower of
+the first machine stops the office there, and puts the copy in its place, FILE. A copy that isn't
+whole is refused, and nothing is changed.
 
 First make sure that the first machine can't answer any more: turn it off, or take its address
-away. What it answered after the moment of the copy isn't in the copy: the last lines say what has
-to be sent again, and since when.
+away. The copy doesn't contain what that machine answered after the copy was made: the last lines
+say what has to be sent again, and since when.
 
-A copy of DEST is promoted once, and --replace puts no office aside that took prices since the copy:
-both are refused with the moment and the machine, unless --again is given.
+A copy at DEST can be promoted once, and --replace doesn't put aside an office that has accepted
+prices since the copy. Both are refused with the time and the machine, unless you give --again.
 
-If both copies have what an accident left, --generation takes an earlier state, which cpi-tools keep
-kept; a NAME that isn't there, such as list, prints the names of all. It is drilled and marked like
-a copy.
-The desk's folder takes its place too, that of the generation or else of DEST, if there is one; one
-that is there is put aside in a folder in it, or stays, if its logs go on from those of the copy.
+If both copies contain the result of an accident, --generation takes an earlier state, which
+cpi-tools keep kept. A NAME that doesn't exist, such as list, prints the names of all generations.
+A generation is drilled and marked like a copy.
 
-With --start it starts the office, else it prints the command for that:
+The desk's folder takes its place too, from the generation or else from DEST, if there is one. A
+folder that is already there is put aside in a folder inside it, or stays if its logs continue
+those of the copy.
+
+With --start, the tool starts the office. Otherwise, it prints the command for that:
 {' '.join(START)}
 """
 
 EPILOG = """\
 example: cpi-tools promote /var/lib/cpi-copy --office office.db
 
-exit status: 0 if FILE is the office now; 1 with one line why it isn't; 2 if the words are refused
+exit status: 0 if FILE is now the office; 1 if it isn't (one line says why); 2 if the arguments are
+refused
 """
 
 
 def add_words(tools: argparse._SubParsersAction[ToolWords]) -> None:
     """The tool `promote`."""
     words = tools.add_parser(
-        "promote", help="makes a second copy the office of this machine", description=DESCRIPTION, epilog=EPILOG
+        "promote", help="Make a second copy the office of this machine", description=DESCRIPTION, epilog=EPILOG
     )
     add = words.add_argument
     add("dest", type=Path, metavar="DEST", help="the folder with the two copies")
     add("--office", type=a_file, default=HERE, metavar="FILE", help="the office's file on this machine (%(default)s)")
     which = words.add_mutually_exclusive_group()
-    which.add_argument("--copy", choices=NAMES, help="this one of the two copies, if the newest isn't whole")
-    which.add_argument("--generation", metavar="NAME", help="a generation that cpi-tools keep kept of them")
+    which.add_argument("--copy", choices=NAMES, help="which of the two copies, if the newest isn't whole")
+    which.add_argument("--generation", metavar="NAME", help="a generation that cpi-tools keep kept")
     add("--kept", type=Path, default=KEPT, metavar="FOLDER", help="where generations are kept (%(default)s)")
-    add("--replace", action="store_true", help="put a FILE that is there aside, with its log")
-    add("--again", action="store_true", help="promote once more, or put aside what took prices since")
+    add("--replace", action="store_true", help="put an existing FILE aside, with its log")
+    add("--again", action="store_true", help="promote once more, or put aside an office that has accepted prices since")
     add_desk(words)
     add("--start", action="store_true", help="start the units of the office")
     add_program(words)

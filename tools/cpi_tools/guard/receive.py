@@ -16,24 +16,25 @@ from .copies.desk_changes import CARRIED_DESK, desk_received_text, put_in_desk
 from .copies.page_changes import CAME, CARRIED, put_in, received_text
 
 DESCRIPTION = """\
-Puts the changed pages that a follower of another machine carried to FOLDER into the copy there that
-they belong to, and what changed in the desk's folder into its copy, whose logs are only appended
-to. cpi-receive runs this after each carrying; nobody else has to. What doesn't belong to
-that copy is refused, and changes nothing. If it is stopped, that copy is none until the follower
-carries a whole one, and the other copy counts.
+Puts the changed pages that a follower on another machine carried to FOLDER into their copy there,
+and the changes of the desk's folder into its copy, whose logs are only appended to. cpi-receive
+runs this tool after each transfer; nobody else has to. Anything that doesn't belong to that copy
+is refused, and changes nothing. If the tool is stopped, that copy doesn't count until the follower
+carries a whole one, but the other copy does.
 """
 
 EPILOG = """\
 example: cpi-tools receive /var/lib/cpi-copy/office
 
-exit status: 0 if the copy has them; 1 with one line why not; 2 if the words are refused
+exit status: 0 if the copy contains the changes; 1 if it doesn't (one line says why); 2 if the
+arguments are refused
 """
 
 
 def add_words(tools: argparse._SubParsersAction[ToolWords]) -> None:
     """The tool `receive`."""
     words = tools.add_parser(
-        "receive", help="puts the pages that a follower carried into a copy", description=DESCRIPTION, epilog=EPILOG
+        "receive", help="Put the pages that a follower carried into a copy", description=DESCRIPTION, epilog=EPILOG
     )
     words.add_argument("folder", type=Path, metavar="FOLDER", help="the folder with the two copies")
     words.set_defaults(run=run, tool="receive", words=words)

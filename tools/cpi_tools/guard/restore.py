@@ -255,40 +255,40 @@ def _put_back(office: Path, aside: Optional[Path]) -> None:
 # ---- words
 
 DESCRIPTION = f"""\
-Makes BACKUP the office of this machine. First it looks at everything: another machine may have
-been promoted, the office or its follower may run, a log may lie next to BACKUP that isn't its own,
-or a second copy may be newer. It drills BACKUP, says what it found, and asks. Then it puts the file
-FILE and its log aside together, in a folder next to it that is named by the moment, and places
-BACKUP, as the owner of the folder and with mode 0600: all of it or nothing. If the machine stops
-within that, cpi-serve starts no office until the restore was run again.
+Makes BACKUP the office of this machine. First it checks everything: another machine may have been
+promoted, the office or its follower may be running, a log next to BACKUP may belong to another
+file, or a second copy may be newer. It drills BACKUP, says what it found, and asks. Then it moves
+FILE and its log aside together, to a folder next to FILE that is named after the time, and puts
+BACKUP in their place, with the folder's owner and mode 0600: all of this or nothing. If the
+machine stops meanwhile, cpi-serve starts no office until the restore has been run again.
 
-If the desk's folder is in BACKUP, it takes its place too, and the one there is put aside in a
-folder in it. It stays if its logs go on from those of BACKUP.
+If BACKUP includes the desk's folder, it is restored too, and the present one is put aside in a
+folder inside it. The present one stays if its logs continue those of BACKUP.
 
-What was answered after BACKUP was made isn't in it, and is in what was put aside, if that can be
-read. A follower doesn't carry an older office over a newer copy: promote that copy instead, or say
-cpi-tools follow --anew. The last line has the command that starts the office:
+BACKUP doesn't contain what was answered after it was made. What was put aside contains it, if that
+can be read. A follower doesn't replace a newer copy with an older office: promote that copy
+instead, or run cpi-tools follow --anew. The last line shows the command that starts the office:
 {START}
 """
 
 EPILOG = """\
 example: cpi-tools restore backup/office.db --office office.db
 
-exit status: 0 if BACKUP is the office now; 1 with one line why it isn't, and nothing was changed;
-2 if the words are refused; 4 if it is the office now, and a line says why the desk's folder isn't
-in its place
+exit status: 0 if BACKUP is now the office; 1 if it isn't, and nothing was changed (one line says
+why); 2 if the arguments are refused; 4 if it is now the office, but the desk's folder isn't in its
+place (one line says why)
 """
 
 
 def add_words(tools: argparse._SubParsersAction[ToolWords]) -> None:
     """The tool `restore`."""
     words = tools.add_parser(
-        "restore", help="makes a backup the office of this machine", description=DESCRIPTION, epilog=EPILOG
+        "restore", help="Make a backup the office of this machine", description=DESCRIPTION, epilog=EPILOG
     )
     add = words.add_argument
     add("backup", type=Path, metavar="BACKUP", help="the backup, with its note if there is one")
     add("--office", type=a_file, default=HERE, metavar="FILE", help="the office's file on this machine (%(default)s)")
-    text = "where cpi-tools follow keeps a second copy, or its room: says which is newer (the rooms that are known)"
+    text = "where cpi-tools follow keeps a second copy, or its room, to find which is newer (the known rooms)"
     add("--copy", type=Path, metavar="FOLDER", help=text)
     add_desk(words)
     add("--yes", action="store_true", help="don't ask")

@@ -31,7 +31,7 @@ from .second_copies import DESK, second_text
 
 def add_desk(words: argparse.ArgumentParser) -> None:
     """The word of a tool by which the desk's folder takes its place."""
-    named = f"the place of the desk's folder ({HERE} of the package's office)"
+    named = f"where the desk's folder belongs ({HERE} for the package's office)"
     words.add_argument("--desk", type=Path, metavar="FOLDER", help=named)
 
 

@@ -148,45 +148,46 @@ def unnamed(chosen: argparse.Namespace, last_drill: Optional[LastDrill] = None) 
 # ---- words
 
 DESCRIPTION = """\
-Asks an office for its published tables, as everybody may, and checks the parts that the words
-name. It bears no key. Each probe is one of the connections after which `cpi serve` ends. A part
-that can't be checked is named and hides no other: the status is that of the worst part, and a part
-that can't be checked counts less than a warning. If all is well, the line lists the parts that
-weren't named.
+Asks an office for its published tables, as anybody may, and checks the parts that the arguments
+name. It uses no key. Each probe is one of the connections after which `cpi serve` ends. The output
+names a part that can't be checked, and still shows the others. The status is that of the worst
+part; a part that can't be checked counts less than a warning. If all is well, the line lists the
+parts that weren't named.
 
-Late tables: each month of the calendar whose moment has come has to have a table. The calendar is
-that of the last backup, or else of a copy of FILE.
+Late tables: there must be a table for each month of the calendar whose release time has come. The
+calendar is that of the last backup, or else of a copy of FILE.
 
-Writes: `cpi serve` goes on to answer readers while a disk refuses every write. On standard error
-it says when it opens its file again after a failed request. The probe takes the last such line
-from the journal of UNIT, or from the file that the output of `cpi serve` was appended to. Then it
+Writes: while a disk refuses every write, `cpi serve` still answers readers. It says on standard
+error when it opens its file again after a failed request. The probe takes the last such line from
+the journal of UNIT, or from the file to which the output of `cpi serve` was appended. Then it
 reads from the office's log and file whether a write succeeded after that line. If none did, that
 is critical; if one did, it is a warning for some hours (--refused). With --file, but without a
 journal of UNIT and without --output, nobody can know whether writes succeed: status 3.
 
 Second copy: --copy names DEST of cpi-tools follow if that is a folder of this machine, or else the
-room of the follower, which has the note of the copy that was carried last. A copy or a backup that
-is dated ahead of this machine's clock is a warning. Where cpi-tools keep keeps generations of it,
-the last one that passed its drill has an age too (--drilled), and so has the last check of their
-repository (--checked); one that failed its drill is critical until another one passes, and so is a
-repository that is damaged. Another fault of cpi-tools keep is a warning.
+follower's room, which contains the note of the last copy carried. A copy or backup with a time
+ahead of this machine's clock is a warning. If cpi-tools keep keeps generations of the copy, the
+probe also checks the age of the last one that passed its drill (--drilled), and of the last check
+of their repository (--checked). A generation that failed its drill is critical until another one
+passes, and so is a damaged repository. Any other fault of cpi-tools keep is a warning.
 
-Connections: the same lines say when few connections are left of the limit of `cpi serve`.
+Connections: the same lines say when few connections are left before `cpi serve` ends.
 
-The next open: an office that runs shows nothing of what its next start takes, which grows with the
-rows of FILE. The probe reads their number, and holds the memory and the time of an open (as
-bench/age measures them) against what UNIT and this machine allow (--open): a start that is killed
-while it opens is tried again and again, and nobody is answered.
+The next open: a running office doesn't show how much memory and time its next start takes, which
+grow with the rows of FILE. The probe reads their number, and compares the memory and time of an
+open (as bench/age measures them) with what UNIT and this machine allow (--open). A start that is
+killed while it opens the file is tried again and again, and nobody is answered.
 """
 
 EPILOG = """\
-Levels are two numbers, W,C: from which on it is a warning, and from which on it is critical.
+W,C are two levels: from the first on it is a warning, and from the second on it is critical.
 
 example: cpi-tools probe --file office.db --output serve.log --backups backup
 
-exit status, as Nagios has it: 0 well, 1 warning, 2 critical, 3 if a part that was named can't be
-checked and no other is worse, or if the words are refused; with --prometheus 0 once the figures are
-written, and a line on standard error for each part that can't be checked
+exit status, as in Nagios: 0 if all is well, 1 for a warning, 2 if something is critical, 3 if a
+part that was named can't be checked and no other is worse, or if the arguments are refused; with
+--prometheus, 0 once the figures are written, with a line on standard error for each part that
+can't be checked
 """
 
 
@@ -204,16 +205,16 @@ def address(text: str) -> str:
 
 LEVELS = (
     ("slow", Levels(2000, 10_000), "milliseconds until the answer"),
-    ("late", Levels(0, 24), "hours after a publishing moment without a table"),
-    ("log", Levels(64, 512), "MiB of the log"),
-    ("free", Levels(1024, 256), "MiB left on the disk, from which on downwards"),
+    ("late", Levels(0, 24), "hours since a release time without a table"),
+    ("log", Levels(64, 512), "size of the log in MiB"),
+    ("free", Levels(1024, 256), "MiB left on the disk, or fewer"),
     ("age", Levels(26, 50), "hours since the last backup"),
     ("copied", Levels(120, 600), "seconds since the second copy was made"),
-    ("drilled", Levels(3, 26), "hours since the last copy that became a generation and passed its drill"),
-    ("checked", Levels(15, 45), "days since the repository of the generations was found whole"),
-    ("open", Levels(50, 80), "percent that the next open takes of the memory and time that it may take"),
-    ("left", Levels(10_000, 1000), "connections left of the limit, from which on downwards"),
-    ("days", Levels(21, 7), "days until the certificate ends, from which on downwards"),
+    ("drilled", Levels(3, 26), "hours since a copy last became a generation and passed its drill"),
+    ("checked", Levels(15, 45), "days since the generations' repository was last found whole"),
+    ("open", Levels(50, 80), "percent of the allowed memory and time that the next open takes"),
+    ("left", Levels(10_000, 1000), "connections left before the limit, or fewer"),
+    ("days", Levels(21, 7), "days until the certificate expires, or fewer"),
 )
 
 
@@ -221,33 +222,33 @@ def add_words(tools: argparse._SubParsersAction[ToolWords]) -> None:
     """The tool `probe`."""
     words = tools.add_parser(
         "probe",
-        help="says whether an office answers, takes writes, publishes in time, and is backed up",
+        help="Check whether an office answers, can write, publishes on time, and is backed up",
         description=DESCRIPTION,
         epilog=EPILOG,
     )
     add = words.add_argument
-    add("--url", type=address, default="http://127.0.0.1:8080", help="where the office is (%(default)s)")
-    add("--authority", type=Path, metavar="FILE", help="certificates to trust besides the system's")
+    add("--url", type=address, default="http://127.0.0.1:8080", help="the office's address (%(default)s)")
+    add("--authority", type=Path, metavar="FILE", help="certificates to trust in addition to the system's")
     add("--timeout", type=at_least(1), default=20, metavar="SECONDS", help="how long to wait (%(default)s)")
     add(
-        "--file", type=Path, metavar="FILE", help="the office's file: writes, its size, its log's, the room on its disk"
+        "--file", type=Path, metavar="FILE", help="the office's file: check its writes, its size, its log and its disk"
     )
     from_where = words.add_mutually_exclusive_group()
     from_where.add_argument("--unit", metavar="UNIT", help=f"the unit that serves the office (with --file {UNIT})")
     from_where.add_argument(
-        "--output", type=Path, metavar="FILE", help="the file that all output of cpi serve is appended to"
+        "--output", type=Path, metavar="FILE", help="the file to which all output of cpi serve is appended"
     )
-    add("--backups", type=Path, metavar="FOLDER", help="where backups are: the age of the last, and failed drills")
+    add("--backups", type=Path, metavar="FOLDER", help="where the backups are: check the age of the last one, and failed drills")
     add(
-        "--copy", type=Path, metavar="FOLDER", help="where cpi-tools follow keeps the second copy, or its room: the age"
+        "--copy", type=Path, metavar="FOLDER", help="where cpi-tools follow keeps the second copy, or its room: check its age"
     )
-    add("--certificate", type=place, metavar="FILE|HOST:PORT", help="the front's certificate: its end")
-    add("--clock", action="store_true", help="whether this machine's clock is synchronized (a warning if not)")
-    add("--prometheus", action="store_true", help="write all figures as Prometheus reads them")
+    add("--certificate", type=place, metavar="FILE|HOST:PORT", help="the front's certificate: check when it expires")
+    add("--clock", action="store_true", help="check that this machine's clock is synchronized (else a warning)")
+    add("--prometheus", action="store_true", help="write all figures in the format of Prometheus")
     for name, default, about in LEVELS:
         kind = levels if default.warning < default.critical else levels_of_rest
         add(f"--{name}", type=kind, default=default, metavar="W,C", help=f"{about} ({default[0]},{default[1]})")
-    about = "how long a failed request is a warning, if a later write succeeded (%(default)s)"
+    about = "how long a failed request is a warning if a later write succeeded (%(default)s)"
     add("--refused", type=at_least(0), default=24, metavar="HOURS", help=about)
     words.status_of_error = 3
     words.set_defaults(run=run, tool="probe", words=words)
