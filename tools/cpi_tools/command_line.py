@@ -33,7 +33,7 @@ def parser(named: Iterable[str] = TOOLS) -> ToolWords:
         description="Companions of cpi, the program of a consumer price index office.",
         epilog="example: cpi-tools backup office.db backup/office.db",
     )
-    words.add_argument("--version", action=ShowVersion, help="which version this is, and which program it runs")
+    words.add_argument("--version", action=ShowVersion, help="print the version, and which program the tools run")
     tools = words.add_subparsers(required=True, metavar="TOOL", title="tools", parser_class=ToolWords)
     for tool in named:
         import_module(f".{TOOLS[tool]}", __package__).add_words(tools)

@@ -152,67 +152,71 @@ def a_price(text: str) -> tuple[tuple[int, int], int]:
 # ---- words
 
 DESCRIPTION = """\
-The month before it is frozen: a report on it, its freeze, and what would change it; and the same in
-a browser. Each job works on a copy of the office's file with its log, so cpi may run meanwhile, and
-the file is never written. What would happen is told by cpi itself, which freezes the month on the
-copy.
+Works on a month before it is frozen: reports on it, freezes it, and shows what would change it;
+also in a browser. Each job works on a copy of the office's file and its log, so cpi may be
+running, and the file is never written. cpi itself shows what would happen, by freezing the month
+on the copy.
 """
 
 EPILOG = """\
 example: cpi-tools desk month office.db 2026-02 --out out/2026-02
 
-exit status: 0 where the job is done; 1 with one line why it isn't; 2 where the words are refused
+exit status: 0 if the job is done; 1 if it isn't (one line says why); 2 if the arguments are
+refused
 """
 
 MONTH = """\
-Writes month.html and a CSV file a section into FOLDER, and a text to standard output: who answered
-and who is silent, what is missing and why, what is priced too seldom to be compared, prices to
-look at again, small and imputed aggregates, the carry list, the provisional table with what each
-node adds, the quotes that move all items most, and Dutot beside Jevons. A warning comes first if a
-table is published before a revision that it is computed from. provisional.csv has the bytes that
-will be published if no quote changes. The month is frozen on the copy when its window closes, or
-at --at if that is later. If it can't be frozen, the rest is written, and the line on standard
-error says why. Nothing of it is published: only its owner can read FOLDER.
+Writes month.html and a CSV file for each section into FOLDER, and a text to standard output. They
+show who answered and who is silent, what is missing and why, what is priced too rarely to be
+compared, prices to look at again, small and imputed aggregates, the carry list, the provisional
+table with the contribution of each node, the quotes that move all items most, and Dutot next to
+Jevons. A warning comes first if a table is published before a revision from which it is computed.
+provisional.csv contains the bytes that will be published if no quote changes. The month is frozen
+on the copy as of the time when its window closes, or of --at if that is later. If it can't be
+frozen, the rest is written, and the line on standard error says why. None of this is published:
+only its owner can read FOLDER.
 """
 
 MONTH_EPILOG = """\
 example: cpi-tools desk month office.db 2026-02 --at 2026-02-20T12:00 --out out/2026-02
 
-exit status: 0 where all is written; 1 where there is no provisional table, or nothing is written;
-2 where the words are refused
+exit status: 0 if everything was written; 1 if there is no provisional table, or nothing was
+written; 2 if the arguments are refused
 """
 
 CLOSE = """\
 Freezes the month on a copy, with the code of each aggregate in which nothing can be compared, and
-prints the one record that freezes it so. Standard error has the series of these aggregates, what
-was decided and why, and how many rows the table will have. Nothing is sent. Before the window has
-closed there is no record.
+prints the one record that freezes the month with this list. Standard error lists the series of
+these aggregates, what was decided and why, and how many rows the table will have. Nothing is sent.
+Until the window has closed, there is no record.
 """
 
 CLOSE_EPILOG = """\
 example: cpi-tools desk close office.db 2026-02 --carry all --by Ada > freeze.csv
          cpi replay --db office.db < freeze.csv
 
-exit status: 0 with the record; 1 with one line why there is none; 2 where the words are refused
+exit status: 0 if the record was printed; 1 if it wasn't (one line says why); 2 if the arguments
+are refused
 """
 
 WHAT_IF = """\
-Freezes the month on two copies, as it stands and with other quotes, and prints the nodes of the
-table that differ. Of the last frozen month it is what a further revision would change, and by
-when that has to be published.
+Freezes the month on two copies, one as it is and one with other quotes, and prints the nodes of
+the table that differ. For the last frozen month, this shows what a further revision would change,
+and by when it must be published.
 """
 
 WHAT_IF_EPILOG = """\
 example: cpi-tools desk what-if office.db 2026-02 --price 8/1=264 --missing 7/2
 
-exit status: 0 with the nodes; 1 with one line why there are none; 2 where the words are refused
+exit status: 0 if the nodes were printed; 1 if they weren't (one line says why); 2 if the arguments
+are refused
 """
 
 
 def add_words(tools: argparse._SubParsersAction[ToolWords]) -> None:
     """The tool `desk`."""
     words = tools.add_parser(
-        "desk", help="shows a month before it is frozen, and closes it", description=DESCRIPTION, epilog=EPILOG
+        "desk", help="Show a month before it is frozen, and close it", description=DESCRIPTION, epilog=EPILOG
     )
     jobs = words.add_subparsers(required=True, metavar="JOB", title="jobs", parser_class=ToolWords)
     _add_month(jobs)
@@ -224,30 +228,36 @@ def add_words(tools: argparse._SubParsersAction[ToolWords]) -> None:
 def _job(jobs: argparse._SubParsersAction[ToolWords], name: str, says: str, text: str, epilog: str) -> ToolWords:
     words = jobs.add_parser(name, help=says, description=text, epilog=epilog)
     words.add_argument("file", type=Path, metavar="FILE", help="the office's file, which is only read")
-    words.add_argument("month", type=a_month, metavar="MONTH", help="a month like 2026-02")
+    words.add_argument("month", type=a_month, metavar="MONTH", help="a month, such as 2026-02")
     words.add_argument(
         "--at",
         type=a_moment,
         metavar="MOMENT",
-        help="the moment: seconds since 1970, or a time in UTC like 2026-02-20T12:00 (else now)",
+        help="the time: seconds since 1970, or a time in UTC such as 2026-02-20T12:00 (else now)",
     )
     words.set_defaults(tool=f"desk {name}", words=words)
     return words
 
 
 def _add_month(jobs: argparse._SubParsersAction[ToolWords]) -> None:
-    words = _job(jobs, "month", "reports on a month, with its provisional table", MONTH, MONTH_EPILOG)
+    words = _job(jobs, "month", "Report on a month, with its provisional table", MONTH, MONTH_EPILOG)
     add = words.add_argument
-    add("--out", type=Path, required=True, metavar="FOLDER", help="where the report is written")
-    add("--left-out", type=at_least(0), default=20, metavar="N", help="quotes that are left out in turn (%(default)s)")
+    add("--out", type=Path, required=True, metavar="FOLDER", help="where to write the report")
+    add("--left-out", type=at_least(0), default=20, metavar="N", help="quotes to leave out in turn (%(default)s)")
     add(
         "--width",
         type=at_least(1),
         default=PERCENT_OF_WIDTH,
         metavar="PERCENT",
-        help="how far the fences lie from the middle, in percent of the half middles' distances (%(default)s)",
+        help="how far Tukey's fences are from the midmean, in percent of the semi-midmeans' distances (%(default)s)",
     )
-    add("--small", type=at_least(1), default=3, metavar="N", help="fewer series or outlets are few (%(default)s)")
+    add(
+        "--small",
+        type=at_least(1),
+        default=3,
+        metavar="N",
+        help="fewer series or outlets than this are few (%(default)s)",
+    )
     add_language(words, "the page")
     add_safe_csv(words)
     add_program(words)
@@ -255,24 +265,24 @@ def _add_month(jobs: argparse._SubParsersAction[ToolWords]) -> None:
 
 
 def _add_close(jobs: argparse._SubParsersAction[ToolWords]) -> None:
-    words = _job(jobs, "close", "writes the carry list, and the one record that freezes the month", CLOSE, CLOSE_EPILOG)
+    words = _job(jobs, "close", "Write the carry list, and the one record that freezes the month", CLOSE, CLOSE_EPILOG)
     add = words.add_argument
     add(
         "--carry",
         type=a_carry_list,
         default="all",
         metavar="ask|all|CODE,..",
-        help="ask for each on the terminal, carry all that need it, or these and no others (%(default)s)",
+        help="ask about each on the terminal, carry all that need it, or only these (%(default)s)",
     )
-    add("--by", metavar="NAME", help="who decides, for the note")
+    add("--by", metavar="NAME", help="who decided, for the note")
     add_program(words)
     words.set_defaults(run=run_close)
 
 
 def _add_what_if(jobs: argparse._SubParsersAction[ToolWords]) -> None:
-    words = _job(jobs, "what-if", "makes the table as other quotes would make it", WHAT_IF, WHAT_IF_EPILOG)
+    words = _job(jobs, "what-if", "Show the table that other quotes would give", WHAT_IF, WHAT_IF_EPILOG)
     add = words.add_argument
-    add("--missing", type=a_slot, action="append", default=[], metavar="COLLECTOR/SLOT", help="as if it were missing")
+    add("--missing", type=a_slot, action="append", default=[], metavar="COLLECTOR/SLOT", help="treat it as missing")
     add("--reason", choices=REASONS, default=REASONS[0], help="why it is missing (%(default)s)")
     add(
         "--price",
@@ -280,9 +290,9 @@ def _add_what_if(jobs: argparse._SubParsersAction[ToolWords]) -> None:
         action="append",
         default=[],
         metavar="COLLECTOR/SLOT=PRICE",
-        help="as if this were its price, in minor units",
+        help="treat this as its price, in minor units",
     )
-    add("--carry", type=a_code, action="append", default=[], metavar="CODE", help="on the carry list at any rate")
+    add("--carry", type=a_code, action="append", default=[], metavar="CODE", help="always put it on the carry list")
     add_program(words)
     words.set_defaults(run=run_what_if)
 

@@ -141,18 +141,18 @@ def page_at(to: Path) -> Iterator[ModuleType]:
 # ---- words
 
 DESCRIPTION = """\
-Tells where a figure comes from. First come three to five sentences: how prices changed, which of
-them changed most and where, which are imputed and why, and how that makes the level. Then each
-step is a line `name = expression = value` in whole numbers, from the chained level down to the
-quotes with who sent them and their receipts. Each expression is valued, and compared with the row
-of the file that holds its value: a line that isn't true begins with `!`, standard error names the
-row, and no sentence says how the figure came about. CODE `all` looks at each line of each node.
---series tells the life of a series instead: who priced it, hand-overs, replacements, and when it
-was imputed. It reads a copy of the office's file with its log, so cpi may run meanwhile; the month
-has to be frozen. Prices of shops are in what it tells.
+Shows where a figure comes from. First come three to five sentences: how prices changed, which
+changed most and where, which are imputed and why, and how they give the level. Then each step is a
+line `name = expression = value` in whole numbers, from the chained level down to the quotes, with
+who sent them and their receipts. The tool evaluates each expression, and compares it with the row
+of the file that contains its value. If a line isn't true, it begins with `!`, standard error names
+the row, and no sentence explains the figure. CODE `all` checks each line of each node. --series
+shows the life of a series instead: who priced it, handovers, replacements, and when it was
+imputed. The tool reads a copy of the office's file and its log, so cpi may be running; the month
+must be frozen. The output contains shops' prices.
 
-In the lines prices are in minor units of money, carried prices and bases in ticks (10,000 a minor
-unit), indices and levels in millionths of a point, changes in tenths of a percent.
+In the lines, prices are in minor units of money, carried prices and bases in ticks (10,000 to a
+minor unit), indices and levels in millionths of a point, and changes in tenths of a percent.
 """
 
 EPILOG = """\
@@ -160,21 +160,21 @@ example: cpi-tools explain office.db 2026-02 01.1.1.1-01 --currency EUR
          cpi-tools explain office.db 2026-02 all --html out/explained
          cpi-tools explain office.db 2026-02 --series 7/2
 
-exit status: 0 where each line is true; 1 where one isn't, or with one line why nothing is told;
-2 where the words are refused
+exit status: 0 if every line is true; 1 if one isn't, or if nothing can be shown (one line says
+why); 2 if the arguments are refused
 """
 
 
 def add_words(tools: argparse._SubParsersAction[ToolWords]) -> None:
     """The tool `explain`."""
     words = tools.add_parser(
-        "explain", help="explains a figure down to its receipts", description=DESCRIPTION, epilog=EPILOG
+        "explain", help="Explain a figure down to its receipts", description=DESCRIPTION, epilog=EPILOG
     )
     add = words.add_argument
     add("file", type=Path, metavar="FILE", help="the office's file, which is only read")
-    add("month", type=a_month, metavar="MONTH", help="a frozen month like 2026-02")
-    add("code", nargs="?", metavar="CODE", help="a node like 00 or 01.1.1.1-01, or all")
-    add("--revision", type=at_least(1), metavar="R", help="a revision of the month (else its latest)")
+    add("month", type=a_month, metavar="MONTH", help="a frozen month, such as 2026-02")
+    add("code", nargs="?", metavar="CODE", help="a node, such as 00 or 01.1.1.1-01, or all")
+    add("--revision", type=at_least(1), metavar="R", help="a revision of the month (else the latest)")
     add(
         "--minor",
         type=at_least(1),
@@ -182,14 +182,14 @@ def add_words(tools: argparse._SubParsersAction[ToolWords]) -> None:
         metavar="N",
         help="minor units in a unit of money, in sentences (%(default)s)",
     )
-    add("--currency", default="", metavar="TEXT", help="what a sentence writes after an amount, such as EUR")
-    add("--series", type=a_slot, metavar="COLLECTOR/SLOT", help="a slot: the life of its series up to MONTH")
+    add("--currency", default="", metavar="TEXT", help="what sentences put after an amount, such as EUR")
+    add("--series", type=a_slot, metavar="COLLECTOR/SLOT", help="a slot, to show the life of its series up to MONTH")
     add(
         "--html",
         type=Path,
         metavar="OUT",
-        help="writes a page OUT, of an aggregate that of its subclass; of all nodes a folder OUT, a page a subclass;"
-        " of --series a page of its life",
+        help="write a page OUT: of an aggregate's subclass, or of the life of a series; for all nodes, a folder OUT"
+        " with a page for each subclass",
     )
     add_language(words, "the page")
     words.set_defaults(run=run, tool="explain", words=words)

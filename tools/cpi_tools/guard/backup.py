@@ -313,8 +313,7 @@ def add_words(tools: argparse._SubParsersAction[ToolWords]) -> None:
         "--pause",
         type=at_least(2),
         metavar="PROCESS",
-        help="the process number of cpi, to pause it while the file is read: for a large file that is written all the"
-        " time",
+        help="the process ID of cpi, to pause it while a large file that is written all the time is read",
     )
     add_program(words)
     words.set_defaults(run=run, tool="backup", words=words)

@@ -390,8 +390,8 @@ FILE's folder, so the tool finds a file that root created in the folder of a ser
 the tool can't see that another user's process holds FILE, and the line says so.
 
 The memory and time that an open takes grow with the rows of FILE. If it takes more memory than
-cpi.service (for /var/lib/cpi/office.db) or this machine allows, that is a cause; from half of it
-on, there is a warning.
+cpi.service (for /var/lib/cpi/office.db) or this machine allows, that is a cause; from half of that
+on, it is a warning.
 
 If the log next to FILE belongs to another file, cpi would put it into FILE on opening. The tool
 finds such a log from its content and that of FILE: FILE is whole by itself, and with the log it is
@@ -418,7 +418,7 @@ def add_words(tools: argparse._SubParsersAction[ToolWords]) -> None:
     )
     words.add_argument("file", type=Path, metavar="FILE", help="the office's file, which is only read")
     words.add_argument("--user", metavar="NAME", help="the user who is to open it")
-    words.add_argument("--log", action="store_true", help="only check whether the log next to it belongs to it")
+    words.add_argument("--log", action="store_true", help="only check whether the log next to FILE belongs to it")
     add_program(words)
     words.set_defaults(run=run, tool="doctor", words=words)
 

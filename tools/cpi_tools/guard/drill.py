@@ -248,8 +248,8 @@ def differences(office: StoredOffice, wanted: Computed, printed: Optional[Printe
 DESCRIPTION = """\
 Checks whether a copy of an office's file is a whole office. Its bytes must match its note
 COPY.sha256, if there is one. cpi must open it. Every table of every revision, with each carried
-price, must follow from its frozen quotes, and cpi must print it so. The C library of SQLite must
-find no fault (integrity_check, foreign_key_check). One line gives the result and how much was
+price, must follow from its frozen quotes, and cpi must print the same. The C library of SQLite
+must find no fault (integrity_check, foreign_key_check). One line gives the result and how much was
 checked; each fault is a line on standard error. The drill works on a copy of COPY, so COPY never
 changes. A log next to COPY, COPY-wal, belongs to it. You can also drill an office that is being
 served. If the note says that the backup includes the desk's folder, COPY.desk.tar must be there
@@ -257,7 +257,7 @@ and match its checksum.
 
 After a kill, most of an office can be in its log. Without the log, the file is then a sound but
 older office, perhaps an empty one. So a warning on standard error names a COPY that has neither a
-note nor a log, and an office without a collector that has no note. With its note, an office
+note nor a log, and an office that has neither a note nor a collector. With its note, an office
 without a collector is a correct backup of an office before its survey.
 """
 

@@ -200,17 +200,17 @@ checksums, its time, and the receipts of the last new quotes.
 DEST is one of these:
 
     FOLDER                   an existing folder of this machine, for example on another disk
-    [USER@]MACHINE:FOLDER    a folder of another machine, by rsync over ssh; if cpi-receive is the
-                             command of its key there, a round carries the changed pages as one file
+    [USER@]MACHINE:FOLDER    a folder of another machine, by rsync over ssh; if the key there runs
+                             cpi-receive, a round carries the changed pages as one file
     rclone:REMOTE:FOLDER     a folder of a store that rclone knows; it carries whole files
 
-Each copy says which office it is of, how many rows the office has, and the sum of its receipts:
-these numbers only grow. Before a round counts, SQLite checks each page (quick_check). A round
-isn't carried, and cpi-tools probe --copy is critical, if a page is damaged, if FILE is another
-office, or if it would take back what the copy contains, for example after a backup was restored or
-a lost file was created again. Both copies stay. If DEST is a FOLDER, the office that isn't carried
-is in FOLDER/aside as long as that lasts. If the copy is the right one, promote it. If the present
-office is, carry it once with --anew.
+Each copy records its office, the number of the office's rows, and the sum of its receipts; both
+numbers only grow. Before a round counts, SQLite checks each page (quick_check). A round isn't
+carried, and cpi-tools probe --copy is critical, if a page is damaged, if FILE is another office,
+or if it would take back what the copy contains, for example after a backup was restored or a lost
+file was created again. Both copies stay. If DEST is a FOLDER, what isn't carried is kept in
+FOLDER/aside meanwhile. If the copy is the right one, promote it. If the present office is, carry
+it once with --anew.
 
 With --desk, the folder of the desk's pages is carried to DEST/desk after each round: its log, its
 notes, and what waits there. Only changes are carried, and logs are only appended to. If a log
@@ -239,13 +239,13 @@ def add_words(tools: argparse._SubParsersAction[ToolWords]) -> None:
     add = words.add_argument
     add("file", type=Path, metavar="FILE", help="the office's file, which is only read")
     add("dest", metavar="DEST", help="where the second copy is kept")
-    add("--every", type=at_least(1), default=EVERY, metavar="SECONDS", help="from the start of one round to the next (%(default)s)")
+    add("--every", type=at_least(1), default=EVERY, metavar="SECONDS", help="how often to start a round (%(default)s)")
     how = words.add_mutually_exclusive_group()
     how.add_argument("--once", action="store_true", help="carry one copy, then end")
     how.add_argument("--ask", action="store_true", help="only ask whether the copy was promoted, then end")
-    add("--anew", action="store_true", help="let the first round take back what the copy contains, or carry another office")
+    add("--anew", action="store_true", help="let the first round take back what the copy has, or carry another office")
     add("--desk", type=Path, metavar="FOLDER", help="also carry this folder of the desk's pages")
-    add("--room", type=Path, metavar="FOLDER", help="if DEST is elsewhere: where to prepare what is carried (FILE.follow)")
+    add("--room", type=Path, metavar="FOLDER", help="if DEST is elsewhere: where rounds are prepared (FILE.follow)")
     add("--ssh", metavar="COMMAND", help="the program with which rsync reaches the other machine, and its arguments")
     add(
         "--patience",

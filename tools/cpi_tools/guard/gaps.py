@@ -163,9 +163,9 @@ LIST is a CSV file with a header row: collector, slot, month, mark, value, recei
 price, comparable or other, with a price in minor units as its value, or missing, with its reason.
 If a slot and month have several rows, the one with the greatest receipt counts.
 
-Receipts are given again after a promotion. So a row counts as present if the office has the same
-mark and value for its slot and month, or a later receipt, with which the price was corrected
-meanwhile. Sending the same price again is safe: a stored one keeps its receipt.
+After a promotion, receipt numbers are given out again. So a row counts as present if the office
+has the same mark and value for its slot and month, or a later receipt, with which the price was
+corrected meanwhile. Sending the same price again is safe: a stored one keeps its receipt.
 
 With --records, LIST contains what the desk sent: records without time and caller, as in the rows
 of an import. Records that the office doesn't have are written as they were sent, so the desk can

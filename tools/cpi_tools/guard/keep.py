@@ -257,16 +257,16 @@ DESCRIPTION = """\
 Keeps generations of the second copy that cpi-tools follow keeps in the folder DEST. The newest
 whole copy goes into a borg repository in FOLDER, is taken out of it again, and is drilled. It
 counts only if it passes. Then older generations are removed: 24 hourly, 31 daily and 12 monthly
-ones stay. A copy with the same bytes as the last generation isn't a new one. cpi-tools promote
---generation promotes a generation.
+ones stay. A copy with the same bytes as the last generation doesn't make a new one. cpi-tools
+promote --generation promotes a generation.
 
 If DEST contains the desk's folder, so does the generation. Once a week the whole repository is
 checked.
 
 FOLDER belongs to a user of its own, whom the machine that carries to DEST can't reach. Root runs
 this tool: it opens the copies, and writes DEST/drilled.json, which cpi-tools probe --copy reads on
-both machines. FOLDER's user does everything else. Besides the generations, the disk needs as much
-room as a copy and 600 MB for borg, and the folder for temporary files needs as much as a copy.
+both machines. FOLDER's user does everything else. Besides the generations, its disk needs room for
+a copy and 600 MB for borg, and the folder for temporary files needs room for a copy.
 
 cpi-keep.timer runs the tool every hour. The first run creates the repository; if it is gone later,
 that is a fault.

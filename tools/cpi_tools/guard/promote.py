@@ -366,10 +366,11 @@ First make sure that the first machine can't answer any more: turn it off, or ta
 away. The copy doesn't contain what that machine answered after the copy was made: the last lines
 say what has to be sent again, and since when.
 
-A copy at DEST can be promoted once, and --replace doesn't put aside an office that has accepted
-prices since the copy. Both are refused with the time and the machine, unless you give --again.
+The tool refuses to promote a copy of DEST twice, and --replace refuses to put aside an office that
+has accepted prices since the copy. The refusal names the time and the machine; --again overrides
+it.
 
-If both copies contain the result of an accident, --generation takes an earlier state, which
+If both copies contain the result of an accident, --generation takes an earlier state that
 cpi-tools keep kept. A NAME that doesn't exist, such as list, prints the names of all generations.
 A generation is drilled and marked like a copy.
 

@@ -265,7 +265,7 @@ machine stops meanwhile, cpi-serve starts no office until the restore has been r
 If BACKUP includes the desk's folder, it is restored too, and the present one is put aside in a
 folder inside it. The present one stays if its logs continue those of BACKUP.
 
-BACKUP doesn't contain what was answered after it was made. What was put aside contains it, if that
+BACKUP doesn't contain what was answered after it was made. The files put aside contain it, if they
 can be read. A follower doesn't replace a newer copy with an older office: promote that copy
 instead, or run cpi-tools follow --anew. The last line shows the command that starts the office:
 {START}

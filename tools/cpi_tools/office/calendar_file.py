@@ -108,36 +108,36 @@ def put_windows(to: Path, windows: Iterable[Window], clock: Clock = UTC) -> None
 # ---- words
 
 DESCRIPTION = """\
-Writes the windows of an office's calendar as JSON: of each month when its window opens and when it
-closes, in seconds since 1970 UTC, in the order of the months, and what the office's clock calls
-the time then. The front serves the file as /calendar.json, and the collectors' page shows the
-deadline of a month by it. It has the months
-whose window closes in the last 400 days or later. Publishing moments aren't in it, and nothing of
-collectors.
+Writes the windows of an office's calendar as JSON, in the order of the months: when each month's
+window opens and closes, in seconds since 1970 UTC, and the office's time zone at those times. The
+front serves the file as /calendar.json, from which the collectors' page shows the deadline of a
+month. The file contains the months whose window closed in the last 400 days or closes later. It
+contains no release times, and nothing about collectors.
 
-FILE is copied, while cpi runs or not, and isn't changed. The calendar is written whole or not at
-all, with mode 0644; a file that is no calendar is never replaced. Run it again after each window
-that the desk sets.
+The tool copies FILE, whether cpi is running or not, and doesn't change it. It writes the calendar
+whole or not at all, with mode 0644, and never replaces a file that isn't a calendar. Run it again
+each time the desk has set a window.
 """
 
 EPILOG = """\
 example: cpi-tools calendar office.db --out calendar.json
          cpi-tools calendar /var/lib/cpi/office.db --out /var/lib/cpi-site/calendar.json
 
-exit status: 0 if the calendar is there; 1 with one line why it isn't; 2 if the words are refused
+exit status: 0 if the calendar was written; 1 if it wasn't (one line says why); 2 if the arguments
+are refused
 """
 
 
 def add_words(tools: argparse._SubParsersAction[ToolWords]) -> None:
     """The tool `calendar`."""
-    says = "writes the windows of the months for the collectors' page"
+    says = "Write the windows of the months for the collectors' page"
     words = tools.add_parser("calendar", help=says, description=DESCRIPTION, epilog=EPILOG)
     words.add_argument("file", type=Path, metavar="FILE", help="the office's file, which is only read")
-    words.add_argument("--out", type=a_file, required=True, metavar="CALENDAR", help="where the calendar is written")
+    words.add_argument("--out", type=a_file, required=True, metavar="CALENDAR", help="where to write the calendar")
     words.add_argument(
-        "--since", type=a_month, metavar="MONTH", help="the first month, like 2026-01 (else by the last 400 days)"
+        "--since", type=a_month, metavar="MONTH", help="the first month, like 2026-01 (else from the last 400 days)"
     )
-    says = f"the office's clock: a place, or a rule as POSIX has it (else that of {ZONE_VARIABLE}, or UTC)"
+    says = f"the office's clock: a place, or a POSIX rule (else from {ZONE_VARIABLE}, or UTC)"
     words.add_argument("--zone", metavar="ZONE", help=says)
     words.set_defaults(run=run, tool="calendar", words=words)
 

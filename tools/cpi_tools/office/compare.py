@@ -154,32 +154,33 @@ def lines_of(comparison: Comparison) -> Iterator[str]:
 # ---- words
 
 DESCRIPTION = """\
-Computes the index of a frozen month with Jevons (the geometric mean of the ratios of prices) and
-with Carli (their arithmetic mean) in the place of Dutot (the ratio of the sums), which the office
-publishes. Samples, carried prices and weights are those of the published index; each formula is
-chained by itself, from the first December on. The text has all items by each formula, and the
-elementary aggregates that make the differences: one with a wide gap may not be homogeneous. These
-figures are for judging the method. They are no index of the office, and of a month that isn't
-published yet they are under embargo as its table is.
+Computes the index of a frozen month with Jevons (the geometric mean of price ratios) and with
+Carli (their arithmetic mean) instead of Dutot (the ratio of sums), which the office publishes.
+Samples, carried prices and weights are those of the published index; each formula is chained
+separately, from the first December on. The text shows all items with each formula, and the
+elementary aggregates that cause the differences: an aggregate with a wide gap may not be
+homogeneous. These figures are for judging the method. They aren't the office's index, and those of
+an unpublished month are under the same embargo as its table.
 """
 
 EPILOG = """\
 example: cpi-tools compare office.db 2026-02 --out out/formulas.csv
 
-exit status: 0 if the text is written; 1 with a line why not; 2 if the words are refused
+exit status: 0 if the text was written; 1 if it wasn't (one line says why); 2 if the arguments are
+refused
 """
 
 
 def add_words(tools: argparse._SubParsersAction[ToolWords]) -> None:
     """The tool `compare`."""
     words = tools.add_parser(
-        "compare", help="compute the index of a month with other formulas", description=DESCRIPTION, epilog=EPILOG
+        "compare", help="Compute the index of a month with other formulas", description=DESCRIPTION, epilog=EPILOG
     )
     words.add_argument("file", type=Path, metavar="FILE", help="the office's file, which is only read")
-    words.add_argument("month", type=a_month, metavar="MONTH", help="a frozen month like 2026-02")
+    words.add_argument("month", type=a_month, metavar="MONTH", help="a frozen month, such as 2026-02")
     words.add_argument("--revision", type=int, choices=range(1, 10), metavar="N", help="its revision (else the latest)")
     words.add_argument(
-        "--out", type=Path, metavar="FILE", help="a CSV file of all nodes, which only its owner can read"
+        "--out", type=Path, metavar="FILE", help="also write a CSV file of all nodes, which only its owner can read"
     )
     add_program(words)
     words.set_defaults(run=run, tool="compare", words=words)

@@ -81,7 +81,7 @@ def add_program(words: argparse.ArgumentParser) -> None:
     words.add_argument(
         "--program",
         metavar="FILE",
-        help="the program cpi (else by the variable CPI, else ./cpi of the repository, else cpi on the path)",
+        help="the program cpi (else from the variable CPI, else ./cpi in the repository, else cpi on the path)",
     )
 
 

@@ -319,24 +319,25 @@ def check(published: Iterable[Published], config: Config, out: Path, before: Opt
 # ---- words
 
 DESCRIPTION = """\
-Reads the published tables as the public does, and writes into FOLDER what users of the index take
-home: CSV, SDMX, XLSX, and a website without a server. A table under embargo isn't answered to the
-public, so it can't be in it. The same tables give the same bytes, whenever they are written.
+Reads the published tables as the public does, and writes into FOLDER what users of the index
+download: CSV, SDMX, XLSX, and a website that needs no server. The office doesn't give the public a
+table under embargo, so the pack can't contain one. The same tables give the same bytes, whenever
+they are written.
 
-With --db FILE the file is copied first, as it stands, and cpi may run meanwhile; a moment that is
-still to come is refused, but with --draft. A pack that stands in FOLDER is replaced as a whole,
-but where one of its tables is another one now, or isn't there any more. If FOLDER is a symbolic
-link, the folder that it leads to is replaced, and the link stays. manifest.json has the
-SHA-256 of each table and of the manifest before: that of the pack that stands in FOLDER, or
---previous. With --sign KEY it is signed by ssh-keygen, and a page says how anybody checks that; KEY
-is a private key, or a public one whose private key an agent has.
+With --db, the tool first copies FILE as it is, and cpi may be running; a time in the future is
+refused, except with --draft. A pack that is already in FOLDER is replaced as a whole, unless one
+of its tables has changed or is gone. If FOLDER is a symbolic link, the tool replaces the folder to
+which it leads, and the link stays. manifest.json contains the SHA-256 of each table and of the
+previous manifest: the one in FOLDER, or --previous. With --sign, ssh-keygen signs the manifest,
+and a page says how anybody can check that; KEY is a private key, or a public one whose private key
+an agent holds.
 """
 
 EPILOG = """\
 example: cpi-tools publish --db office.db --at $(date +%s) --config office.ini --out public
 
-exit status: 0 where the pack is written, or --check finds no difference; 1 with a line why not;
-2 where the words are refused
+exit status: 0 if the pack was written, or --check finds no difference; 1 if not (one line says
+why); 2 if the arguments are refused
 """
 
 
@@ -344,19 +345,21 @@ def add_words(tools: argparse._SubParsersAction[ToolWords]) -> None:
     """The tool `publish`."""
     words = tools.add_parser(
         "publish",
-        help="writes data files and a website of all published tables",
+        help="Publish all released tables as data files and a website",
         description=DESCRIPTION,
         epilog=EPILOG,
     )
     add = words.add_argument
     add_source(words)
-    add("--draft", action="store_true", help="take a moment that is still to come: FOLDER is then for its owner alone")
-    add("--config", type=Path, required=True, metavar="FILE", help="who publishes, under which names")
+    add("--draft", action="store_true", help="allow a time in the future: then only the owner of FOLDER can read it")
+    add("--config", type=Path, required=True, metavar="FILE", help="who publishes, and under which names")
     to = words.add_mutually_exclusive_group(required=True)
-    to.add_argument("--out", type=Path, metavar="FOLDER", help="where the pack is written")
-    to.add_argument("--check", type=Path, metavar="FOLDER", help="write nothing: tell which files of a pack differ")
-    add("--sign", type=Path, metavar="KEY", help="with --out: sign the manifest with this key, by ssh-keygen")
-    add("--previous", type=Path, metavar="MANIFEST", help="the manifest before, where the pack stands elsewhere")
+    to.add_argument("--out", type=Path, metavar="FOLDER", help="where to write the pack")
+    to.add_argument(
+        "--check", type=Path, metavar="FOLDER", help="write nothing, but list the files of a pack that differ"
+    )
+    add("--sign", type=Path, metavar="KEY", help="with --out: sign the manifest with this SSH key")
+    add("--previous", type=Path, metavar="MANIFEST", help="the previous manifest, if that pack is elsewhere")
     add_safe_csv(words)
     words.set_defaults(run=run, tool="publish", words=words)
 

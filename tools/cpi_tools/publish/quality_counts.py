@@ -210,30 +210,32 @@ def untold(cells: Iterable[Cell]) -> Iterator[str]:
 # ---- words
 
 DESCRIPTION = f"""\
-Counts what each published release of an office rests on, by division: outlets, prices that were
-asked for, that came, that were replaced, missing or imputed. The file goes into the pack of
-cpi-tools publish, where the configuration has quality = FILE. It has no price, no outlet and no
-collector in it, and nothing of a table that isn't published at the moment.
+Counts, by division, what each published release of an office is based on: outlets, and prices that
+were due, collected, replaced, missing and imputed. The file goes into the pack of cpi-tools
+publish if the configuration contains quality = FILE. It contains no price, outlet or collector,
+and nothing from a table that isn't published at the time of --at.
 
-A division with fewer outlets than least_outlets of the configuration (else {LEAST_OUTLETS}) has no figures. So
-that nobody gets them by subtraction, also between releases, the same further divisions never have
-any. If another division has too few later, all items have no figures in that release.
+A division with fewer outlets than least_outlets in the configuration (else {LEAST_OUTLETS}) has no
+figures. So that nobody can derive them by subtraction, even between releases, some other
+divisions, always the same, have none either. If another division later has too few outlets, the
+total of all items has no figures in that release.
 
-OFFICE is copied, while cpi runs or not, and isn't changed. The file is written whole or not at all,
-and goes on from the one that is there, whose releases show what they did.
+The tool copies OFFICE, whether cpi is running or not, and doesn't change it. It writes the file
+whole or not at all, and continues the existing one, whose releases keep showing what they showed.
 """
 
 EPILOG = """\
 example: cpi-tools quality --db office.db --at $(date +%s) --config office.ini --out counts.csv
 
-exit status: 0 if the file is written; 1 with a line why not; 2 if the words are refused
+exit status: 0 if the file was written; 1 if it wasn't (one line says why); 2 if the arguments are
+refused
 """
 
 
 def add_words(tools: argparse._SubParsersAction[ToolWords]) -> None:
     """The tool `quality`."""
     words = tools.add_parser(
-        "quality", help="count who answered, by release and division", description=DESCRIPTION, epilog=EPILOG
+        "quality", help="Count who answered, by release and division", description=DESCRIPTION, epilog=EPILOG
     )
     add = words.add_argument
     add("--db", type=Path, required=True, metavar="OFFICE", help="an office's file, which is only read")
@@ -242,10 +244,10 @@ def add_words(tools: argparse._SubParsersAction[ToolWords]) -> None:
         type=at_least(0),
         required=True,
         metavar="SECONDS",
-        help="what is out at this moment, seconds since 1970",
+        help="the time, in seconds since 1970: what is published by then",
     )
     add("--config", type=Path, metavar="FILE", help="the configuration of cpi-tools publish, for its least_outlets")
-    add("--out", type=Path, required=True, metavar="FILE", help="where the counts are written")
+    add("--out", type=Path, required=True, metavar="FILE", help="where to write the counts")
     add_program(words)
     words.set_defaults(run=run, tool="quality", words=words)
 

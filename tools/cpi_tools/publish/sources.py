@@ -15,9 +15,9 @@ from ..text.terminal import Progress, ToolWords, at_least
 def add_source(words: ToolWords) -> None:
     """The words `--url`, `--db`, `--at` and `--program` of a tool."""
     source = words.add_mutually_exclusive_group(required=True)
-    source.add_argument("--url", type=address, help="the address of an office that is served: what is out now")
+    source.add_argument("--url", type=address, help="the address of a served office: what is published now")
     source.add_argument("--db", type=Path, metavar="FILE", help="an office's file, which is only read")
-    at = "with --db: what is out at this moment, seconds since 1970"
+    at = "with --db: what is published by this time, in seconds since 1970"
     words.add_argument("--at", type=at_least(0), metavar="SECONDS", help=at)
     add_program(words)
 

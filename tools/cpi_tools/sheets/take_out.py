@@ -209,29 +209,29 @@ def take_out(cpi: Cpi, file: Path, folder: Path) -> dict[str, int]:
 # ---- words
 
 DESCRIPTION = """\
-Writes an office's file as CSV files that cpi-tools take-in reads, into a new folder: items,
-outlets, collectors, series, classification, places, plans, handovers, calendar, prices, releases.
-Prices are in minor units, weights in parts per million, moments in seconds since 1970 UTC. Taken in
-again they give the same tables, of all revisions. FILE is copied, while cpi runs or not, and isn't
-changed.
+Writes an office's file to a new folder as CSV files that cpi-tools take-in reads: items, outlets,
+collectors, series, classification, places, plans, handovers, calendar, prices, releases. Prices
+are in minor units, weights in parts per million, and times in seconds since 1970 UTC. Taken in
+again, they give the same tables, in all revisions. The tool copies FILE, whether cpi is running or
+not, and doesn't change it.
 
-The collectors' keys are in collectors.csv, and all prices in prices.csv: the files have mode 0600.
+collectors.csv contains the collectors' keys, and prices.csv all prices: the files have mode 0600.
 """
 
 EPILOG = """\
 example: cpi-tools take-out office.db spreadsheets
 
-exit status: 0 where the files are there; 1 with one line why they aren't, and nothing is left;
-2 where the words are refused
+exit status: 0 if the files were written; 1 if they weren't, and nothing is left (one line says
+why); 2 if the arguments are refused
 """
 
 
 def add_words(tools: argparse._SubParsersAction[ToolWords]) -> None:
     """The tool `take-out`."""
-    says = "writes an office's file as the spreadsheets that take-in reads"
+    says = "Write an office's file as the spreadsheets that take-in reads"
     words = tools.add_parser("take-out", help=says, description=DESCRIPTION, epilog=EPILOG)
     words.add_argument("file", type=Path, metavar="FILE", help="the office's file, which is only read")
-    words.add_argument("folder", type=Path, metavar="FOLDER", help="a folder that isn't there yet")
+    words.add_argument("folder", type=Path, metavar="FOLDER", help="a folder that doesn't exist yet")
     add_program(words)
     words.set_defaults(run=run, tool="take-out", words=words)
 

@@ -106,7 +106,7 @@ def add_safe_csv(words: argparse.ArgumentParser) -> None:
         "--safe-csv",
         action="store_true",
         default=False,
-        help="in CSV files, write an apostrophe before a text that begins as a formula does, with = + - @ or a tab",
+        help="in CSV files, write an apostrophe before a text that begins like a formula: with = + - @ or a tab",
     )
 
 

@@ -31,16 +31,16 @@ FIGURE = re.compile(r"[+\u2212-]?[0-9][0-9,]*(\.[0-9]+)?([ \u202f]?%)?")
 def add_speech(words: argparse.ArgumentParser, what: str) -> None:
     """The words `--language` and `--digits` of a tool: how its page is written."""
     add = words.add_argument
-    says = f"the language of {what}, such as fr (else that of {VARIABLE}, or en): one with a catalogue"
+    says = f"the language of {what}, such as fr: one that has a catalogue (else from {VARIABLE}, or en)"
     add("--language", type=a_language, metavar="LANG", help=says)
-    says = f"digits of another language than English: {', '.join(DIGITS)} (else those of {DIGITS_VARIABLE}, or {LATIN})"
+    says = f"the digits in languages other than English: {', '.join(DIGITS)} (else from {DIGITS_VARIABLE}, or {LATIN})"
     add("--digits", choices=DIGITS, metavar="DIGITS", help=says)
 
 
 def add_language(words: argparse.ArgumentParser, what: str) -> None:
     """The same, and `--zone`, for a page with moments."""
     add_speech(words, what)
-    says = f"the clock of {what}: a place, or a rule as POSIX has it (else that of {ZONE_VARIABLE}, or UTC)"
+    says = f"the clock of {what}: a place, or a POSIX rule (else from {ZONE_VARIABLE}, or UTC)"
     words.add_argument("--zone", metavar="ZONE", help=says)
 
 

@@ -78,42 +78,44 @@ def run(chosen: argparse.Namespace) -> int:
 # ---- words
 
 DESCRIPTION = f"""\
-Writes one page to print, with a sheet for each collector: the number and the name, a code that
-signs the collector in on a phone, and the key to type if no camera can read the code. The code is
-the link URL/collect/#key=KEY&name=NAME. After the 32 digits of the typed key comes a check
-character (ISO/IEC 7064, MOD 37,36), by which the page finds a wrong digit.
+Writes one page to print, with a sheet for each collector: the number and the name, a code with
+which the collector signs in on a phone, and the key to type if no camera can read the code. The
+code is the link URL/collect/#key=KEY&name=NAME. After its 32 digits, the typed key has a check
+character (ISO/IEC 7064, MOD 37,36), with which the page detects a wrong digit.
 
-An office stores no names. They come from a CSV file in UTF-8 with the columns collector and name,
-of at most {LONGEST_NAME} characters; a collector who isn't in it has a sheet with the number.
+An office stores no names. Names of at most {LONGEST_NAME} characters come from a CSV file in UTF-8
+with the columns collector and name; the sheet of a collector who isn't in it shows only the
+number.
 
-FILE is copied, while cpi runs or not, and isn't changed. Whoever has a sheet or its link can answer
-as that collector. The page has mode 0600: print it, and remove it.
+The tool copies FILE, whether cpi is running or not, and doesn't change it. Anybody who has a sheet
+or its link can act as that collector. The page has mode 0600: print it, then remove it.
 """
 
 EPILOG = """\
 example: cpi-tools keys office.db --url https://prices.example --names names.csv --out sheets.html
          cpi-tools keys office.db --url https://prices.example --collector 7 --out sheet.html
 
-exit status: 0 if the page is there; 1 with one line why it isn't; 2 if the words are refused
+exit status: 0 if the page was written; 1 if it wasn't (one line says why); 2 if the arguments are
+refused
 """
 
 
 def add_words(tools: argparse._SubParsersAction[ToolWords]) -> None:
     """The tool `keys`."""
-    says = "makes a sheet for each collector, to sign in on a phone"
+    says = "Make a sheet for each collector, to sign in on a phone"
     words = tools.add_parser("keys", help=says, description=DESCRIPTION, epilog=EPILOG)
     add = words.add_argument
     add("file", type=Path, metavar="FILE", help="the office's file, which is only read")
-    add("--url", type=an_origin, required=True, help="the address of the front, like https://prices.example")
-    add("--out", type=a_file, required=True, metavar="PAGE", help="where the page is written")
-    add("--names", type=Path, metavar="CSV", help="the names of collectors: the columns collector and name")
+    add("--url", type=an_origin, required=True, help="the front's address, such as https://prices.example")
+    add("--out", type=a_file, required=True, metavar="PAGE", help="where to write the page")
+    add("--names", type=Path, metavar="CSV", help="the collectors' names, in the columns collector and name")
     add(
         "--collector",
         type=at_least(1),
         action="append",
         metavar="N",
-        help="this collector's sheet only; may be given again (else of all)",
+        help="only this collector's sheet; may be repeated (else all sheets)",
     )
-    says = "the language of the sheets, such as fr (else en): one with a catalogue"
+    says = "the language of the sheets, such as fr: one that has a catalogue (else en)"
     add("--language", type=a_language, default=SOURCE, metavar="LANG", help=says)
     words.set_defaults(run=run, tool="keys", words=words)

@@ -131,25 +131,25 @@ def a_url(text: str) -> str:
 # ---- words
 
 SERVE = """\
-Serves the desk's pages to browsers of this machine: the month at a glance, prices to look at, the
-provisional table and what each figure comes from, the freeze as a checklist for two people,
-records that cpi judges on a copy before they are sent, and the desk's log. Figures are read from
-copies of the office's file, so the office isn't held up. What changes the office is sent to it
-over its interface, with the desk's key, which a person gives when signing in and which is written
-nowhere. ROOM has the log, notes on prices, and what was prepared; only its owner can read it.
+Serves the desk's pages to browsers on this machine: the month at a glance, prices to look at, the
+provisional table and the source of each figure, the freeze as a checklist for two people, records
+that cpi judges on a copy before they are sent, and the desk's log. Figures are read from copies of
+the office's file, so the office isn't held up. Changes are sent to the office over its interface,
+with the desk's key, which a person gives when signing in and which is never written to disk. The
+--room folder contains the log, notes on prices, and what was prepared; only its owner can read it.
 """
 
 SERVE_EPILOG = """\
 example: cpi-tools desk serve --office http://127.0.0.1:8080 --file office.db --room desk
 
-exit status: 0 at its end by a signal; 1 with one line why it can't serve; 2 where the words are
-refused
+exit status: 0 if a signal ended it; 1 if it can't serve (one line says why); 2 if the arguments
+are refused
 """
 
 
 def add_second_person(words: argparse.ArgumentParser) -> None:
     """The words of the second person, who confirms a freeze."""
-    says = "a freeze needs a reason if nobody has seen a price that moves all items by more"
+    says = "ask for a reason to freeze if nobody has seen a price that moves all items by more"
     words.add_argument(
         "--reason-above",
         type=a_few_points,
@@ -157,46 +157,44 @@ def add_second_person(words: argparse.ArgumentParser) -> None:
         metavar="POINTS",
         help=f"{says} ({points(REASON_ABOVE, 2)})",
     )
-    says = "a key that is asked of the person who confirms a freeze"
+    says = "ask the person who confirms a freeze for this key"
     words.add_argument("--second-key-file", type=Path, metavar="FILE", help=says)
 
 
 def add_serve(jobs: argparse._SubParsersAction[ToolWords]) -> None:
     """The job `serve` of the tool `desk`."""
-    words = jobs.add_parser(
-        "serve", help="serves the desk's pages to a browser", description=SERVE, epilog=SERVE_EPILOG
-    )
+    words = jobs.add_parser("serve", help="Serve the desk's pages to a browser", description=SERVE, epilog=SERVE_EPILOG)
     add = words.add_argument
     add("--office", type=a_url, default=URL, metavar="URL", help="the office's address (%(default)s)")
     add("--file", type=Path, required=True, metavar="FILE", help="the office's file, which is only read")
-    add("--room", type=Path, required=True, metavar="FOLDER", help="where the application keeps its log and notes")
+    add("--room", type=Path, required=True, metavar="FOLDER", help="where to keep the log and notes")
     add(
         "--listen",
         type=a_listener,
         default=LISTEN,
         metavar="ADDRESS",
-        help="where it listens (%(default)s): with --front, the path of a socket that only the front may open",
+        help="where to listen (%(default)s): with --front, the path of a socket that only the front may open",
     )
-    add("--other-machines", action="store_true", help="it may listen at an address that other machines reach")
-    add("--front", type=a_url, metavar="URL", help="its address behind a front that speaks TLS, which it believes")
+    add("--other-machines", action="store_true", help="allow an address that other machines can reach")
+    add("--front", type=a_url, metavar="URL", help="the pages' address at a front with TLS, which they trust")
     add(
         "--minutes",
         type=at_least(1),
         default=IDLE_MINUTES,
         metavar="N",
-        help="a session ends after so many (%(default)s)",
+        help="end an idle session after this many minutes (%(default)s)",
     )
-    add("--phones", type=an_origin, metavar="URL", help="the front that collectors reach, for sheets with their keys")
+    add("--phones", type=an_origin, metavar="URL", help="the front that collectors use, for the sheets with their keys")
     add_language(words, "the pages")
-    add("--site", type=Path, metavar="FOLDER", help="where the website is written, beside calendar.json for phones")
-    add("--site-config", type=Path, metavar="FILE", help="who publishes, under which names")
-    add("--sign", type=Path, metavar="KEY", help="sign the website's manifest with this key, by ssh-keygen")
+    add("--site", type=Path, metavar="FOLDER", help="where to write the website, next to calendar.json for phones")
+    add("--site-config", type=Path, metavar="FILE", help="who publishes, and under which names")
+    add("--sign", type=Path, metavar="KEY", help="sign the website's manifest with this SSH key")
     add(
         "--left-out",
         type=at_least(0),
         default=8,
         metavar="N",
-        help="quotes that a trial leaves out in turn (%(default)s)",
+        help="how many quotes a trial leaves out in turn (%(default)s)",
     )
     add_second_person(words)
     add(
@@ -204,8 +202,8 @@ def add_serve(jobs: argparse._SubParsersAction[ToolWords]) -> None:
         type=at_least(0),
         default=0,
         metavar="MONTHS",
-        help="take notes of the field from phones, ask collectors, and keep that for so many months (0: do neither)",
+        help="accept collectors' notes, ask them questions, and keep both for this many months (0: do neither)",
     )
-    add("--copies", type=Path, metavar="FOLDER", help="where copies of the office's file lie (else where TMPDIR says)")
+    add("--copies", type=Path, metavar="FOLDER", help="where copies of the office's file go (else where TMPDIR says)")
     add_program(words)
     words.set_defaults(run=run, tool="desk serve", words=words)

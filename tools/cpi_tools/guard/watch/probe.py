@@ -176,7 +176,7 @@ Connections: the same lines say when few connections are left before `cpi serve`
 The next open: a running office doesn't show how much memory and time its next start takes, which
 grow with the rows of FILE. The probe reads their number, and compares the memory and time of an
 open (as bench/age measures them) with what UNIT and this machine allow (--open). A start that is
-killed while it opens the file is tried again and again, and nobody is answered.
+killed while it opens the file is tried again and again, and meanwhile nobody gets an answer.
 """
 
 EPILOG = """\
@@ -230,18 +230,16 @@ def add_words(tools: argparse._SubParsersAction[ToolWords]) -> None:
     add("--url", type=address, default="http://127.0.0.1:8080", help="the office's address (%(default)s)")
     add("--authority", type=Path, metavar="FILE", help="certificates to trust in addition to the system's")
     add("--timeout", type=at_least(1), default=20, metavar="SECONDS", help="how long to wait (%(default)s)")
-    add(
-        "--file", type=Path, metavar="FILE", help="the office's file: check its writes, its size, its log and its disk"
-    )
+    add("--file", type=Path, metavar="FILE", help="the office's file: check its writes, its size, its log and its disk")
     from_where = words.add_mutually_exclusive_group()
     from_where.add_argument("--unit", metavar="UNIT", help=f"the unit that serves the office (with --file {UNIT})")
     from_where.add_argument(
         "--output", type=Path, metavar="FILE", help="the file to which all output of cpi serve is appended"
     )
-    add("--backups", type=Path, metavar="FOLDER", help="where the backups are: check the age of the last one, and failed drills")
     add(
-        "--copy", type=Path, metavar="FOLDER", help="where cpi-tools follow keeps the second copy, or its room: check its age"
+        "--backups", type=Path, metavar="FOLDER", help="where backups are: check the age of the last, and failed drills"
     )
+    add("--copy", type=Path, metavar="FOLDER", help="where cpi-tools follow keeps a copy, or its room: check its age")
     add("--certificate", type=place, metavar="FILE|HOST:PORT", help="the front's certificate: check when it expires")
     add("--clock", action="store_true", help="check that this machine's clock is synchronized (else a warning)")
     add("--prometheus", action="store_true", help="write all figures in the format of Prometheus")

@@ -42,32 +42,33 @@ IN_DOUBT = 3
 """The exit status if prices are in doubt, and nothing else is wrong."""
 
 DESCRIPTION = """\
-Reads the spreadsheets of an office, as files of text (.csv, .tsv, .txt) or workbooks (.xlsx, .xlsm;
-.ods, .xls and .xlsb if LibreOffice is installed) in FOLDER, or as one workbook: items, outlets,
-collectors, series, classification, places, plans, handovers, calendar, prices, releases.
-docs/decide/MIGRATING-AN-OFFICE.md has their columns. Rows become records in the order of an office,
-and cpi itself says what it would refuse: in an office in memory, or over a copy of the office that
---onto names, which isn't changed. What that office already has, exactly so, is passed over.
+Reads an office's spreadsheets: text files (.csv, .tsv, .txt) or workbooks (.xlsx, .xlsm; .ods,
+.xls and .xlsb if LibreOffice is installed) in FOLDER, or one workbook. The sheets are items,
+outlets, collectors, series, classification, places, plans, handovers, calendar, prices, releases;
+docs/decide/MIGRATING-AN-OFFICE.md lists their columns. Rows become records in the order in which
+an office needs them, and cpi itself says what it would refuse: in an office in memory, or on a
+copy of the office that --onto names, which isn't changed. Rows that this office already has,
+exactly the same, are skipped.
 
 --check writes problems.csv (kind, file, row as a spreadsheet counts it, column, number of the
-refusal, because, do) and report.html. A column of prices that is no month, a file that isn't read,
-and whatever can be read in two ways are problems. A price that may be a code for a missing one is
-in doubt: a first price more than ten times away from the others of its item or aggregate; nines, or
-one value of many items, that are as far away. Say what it is by --missing or --price.
+refusal, because, do) and report.html. A column of prices that isn't a month, a file that isn't
+read, and anything that can be read in two ways are problems. A price is in doubt if it may be a
+code for a missing one: a first price over ten times the median of its item or aggregate, or under
+a tenth of it; nines, or one value for many items, as far away. Say what it is with --missing or
+--price.
 
---map reads sheets of other forms with a file of TOML: other names of files, sheets and columns,
-months in four languages, an office's codes and marks, several prices of a month, quantities, and
-code pages.
-What a map gives is judged as everything else, and a text that it doesn't know is a problem.
-examples/maps has maps of known forms, and its README their words. OUT/map keeps a copy of the map,
-and codes.csv its codes.
+--map reads sheets in other forms with a TOML file: other names of files, sheets and columns,
+months in four languages, an office's codes and marks, several prices for a month, quantities, and
+code pages. The output of a map is judged like everything else, and a text that the map doesn't
+know is a problem. examples/maps contains maps of known forms, and its README explains their words.
+OUT/map contains a copy of the map, and codes.csv its codes.
 
---propose reads the folder and writes a first map: each guess has its reason as a comment, and a
-person has to answer each "?" before the map is taken.
+--propose reads the folder and writes a first map. A comment gives the reason for each guess, and a
+person has to answer each "?" before the map is accepted.
 
---write makes the folder OUT with records-01.csv and on, if there is no problem, and prints the
-commands that send them; keys that weren't given are drawn, and are in OUT/keys.csv. The records
-have the collectors' keys in them: files here have mode 0600. A workbook unpacks to at most 256 MiB.
+If there is no problem, --write creates the folder OUT with records-01.csv and so on, and prints
+the commands that send them. Missing keys are drawn, and listed in OUT/keys.csv. The records
+contain the collectors' keys: files here have mode 0600. A workbook unpacks to at most 256 MiB.
 """
 
 EPILOG = """\
@@ -75,62 +76,62 @@ example: cpi-tools take-in next-year/draft --onto office.db --check
          cpi-tools take-in spreadsheets --check --minor 100 --weights percent
          cpi-tools take-in spreadsheets --write records --minor 100 --weights percent
 
-exit status: 0 if there is no problem; 1 if there is one, or with one line what else went wrong;
-2 if the words are refused; 3 if the only doubt is whether prices are prices
+exit status: 0 if there is no problem; 1 if there is one, or if something else went wrong (one line
+says what); 2 if the arguments are refused; 3 if the only doubt is whether prices are prices
 """
 
 
 def add_words(tools: argparse._SubParsersAction[ToolWords]) -> None:
     """The tool `take-in`."""
-    says = "makes records of an office's spreadsheets"
+    says = "Make records from an office's spreadsheets"
     words = tools.add_parser("take-in", help=says, description=DESCRIPTION, epilog=EPILOG)
-    words.add_argument("folder", type=Path, metavar="FOLDER", help="the folder of the files, or one workbook .xlsx")
+    words.add_argument("folder", type=Path, metavar="FOLDER", help="the folder of the files, or one workbook (.xlsx)")
     do = words.add_mutually_exclusive_group(required=True)
-    do.add_argument("--check", action="store_true", help="tells what is refused, and what would be done")
-    do.add_argument("--write", type=Path, metavar="OUT", help="writes the records, into a folder that isn't there yet")
-    do.add_argument("--propose", type=Path, metavar="FILE", help="writes a first map, with what it guessed and why")
-    words.add_argument("--onto", type=Path, metavar="FILE", help="the office that they are added to; it is only read")
+    do.add_argument("--check", action="store_true", help="show what is refused, and what would be done")
+    do.add_argument("--write", type=Path, metavar="OUT", help="write the records to a folder that doesn't exist yet")
+    do.add_argument("--propose", type=Path, metavar="FILE", help="write a first map, with each guess and its reason")
+    words.add_argument("--onto", type=Path, metavar="FILE", help="the office to which they are added; it is only read")
     words.add_argument(
-        "--out", type=Path, metavar="FOLDER", help="where problems.csv and report.html go (check, in FOLDER)"
+        "--out", type=Path, metavar="FOLDER", help="where to write problems.csv and report.html (check, in FOLDER)"
     )
     words.add_argument(
-        "--map", type=Path, metavar="FILE", help="how sheets of other forms are read, as TOML: examples/maps/README.md"
+        "--map", type=Path, metavar="FILE", help="how to read sheets of other forms (TOML): examples/maps/README.md"
     )
-    words.add_argument("--zone", default="UTC0", metavar="Z", help="the clock of civil times, as cpi has it (UTC0)")
+    words.add_argument("--zone", default="UTC0", metavar="Z", help="the clock for civil times, as for cpi (UTC0)")
     words.add_argument(
-        "--minor", type=at_least(1), metavar="N", help="minor units in a unit of the prices (1, or the map's)"
+        "--minor", type=at_least(1), metavar="N", help="minor units in a unit of the prices (1, or from the map)"
     )
-    words.add_argument("--decimal", choices=(".", ","), help="the decimal sign (a point, or the map's)")
+    words.add_argument("--decimal", choices=(".", ","), help="the decimal sign (a point, or from the map)")
     words.add_argument(
         "--weights",
         choices=UNITS_OF_WEIGHTS,
-        help="what weights are in; all but ppm are scaled to 1,000,000 by greatest remainders (ppm, or the map's)",
+        help="the unit of weights; all but ppm are scaled to 1,000,000 by greatest remainders (ppm, or from the map)",
     )
     words.add_argument(
         "--ignore",
         action="append",
         default=[],
         metavar="NAME",
-        help="a column of prices, a file or a sheet that isn't read on purpose; may be repeated",
+        help="a prices column, a file or a sheet that isn't to be read; may be repeated",
     )
     words.add_argument(
         "--missing",
         action="append",
         default=[],
         metavar="VALUE=REASON",
-        help=f"a value of prices that says why there is none ({', '.join(REASONS)}), as 9999.99=stock; may be repeated",
+        help=f"a value that says why there is no price ({', '.join(REASONS)}), as in 9999.99=stock; may be repeated",
     )
     words.add_argument(
         "--price",
         action="append",
         default=[],
         metavar="VALUE",
-        help="a value that is in doubt, and is a price; may be repeated",
+        help="a value in doubt that is a price; may be repeated",
     )
     words.add_argument(
         "--confirm-history",
         action="store_true",
-        help="prices outside the tolerance are confirmed, and listed; none of a series with one in doubt is",
+        help="confirm prices outside the tolerance, and list them; none of a series that has one in doubt",
     )
     add_speech(words, "report.html")
     csv_files.add_safe_csv(words)

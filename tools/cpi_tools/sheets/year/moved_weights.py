@@ -134,37 +134,36 @@ def step_rows(found: Sequence[Moved], titles: Mapping[str, str]) -> Iterator[Seq
 # ---- words
 
 DESCRIPTION = """\
-Moves weights of a year to the December from which a plan's year begins, and writes the rows W of
+Moves a year's weights to the December from which a plan's year begins, and writes the W rows of
 the plan, in parts per million. SHEET is a CSV file with the columns code and weight, in any unit:
-what was spent on each elementary aggregate in the year of --of, at its prices. At December's prices
-it is weight * level of December / mean of the twelve levels of the year, by the published tables.
-That is computed exactly, and shared out once by the greatest remainders, so that the rows add up to
-1,000,000.
+what was spent on each elementary aggregate in the year of --of, at that year's prices. At
+December's prices, the weight is weight * level of December / mean of the twelve levels of the
+year, from the published tables. The tool computes this exactly, and rounds only once, by greatest
+remainders, so that the rows add up to 1,000,000.
 
-A third column, of, names another year or month for a row. An aggregate that is new has no levels:
-its weight is at prices of that December, and so says its column of. A plan with these rows has no
-row R, since nothing is left to move.
+A third column, of, names another year or month for a row. A new aggregate has no levels: its
+weight is at the prices of that December, as its column of says. A plan with these rows has no R
+row, because nothing is left to move.
 """
 
 EPILOG = """\
 example: cpi-tools weights spent.csv --of 2025 --for 2027 --db office.db --at $(date +%s) --out w.csv
 
-exit status: 0 if the rows are written; 1 with one line why they aren't; 2 if the words are refused
+exit status: 0 if the rows were written; 1 if they weren't (one line says why); 2 if the arguments
+are refused
 """
 
 
 def add_words(tools: argparse._SubParsersAction[ToolWords]) -> None:
     """The tool `weights`."""
-    says = "moves a year's weights by prices to December, for the next plan"
+    says = "Move a year's weights by prices to December, for the next plan"
     words = tools.add_parser("weights", help=says, description=DESCRIPTION, epilog=EPILOG)
     words.add_argument("sheet", type=Path, metavar="SHEET", help="codes and weights")
     add_source(words)
-    words.add_argument("--of", type=a_year, required=True, metavar="YEAR", help="the year at whose prices they are")
+    words.add_argument("--of", type=a_year, required=True, metavar="YEAR", help="the year of the weights' prices")
     words.add_argument("--for", type=a_year, required=True, dest="year", metavar="YEAR", help="the year of the plan")
-    words.add_argument(
-        "--out", type=a_file, required=True, metavar="ROWS", help="where the rows of the plan are written"
-    )
-    words.add_argument("--steps", type=a_file, metavar="STEPS", help="where each weight is shown with its levels")
+    words.add_argument("--out", type=a_file, required=True, metavar="ROWS", help="where to write the rows of the plan")
+    words.add_argument("--steps", type=a_file, metavar="STEPS", help="where to show each weight with its levels")
     words.set_defaults(run=run, tool="weights", words=words)
 
 

@@ -241,15 +241,16 @@ def next_year(cpi: Cpi, file: Path, year: int, folder: Path) -> tuple[Now, Lists
 # ---- words
 
 DESCRIPTION = """\
-Before YEAR begins: which series leave the sample, which were gone in the last three months, which
-aggregates have fewer than three series; and a draft of the year's plan and assignments. Who is in
-the sample is told by cpi itself: on a copy the months up to January of YEAR are frozen with the
-quotes that they have. FILE isn't changed, and cpi may serve it meanwhile.
+Prepares YEAR before it begins: lists the series that leave the sample, the series that were gone
+in the last three months, and the aggregates with fewer than three series; and drafts the year's
+plan and assignments. cpi itself shows which series are in the sample: on a copy, it freezes the
+months up to January of YEAR with the quotes that they have. FILE doesn't change, and cpi may be
+serving it.
 
-FOLDER gets leaving.csv, gone.csv and few-series.csv; and draft/ with classification.csv (the
-weights of this year, for which the new ones are put), places.csv, plans.csv and series.csv: what
-ends in December goes on in a new slot from December on, but for what was gone. Mend the draft in a
-spreadsheet, and take it in:
+FOLDER gets leaving.csv, gone.csv and few-series.csv, and draft/ with classification.csv (with this
+year's weights, to be replaced by the new ones), places.csv, plans.csv and series.csv. In
+series.csv, a series that ends in December goes on in a new slot from December on, unless it was
+gone. Edit the draft in a spreadsheet, and take it in:
 
     cpi-tools take-in FOLDER/draft --onto FILE --check
 """
@@ -257,18 +258,18 @@ spreadsheet, and take it in:
 EPILOG = """\
 example: cpi-tools next-year office.db 2027 next-year
 
-exit status: 0 where the folder is there; 1 with one line why it isn't, and nothing is left;
-2 where the words are refused
+exit status: 0 if the folder was written; 1 if it wasn't, and nothing is left (one line says why);
+2 if the arguments are refused
 """
 
 
 def add_words(tools: argparse._SubParsersAction[ToolWords]) -> None:
     """The tool `next-year`."""
-    says = "drafts next year's plan, and lists the series that leave the sample"
+    says = "Draft next year's plan, and list the series that leave the sample"
     words = tools.add_parser("next-year", help=says, description=DESCRIPTION, epilog=EPILOG)
     words.add_argument("file", type=Path, metavar="FILE", help="the office's file, which is only read")
-    words.add_argument("year", type=at_least(2000), metavar="YEAR", help="the year that comes, such as 2027")
-    words.add_argument("folder", type=Path, metavar="FOLDER", help="a folder that isn't there yet")
+    words.add_argument("year", type=at_least(2000), metavar="YEAR", help="the coming year, such as 2027")
+    words.add_argument("folder", type=Path, metavar="FOLDER", help="a folder that doesn't exist yet")
     add_program(words)
     words.set_defaults(run=run, tool="next-year", words=words)
 
