@@ -1,7 +1,7 @@
 """Each release of an office computed anew from its frozen quotes, in one pass over all months and revisions.
 
-The rules are the functions of `recompute`. What is said of an earlier month is taken of its latest revision, as computed
-here: no carried price and no level that the file has is used.
+The rules are the functions of `recompute`. An earlier month is read from its latest revision, as computed here: no
+carried price and no level from the file is used.
 """
 
 from __future__ import annotations
@@ -43,7 +43,7 @@ class Months:
     def computed(self, release: Release, frozen: dict[Series, Frozen], is_latest: bool) -> Computed:
         """A release of these frozen quotes, which later months are computed from where it is its month's latest.
 
-        Raises ArithmeticError, LookupError, TypeError or ValueError where what the file has can't be computed with.
+        Raises ArithmeticError, LookupError, TypeError or ValueError if the file's content can't be computed with.
         """
         quotes = {series: (quote.mark, quote.value) for series, quote in frozen.items()}
         kept, weights, bases = self._kept, self._weights, self._bases
@@ -70,7 +70,7 @@ class Months:
         return kept, weights
 
     def _carried(self, kept: Kept, quotes: dict[Series, tuple[str, int]]) -> Iterator[tuple[Series, Carried]]:
-        """The carried prices as the file has them: a series is observed where its quote has a price."""
+        """The carried prices that the file contains: a series is observed if its quote has a price."""
         for own in kept.values():
             for series, (ticks, knum, kden, imputed) in own.items():
                 observed = int(quotes.get(series, ("", 0))[1] > 0)

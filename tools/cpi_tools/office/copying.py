@@ -1,22 +1,21 @@
 """A right copy of an office's file while `cpi` runs, commits, and copies its log into the file.
 
-**What stands where.** `cpi` writes each commit to the log beside the file, `FILE-wal`: frames of a page each, behind a
-header of 32 bytes. Before the first write that finds 1,000 frames there, and when it ends, it copies the log into the
-file: pages into the file, sync, the header's first byte zero, sync, a new header with new salts. The log isn't cut then
-but written from its beginning again. While `cpi` runs it holds SQLite's lock on the file for itself, so the C library's
-`.backup` and `VACUUM INTO` find it locked, and leave an empty file behind.
+**How the files are written.** `cpi` writes each commit to the log next to the file, `FILE-wal`: frames of a page each,
+after a header of 32 bytes. Before the first write that finds 1,000 frames there, and when it ends, it copies the log
+into the file: pages into the file, sync, the header's first byte zero, sync, a new header with new salts. The log isn't
+cut then but written from its beginning again. While `cpi` runs, only it holds SQLite's lock on the file, so the C
+library's `.backup` and `VACUUM INTO` find the file locked, and leave an empty file.
 
-**Why copying one after the other isn't enough.** Where the log is emptied between the two reads, the copy has the file
-of before and the log of after. Answered commands are then missing, and no check of the file tells.
+**Why copying one after the other isn't enough.** If the log is emptied between the two reads, the copy contains the
+earlier file and the later log. Answered commands are then missing, and no check of the file tells.
 
 **Why this copy is right.** The file is copied, then the log from front to back, and the log's header is the same before
-and after. So the log wasn't emptied meanwhile: each page that was being written into the file stands whole in frames
-that were read afterwards, and these come first when the copy is opened. A transaction that is being written ends the
-log, or is whole: its first byte that counts is written last. So the copy is what a crash could leave at one moment
-after the copy began, and has each command that was answered before. No lock is taken and nothing is written to the
-office.
+and after. So the log wasn't emptied meanwhile: each page that was being written into the file is whole in frames that
+were read afterwards, and these come first when the copy is opened. A transaction that is being written ends the log, or
+is whole: its first byte that counts is written last. So the copy is what a crash could leave at one moment after the
+copy began, and has each command that was answered before. No lock is taken and nothing is written to the office.
 
-It holds for file systems of this machine, where a read sees what another program wrote before.
+It is true for file systems of this machine, where a read sees every earlier write of another program.
 """
 
 from __future__ import annotations
@@ -41,7 +40,7 @@ HEADER_BYTES = 32
 """The log's header: its mark, the size of a page, how often it was emptied, two salts, two sums."""
 
 EMPTIED_BYTES = 41
-"""What is left of the log when `cpi` ends: the header, and the gate of a first frame, shut. No frame is in it."""
+"""The rest of the log when `cpi` ends: the header, and the gate of a first frame, shut. No frame is in it."""
 
 PATIENCE = 60
 """Seconds after which a copy is given up for which the log never was quiet long enough."""
@@ -52,10 +51,10 @@ class CopyFailed(Fault):
 
 
 class Mark(NamedTuple):
-    """What changes where the log is emptied, or where another file takes the place of one of the two.
+    """A value that changes if the log is emptied, or if another file takes the place of either file.
 
-    The identities are device and number of the file. Where there is no log, what is written goes to the file itself, so
-    its size in bytes and the time of its last change in nanoseconds count too.
+    The identities are device and number of the file. If there is no log, writes go to the file itself, so its size in
+    bytes and the time of its last change in nanoseconds count too.
     """
 
     file: tuple[int, int]
@@ -65,7 +64,7 @@ class Mark(NamedTuple):
 
 
 def log_beside(path: Path) -> Path:
-    """`office.db-wal` of `office.db`; of a link, the log beside the file that it leads to, since `cpi` has it there."""
+    """`office.db-wal` for `office.db`; for a link, the log next to the linked file, since `cpi` keeps it there."""
     file = path.resolve()
     return file.with_name(file.name + "-wal")
 
@@ -83,13 +82,12 @@ def mark_of(path: Path) -> Mark:
 
 
 def right_copy(path: Path, folder: Path, patience: float = PATIENCE, pause: Optional[int] = None) -> Path:
-    """Copies an office's file and its log into a folder that is there; where the copy of the file lies.
+    """Copies an office's file and its log into an existing folder; the path of the file's copy.
 
-    `cpi` may run and write meanwhile. The copies have mode 0600, since the collectors' keys are in them, and the
-    times of now. What stands in the folder under their names is replaced. `patience` is in seconds. `pause` is the
-    number of the process of `cpi`, which then stands still while it is copied: its files are those that a crash would
-    leave, whatever their size and however busy it is. Raises CopyFailed, and leaves nothing, where no right copy was
-    made.
+    `cpi` may run and write meanwhile. The copies have mode 0600, since the collectors' keys are in them, and the times
+    of now. Files in the folder with the same names are replaced. `patience` is in seconds. `pause` is the number of the
+    process of `cpi`, which then stands still while it is copied: its files are those that a crash would leave, whatever
+    their size and however busy it is. Raises CopyFailed, and leaves nothing, if no right copy was made.
     """
     copy = folder / path.name
     try:
@@ -142,7 +140,7 @@ def _copy_until_quiet(path: Path, copy: Path, patience: float) -> None:
 
 
 def _copy_log(path: Path, copy: Path) -> None:
-    """Copies the log; where there is none, the copy has none either."""
+    """Copies the log; if there is none, the copy has none either."""
     try:
         _copy_bytes(log_beside(path), log_beside(copy))
     except FileNotFoundError:
@@ -186,8 +184,8 @@ def _remove(copy: Path) -> None:
 def _standing_still(path: Path, process: int) -> Iterator[None]:
     """Stops the process that has the file open, and lets it go on at the end, also after a fault.
 
-    Signals that would end this program are held back meanwhile. (Where it is killed by SIGKILL, the other one stands
-    still until somebody sends it SIGCONT.)
+    Signals that would end this program are held back meanwhile. (If SIGKILL ends this program, the other one stays
+    stopped until somebody sends it SIGCONT.)
     """
     if not _has_open(process, path):
         raise CopyFailed(f"process {process} doesn't have {path} open")

@@ -22,7 +22,7 @@ MOST_BYTES = 1 << 20
 """Bytes of an answer that are read."""
 
 Work = Callable[[], dict[str, Any]]
-"""What is to be done; its answer has only what JSON has."""
+"""The work to do; its answer contains only JSON values."""
 
 
 def done_as(user: User, work: Work) -> dict[str, Any]:
@@ -83,7 +83,7 @@ def _do(user: User, work: Work, writing: int) -> NoReturn:
 
 
 def _answer_of(work: Work) -> dict[str, Any]:
-    """What is written of some work: what was done, or its fault."""
+    """The report on some work: its result, or its fault."""
     try:
         return {"done": work()}
     except Fault as fault:

@@ -26,7 +26,7 @@ def files_of(folder: Path) -> list[str]:
 
 
 def refuse_shared(out: Path, what: str) -> None:
-    """Raises NotPlaced where others can read what stands at `out`, so that something private doesn't take its place."""
+    """Raises NotPlaced if others can read the content of `out`, so that nothing private takes its place."""
     if out.exists() and out.stat().st_mode & 0o077:
         raise NotPlaced(f"{out} can be read by others, and {what} may not: give it a folder of its own")
 
@@ -48,9 +48,9 @@ def behind_link(out: Path) -> Path:
 def written_folder(out: Path, known_by: str, is_private: bool = True) -> Iterator[Path]:
     """A new folder, which takes the place of `out` at the end; after a fault nothing is left of it.
 
-    A folder that stands at `out` is replaced as a whole where it has the file `known_by`, so that nothing else is lost.
-    If `out` is a symbolic link, the folder that it leads to is replaced, and the link stays. A private one can be read
-    by its owner alone. Raises NotPlaced.
+    An existing folder `out` is replaced as a whole if it contains the file `known_by`, so that nothing else is lost. If
+    `out` is a symbolic link, the folder that it leads to is replaced, and the link stays. Only its owner can read a
+    private folder. Raises NotPlaced.
     """
     out = behind_link(out)
     if out.exists() and not (out / known_by).is_file():
@@ -69,8 +69,8 @@ def written_folder(out: Path, known_by: str, is_private: bool = True) -> Iterato
 
 
 def _put(new: Path, out: Path, old: Path) -> None:
-    """Puts a folder in its place; what stood there is put aside first, and comes back where that fails. If something else
-    is there by then, it stays next to it, under a name that the fault tells."""
+    """Puts a folder in its place; the former content is put aside first, and comes back if that fails. If something
+    else is there by then, it stays next to it, under a name that the fault tells."""
     if not out.exists():
         new.rename(out)
         return

@@ -1,7 +1,7 @@
 """Folders that another user may change meanwhile, or another machine: each file below is opened from the folder's
 descriptor and by its own name, so no link leads out of the folder, and nothing is made, written or given away outside.
 
-What is opened is what is written, whatever its name leads to by then.
+The opened file is the one that is written, whatever its name leads to by then.
 """
 
 from __future__ import annotations
@@ -25,7 +25,7 @@ LONGEST_LINE = 1000
 
 
 class NotPlain(OSError):
-    """What isn't a plain file or a folder, such as a link or a pipe, stands where one has to be."""
+    """A link, a pipe or another file is in the place of a plain file or a folder."""
 
     def __init__(self, path: Path, wanted: str):
         super().__init__(errno.EINVAL, f"it isn't {wanted}", str(path))
@@ -169,7 +169,7 @@ def held(path: Path) -> Iterator[HeldFolder]:
 
 
 def first_line(path: Path, otherwise: str) -> str:
-    """The first line of a plain file in a folder of another user; something else of what is none, or is empty."""
+    """The first line of a plain file in another user's folder; `otherwise` if it isn't such a file, or is empty."""
     with contextlib.suppress(OSError), held(path.parent) as folder:
         return next(iter(folder.text(path.name, LONGEST_LINE).splitlines()), otherwise)
     return otherwise

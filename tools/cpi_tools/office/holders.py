@@ -1,7 +1,7 @@
 """Which program holds an office's file: asked of the kernel, without a lock of its own.
 
 `cpi` and SQLite's C library lock the same bytes of the file. Whether somebody does is seen by F_GETLK, which takes no
-lock, on every file system. Who it is stands in /proc: the process that has the file open under a lock.
+lock, on every file system. /proc names the holder: the process that has the file open under a lock.
 """
 
 from __future__ import annotations

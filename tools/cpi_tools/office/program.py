@@ -33,8 +33,8 @@ LAST_MOMENT = 9_999_999_999
 class CpiFailed(Fault):
     """The program wasn't found, couldn't be started, or ended with a fault.
 
-    `status` is its exit status: negative where a signal ended it, None where it never ran. `replies` is what it
-    answered until then: these commands stand.
+    `status` is its exit status: negative if a signal ended it, None if it never ran. `replies` are its answers until
+    then: these commands were carried out.
     """
 
     def __init__(self, message: str, status: Optional[int] = None, replies: Sequence[Reply] = ()):
@@ -61,7 +61,7 @@ def beside_the_package() -> Optional[Path]:
 def find_program(given: Optional[PathLike] = None) -> Path:
     """The program: as given (`--program`), else by the variable CPI, else the repository's `./cpi`, else on the path.
 
-    Raises CpiFailed where a named one is no program, or none is found.
+    Raises CpiFailed if a named one isn't a program, or none is found.
     """
     for named, by in ((given, "--program"), (os.environ.get("CPI"), "the variable CPI")):
         if named:
@@ -92,14 +92,15 @@ class Cpi:
     """The program at a path."""
 
     def __init__(self, program: Optional[PathLike] = None):
-        """`program` as of `find_program`, which looks for it now, so that a wrong one is told before any work."""
+        """`program` as for `find_program`, which searches for it now, so that a wrong one is reported before any
+        work."""
         self.path = find_program(program)
 
     def replay(self, records: Iterable[str], db: Optional[Path] = None, zone: Optional[str] = None) -> list[Reply]:
         """The replies to some records, in their order, by one run of the program.
 
         `db` is an office's file, None an office in memory that is empty at first; `zone` the rule of a clock as POSIX
-        writes it, None UTC. A record may lack the end of its line. Raises CpiFailed, with the replies so far, where the
+        writes it, None UTC. A record may lack the end of its line. Raises CpiFailed, with the replies so far, if the
         run didn't end with status 0.
         """
         sent = "".join(each if each.endswith(("\n", "\r")) else f"{each}\n" for each in records)
@@ -115,7 +116,7 @@ class Cpi:
         """Opens a copy of the file `of`, in which each row is tested, and which has the tables of this program then;
         the replies to some records.
 
-        Raises CpiFailed, which names the file and not the copy, where it is no office.
+        Raises CpiFailed, which names the file and not the copy, if it isn't an office.
         """
         try:
             return self.replay(asked, db=copy)
@@ -125,7 +126,7 @@ class Cpi:
     def table(self, db: Path, month: str, form: str, at: int, revision: Optional[int] = None) -> bytes:
         """The bytes of a table as it was published by the moment `at`: month like `2026-01`, form `text` or `csv`.
 
-        Raises CpiFailed where there is none, or the file is no office.
+        Raises CpiFailed if there is none, or if the file isn't an office.
         """
         words = ["table", "--db", str(db), "--month", month, "--form", form, "--at", str(at)]
         if revision is not None:
@@ -180,7 +181,7 @@ class Session:
         return self._process.pid
 
     def ask(self, one: str) -> Reply:
-        """The reply to one record. Raises CpiFailed where the program ends without it."""
+        """The reply to one record. Raises CpiFailed if the program ends without it."""
         try:
             self._input.write(one.encode() + (b"" if one.endswith("\n") else b"\n"))
             self._input.flush()
@@ -192,7 +193,7 @@ class Session:
         return reply_of(line)
 
     def close(self) -> None:
-        """Ends the input, and waits until the program has ended. Raises CpiFailed where it ends with a fault."""
+        """Ends the input, and waits until the program has ended. Raises CpiFailed if it ends with a fault."""
         with contextlib.suppress(BrokenPipeError):
             self._input.close()
         errors = self._errors.read()
@@ -207,7 +208,7 @@ class Session:
 
 
 def reply_of(line: bytes) -> Reply:
-    """The reply of a line. Raises CpiFailed where it is none, since another program was named."""
+    """The reply of a line. Raises CpiFailed if it isn't a reply, since another program was named."""
     try:
         reply = json.loads(line)
     except ValueError:

@@ -1,4 +1,4 @@
-"""The published tables, by the public way alone.
+"""The published tables, read only as the public reads them.
 
 Only the records `tables` and `table,MONTH,csv,REVISION` of the caller `public` are sent, by one replay over a private
 copy; or the same two pages are got. A table under embargo is never answered, so nothing that is written from here can
@@ -54,7 +54,7 @@ class Listed(NamedTuple):
 
 
 class Published(NamedTuple):
-    """A table as it was published: where it is listed, and its bytes as CSV."""
+    """A table as it was published: its row in the list, and its bytes as CSV."""
 
     listed: Listed
     table: bytes
@@ -71,7 +71,8 @@ class Published(NamedTuple):
 
 
 class Source(NamedTuple):
-    """A published table whose bytes are in a file with others: where it is listed, their sum, where they are."""
+    """A published table whose bytes are in a file with others: its row in the list, the sum of its bytes, and their
+    place."""
 
     listed: Listed
     sha256: str
@@ -109,7 +110,7 @@ class Sources:
 
 
 def listed_in(reply: Any) -> list[Listed]:
-    """The tables of a reply, by month and revision. Raises NotPublic where it is no such list."""
+    """The tables of a reply, by month and revision. Raises NotPublic if it isn't such a list."""
     rows = reply.get("tables") if isinstance(reply, dict) else None
     if not isinstance(rows, list) or not all(_is_listed(row) for row in rows):
         raise NotPublic(f"the office doesn't list its tables: {str(reply)[:100]}")

@@ -2,7 +2,7 @@
 
     examples/recompute FILE MONTH [REVISION]        (a month like 2026-01; else its latest revision)
 
-This is the whole of that example, and it needs Python alone: an auditor reads it from here to its end. The tools that
+This is the whole of that example, and it needs only Python: an auditor reads it from here to its end. The tools that
 compute a figure anew do so by its functions.
 
 Only frozen quotes, plans with their reference months, assignments and carry lists are read, from the first
@@ -22,10 +22,10 @@ Series = tuple[int, int]
 """A series: the number of its first collector, and its slot there."""
 
 Quotes = dict[Series, tuple[str, int]]
-"""The frozen quotes of a month: mark, and price in minor units (0 where there is none)."""
+"""The frozen quotes of a month: mark, and price in minor units (0 if there is none)."""
 
 Kept = dict[Series, tuple[int, int, int, int]]
-"""The carried prices of an aggregate: ticks, the scale's two numbers, and 1 where the price was imputed."""
+"""The carried prices of an aggregate: ticks, the scale's two numbers, and 1 if the price was imputed."""
 
 Ask = Callable[..., list[Any]]
 """A query, with the values of its question marks, and its rows."""

@@ -18,8 +18,8 @@ class Words(NamedTuple):
 
 
 class Refusal(NamedTuple):
-    """A row of a guide: for whom it is, the numbers of refusals, the fault and the record's word where it is of one
-    alone, and its words."""
+    """A row of a guide: its readers, the numbers of refusals, the fault and the record's word if it is for only one,
+    and its text."""
 
     to: str
     numbers: tuple[int, ...]
@@ -236,8 +236,8 @@ FAULTS: Mapping[str, Words] = {
 def refusal_words(reply: Mapping[str, Any], to: str = DESK, word: Optional[str] = None) -> Words:
     """The words of a refusal, such as `{"refused": 49, "fault": 2, "code": ".."}`.
 
-    `to` is who was refused, DESK or COLLECTOR; `word` the record's word. Of several rows of a number the one for this
-    fault and this word is taken, and what only the other guide has is told in its words.
+    `to` is who was refused, DESK or COLLECTOR; `word` the record's word. If a number has several rows, the one for this
+    fault and this word is taken; a refusal that only the other guide explains gets that guide's text.
     """
     number, fault = reply["refused"], reply.get("fault")
     if number == 44 and word != "freeze" and isinstance(fault, int) and fault in PLAN_FAULTS:

@@ -39,8 +39,7 @@ class Release(NamedTuple):
 
 
 class Frozen(NamedTuple):
-    """A quote that was frozen: its series' item and last month; its mark, and the price in minor units, 0 where it is
-    missing."""
+    """A frozen quote: its series' item and last month; its mark, and the price in minor units, 0 if it is missing."""
 
     item: str
     last_month: int
@@ -62,7 +61,7 @@ class Carried(NamedTuple):
 
 class Level(NamedTuple):
     """The figures of a row of a table: weight in use, index and chained level in millionths of a point, changes in
-    tenths of a percent (None where there is none on the year), and whether a price was imputed."""
+    tenths of a percent (None if there is no annual change), and whether a price was imputed."""
 
     weight: int
     within: int
@@ -127,7 +126,7 @@ class Plan(NamedTuple):
 
 
 class Quote(NamedTuple):
-    """What was found: a mark and the price in minor units, or the reason why there is none and 0."""
+    """A finding: a mark and the price in minor units, or the reason why there is none and 0."""
 
     mark: str
     value: int
@@ -159,7 +158,8 @@ class StoredOffice:
             yield f"foreign_key_check: row {row} of {table} names no row of {parent}"
 
     def quick_fault(self) -> str:
-        """What the C library finds wrong first as it looks at each page and row, but not at the keys; else nothing."""
+        """The first fault that the C library finds as it checks each page and row, but not the keys; empty if there is
+        none."""
         ((text,),) = self.ask("PRAGMA quick_check(1)")
         return next((line for line in text.splitlines() if line != "ok" and not line.startswith("*** ")), "")
 
@@ -316,7 +316,7 @@ class StoredOffice:
         return {collector: (month, receipt) for collector, month, receipt in rows}
 
     def fingerprint(self, tables: Iterable[str]) -> str:
-        """What stands in some tables, as a sum in hexadecimal."""
+        """A sum over the content of some tables, in hexadecimal."""
         found = hashlib.sha256()
         for table in tables:
             for row in self._link.execute(f"SELECT * FROM {table} ORDER BY 1, 2"):
@@ -324,12 +324,12 @@ class StoredOffice:
         return found.hexdigest()
 
     def copied_prices(self) -> dict[Slot, int]:
-        """The price that each slot was handed over with, where there was one, in minor units."""
+        """The price that was handed over with each slot, if there was one, in minor units."""
         text = "SELECT collector, slot, copied FROM assignment_2 WHERE copied IS NOT NULL"
         return {(collector, slot): copied for collector, slot, copied in self.ask(text)}
 
     def last_prices(self, month: int) -> dict[Slot, int]:
-        """The last price of each slot before a month, in minor units, where it has one."""
+        """The last price of each slot before a month, in minor units, if it has one."""
         text = "SELECT collector, slot, value, max(month) FROM quote_2 WHERE month < ? AND value > 0"
         rows = self.ask(f"{text} GROUP BY collector, slot", month)
         return {**self.copied_prices(), **{(collector, slot): value for collector, slot, value, _ in rows}}
@@ -358,7 +358,7 @@ class StoredOffice:
         return found
 
     def frozen_of(self, series: Series) -> dict[tuple[int, int], Frozen]:
-        """What was frozen of a series, by month and revision."""
+        """The frozen quotes of a series, by month and revision."""
         text = "SELECT month, revision, item, last_month, mark, value FROM frozen_2 WHERE collector = ? AND slot = ?"
         return {(row[0], row[1]): Frozen(*row[2:]) for row in self.ask(text, *series)}
 
@@ -416,7 +416,7 @@ class StoredOffice:
         yield from self._link.execute("SELECT collector, slot, month, mark, value, receipt FROM quote_2")
 
     def latest_quotes(self, month: int) -> dict[Slot, tuple[int, str]]:
-        """Month and mark of the latest quote of each slot up to a month, where it has one."""
+        """Month and mark of the latest quote of each slot up to a month, if it has one."""
         text = "SELECT collector, slot, mark, max(month) FROM quote_2 WHERE month <= ? GROUP BY collector, slot"
         return {(collector, slot): (latest, mark) for collector, slot, mark, latest in self.ask(text, month)}
 
@@ -431,7 +431,7 @@ SCHEMA = 2
 
 @contextlib.contextmanager
 def read_copy(copy: Path) -> Iterator[StoredOffice]:
-    """The rows of a copy that nothing else has open. Raises NotAnOffice where it isn't the file of an office."""
+    """The rows of a copy that nothing else has open. Raises NotAnOffice if it isn't an office's file."""
     try:
         with stored_office(copy) as office:
             versions = office.ask("SELECT number FROM version")
@@ -445,7 +445,7 @@ def read_copy(copy: Path) -> Iterator[StoredOffice]:
 @contextlib.contextmanager
 def unchanged_office(path: Path) -> Iterator[StoredOffice]:
     """The rows of a file and its log, neither of which is written: what the C library makes next to them goes again.
-    Raises sqlite3.Error where it is no database."""
+    Raises sqlite3.Error if it isn't a database."""
     try:
         with contextlib.closing(sqlite3.connect(f"{path.absolute().as_uri()}?mode=ro", uri=True)) as link:
             yield StoredOffice(link)
@@ -457,8 +457,8 @@ def unchanged_office(path: Path) -> Iterator[StoredOffice]:
 def stored_office(path: Path, is_settled: bool = False) -> Iterator[StoredOffice]:
     """The rows of a file that nobody writes to.
 
-    `is_settled` says that its log is in it, so nothing at all is written beside it; else the C library may put the log
-    into the file. Raises sqlite3.Error where it is no database.
+    `is_settled` says that its log is in it, so nothing at all is written next to it; otherwise the C library may put
+    the log into the file. Raises sqlite3.Error if it isn't a database.
     """
     how = "mode=ro&immutable=1" if is_settled else "mode=rw"
     with contextlib.closing(sqlite3.connect(f"{path.absolute().as_uri()}?{how}", uri=True)) as link:

@@ -1,6 +1,6 @@
-"""Pages of what an office has registered: the rows in which each word of a search is somewhere, so many at a time. They are
-read from a copy, as in `stored`, and quick over 200,000 series: a text of an outlet or an item is looked at once, and not
-for each slot that has it.
+"""Pages of what an office has registered: the rows in which each word of a search is somewhere, so many at a time. They
+are read from a copy, as in `stored`, and quickly for 200,000 series: the text of an outlet or an item is read once, and
+not for each of its slots.
 
 No row here has a collector's key.
 """

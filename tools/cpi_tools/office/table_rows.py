@@ -2,7 +2,7 @@
 
 Units: indices and levels are in millionths of a point, changes in tenths of a percent, weights as they are in the
 table. Codes and titles are mostly those of the month before, and so are weights: then both tables have the same ones.
-What is read here gives the program's digits again (`Row.texts`): a row that wouldn't is none.
+Each row that is read here gives the program's digits again (`Row.texts`): a row that wouldn't isn't accepted.
 """
 
 from __future__ import annotations

@@ -1,8 +1,8 @@
 """Published tables as exact numbers, by month and by node.
 
-Units: indices and levels are in millionths of a point, changes in tenths of a percent, weights as they stand in the
-table. A month is a text like `2026-01`. What is read here gives the program's digits again (`Row.texts`): a row that
-wouldn't is none.
+Units: indices and levels are in millionths of a point, changes in tenths of a percent, weights as in the table. A month
+is a text like `2026-01`. Each row that is read here gives the program's digits again (`Row.texts`): a row that wouldn't
+isn't accepted.
 """
 
 from __future__ import annotations
@@ -158,10 +158,9 @@ class Series:
 
     `vintages` are all of them by month and revision, `latest` the latest revision by month, `every` the months whose
     table has rows, `titles` each code of any of these with its latest title, in the order of codes, `specials` the
-    special aggregates by id, which `aggregated` computes. What is asked of a code below can be asked of such an id too.
-    `core` are the measures of core inflation by id, which `core_measures` computes.
-    `months` are those whose figures are written: all of them, but of a `part`. Raises NotATable where there is none
-    with rows.
+    special aggregates by id, which `aggregated` computes. A question about a code below can be asked about such an id
+    too. `core` are the measures of core inflation by id, which `core_measures` computes. `months` are those whose
+    figures are written: all of them, but of a `part`. Raises NotATable if none has rows.
     """
 
     def __init__(self, published: Iterable[Published]):
@@ -242,7 +241,7 @@ class Series:
         return self.specials[code].rows.get(month) if code in self.specials else None
 
     def weighed_in(self, month: str) -> Weighed:
-        """What tells of a node its weight in use and its index within the year, in the latest revision of a month."""
+        """A function that gives a node's weight in use and index within the year, in the latest revision of a month."""
         rows, specials = self._rows.get(month, NO_ROWS), self.specials
         places, weight, within = rows.named.places, rows.weight, rows.within
 
@@ -316,8 +315,8 @@ class Series:
         return self.other_titles.get(code, title)
 
     def titled(self, titles: Mapping[str, str]) -> Series:
-        """The same tables for readers of another language: its titles by code, and where it has none, those of the
-        tables."""
+        """The same tables for readers of another language: with its titles by code and, for codes without one, the
+        tables' titles."""
         found = copy.copy(self)
         found.other_titles = titles
         return found
@@ -332,7 +331,7 @@ class Series:
         return self.level_in(link_of(month), code)
 
     def runs(self, code: str) -> list[list[str]]:
-        """The months of a node, parted where it left the index and came again: the levels of two parts aren't linked.
+        """The months of a node, split when it left the index and came back: the levels of two parts aren't linked.
 
         Each part has a base of its own, December before its first month.
         """
@@ -406,9 +405,9 @@ class Series:
     def is_shown(self, month: str, is_annual: bool) -> bool:
         """Whether the changes of a month are those of the published levels.
 
-        They aren't where a revision of the month that they are against isn't published yet: the office computes with
-        the latest revision, published or not. An annual change goes over December before, to whose level the month is
-        linked, so that December has to be the published one too.
+        They aren't if a revision of the month with which they are compared isn't published yet: the office computes
+        with the latest revision, published or not. An annual change goes over December before, to whose level the month
+        is linked, so that December has to be the published one too.
         """
         if is_annual and not self.is_linked(month):
             return False

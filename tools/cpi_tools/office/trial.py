@@ -27,8 +27,7 @@ MOST_REVISIONS = 9
 
 
 class Refused(Fault):
-    """The program refused what was tried on a copy; one line in the words of the guides: of the desk's, or of that of
-    the collectors."""
+    """The program refused a trial on a copy; one line in the words of the guides: the desk's, or the collectors'."""
 
     def __init__(self, reply: Reply, what: str, word: Optional[str] = None, to: str = DESK):
         self.reply = reply
@@ -38,7 +37,7 @@ class Refused(Fault):
 
 
 class State(NamedTuple):
-    """Where a month stands: its row of the calendar, its latest revision or 0, whether it is reopened."""
+    """The state of a month: its row of the calendar, its latest revision or 0, and whether it is reopened."""
 
     month: int
     window: Window
@@ -47,7 +46,7 @@ class State(NamedTuple):
 
     @property
     def is_frozen(self) -> bool:
-        """Whether the month stands frozen and isn't reopened."""
+        """Whether the month is frozen and not reopened."""
         return self.revision > 0 and not self.is_reopened
 
 
@@ -68,7 +67,7 @@ class Frozen(NamedTuple):
 
 
 def state_of(office: StoredOffice, month: int) -> State:
-    """Where a month stands. Raises Refused where the calendar has no row of it."""
+    """Where a month stands. Raises Refused if the calendar has no row for it."""
     calendar = {each.month: each for each in office.calendar()}
     if month not in calendar:
         last = f", which ends with {month_text(max(calendar))}" if calendar else ""
@@ -104,10 +103,10 @@ def freeze_on_copy(
 ) -> Frozen:
     """Freezes a month on a copy at a moment, and lets each aggregate that a refusal names be carried.
 
-    The copy is changed. `carry` is what the list begins with, `sent` are records that are sent first. With `known`, tables
-    that are at hand, the tables of all other months are there too, and only those are printed that aren't known. One run
-    of the program does it all, so the copy is opened once. Raises Refused where one of these is refused, or the freeze
-    for anything else.
+    The copy is changed. `carry` is what the list begins with, `sent` are records that are sent first. With `known`,
+    tables that are at hand, the tables of all other months are there too, and only those are printed that aren't known.
+    One run of the program does it all, so the copy is opened once. Raises Refused if one of these is refused, or the
+    freeze for any other reason.
     """
     with cpi.session(copy) as session:
         for fields in sent:
@@ -121,7 +120,7 @@ def freeze_on_copy(
 def as_frozen(
     cpi: Cpi, copy: Path, state: State, carry: tuple[str, ...], known: Optional[Sequence[Published]] = None
 ) -> Frozen:
-    """The latest release of a month that stands frozen, as if it had just been made; `known` as of `freeze_on_copy`."""
+    """The latest release of a frozen month, as if it had just been made; `known` as for `freeze_on_copy`."""
     month = month_text(state.month)
     with cpi.session(copy) as session:
         tables = tables_around(session, month, state.revision)
@@ -130,7 +129,7 @@ def as_frozen(
 
 
 def must(session: Session, fields: Record) -> None:
-    """Sends a record. Raises Refused where it is refused, without the key of a collector that is in it."""
+    """Sends a record. Raises Refused if it is refused, without any collector's key that it contains."""
     reply = session.ask(record(*fields))
     if "refused" in reply:
         to = DESK if fields[1] == "desk" else COLLECTOR
