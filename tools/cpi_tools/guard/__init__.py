@@ -1,1 +1,1 @@
-"""An office kept safe: backups, restores, drills, a second machine, and what was lost."""
+"""Tools that keep an office safe: backups, restores, drills, a second machine, and lists of losses."""

@@ -1,6 +1,7 @@
-"""`cpi-tools backup FILE DEST`: one file that `cpi` has opened and put the log into, and a note of its SHA-256 beside.
+"""`cpi-tools backup FILE DEST`: one file that `cpi` has opened and put the log into, with a note of its SHA-256 next to
+it.
 
-DEST and its note are written beside and renamed, so each is whole or isn't there.
+DEST and its note are written under other names and renamed, so each is whole or isn't there.
 """
 
 from __future__ import annotations
@@ -34,10 +35,10 @@ class BackupFailed(Fault):
 
 
 class Note(NamedTuple):
-    """What is written beside a backup: the office's file, the moment at which copying began (seconds since 1970 UTC),
-    how many tables the program found, the backup's size in bytes, its SHA-256 in hexadecimal, and that of the desk's folder
-    next to it, empty if there is none; and the last line of the desk's log, as `last_line_of` has it, if the backup was
-    asked to note that."""
+    """The note next to a backup: the office's file, the moment at which copying began (seconds since 1970 UTC), how
+    many tables the program listed, the backup's size in bytes, its SHA-256 in hexadecimal, and the SHA-256 of the
+    desk's folder next to it, empty if there is none; and the last line of the desk's log, as `last_line_of` gives it,
+    if the backup was asked to note that."""
 
     office: str
     copied: int
@@ -52,12 +53,12 @@ class Note(NamedTuple):
 
 
 def note_beside(path: Path) -> Path:
-    """Where the note on a backup lies: `office.db.sha256` of `office.db`."""
+    """The path of the note on a backup: `office.db.sha256` for `office.db`."""
     return path.with_name(path.name + ".sha256")
 
 
 def note_text(note: Note, name: str) -> str:
-    """A note as `sha256sum --check` reads it; what else it tells are comments there."""
+    """A note that `sha256sum --check` can read; its other lines are comments there."""
     fields = f"# office: {note.office}\n# copied: {note.copied}\n# tables: {note.tables}\n# bytes: {note.size}\n"
     fields += f"# desk: {note.desk}\n" if note.desk else ""
     fields += f"# desk log: {note.desk_log}\n" if note.desk_log else ""
@@ -65,7 +66,7 @@ def note_text(note: Note, name: str) -> str:
 
 
 def read_note(path: Path) -> Optional[Note]:
-    """The note beside a backup, None where there is none. Raises BackupFailed where it isn't one."""
+    """The note next to a backup, None if there is none. Raises BackupFailed if it isn't a note."""
     beside = note_beside(path)
     try:
         text = beside.read_text(encoding="utf-8", errors="replace")
@@ -111,7 +112,7 @@ def settle(cpi: Cpi, copy: Path, of: Path) -> int:
     """Lets the program open a copy of the file `of` and end, so that the log is in it, and removes the log; how many
     tables it has.
 
-    Raises CpiFailed where it is no office for the program.
+    Raises CpiFailed if the program finds no office in it.
     """
     replies = cpi.open(copy, of, [record(LAST_MOMENT, "public", "tables")])
     if len(replies) != 1 or "tables" not in replies[0]:
@@ -138,11 +139,11 @@ def back_up(
     desk: Optional[Path] = None,
     desk_log: Optional[Path] = None,
 ) -> Note:
-    """Makes the backup `to` of an office's file, and a note of it beside, with the last line of `desk_log` if there is one;
-    the note. `desk` is the folder of the desk's pages, which goes along.
+    """Makes the backup `to` of an office's file, and a note next to it, with the last line of `desk_log` if there is
+    one; the note. `desk` is the folder of the desk's pages, which goes along.
 
-    `is_replacing` lets it take the place of what stands there. `patience` (seconds) and `pause` (a process) are those
-    of `right_copy`. Raises BackupFailed, CopyFailed or CpiFailed, and leaves nothing, where it wasn't made.
+    `is_replacing` lets it replace an existing file. `patience` (seconds) and `pause` (a process) are those of
+    `right_copy`. Raises BackupFailed, CopyFailed or CpiFailed, and leaves nothing, if it wasn't made.
     """
     now = progress.now if progress else lambda _: None
     try:
@@ -185,7 +186,7 @@ def log_of(to: Path) -> Path:
 
 
 def _look_at(path: Path, to: Path, is_replacing: bool) -> None:
-    """Tells before any work what stands in the way of a backup."""
+    """Reports before any work what prevents a backup."""
     path.stat()
     if to.is_dir():
         raise BackupFailed(f"{to} is a folder: name the file")
@@ -204,8 +205,8 @@ def _look_at(path: Path, to: Path, is_replacing: bool) -> None:
 
 
 def _look_at_log(to: Path) -> None:
-    """Tells a log with something in it where a backup is to lie: it would be put into the backup as that is opened, and
-    has what somebody did to an office there."""
+    """Reports a log with data at the place of a backup: it would be put into the backup when that is opened, and
+    contains what somebody did to an office there."""
     log = log_of(to)
     if os.path.lexists(log) and log.lstat().st_size > EMPTIED_BYTES:
         raise BackupFailed(f"{log} is there, and would be put into the backup: look whose it is, or name another file")
@@ -214,7 +215,7 @@ def _look_at_log(to: Path) -> None:
 def _put(copy: Path, written: Path, to: Path, is_replacing: bool, archive: Optional[Path]) -> None:
     """Puts a backup, the desk's folder and the note into their place, each on the disk before it has its name.
 
-    Where one is replaced, the old note goes first: a backup whose note is of another would look like a damaged one.
+    If a backup is replaced, the old note goes first: a backup with the note of another would seem damaged.
     """
     pairs = [(copy, to), *([(archive, desk_beside(to))] if archive else []), (written, note_beside(to))]
     for each, _ in pairs:

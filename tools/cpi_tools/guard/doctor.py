@@ -1,8 +1,8 @@
 """`cpi-tools doctor FILE`: why an office can't be opened, in one line, with what to do.
 
-`cpi` says `database failed` for each cause. Here the causes that need no copy come first, so that the answer is quick
-for a file of any size; then `cpi` judges a private copy, and the C library of SQLite says what is wrong with it. The
-file itself is only read, and never locked.
+`cpi` says `database failed` for each cause. The causes that need no copy come first here, so that the answer is quick
+for a file of any size; then `cpi` judges a private copy, and SQLite's C library names the copy's faults. The file
+itself is only read, and never locked.
 """
 
 from __future__ import annotations
@@ -72,7 +72,7 @@ def cause_of(path: Path, user: User, cpi: Cpi, progress: Optional[Progress] = No
 
 
 def _causes(path: Path, user: User, cpi: Cpi, progress: Optional[Progress]) -> Generator[Cause, None, None]:
-    """The causes, the cheap ones first. Each is looked for once there is none before it."""
+    """The causes, the cheap ones first. Each is searched for only if there is none before it."""
     now = progress.now if progress else lambda _: None
     yield from of_restore(path)
     yield from of_place(path)
@@ -252,7 +252,8 @@ MORE = f"Raise MemoryMax by `systemctl edit {UNIT}`, or move the office to a mac
 
 
 def opening_of(path: Path) -> Optional[NextOpen]:
-    """What the next open of a file takes, beside what its unit or this machine allows; None if it can't be known."""
+    """The memory that the next open of a file takes, next to the limits of its unit and of this machine; None if it
+    can't be known."""
     is_of_unit = path.resolve() == HERE and shutil.which("systemctl")
     try:
         return next_open(path, UNIT if is_of_unit else None)
@@ -268,7 +269,7 @@ def of_memory(path: Path) -> Iterator[Cause]:
 
 
 def _of_free_memory(path: Path) -> Iterator[Cause]:
-    """Whether a file in which SQLite finds nothing wrong couldn't be opened for want of memory."""
+    """Whether a file in which SQLite finds no fault couldn't be opened because memory ran out."""
     free = free_memory()
     if (found := opening_of(path)) and 3 * found.rows.memory > 2 * free:
         need, left = found.rows.memory // MIB, free // MIB

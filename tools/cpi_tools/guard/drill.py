@@ -1,8 +1,8 @@
-"""`cpi-tools drill COPY`: shows that a copy of an office's file is a whole office, and tells what is wrong.
+"""`cpi-tools drill COPY`: shows that a copy of an office's file is a whole office, and reports its faults.
 
-It looks at a copy of the copy, so what it looks at is never changed: by the note's SHA-256, by `cpi`, which opens it
-and tests each row, by the C library of SQLite, and by a computation of every table of every revision from the frozen
-quotes, against what is stored and against what `cpi` prints.
+It checks a copy of the copy, so it never changes the copy itself: with the note's SHA-256, with `cpi`, which opens it
+and tests each row, with SQLite's C library, and with a computation of every table of every revision from the frozen
+quotes, compared with the stored tables and with those that `cpi` prints.
 """
 
 from __future__ import annotations
@@ -34,7 +34,7 @@ Printed = dict[tuple[int, int], str]
 
 
 class Drilled(NamedTuple):
-    """What a drill looked at, and found: counts, the note if there is one, and a line for each fault and each warning.
+    """The results of a drill: counts, the note if there is one, and a line for each fault and each warning.
     `collectors` is None if the file can't be read."""
 
     tables: int
@@ -49,7 +49,7 @@ class Drilled(NamedTuple):
 
 
 class Counts:
-    """How much was looked at, so far."""
+    """The extent of the checks so far."""
 
     def __init__(self) -> None:
         self.tables = self.rows = self.carried = self.quotes = self.other_quotes = 0
@@ -57,9 +57,9 @@ class Counts:
 
 
 def drill(cpi: Cpi, path: Path, progress: Optional[Progress] = None) -> Drilled:
-    """Looks at a copy of an office's file, with its log where one lies beside it.
+    """Checks a copy of an office's file, with its log if there is one next to it.
 
-    Raises CopyFailed or another Fault where it can't be looked at; what is found wrong is told in the result.
+    Raises CopyFailed or another Fault if it can't be checked; the result contains the faults.
     """
     now = progress.now if progress else lambda _: None
     counts, faults = Counts(), list[str]()
@@ -100,8 +100,8 @@ def warnings_of(path: Path, counts: Counts) -> Iterator[str]:
 
 
 def note_of(path: Path, faults: list[str]) -> Optional[Note]:
-    """The note beside a copy; a fault where it isn't of these bytes, or isn't one. A backup is one file, so a log with
-    something in it makes it another state than that of its note."""
+    """The note next to a copy; a fault if it isn't for these bytes, or isn't a note. A backup is one file, so a log
+    with something in it makes it another state than that of its note."""
     try:
         note = read_note(path)
         if note and note.sha256 != hash_of(path):
@@ -117,7 +117,7 @@ def note_of(path: Path, faults: list[str]) -> Optional[Note]:
 
 
 def desk_faults_of(path: Path, wanted: str) -> list[str]:
-    """What is wrong with the desk's folder next to a backup, whose note says that it has this sum."""
+    """The faults of the desk's folder next to a backup, whose note says that it has this sum."""
     archive = desk_beside(path)
     try:
         if hash_of(archive) != wanted:
@@ -135,7 +135,7 @@ def desk_faults_of(path: Path, wanted: str) -> list[str]:
 
 
 def _printed(cpi: Cpi, copy: Path, faults: list[str]) -> Optional[Printed]:
-    """Each table that the program lists, as it prints it; None, and a fault, where it doesn't open the file.
+    """Each table that the program lists, as it prints it; None, and a fault, if it doesn't open the file.
 
     They are read at the last moment there is, so those under embargo too: they are compared, and never told.
     """
@@ -163,7 +163,7 @@ def _tables_of(reply: Reply) -> list[tuple[str, int, int]]:
 def figures_of(text: str) -> tuple[dict[str, Level], dict[str, str]]:
     """The figures and the titles of a table that the program printed as CSV, by code.
 
-    Raises ValueError where it isn't one.
+    Raises ValueError if it isn't one.
     """
     levels, titles = {}, {}
     for code, weight, within, chained, on_month, on_year, imputed, title in csv.reader(io.StringIO(text, newline="")):
@@ -175,7 +175,7 @@ def figures_of(text: str) -> tuple[dict[str, Level], dict[str, str]]:
 
 
 def _digits(text: str, decimals: int) -> int:
-    """`-0.3` with one decimal is -3. Raises ValueError where it has another number of decimals."""
+    """`-0.3` with one decimal is -3. Raises ValueError if it has another number of decimals."""
     whole, _, part = text.partition(".")
     if len(part) != decimals:
         raise ValueError(f"{text} hasn't {decimals} decimals")
@@ -222,7 +222,7 @@ def _name_of(release: Release) -> str:
 
 
 def differences(office: StoredOffice, wanted: Computed, printed: Optional[Printed]) -> Iterator[str]:
-    """What is stored and printed of a release in another way than it was computed."""
+    """The stored and printed figures of a release that differ from the computed ones."""
     release = wanted.release
     if found := differing(office.carried(release), wanted.carried):
         series = f"{found[0][0]}/{found[0][1]}"

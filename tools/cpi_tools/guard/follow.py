@@ -105,13 +105,13 @@ class Follower:
         self._of_desk = Causes()
 
     def promotion(self) -> str:
-        """What is to be said if the place was promoted, and then the office's file is marked; else nothing. Raises
+        """The line to print if the place was promoted, and then the office's file is marked; else empty. Raises
         Fault."""
         promotion = self._place.state().promotion
         return mark_as_former(self._office, promotion) if promotion else ""
 
     def round(self) -> str:
-        """Carries one copy; what is to be said if the place was promoted. Raises Fault: NotCarried if the office is
+        """Carries one copy; the line to print if the place was promoted. Raises Fault: NotCarried if the office is
         damaged or doesn't go on from its copy, which a probe sees too."""
         try:
             state = self._place.state()
@@ -173,7 +173,7 @@ class Follower:
         self._of_office.say(str(fault), fault.kind if isinstance(fault, NotCarried) else str(fault))
 
     def keep(self, every: float) -> str:
-        """Carries copy after copy until the place is promoted; what is to be said then."""
+        """Carries copy after copy until the place is promoted; the line to print then."""
         while True:
             begun = time.monotonic()
             try:
@@ -258,7 +258,7 @@ def add_words(tools: argparse._SubParsersAction[ToolWords]) -> None:
 
 
 def _end_line(follower: Follower, chosen: argparse.Namespace) -> str:
-    """Does what the words ask; what is to be said if the place was promoted."""
+    """Does what the arguments ask for; the line to print if the place was promoted."""
     if not chosen.ask and not chosen.once:
         return follower.keep(chosen.every)
     with Progress("cpi-tools follow") as progress:

@@ -52,7 +52,7 @@ class Entry(NamedTuple):
 
 
 class Missing(NamedTuple):
-    """A price that NEW doesn't have: where it is, what OLD has, and what NEW has there."""
+    """A price that NEW lacks: its slot and month, OLD's price, and NEW's."""
 
     at: At
     entry: Entry

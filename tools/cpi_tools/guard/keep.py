@@ -2,8 +2,8 @@
 
 Root opens the two copies, which belong to the user who gets them. Everything else is done by the user to whom FOLDER
 belongs, in a process that can't become root again: the newest whole copy goes into the repository, is taken out again,
-and drilled. So neither the first machine's key nor the user of the copies can change what was kept, and what they carry
-is read by a user who may do nothing else. Root last writes next to the copies which generation passed.
+and drilled. So neither the first machine's key nor the user of the copies can change what was kept, and a user who may
+do nothing else reads the carried files. Root last writes next to the copies which generation passed.
 
 The desk's folder goes along. One that isn't whole keeps no generation of the office away: a line says it.
 """
@@ -67,8 +67,8 @@ LOCK = "keep.lock"
 
 
 class Kept(NamedTuple):
-    """What was kept: the note of the copy as it is written next to the copies; whether it is a new generation; how many
-    there are that passed their drill; and a line for each archive of before that was removed without a drill."""
+    """The result of keeping: the note of the copy as it is next to the copies; whether it is a new generation; how many
+    generations passed their drill; and a line for each earlier archive that was removed without a drill."""
 
     last: LastDrill
     is_new: bool
@@ -77,7 +77,7 @@ class Kept(NamedTuple):
 
 
 class Opened(NamedTuple):
-    """What is open of a place: its copies and its desk's folder; what is known of its generations, the moment in seconds
+    """The open files of a place: its copies and its desk's folder; the record of its generations, the moment in seconds
     since 1970 UTC, and whether it is the last try."""
 
     copies: list[OpenCopy]
@@ -139,8 +139,7 @@ def _kept_in(answer: dict[str, Any], last: LastDrill, now: int) -> Kept:
 
 
 def _answer(cpi: Cpi, opened: Opened, folder: Path) -> dict[str, Any]:
-    """Keeps a generation; what is to be known of it. `again` says why no copy was whole at this moment. Raises Fault and
-    OSError."""
+    """Keeps a generation; its record. `again` says why no copy was whole at this moment. Raises Fault and OSError."""
     with _kept_by_one(folder), new_room(".cpi-keep-", folder) as room:
         try:
             taken = room / "taken"
@@ -167,8 +166,8 @@ def _answer(cpi: Cpi, opened: Opened, folder: Path) -> dict[str, Any]:
 
 
 def _checked(repository: Repository, opened: Opened, faults: list[str], is_made: bool) -> dict[str, Any]:
-    """Checks a repository if the last check is some days old, or a day if that found something or wasn't done; what is
-    known of checks then. Why it can't be done is one more fault. All of one that was made now was just drilled."""
+    """Checks a repository if the last check is some days old, or a day if that check found a fault or wasn't done; the
+    record of checks then. Why it can't be done is one more fault. All of one that was made now was just drilled."""
     last, now = opened.last, opened.now
     known = {"checked": last.checked, "tried": last.tried, "damaged": last.damaged}
     if is_made:
@@ -217,7 +216,7 @@ def _remove_unfinished(repository: Repository, names: list[str]) -> list[str]:
 
 
 def _drilled_anew(cpi: Cpi, repository: Repository, name: str, now: int, room: Path, desk: KeptDesk) -> str:
-    """Puts what was taken to a room into a repository, takes it out again, and drills that; why it failed, empty if it
+    """Puts the files of a room into a repository, takes them out again, and drills them; why it failed, empty if it
     passed. Raises Fault and OSError."""
     taken = room / "taken"
     repository.put(f"{NEW}{name}", now, taken, [*FILES, *([DESK] if (taken / DESK).is_dir() else [])])

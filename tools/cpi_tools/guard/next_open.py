@@ -88,8 +88,8 @@ class NextOpen(NamedTuple):
 def rows_of(path: Path) -> Rows:
     """The rows of an office's file, which `cpi` may have open.
 
-    They are read from the file as it lies there, without its lock and its log: what is a little old does for an estimate.
-    If its pages are being written just then, a right copy is read. Raises Fault if that can't be done.
+    They are read from the file as it is, without its lock and its log: slightly old values are good enough for an
+    estimate. If its pages are being written just then, a right copy is read. Raises Fault if that can't be done.
     """
     try:
         return _rows(f"{path.resolve().as_uri()}?mode=ro&immutable=1")
@@ -116,8 +116,8 @@ def machine_memory() -> int:
 
 
 def free_memory() -> int:
-    """The bytes of memory that a program may take which is started here: what is available on this machine, and what
-    the bounds of this process and of its control groups allow."""
+    """The bytes of memory that a program started here may take: the memory available on this machine, and the bounds of
+    this process and of its control groups."""
     soft, _ = resource.getrlimit(resource.RLIMIT_AS)
     bounds = [_available(), *_bounds_of_groups()]
     return min(bounds + [soft] if soft != resource.RLIM_INFINITY else bounds)
@@ -161,7 +161,7 @@ MIB = 1 << 20
 
 
 def in_words(opening: NextOpen) -> str:
-    """How much an open takes of what is allowed, as half a sentence."""
+    """The share of the allowed memory that an open takes, as half a sentence."""
     rows, allowed = opening.rows, opening.allowed
     text = (
         f"takes some {rows.memory // MIB:,} MiB of the {allowed.memory // MIB:,} MiB that {allowed.bounded_by} allows"

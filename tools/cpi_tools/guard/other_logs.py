@@ -3,10 +3,11 @@
 SQLite's format doesn't tie them: salts and sums of a log are its own, and `cpi` leaves the change counter of the file as
 it is. So they are judged by what they hold, in a private copy.
 
-**What is sure.** The file by itself is the office as it was once its log had been copied into it. So if it is whole by
-itself, it is whole with its log too, is the same office, and has all that it had (`office_marks`): also each item, outlet and
-collector, of which no row is ever changed. If it isn't, the log is that of another file. A file that isn't whole by itself may have been written when the machine stopped: of its log nothing is
-known here, and `cpi` judges both.
+**What is sure.** Without its log, the file is the office as it was when the log had been copied into it. So if it is
+whole by itself, it is whole with its log too, is the same office, and has all that it had (`office_marks`): also each
+item, outlet and collector, of which no row is ever changed. If it isn't, the log is that of another file. A file that
+isn't whole by itself may have been written when the machine stopped: of its log nothing is known here, and `cpi` judges
+both.
 
 **What isn't sure.** A backup next to the log that came after it may be whole together with it: it is the office of before
 then, and nothing of that is lost. `cpi` writes the file first and the log afterwards, so a file that is younger than the
@@ -49,7 +50,8 @@ def other_log_of(path: Path) -> Optional[OtherLog]:
 
 
 def _fault_with_log(copy: Path) -> str:
-    """What is wrong with a copy and its log, though it is whole by itself; empty if nothing is, or it isn't."""
+    """The fault of a copy with its log, although it is whole without the log; empty if there is none, or if it isn't
+    whole."""
     log, away = log_beside(copy), copy.with_name("log-of-the-copy")
     log.rename(away)
     # (the C library reads no file without any log)
@@ -72,7 +74,7 @@ def _fault_with_log(copy: Path) -> str:
 
 
 def _fixed_rows(copy: Path) -> set[tuple[Any, ...]]:
-    """The rows that are never changed, each behind its table."""
+    """The rows that never change, each after its table."""
     with unchanged_office(copy) as office:
         return {(table, *row) for table in FIXED for row in office.ask(f"SELECT * FROM {table}")}
 
@@ -88,7 +90,7 @@ def _other_size(copy: Path) -> str:
 
 
 def _whole(copy: Path) -> Optional[Known]:
-    """What is known of an office that is whole; None if it isn't."""
+    """The record of a whole office; None if it isn't whole."""
     try:
         known = known_of(copy, None)
         with unchanged_office(copy) as office:

@@ -3,9 +3,9 @@
 The copy is taken to a folder that only this user can change, and compared with its note there. Then it is drilled. Only
 then DEST gets the mark by which the follower of the first machine stops that office, and last the copy gets its name.
 
-Root runs it, but both folders belong to others: DEST to the user who carries, and the office's to the one who serves. So
-below them each file is opened by its plain name from the folder's descriptor (`held_folders`), and what is given to the
-office's user is the file that was drilled, whatever has its name by then.
+Root runs it, but both folders belong to others: DEST to the user who carries, and the office's to the one who serves.
+So below them each file is opened by its plain name from the folder's descriptor (`held_folders`), and the office's user
+gets the file that was drilled, whatever has its name by then.
 """
 
 from __future__ import annotations
@@ -68,8 +68,8 @@ SYSTEMD = Path("/run/systemd/system")
 
 
 class Wanted(NamedTuple):
-    """What is promoted: a copy by its folder, None for the newest one; or a generation by its name, the folder in which
-    generations are kept, and where the desk's folder of one is put meanwhile."""
+    """The source of a promotion: a copy by its folder, None for the newest one; or a generation by its name, the folder
+    in which generations are kept, and a room for the desk's folder of one."""
 
     copy: Optional[str] = None
     generation: Optional[str] = None
@@ -78,8 +78,8 @@ class Wanted(NamedTuple):
 
 
 class Promoted(NamedTuple):
-    """A promotion: the folder of the copy or the generation, its note, what its drill found, and where the file lies that
-    was at the place before, if one was."""
+    """A promotion: the folder of the copy or the generation, its note, its drill's findings, and the path of the file
+    that was at the place before, if there was one."""
 
     name: str
     note: CopyNote
@@ -98,8 +98,9 @@ def promote(
 ) -> Promoted:
     """Makes the newest copy at `dest`, another one, or a generation of them the file `office` of this machine.
 
-    `is_replacing` puts aside what is there, and `is_again` says that a copy of `dest` may have been promoted before, or
-    that what is there may have prices that the copy hasn't. Raises Fault, and changes nothing, if the copy isn't whole.
+    `is_replacing` puts existing files aside, and `is_again` says that a copy of `dest` may have been promoted before,
+    or that the existing office may have prices that the copy lacks. Raises Fault, and changes nothing, if the copy
+    isn't whole.
     """
     now = progress.now if progress else lambda _: None
     try:
@@ -125,7 +126,7 @@ def promote(
 
 
 def _look_at(office: Path, is_replacing: bool) -> None:
-    """Tells before any work what is in the way of the office's file."""
+    """Reports before any work what is in the way of the office's file."""
     if not office.parent.is_dir():
         raise Fault(f"{office.parent} is no folder: install the package of cpi first, or name another place (--office)")
     if office.exists() and is_held(office):
@@ -151,7 +152,7 @@ def _place_of_room(office: Path) -> Optional[Path]:
 
 
 def _told_before(promotion: Promotion) -> str:
-    """Where a copy was promoted before, and when."""
+    """The place of an earlier promotion of a copy, and its time."""
     return (
         f"{promotion.machine} was promoted {second_text(promotion.promoted)} with the copy of"
         f" {second_text(promotion.copied)}"
@@ -159,8 +160,8 @@ def _told_before(promotion: Promotion) -> str:
 
 
 def _compare(copy: Path, office: Path, note: CopyNote) -> None:
-    """Raises Fault if the file that is to be put aside has prices that the copy hasn't, so it took them since. One with
-    a mark beside it is a former office, whose prices were sent again elsewhere."""
+    """Raises Fault if the file that is to be put aside has prices that the copy hasn't, so it took them since. An
+    office with a mark next to it is a former one, whose prices were sent again elsewhere."""
     if os.path.lexists(mark_beside(office)):
         return
     there = _last_receipts(copy)
@@ -176,7 +177,7 @@ def _compare(copy: Path, office: Path, note: CopyNote) -> None:
 
 
 def _last_receipts(office: Path) -> Mapping[int, int]:
-    """The last receipt of each collector. What is no office has none."""
+    """The last receipt of each collector. A file that isn't an office has none."""
     with contextlib.suppress(sqlite3.Error, OSError), unchanged_office(office) as opened:
         return opened.last_receipts()
     return {}
@@ -186,7 +187,7 @@ def _last_receipts(office: Path) -> Mapping[int, int]:
 
 
 def _taken(dest: Path, wanted: Wanted, room: Path) -> tuple[str, CopyNote, Path]:
-    """Takes what is wanted to a room: what it is called, its note, and where it was. Raises Fault and OSError."""
+    """Takes the wanted copy to a room: its name, its note, and its place. Raises Fault and OSError."""
     if wanted.generation is not None:
         note = _taken_generation(wanted.kept, wanted.generation, room)
         return f"generation {wanted.generation}", note, wanted.kept / wanted.generation
@@ -261,7 +262,7 @@ def _copy_file(number: int, target: Path, most: int, is_needed: bool) -> None:
 
 
 def _other(dest: Path, name: str, to: Path) -> str:
-    """What is to be said of the other copy, which is copied too, if that is whole."""
+    """A line about the other copy, which is copied too, if it is whole."""
     (other,) = [each for each in NAMES if each != name]
     note = state_of(dest).notes.get(other)
     with contextlib.suppress(OSError, Fault):
@@ -298,7 +299,7 @@ def _put_aside(office: Path, home: HeldFolder) -> Optional[Path]:
 
 
 def _free_name(home: HeldFolder, name: str) -> str:
-    """The name, with a number behind it if something has it already: an office was put aside in the same second."""
+    """The name, followed by a number if it is taken already: an office was put aside in the same second."""
     names = (f"{name}-{number}" if number else name for number in itertools.count())
     return next(each for each in names if not home.has(each))
 
@@ -317,8 +318,8 @@ def _place(copy: Path, office: Path, home: HeldFolder) -> None:
 
 
 def _hand_over(room: HeldFolder, name: str, home: HeldFolder, to: str, owner: os.stat_result) -> None:
-    """Moves a file out of the room, where nobody else can change it, and gives it to an owner: the open file itself, so
-    nothing else can be given away in its place."""
+    """Moves a file out of the room to a place where nobody else can change it, and gives it to an owner: the open file
+    itself, so nothing else can be given away in its place."""
     opened = room.opened(name, os.O_RDWR, links=1)
     with os.fdopen(opened, "r+b") as file:
         _give(opened, owner)
@@ -433,8 +434,8 @@ def run(chosen: argparse.Namespace) -> int:
 
 
 def _promoted(chosen: argparse.Namespace, room: Path) -> Promoted:
-    """Promotes what was chosen, and starts it if that was; what it was. The desk's folder of a generation is in a room
-    then."""
+    """Promotes the chosen copy, and starts it if asked to; the promotion. The desk's folder of a generation is in a
+    room then."""
     with Progress("cpi-tools promote") as progress:
         wanted = Wanted(chosen.copy, chosen.generation, chosen.kept, room)
         how = (wanted, chosen.replace, chosen.again)

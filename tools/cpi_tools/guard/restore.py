@@ -1,7 +1,7 @@
-"""`cpi-tools restore BACKUP`: a backup becomes the office of this machine, and what was there is put aside, file and log
+"""`cpi-tools restore BACKUP`: a backup becomes the office of this machine, and the existing file and log are put aside
 together.
 
-All of it is looked at before anything changes. While the files change their places a mark lies next to the office, by
+All of it is checked before anything changes. While the files change their places a mark lies next to the office, by
 which `cpi-serve` starts none: a file without its log, or a log next to another file, would be an office of another day.
 """
 
@@ -51,8 +51,8 @@ BESIDE = ("-wal", "-shm", "-journal")
 
 
 class Looked(NamedTuple):
-    """What was found of a backup: its private copy, one file without a log; what its drill found; its marks; and a private
-    copy of the desk's folder, if that is in it."""
+    """The content of a backup: its private copy, one file without a log; its drill's findings; its marks; and a private
+    copy of the desk's folder, if the backup contains it."""
 
     copy: Path
     drilled: Drilled
@@ -116,7 +116,7 @@ def rooms_of(office: Path) -> list[Path]:
 
 
 def looked_at(cpi: Cpi, backup: Path, room: Path) -> Looked:
-    """Copies a backup to a room, and looks at all of the copy. Raises Fault if it isn't a whole office."""
+    """Copies a backup to a room, and checks all of the copy. Raises Fault if it isn't a whole office."""
     if (other := other_log_of(backup)) and other.is_sure:
         raise Fault(f"{log_of(backup)} isn't the log of {backup}, which is whole by itself: {other.because}")
     copy = right_copy(backup, room)
@@ -143,7 +143,7 @@ def _desk_in(backup: Path, room: Path) -> Path:
 
 
 def _known(cpi: Cpi, copy: Path, backup: Path) -> Known:
-    """What is known of a copy without a log. The tables of an earlier version are brought to this one first."""
+    """The record of a copy without a log. The tables of an earlier version are brought to this one first."""
     for is_settled in (False, True):
         # (the C library reads no file without any log)
         log_of(copy).write_bytes(b"")
@@ -184,8 +184,9 @@ def _newer(backup: Path, looked: Looked, last: CopyNote) -> str:
 
 
 def put_in_place(copy: Path, office: Path, because: str) -> Optional[Path]:
-    """Puts aside what is at the place of an office, and a copy there instead: as the owner of the folder, with mode 0600,
-    on the disk; all of it or nothing. The folder of what was put aside, None if nothing was there. Raises OSError."""
+    """Puts aside the files at the place of an office, and puts a copy there instead: as the owner of the folder, with
+    mode 0600, on the disk; all of it or nothing. The folder of the files that were put aside, None if there were none.
+    Raises OSError."""
     restoring, text = restoring_beside(office), f"{because}, begun {second_text(int(time.time()))}, isn't done\n"
     aside: Optional[Path] = None
     folder = office.parent.stat()
@@ -243,7 +244,7 @@ def _new_folder(office: Path) -> Path:
 
 
 def _put_back(office: Path, aside: Optional[Path]) -> None:
-    """Moves back what was put aside, the log first, and takes the mark away."""
+    """Moves back the files that were put aside, the log first, and takes the mark away."""
     if aside:
         for path in reversed(_files_of(office)):
             if os.path.lexists(aside / path.name):
@@ -346,7 +347,7 @@ def _restore_desk(looked: Looked, desk: Path, office: Path) -> int:
 
 
 def desk_line(looked: Looked, desk: Optional[Path]) -> str:
-    """What is to become of the desk's folder. Raises Fault if its pages have it and it is to be replaced."""
+    """The plan for the desk's folder. Raises Fault if its pages have it and it is to be replaced."""
     if not looked.desk:
         return "the backup has no desk's folder, so that of this machine stays as it is"
     if not desk:
@@ -357,7 +358,7 @@ def desk_line(looked: Looked, desk: Optional[Path]) -> str:
 
 
 def _tell(office: Path, backup: Path, looked: Looked, folders: list[Path]) -> None:
-    """What was found before anything changes."""
+    """The findings before anything changes."""
     for warning in looked.drilled.warnings:
         print(f"cpi-tools restore: {backup}: warning: {warning}", file=sys.stderr)
     print(told_line(backup, looked.drilled))

@@ -1,7 +1,7 @@
 """A repository of Debian's borgbackup in a folder: each archive in it has the files of one moment.
 
 Borg runs as the user to whom the folder belongs, whoever runs the tool, so nothing in it ever belongs to another one.
-What is taken out comes through a pipe: borg writes no file for the tool, and gives none a name, an owner or a mode.
+Extracted bytes come through a pipe: borg writes no file for the tool, and gives none a name, an owner or a mode.
 
 Borg's locks are folders, which stay if a run is killed. Borg takes away those of processes of this host that are gone. But
 it knows a host by its network card, and a unit without a network has none; and once the machine started anew, another
@@ -55,7 +55,7 @@ NO_LOCK = "Failed to create/acquire the lock"
 """What borg says if another one works in the repository."""
 
 LOCKED, ROSTER = "lock.exclusive", "lock.roster"
-"""Borg's locks: a folder with a file of whoever has it alone, and a file on who has it alone or with others."""
+"""Borg's locks: a folder with a file for an exclusive holder, and a file that lists exclusive and shared holders."""
 
 
 class Repository:
@@ -70,7 +70,7 @@ class Repository:
         return "config" in os.listdir(self.path) if self.path.exists() else False
 
     def make(self) -> None:
-        """Makes the repository. (What is in it is as secret as the copies next to it, and by the same means: its
+        """Makes the repository. (Its content is as secret as the copies next to it, and protected in the same way: its
         folder is closed to others.) Raises Fault."""
         self._run("init", "--encryption", "none", str(self.path))
 
@@ -116,8 +116,8 @@ class Repository:
         self._run("compact", str(self.path))
 
     def damage(self, seconds: int) -> str:
-        """What is wrong with what lies in the repository: by all sums, by its index, and by the parts of each archive. Empty
-        if nothing is. Raises Fault, also if that isn't known after so many seconds."""
+        """The faults of a repository: by all sums, by its index, and by the parts of each archive. Empty if nothing is.
+        Raises Fault, also if that isn't known after so many seconds."""
         try:
             ran = self._ran("check", str(self.path), seconds=seconds)
         except subprocess.TimeoutExpired as fault:
@@ -246,7 +246,7 @@ def _is_alone(folder: HeldFolder) -> bool:
 
 
 def _who_locks(folder: Path) -> Iterator[str]:
-    """Who has a lock in a folder, as borg names hosts. What isn't borg's has no known name. Raises OSError."""
+    """The holders of locks in a folder, as borg names hosts. What isn't borg's has no known name. Raises OSError."""
     with contextlib.suppress(FileNotFoundError, NotADirectoryError), held(folder) as opened:
         with contextlib.suppress(FileNotFoundError), opened.folder(LOCKED) as locks:
             yield from (name.rpartition("-")[0].rpartition(".")[0] for name in os.listdir(locks.number))

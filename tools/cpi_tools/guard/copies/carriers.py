@@ -40,7 +40,7 @@ BESIDE = re.compile(r"Warning: Permanently added|(\d{4}/\d\d/\d\d \S+ )?NOTICE\b
 """Lines that name no cause."""
 
 MODES = ("--perms", "--chmod=D700,F600")
-"""What is carried is as secret as the office."""
+"""The carried files are as secret as the office."""
 
 
 class Carrier(Protocol):
@@ -56,8 +56,8 @@ class Carrier(Protocol):
         is. Raises Fault."""
 
     def carry_changes(self, changes: Path) -> str:
-        """Brings a file of changed pages there, where a program puts them into their copy; the lines that it told.
-        Raises Fault."""
+        """Carries a file of changed pages to a place where a program puts them into their copy; the lines that it
+        printed. Raises Fault."""
 
 
 class Rsync:
@@ -129,7 +129,7 @@ def carrier_of(dest: str, ssh: Optional[str] = None) -> Optional[Carrier]:
 
 
 def _run(words: Sequence[str], name: str) -> str:
-    """Runs what carries; what was told on the way. Raises Fault with the line of that which says why."""
+    """Runs the carrying program; its output on the way. Raises Fault with the line of that which says why."""
     if not shutil.which(words[0]):
         raise Fault(f"there is no {words[0]}, which carries to {name}: Debian's package {words[0]} has it")
     try:

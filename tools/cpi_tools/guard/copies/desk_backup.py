@@ -21,7 +21,7 @@ MOST_BYTES = 1 << 36
 
 
 def desk_beside(path: Path) -> Path:
-    """Where the desk's folder of a backup lies: `office.db.desk.tar` of `office.db`."""
+    """The path of the desk's folder in a backup: `office.db.desk.tar` for `office.db`."""
     return path.with_name(f"{path.name}.desk.tar")
 
 

@@ -44,8 +44,8 @@ WHOLE, APPEND, PAGES = "whole", "append", "pages"
 
 
 class Index(NamedTuple):
-    """What is known of a copy of the desk's folder: the number of the folder that counts, the moment at which it was
-    read, in seconds since 1970 UTC, how far its notes of the field are, and its files."""
+    """The record of a copy of the desk's folder: the number of the current folder, the moment at which it was read, in
+    seconds since 1970 UTC, how far its field notes go, and its files."""
 
     number: int
     copied: int
@@ -68,7 +68,7 @@ class Part(NamedTuple):
 
 
 class DeskChanges(NamedTuple):
-    """The index before, None if there was none, and then, and what is written."""
+    """The index before, None if there was none, the index after, and the content to write."""
 
     before: Optional[Index]
     after: Index
@@ -154,7 +154,7 @@ def write_desk_changes(to: Path, changes: DeskChanges, data: Mapping[str, bytes]
 
 
 def desk_received_text(index: Index) -> str:
-    """What is said once the changes are in their copy."""
+    """The line that reports that the changes are in their copy."""
     return f"cpi-tools receive: the desk's folder {index.number} is that of {index.copied}"
 
 
@@ -243,7 +243,7 @@ def _put(file: IO[bytes], changes: DeskChanges, desk: HeldFolder) -> None:
 
 
 def _leave(desk: HeldFolder, name: str) -> None:
-    """Gives what is in the place of a new folder another name: a carrying was stopped, or its index was lost."""
+    """Renames anything in the place of a new folder: a carrying was stopped, or its index was lost."""
     if desk.has(name):
         names = (f"left-{name}-{number}" for number in itertools.count(1))
         desk.move(name, desk, next(each for each in names if not desk.has(each)))

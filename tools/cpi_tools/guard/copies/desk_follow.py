@@ -37,7 +37,7 @@ MIRRORS = "desk-mirrors"
 
 
 class DeskFollower:
-    """What is known of the desk's folder and of its copy at a place."""
+    """The record of the desk's folder and of its copy at a place."""
 
     def __init__(self, desk: Path, place: Place):
         self._desk, self._place = desk, place
@@ -48,7 +48,7 @@ class DeskFollower:
         self._notes, self._beside, self._is_other = NO_NOTES, NO_NOTES, False
 
     def carry(self) -> str:
-        """Carries what changed; what is to be said, if the copy's log doesn't go on. Raises Fault: the copy is that of
+        """Carries the changes; a line to print if the copy's log doesn't go on. Raises Fault: the copy is that of
         before then."""
         try:
             there, seen = self._place.desk_index(), seen_in(self._desk)
@@ -92,8 +92,8 @@ class DeskFollower:
         return lines_in(self._desk / name) if name in LOGS else (self._desk / name).read_bytes()
 
     def _look(self, seen: Mapping[str, Seen], there: Optional[Index]) -> tuple[dict[str, Sized], dict[str, bytes]]:
-        """Size and sum of each file, and the bytes of those that may have to be carried. What was read before, and is
-        there, isn't read again."""
+        """Size and sum of each file, and the bytes of those that may have to be carried. A file that was read before,
+        and is still there, isn't read again."""
         files, data = dict[str, Sized](), dict[str, bytes]()
         known, notes = (there.files, there.notes) if there else ({}, NO_NOTES)
         if NOTES not in seen or notes != self._beside:

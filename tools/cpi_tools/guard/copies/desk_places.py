@@ -36,7 +36,7 @@ def add_desk(words: argparse.ArgumentParser) -> None:
 
 
 class Placed(NamedTuple):
-    """Whether a copy took the place of a desk's folder, or that stays; and where that lies which was there before."""
+    """Whether a copy took the place of a desk's folder, or that folder stays; and the path of the earlier folder."""
 
     is_placed: bool
     aside: Optional[Path]
@@ -46,8 +46,8 @@ class Placed(NamedTuple):
 
 
 def promoted_desk(dest: Path, target: Path, like: Path, kept: Optional[Path] = None) -> Iterator[str]:
-    """Puts the desk's folder of a second copy into its place, with the owner of the folder `like`: that of `dest`, or the one
-    that lies in `kept`, out of a generation. What is to be said. Raises Fault."""
+    """Puts the desk's folder of a second copy into its place, with the owner of the folder `like`: that of `dest`, or
+    the one that lies in `kept`, out of a generation. The line that reports it. Raises Fault."""
     try:
         with new_room("cpi-desk-") as room:
             made = room / "files"
@@ -76,7 +76,7 @@ def _others(dest: Path, index: Index, is_kept: bool) -> Iterator[str]:
 
 
 def _said(target: Path, placed: Placed, what: str) -> str:
-    """What is said of a desk's folder that was to take its place."""
+    """The line about a desk's folder that was to take its place."""
     if not placed.is_placed:
         return f"{target}: stays as it is, since its logs go on from those of the copy"
     aside = f"; what was there is in {placed.aside}" if placed.aside else ""

@@ -8,7 +8,7 @@ generation is called `new-MOMENT` until it was taken out again and passed its dr
 only then it counts. One that failed is `failed-MOMENT`. The moment is that of the clock of this machine, so the machine
 that carries can't choose which generations stay.
 
-    DEST/drilled.json    which generation passed its drill last, next to the copies, where a follower reads it
+    DEST/drilled.json    the generation that passed its drill last, next to the copies, for a follower to read
 
 The repository itself is checked once a week (`CHECK_DAYS`): what only an old generation has is read by no drill.
 """
@@ -51,14 +51,15 @@ KEEP_FAILED = ("--keep-last", "3")
 
 
 class Damaged(Fault):
-    """What was taken out of the repository isn't what its note says; one line."""
+    """The file from the repository isn't the one that its note describes; one line."""
 
 
 class LastDrill(NamedTuple):
-    """What is known of the generations of a copy: the last one that passed its drill, empty if none did; the moment of
-    the latest copy that had its bytes, in seconds since 1970 UTC; their sums; since then the generation that failed its
-    drill with its reason, and the fault of the last run, each empty if that isn't so; the sum of the desk's folder; when
-    the repository was last found whole, and when a check of it last began, each 0 if never; and what that found wrong.
+    """The record of a copy's generations: the last one that passed its drill, empty if none did; the moment of the
+    latest copy that had its bytes, in seconds since 1970 UTC; their sums; since then the generation that failed its
+    drill with its reason, and the fault of the last run, each empty if there is none; the sum of the desk's folder;
+    when the repository was last found whole, and when a check of it last began, each 0 if never; and the fault that
+    this check found.
     """
 
     generation: str = ""
@@ -77,7 +78,7 @@ class LastDrill(NamedTuple):
 
 
 def last_drill_of(dest: Path) -> Optional[LastDrill]:
-    """What is known of the generations of the copies in a folder; None if nobody keeps any. Raises Fault if that can't be
+    """The record of the generations of the copies in a folder; None if nobody keeps any. Raises Fault if that can't be
     read."""
     try:
         with held(dest) as place:

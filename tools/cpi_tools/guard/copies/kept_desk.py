@@ -1,8 +1,8 @@
 """The desk's folder in a generation: as it lies next to the copies, an index and the folder that counts.
 
 Root opens its files, plain ones only and by their own names below the place's descriptor, as it opens the two copies
-(`open_copies`). The user of the generations reads what is open, and looks at all of it once it came out of the repository
-again. What is wrong with the desk's folder is said, and keeps no generation of the office away.
+(`open_copies`). The user of the generations reads the open files, and checks all of them after they came out of the
+repository again. A fault of the desk's folder is reported, and keeps no generation of the office away.
 """
 
 from __future__ import annotations
@@ -52,7 +52,7 @@ class KeptDesk(NamedTuple):
 
     @property
     def fault(self) -> str:
-        """What is wrong with it, in a line; empty if nothing is."""
+        """Its fault, in a line; empty if there is none."""
         others = f" (and {counted(len(self.faults) - 1, 'more fault')})" if self.faults[1:] else ""
         return f"the desk's folder isn't whole: {self.faults[0]}{others}" if self.faults else ""
 
@@ -176,6 +176,6 @@ def _fault_of(path: Path) -> str:
 
 
 def place_in(room: Path, name: str) -> Optional[Path]:
-    """Where a file of an archive is written that belongs to a desk's folder; None if it doesn't."""
+    """The path for a file of an archive that belongs to a desk's folder; None if it doesn't."""
     found = re.fullmatch(rf"{DESK}/(?:{re.escape(INDEX)}|[1-9][0-9]{{0,9}}/(.+))", name)
     return room / name if found and (found[1] is None or is_name(found[1])) else None

@@ -85,7 +85,7 @@ class Mirror:
         return written + self._cut(at)
 
     def _put(self, number: int, at: int, block: bytes) -> int:
-        """Writes the pages of a block, at a place in bytes, in which it differs from what is there."""
+        """Writes the pages of a block, at a place in bytes, that differ from the file's."""
         there = os.pread(number, len(block), at)
         if there == block:
             return 0
@@ -115,7 +115,7 @@ class Mirror:
         self._size = max(self._size, at + len(part))
 
     def _cut(self, size: int) -> int:
-        """Cuts off what is past a size; no byte was written for it."""
+        """Cuts off everything past a size; no byte was written for it."""
         if size == self._size:
             return 0
         with naming(self.path), self.path.open("r+b", buffering=0) as file:

@@ -56,8 +56,8 @@ Quoted = tuple[int, int, str, int]
 
 
 class Known(NamedTuple):
-    """What is known of an office's life: which office it is, None if it has no collector; its marks, None of a copy that
-    an earlier version made; and its last quotes, the latest first."""
+    """The record of an office's life: its identity, None if it has no collector; its marks, None for a copy that an
+    earlier version made; and its last quotes, the latest first."""
 
     identity: Optional[Identity]
     marks: Optional[Marks]
@@ -73,8 +73,8 @@ class NotCarried(Fault):
 
 
 def known_of(file: Path, before: Optional[Known], is_anew: bool = False) -> Known:
-    """What is known of an office's file and log, which nobody else has open: both stay as they are. Raises NotCarried if
-    the file is damaged; and, unless `is_anew`, if it doesn't go on from what was known of a copy."""
+    """The record of an office's file and log, which nobody else has open: both stay as they are. Raises NotCarried if
+    the file is damaged; and, unless `is_anew`, if it doesn't continue the known copy."""
     if not file.stat().st_size:
         raise NotCarried("damage", "it is empty, so it is no office by itself")
     try:

@@ -1,8 +1,8 @@
 """The two copies of a place as open files, for a user who may not open them by name.
 
-Root opens them: plain files only, by their own names below the folder's descriptor, so no link leads anywhere. The other
-user reads what is open, and takes the newest copy that has the sums of its note. A round that writes meanwhile shows,
-since the sums differ then, and the other copy is whole.
+Root opens them: plain files only, by their own names below the folder's descriptor, so no link leads anywhere. The
+other user reads the open files, and takes the newest copy that has the sums of its note. A round that writes meanwhile
+shows, since the sums differ then, and the other copy is whole.
 """
 
 from __future__ import annotations

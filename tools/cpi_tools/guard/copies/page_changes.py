@@ -7,9 +7,9 @@ into it there.
 The note goes before the first page is written, and the new one comes last, as in each round. So whatever stops it, the
 copy is none until a whole one is carried, and the other copy counts.
 
-What was carried comes from another machine, and only pages are taken from it: each file below the place is opened by its
-plain name from the place's descriptor (`held_folders`), and a link, a pipe or a file with a second name is refused before
-anything is written.
+The carried files come from another machine, and only pages are taken from them: each file below the place is opened by
+its plain name from the place's descriptor (`held_folders`), and a link, a pipe or a file with a second name is refused
+before anything is written.
 """
 
 from __future__ import annotations
@@ -35,7 +35,7 @@ CARRIED = "changes"
 """That file."""
 
 CHANGES = f"{CAME}/{CARRIED}"
-"""Where it is at a place."""
+"""Its path at a place."""
 
 LONGEST_LINE = 1 << 26
 """Bytes of the first line at most."""
@@ -46,14 +46,14 @@ class NotFitting(Fault):
 
 
 class OfFile(NamedTuple):
-    """What is written of a file: its time in nanoseconds since 1970 UTC, and the numbers of its pages, rising from 0."""
+    """The record of a file: its time in nanoseconds since 1970 UTC, and the numbers of its pages, rising from 0."""
 
     time: int
     pages: list[int]
 
 
 class Changes(NamedTuple):
-    """Which copy is changed, its note before and then, and what is written of its file and of its log."""
+    """The changed copy, its note before and after, and the records of its file and of its log."""
 
     name: str
     before: CopyNote
@@ -63,7 +63,7 @@ class Changes(NamedTuple):
 
     @property
     def size(self) -> int:
-        """Bytes of all pages. Raises NotFitting where one is past the end of its file."""
+        """Bytes of all pages. Raises NotFitting if one is past the end of its file."""
         return sum(_sizes(self.file, self.note.file)) + sum(_sizes(self.log, self.note.log))
 
 
@@ -78,7 +78,7 @@ def _sizes(of: OfFile, whole: Sum) -> list[int]:
 
 
 def of_mirror(path: Path, pages: Collection[int], size: int) -> OfFile:
-    """What is to be written of a file that is mirrored: pages past its end are gone. Raises OSError."""
+    """The pages to write of a mirrored file: pages past its end are gone. Raises OSError."""
     return OfFile(path.stat().st_mtime_ns, sorted(page for page in pages if page * PAGE < size))
 
 
@@ -105,7 +105,7 @@ def write_changes(to: Path, changes: Changes, mirrored: Path) -> None:
 
 
 def received_text(name: str, note: CopyNote) -> str:
-    """What is told once the changes are in their copy."""
+    """The line that reports that the changes are in their copy."""
     return f"cpi-tools receive: {name} is round {note.round}"
 
 

@@ -1,7 +1,7 @@
-"""The places where a second copy is kept: a folder of this machine, or one that a carrier reaches.
+"""The places of second copies: a folder of this machine, or one that a carrier reaches.
 
 A round at a folder writes there itself, and each file is on the disk before its note is. A round elsewhere keeps a
-mirror in a room on this machine, and a carrier takes it over. Either looks at what it copied before its note says that
+mirror in a room on this machine, and a carrier takes it over. Either checks its copy before the copy's note says that
 it is whole: it isn't damaged, and the office goes on from the newest copy (`office_marks`).
 """
 
@@ -51,7 +51,7 @@ COMPARED_EACH = 3600.0
 
 
 class Place(Protocol):
-    """A place where a second copy is kept, and the folder of this machine by which a probe sees it."""
+    """A place for a second copy, and the folder of this machine in which a probe sees it."""
 
     name: str
     seen: Path
@@ -102,7 +102,7 @@ class Folder:
         return note, taken
 
     def _look_aside(self, office: Path, state: State, patience: float) -> None:
-        """After a round that wasn't carried, looks at the office next to the copies, which stay as they are. Without room
+        """After a round that wasn't carried, checks the office next to the copies, which stay as they are. Without room
         for that, the older copy has to do. Raises NotCarried, if it still isn't to be carried, and CopyFailed."""
         aside = self._folder / ASIDE
         try:
@@ -135,7 +135,7 @@ class Folder:
 
 
 class Elsewhere:
-    """A place that a carrier reaches, with a room on this machine: the mirror that is carried, and what is known of the
+    """A place that a carrier reaches, with a room on this machine: the mirror that is carried, and the record of the
     place.
 
     The first round of each copy compares it with the mirror as a whole. From then on it is known which pages changed since
@@ -149,7 +149,7 @@ class Elsewhere:
         self._is_unheard = self._is_asked = False
 
     def state(self) -> State:
-        """What is there, as it was fetched now."""
+        """The content of the place, as it was fetched now."""
         there = self._room / "there"
         there.mkdir(mode=0o700, parents=True, exist_ok=True)
         self._carrier.fetch(there)
@@ -157,7 +157,7 @@ class Elsewhere:
         return state_of(there)
 
     def _show_last_drill(self, there: Path) -> None:
-        """Puts the note on the last drill there where a probe of this machine sees it. Raises OSError."""
+        """Puts the note on the last drill into the folder in which a probe of this machine sees it. Raises OSError."""
         seen = self.seen / DRILLED
         try:
             with held(there) as fetched:
@@ -205,7 +205,7 @@ class Elsewhere:
             raise Fault(f"{self.name} doesn't take the desk's folder: bring cpi there to this version")
 
     def _takes_desk(self) -> bool:
-        """Whether cpi-receive is there. After the first carrying of all that is seen by what was fetched since."""
+        """Whether cpi-receive is there. After the first carrying, all this is seen in what was fetched since."""
         there = self._room / "there"
         if not (there / RECEIVED).exists() and not self._is_asked:
             self._is_asked = True
@@ -248,7 +248,7 @@ class Elsewhere:
 
 
 class Lag(NamedTuple):
-    """What is known of a copy elsewhere: its note, the pages of its file and of its log that changed in the mirror since
+    """The record of a copy elsewhere: its note, the pages of its file and of its log that changed in the mirror since
     then, and when all of it was compared last (by the clock that never jumps)."""
 
     note: CopyNote
@@ -262,7 +262,7 @@ class Lag(NamedTuple):
 
 
 class Mirrors:
-    """The mirrors of a follower, by their folders: the sums of what is there are known from round to round."""
+    """The mirrors of a follower, by their folders: it knows the sums of their content from round to round."""
 
     def __init__(self) -> None:
         self._known = dict[Path, MirroredOffice]()
@@ -290,8 +290,8 @@ def _write_note(mirror: MirroredOffice, folder: Path, note: CopyNote) -> None:
 
 
 def _known(mirror: MirroredOffice, state: State, is_anew: bool) -> Known:
-    """What is known of a mirrored office, which has to go on from the newest copy. If that copy has the same bytes, they
-    were looked at before. Raises NotCarried."""
+    """The record of a mirrored office, which has to go on from the newest copy. If that copy has the same bytes, they
+    were checked before. Raises NotCarried."""
     last = state.last()
     if last and last.marks and (last.file, last.log) == sums_of(mirror):
         return last.known

@@ -1,5 +1,5 @@
-"""A second copy of an office at another place: two folders that take turns, a note in each, a mark of a promotion, and a
-note on what is kept of them.
+"""A second copy of an office at another place: two folders that take turns, a note in each, a mark of a promotion, and
+a note on the kept generations.
 
     DEST/copy-1/office.db, office.db-wal, office.db.json
     DEST/copy-2/office.db, office.db-wal, office.db.json
@@ -12,8 +12,8 @@ to it. The copy that counts is the one whose note has the greatest number of a r
 
 The two files of a copy are what a crash could leave at its moment, so `cpi` opens them as they are.
 
-The machine that carries to a place may have been taken by somebody else. So what lies there is read by its plain names
-only, never through a link; and the mark lies where the key of that machine can't write (`cpi-receive`).
+The machine that carries to a place may have been taken by somebody else. So files there are read only by their plain
+names, never through a link; and the mark is in a folder where that machine's key can't write (`cpi-receive`).
 """
 
 from __future__ import annotations
@@ -53,7 +53,8 @@ DESK, INDEX = "desk", "index.json"
 """The folder of a place with the copy of the desk's folder, and the file in it that says what the copy has."""
 
 RECEIVED = "received.lock"
-"""Is at a place on another machine where a program puts changed pages into a copy: one carrying at a time has it."""
+"""A lock at a place on another machine where a program puts changed pages into a copy: one carrying at a time holds
+it."""
 
 REFUSED = "refused.json"
 """Is there as long as rounds are refused, since the office doesn't go on from its copy."""
@@ -74,9 +75,9 @@ class Sum(NamedTuple):
 
 
 class CopyNote(NamedTuple):
-    """What is written next to a copy: the office's file and its machine; the number of the round; the moment at which
-    copying began, in seconds since 1970 UTC; size and sum of file and log; the last quotes that came new, each with
-    collector, slot, month and receipt; which office it is, and its marks, which earlier versions didn't write."""
+    """The note next to a copy: the office's file and its machine; the number of the round; the moment at which copying
+    began, in seconds since 1970 UTC; size and sum of file and log; the last new quotes, each with collector, slot,
+    month and receipt; the office's identity, and its marks, which earlier versions didn't write."""
 
     office: str
     machine: str
@@ -104,7 +105,7 @@ class Promotion(NamedTuple):
 
 
 class State(NamedTuple):
-    """What is known of a place: the note of each copy by its folder, if it can be read, and its promotion."""
+    """The record of a place: the note of each copy by its folder, if it can be read, and its promotion."""
 
     notes: dict[str, CopyNote]
     promotion: Optional[Promotion]
@@ -182,7 +183,7 @@ def write_refusal(folder: Path, because: str) -> None:
 
 
 def state_of(folder: Path) -> State:
-    """What is known of a place that is a folder of this machine. A note that can't be read counts as none: a round was
+    """The record of a place that is a folder of this machine. A note that can't be read counts as none: a round was
     stopped while it was written. Raises Fault if the folder, or the mark of a promotion, can't be read."""
     if not folder.is_dir():
         raise Fault(f"{folder} is no folder: make it first, so that nothing is copied to a disk that isn't mounted")
@@ -233,8 +234,8 @@ def refusal_of(folder: Path) -> str:
 
 
 def _note_in(place: HeldFolder, name: str) -> Optional[CopyNote]:
-    """The note of a copy; None where there is none that is whole, or something else stands in its place. Raises OSError
-    where it can't be read."""
+    """The note of a copy; None if there is no whole one, or if another file is in its place. Raises OSError if it can't
+    be read."""
     try:
         with place.folder(name) as copy:
             return note_in(copy.text(NOTE, MOST_BYTES))

@@ -1,1 +1,1 @@
-"""`cpi-tools probe`: what is looked at, how it is judged, and how it is printed."""
+"""`cpi-tools probe`: what it checks, how it judges that, and how it prints the result."""

@@ -29,7 +29,7 @@ Place = Union[Server, Path]
 
 
 class Certificate(NamedTuple):
-    """Where a certificate is, and its end in seconds since 1970 UTC."""
+    """The place of a certificate, and its end in seconds since 1970 UTC."""
 
     place: str
     ends: int
@@ -62,7 +62,7 @@ def _in_file(path: Path) -> list[bytes]:
 
 
 def _shown_by(server: Server, seconds: int) -> bytes:
-    """The certificate that a server shows, trusted or not: its end is what is asked for."""
+    """The certificate that a server shows, trusted or not: only its end is wanted."""
     context = ssl.SSLContext(ssl.PROTOCOL_TLS_CLIENT)
     context.check_hostname = False
     context.verify_mode = ssl.CERT_NONE

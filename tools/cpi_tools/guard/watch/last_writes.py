@@ -1,7 +1,7 @@
 """Whether the last write of an office succeeded, from what `cpi serve` said and from its files.
 
 `cpi serve` says a line as it closes its file and opens it again after a failed request, and one if the open fails.
-Readers are answered all the while, so an answer doesn't tell that the disk refuses every write. The log does:
+Readers get answers all the while, so an answer doesn't show that the disk refuses every write. The log does:
 
 - As the program closes its file after a failed request, it puts the log into the file, and leaves no commit in the log.
   An open changes neither, also of a log that a kill left. So a log that holds a commit, and that changed after the
@@ -10,7 +10,7 @@ Readers are answered all the while, so an answer doesn't tell that the disk refu
   line, by more than the close can take, got a write that succeeded since.
 
 A failed request changes the log before its line, and the close changes log and file after it: so the times of the last
-changes don't tell by themselves.
+changes say nothing by themselves.
 """
 
 from __future__ import annotations

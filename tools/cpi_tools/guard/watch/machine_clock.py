@@ -1,8 +1,8 @@
 """Whether this machine's clock is synchronized, by the kernel: adjtimex(2), which needs no other program.
 
-A daemon such as chrony or systemd-timesyncd tells the kernel how far the clock may be off, and the kernel lets that
-grow until the daemon tells it again. `timedatectl` takes a clock for synchronized as this module does: if it may be
-off by less than 16 seconds, which the kernel also says of a clock that nobody set.
+A daemon such as chrony or systemd-timesyncd says to the kernel how far the clock may be off, and the kernel lets that
+grow until the daemon says it again. `timedatectl` takes a clock for synchronized as this module does: if it may be off
+by less than 16 seconds, which the kernel also says of a clock that nobody set.
 """
 
 from __future__ import annotations

@@ -1,8 +1,9 @@
 """`cpi-tools probe`: whether an office answers, takes writes, publishes in time, and is backed up; for Nagios, or for
 Prometheus.
 
-It asks for the list of published tables, as the public does, so it bears no key. What else it looks at is named to it:
-files, the journal, a certificate, the machine's clock. A part that can't be looked at is told, and hides no other.
+It asks for the list of published tables, as the public does, so it bears no key. Its arguments name the other things
+that it checks: files, the journal, a certificate, the machine's clock. A part that can't be checked is reported, and
+hides no other.
 """
 
 from __future__ import annotations
@@ -113,7 +114,7 @@ def unit_of(chosen: argparse.Namespace) -> Optional[str]:
 
 
 def said_by(chosen: argparse.Namespace) -> Optional[Said]:
-    """Where the office's lines are; None if nothing says which office it is. Raises Fault if they aren't known to be
+    """The place of the office's lines; None if nothing says which office it is. Raises Fault if they aren't known to be
     anywhere."""
     if chosen.output:
         return OutputFile(chosen.output)

@@ -36,7 +36,7 @@ def state_of(value: int, levels: Levels) -> int:
 
 
 def state_of_rest(value: int, levels: Levels) -> int:
-    """The state of a figure that gets worse as it falls, such as what is left of something."""
+    """The state of a figure that gets worse as it falls, such as free space."""
     return state_of(-value, Levels(-levels.warning, -levels.critical))
 
 

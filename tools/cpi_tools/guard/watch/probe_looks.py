@@ -1,4 +1,4 @@
-"""What a probe looks at: an office's answer, its files, its backups, and which months are late."""
+"""The checks of a probe: an office's answer, its files, its backups, and its late months."""
 
 from __future__ import annotations
 
@@ -49,7 +49,7 @@ class Files(NamedTuple):
 
 
 class Backup(NamedTuple):
-    """The last backup: where it lies, when copying it began, and its size in bytes."""
+    """The last backup: its path, the time at which copying it began, and its size in bytes."""
 
     path: Path
     copied: int
@@ -64,9 +64,9 @@ class Backups(NamedTuple):
 
 
 def asked(url: str, seconds: int, trusted: ssl.SSLContext) -> Answer:
-    """The published tables that the office at a URL lists; `/tables` is put behind it.
+    """The published tables that the office at a URL lists; the function appends `/tables` to it.
 
-    `seconds` bound each wait for it. Raises Fault where there is no answer, or it isn't an office's.
+    `seconds` bound each wait for it. Raises Fault if there is no answer, or if it isn't an office's.
     """
     at = urllib.parse.urlsplit(url)
     begun = time.monotonic_ns()
@@ -89,7 +89,7 @@ def asked(url: str, seconds: int, trusted: ssl.SSLContext) -> Answer:
 
 
 def trusting(authority: Optional[Path]) -> ssl.SSLContext:
-    """Trusts the system's certificates, and those of a file beside them. Raises Fault where it can't be read."""
+    """Trusts the system's certificates, and those of another file. Raises Fault if it can't be read."""
     context = ssl.create_default_context()
     try:
         if authority:
@@ -115,7 +115,7 @@ def _month(text: str) -> int:
 
 
 def files_of(path: Path) -> Files:
-    """The sizes of an office's file and its log. Raises Fault where the file can't be looked at."""
+    """The sizes of an office's file and its log. Raises Fault if the file can't be checked."""
     try:
         size = path.stat().st_size
         free = shutil.disk_usage(path.parent).free
@@ -129,10 +129,10 @@ def files_of(path: Path) -> Files:
 
 
 def last_backup(folder: Path) -> Optional[Backup]:
-    """The backup in a folder that was copied last, by the notes; None where there is none.
+    """The backup in a folder that was copied last, according to the notes; None if there is none.
 
-    A note whose backup isn't there, or has another size, counts for nothing. Raises Fault where the folder can't be
-    looked at, or holds a note that isn't one.
+    A note whose backup isn't there, or has another size, counts for nothing. Raises Fault if the folder can't be read,
+    or contains a file that should be a note and isn't.
     """
     found = list[Backup]()
     try:
@@ -171,7 +171,7 @@ class SecondCopy(NamedTuple):
 
 def second_copy_of(folder: Path) -> SecondCopy:
     """The second copy that `cpi-tools follow` keeps in a folder, or of which it keeps the last note there. Raises Fault
-    where the folder can't be looked at."""
+    if the folder can't be read."""
     state = state_of(folder)
     newest = state.newest()
     promoted_on = state.promotion.machine if state.promotion else ""
@@ -181,7 +181,7 @@ def second_copy_of(folder: Path) -> SecondCopy:
 def calendar_of(backup: Optional[Backup], file: Optional[Path]) -> Optional[list[Window]]:
     """The calendar as the last backup has it, else as a copy of the office's file has it; None where neither is named.
 
-    Raises Fault where it can't be read.
+    Raises Fault if it can't be read.
     """
     try:
         if backup:

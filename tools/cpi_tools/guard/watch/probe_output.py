@@ -1,4 +1,4 @@
-"""What a probe saw, how that is judged, and how it is told: a line for Nagios, or figures for Prometheus."""
+"""A probe's findings, its judgement of them, and its report: a line for Nagios, or figures for Prometheus."""
 
 from __future__ import annotations
 
@@ -24,8 +24,8 @@ MOST_MONTHS = 3
 
 
 class Seen(NamedTuple):
-    """What a probe saw; None of what it wasn't to look at, or couldn't. `fault` is why there is no answer, `unseen` has
-    a line for each part that couldn't be looked at, and `unnamed` the parts that it wasn't to look at."""
+    """A probe's findings; None for each part that it wasn't to check, or couldn't. `fault` is why there is no answer,
+    `unseen` has a line for each part that couldn't be checked, and `unnamed` the parts that it wasn't to check."""
 
     now: int
     answer: Optional[Answer] = None
@@ -45,7 +45,7 @@ class Seen(NamedTuple):
 
 
 class Judged(NamedTuple):
-    """The worst state, and what is to be said of it."""
+    """The worst state, and the text for it."""
 
     state: int
     texts: tuple[str, ...]
@@ -55,7 +55,8 @@ class Judged(NamedTuple):
 
 
 def judged(seen: Seen, chosen: argparse.Namespace) -> Judged:
-    """The state of an office: the worst of its parts, by the levels that were chosen; all that aren't well are told."""
+    """The state of an office: the worst of its parts, by the chosen levels; the text names all parts that aren't
+    well."""
     parts = (
         _of_answer,
         _of_files,
@@ -135,7 +136,7 @@ def _of_second(seen: Seen, chosen: argparse.Namespace) -> Iterator[Judgement]:
 
 
 def _ahead(name: str, seconds: int) -> Judgement:
-    """What is to be said of a copy whose moment hasn't come yet: nobody would see that no later one is made."""
+    """The text about a copy whose moment hasn't come yet: nobody would see that no later one is made."""
     return WARNING, f"{name} is dated {counted(seconds, 'second')} ahead, so its age isn't known: one clock is wrong"
 
 
@@ -197,7 +198,7 @@ def nagios_line(seen: Seen, found: Judged) -> str:
 
 
 def _good_words(seen: Seen) -> Iterator[str]:
-    """What is to be said if all is well; what wasn't looked at may not be."""
+    """The text if all is well; unchecked parts may not be."""
     latest = _latest(seen.answer)
     yield f"last table {month_text(latest.month)} revision {latest.revision}" if latest else "no table yet"
     if seen.backups and seen.backups.last:

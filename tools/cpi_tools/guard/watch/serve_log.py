@@ -22,7 +22,7 @@ EARLIER = 0.001
 writes to its log just after a line may have the same time as the line."""
 
 HARMLESS = ("Journal file ", "-- ")
-"""How the lines of journalctl begin that tell of one old file of the journal, or that there is no entry."""
+"""How the lines of journalctl begin that report one old file of the journal, or that there is no entry."""
 
 
 class Line(NamedTuple):
