@@ -31,13 +31,13 @@ from .serve.serve_cli import add_serve
 PAGE = "month.html"
 
 SHOWN_SERIES = 40
-"""Series of an aggregate that are shown at most, where it is asked what to do with it."""
+"""The most series of an aggregate that are shown with the question what to do with it."""
 
 AGGREGATE = re.compile(r"(0[1-9]|1[0-3])\.[0-9]\.[0-9]\.[0-9]-(0[1-9]|[1-9][0-9])")
 
 
 class Desk(NamedTuple):
-    """A desk at work: the program, a copy of the office in a private folder, and where progress is told."""
+    """A desk at work: the program, a copy of the office in a private folder, and the output for progress."""
 
     cpi: Cpi
     copy: Path

@@ -1,5 +1,5 @@
-"""What the files of notes of the field and of questions to collectors have in common: each is an SQLite file of its own
-beside the office's, whose rows go by themselves after so many months, and the bytes that they had are written over."""
+"""The common part of the files of field notes and of questions to collectors: each is a separate SQLite file next to
+the office's, whose rows disappear by themselves after some months, and their bytes are overwritten."""
 
 from __future__ import annotations
 
@@ -40,15 +40,15 @@ class FieldFile:
         self.forget()
 
     def _unreadable(self, **places: object) -> Message:
-        """What is said of a file that isn't such a one."""
+        """The message about a file that isn't such a file."""
         raise NotImplementedError
 
     def _unusable(self, **places: object) -> Message:
-        """What is said if it can't be read or written now."""
+        """The message if it can't be read or written now."""
         raise NotImplementedError
 
     def forget(self) -> int:
-        """Removes what is of months that are past for long enough; how much. Raises Fault."""
+        """Removes the rows of months that are past for long enough; how many. Raises Fault."""
         raise NotImplementedError
 
     def close(self) -> None:

@@ -1,4 +1,4 @@
-"""A note of the field as a phone sends it: its fields are read, or one of them is refused with what is wanted."""
+"""A field note as a phone sends it: its fields are read, or one of them is refused with the wanted form."""
 
 from __future__ import annotations
 
@@ -18,7 +18,7 @@ MOST_RECEIPT = 10**9
 
 
 class Refused(Exception):
-    """Why a note isn't taken: a status, and what is answered."""
+    """Why a note isn't taken: a status, and the answer."""
 
     def __init__(self, status: int, **answer: object):
         super().__init__(str(answer))

@@ -1,4 +1,4 @@
-"""The notes of the field: what collectors said of their prices, in an SQLite file of its own beside the office's.
+"""The field notes: what collectors wrote about their prices, in a separate SQLite file next to the office's.
 
 A note is of one price: the slot, the month and the receipt. It has a collector's number and never a key. Whoever reads
 one names whose it is to be, so a collector is never handed another's. Notes of months that are long past go by

@@ -28,7 +28,7 @@ HEADING = ("number", "collector", "slot", "outlet", "item", "receipt", "moment",
 
 
 class Row(NamedTuple):
-    """A note with the outlet and the item of its slot, what is stored there now, and that quote's receipt."""
+    """A note with the outlet and the item of its slot, the quote stored there now, and that quote's receipt."""
 
     note: FieldNote
     outlet: str
@@ -90,7 +90,7 @@ def show(month: str) -> Response:
 
 
 def shown(month: str, status: int = 200, fault: Worded = Worded("")) -> Response:
-    """The same, with what came of a step."""
+    """The same, with the result of a step."""
     number = month_of(month)
     notes = kept().of_month(number)[::-1]
     start = flask.request.args.get("from", "0")

@@ -1,4 +1,4 @@
-"""What phones ask of the desk's questions, beside the notes of the field and under the same key: a collector's own open
+"""Phones' requests about the desk's questions, next to the field notes and under the same key: a collector's own open
 questions, and the answer to one.
 
 An answer that a price is right has the receipt of that price, and one that it was corrected the receipt of another one that

@@ -1,10 +1,10 @@
-"""The desk's questions to collectors about single prices, with the answers, in an SQLite file of its own beside the
+"""The desk's questions to collectors about single prices, with the answers, in a separate SQLite file next to the
 office's.
 
 A question is of one price: the collector, the slot, the month and the receipt. At most one of a slot and month is open:
-another one takes its place. Whoever reads questions names whose they are to be, so a collector is never handed another's.
-An answer is kept whenever it comes, also to a question that was withdrawn meanwhile. Each change is told to the desk's log
-before it is done.
+another one takes its place. Whoever reads questions names whose they are to be, so a collector is never handed
+another's. An answer is kept whenever it comes, also to a question that was withdrawn meanwhile. The desk's log gets
+each change before it is made.
 
 The words for what has become of a question to a collector.
 """
@@ -125,7 +125,7 @@ class NoQuestion(Exception):
 
 
 Logged = Callable[[int], object]
-"""Writes into the desk's log what is done with a question, by its number; what it raises undoes the change."""
+"""Writes a step with a question into the desk's log, with the question's number; an exception undoes the change."""
 
 
 class FieldQuestions(FieldFile):

@@ -1,4 +1,4 @@
-"""What phones ask of the notes of the field, at /notes/ behind the front: under a collector's key, without a session.
+"""Phones' requests about field notes, at /notes/ behind a front: with a collector's key, without a session.
 
 A key is checked by asking the office for that collector's own quotes, so nobody is let in whom the office doesn't know,
 and a note is taken only of a price that the office has. The number of the collector is read from a copy of the office's
@@ -27,7 +27,7 @@ views = flask.Blueprint("field", __name__, url_prefix="/notes")
 
 
 def kept() -> FieldNotes:
-    """The notes; where they are off there is no such page."""
+    """The notes; if they are off, there is no such page."""
     found = desk().field
     if found is None:
         flask.abort(404)
@@ -44,7 +44,7 @@ def caller(month: int) -> KnownCollector:
 
 @views.post("/<month>/<int:slot>")
 def send(month: str, slot: int) -> Response:
-    """Takes a note of a price. What costs little is looked at first, and a photograph is opened last."""
+    """Takes a note of a price. Cheap checks come first, and a photograph is opened last."""
     notes, number = kept(), month_of(month)
     photo = bounded_photo()
     if photo and desk().turns.is_full():

@@ -28,7 +28,7 @@ NICE = 10
 """How much later than the pages of the desk it gets its turn at a processor."""
 
 FORMATS = ("JPEG", "PNG", "WEBP")
-"""What is opened; whatever else a file says that it is, it is no picture."""
+"""The formats that are opened; a file of any other format isn't a picture."""
 
 QUALITIES = (82, 70, 55, 40)
 """Of JPEG, the best first."""

@@ -34,7 +34,7 @@ MESSAGES = {
     TOO_LARGE: _("The picture is larger than {most} pixels on a side.", most=whole(MOST_SENT_SIDE)),
     TOO_COSTLY: _("The picture takes more memory or time than a photograph does."),
 }
-"""What is said of a picture that isn't taken, by the status of its process."""
+"""The message about a refused picture, by the status of its process."""
 
 SIGNALS = {
     -signal.SIGXCPU: TOO_COSTLY,

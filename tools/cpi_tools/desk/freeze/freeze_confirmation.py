@@ -36,8 +36,8 @@ LOOKS = columns("=slot", "item", "outlet", "#change %", "#moves all items, about
 
 
 class Signed(NamedTuple):
-    """What is on the page: the sentence of all items, the cards of the report, the sections, the open prices of which a
-    reason is asked, what changed since it was prepared (nothing if nothing did), and a sum of those prices."""
+    """The content of the page: the sentence about all items, the report's cards, the sections, the open prices that
+    need a reason, the changes since it was prepared (none if nothing changed), and a sum of those prices."""
 
     lead: Optional[Message]
     cards: list[Card]

@@ -44,8 +44,8 @@ def what_differs(prepared: Prepared) -> Worded:
 
 
 def finish(prepared: Prepared) -> None:
-    """Keeps the receipt of a freeze that was carried out, lets the reason of a revision go out, and forgets what was
-    prepared. Raises Fault if the log can't be written: then the next page of the month tries it again."""
+    """Keeps the receipt of a freeze that was carried out, lets the reason of a revision go out, and forgets the
+    prepared freeze. Raises Fault if the log can't be written: then the next page of the month tries it again."""
     if freeze_receipts.kept(desk().log, prepared.month, prepared.revision) is None:
         freeze_receipts.keep(desk().log, freeze_receipts.receipt_of(prepared, *frozen_table(prepared)))
     if prepared.reasons:

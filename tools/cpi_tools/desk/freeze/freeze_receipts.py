@@ -1,5 +1,5 @@
-"""The receipt of a freeze: what was frozen, who prepared and who confirmed it, and the figures of its table. It is a line of
-the desk's log, so its page is there as long as the log is."""
+"""The receipt of a freeze: the frozen month, who prepared and who confirmed it, and the figures of its table. It is a
+line of the desk's log, so its page is there as long as the log is."""
 
 from __future__ import annotations
 

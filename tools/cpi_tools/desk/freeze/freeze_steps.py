@@ -63,7 +63,7 @@ def looks_left(left: int, count: int) -> Message:
 
 
 def carry_list(count: int) -> Message:
-    """What is on the carry list."""
+    """The content of the carry list."""
     if not count:
         return _("empty: nothing needs it")
     return message_of("{count} aggregate with nothing to compare", "{count} aggregates with nothing to compare", count)

@@ -1,4 +1,4 @@
-"""What is said of a freeze: why a form of it isn't carried out, and what the log has of it."""
+"""Texts about a freeze: why one of its forms isn't carried out, and what the log says about it."""
 
 from __future__ import annotations
 

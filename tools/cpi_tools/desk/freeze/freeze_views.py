@@ -1,5 +1,5 @@
-"""The freeze of a month, as a checklist: one person prepares it, another one reads and confirms it, then it is sent, and a
-receipt says what was frozen.
+"""The freeze of a month, as a checklist: one person prepares it, another one reads and confirms it, then it is sent,
+and a receipt shows the result.
 
 The forms of `/month/MONTH/freeze/` are `prepare` (`trial`, the sum of the trial that the page showed, `why-CODE` of each
 aggregate on the carry list, and `reason`, that of the reason of a revision), `drop` (`prepared`, the sum of the freeze that the page showed) and `confirm` (both sums; `seen`,
@@ -58,7 +58,7 @@ def show(month: str) -> Response:
 def shown(
     month: str, status: int = 200, fault: Worded = NOTHING, typed: Optional[Mapping[str, str]] = None
 ) -> Response:
-    """The checklist, with what came of a step; `typed` are the fields of a form that wasn't taken."""
+    """The checklist, with the result of a step; `typed` are the fields of a form that wasn't taken."""
     number = month_of(month)
     trial = desk().trials.latest(number)
     prepared = still_prepared(trial)
@@ -98,7 +98,7 @@ def signed(prepared: Optional[Prepared], trial: Optional[Tried]) -> Optional[Sig
 
 
 def open_looks(trial: Tried) -> list[Look]:
-    """The prices to look at that nobody has seen, those first that move all items most."""
+    """The prices to check that nobody has seen; those that move all items most come first."""
     month = trial.state.month
     seen = desk().marks.seen_by_anybody(month)
     return [look for look in trial.looks if price_of(month, look) not in seen]
@@ -216,7 +216,7 @@ def confirm(month: str) -> Response:
 
 
 def confirmed_now(month: str) -> Response:
-    """Sends it, if the page showed what is prepared now, and everything that is asked was given."""
+    """Sends it, if the page showed the freeze that is prepared now, and if everything that it asks for was given."""
     form, number, prepared = flask.request.form, month_of(month), desk().prepared.read()
     shown_sum, shown_trial, seen = field("prepared"), field("trial"), field("seen")
     if prepared is None or prepared.month != number:
@@ -297,7 +297,7 @@ def to_receipt(month: str, confirmed: Prepared) -> Response:
 
 @views.get("/month/<month>/freeze/receipt/<int:revision>")
 def receipt(month: str, revision: int) -> Response:
-    """What was frozen, by whom, and what to do next: it stays at its address."""
+    """The freeze's result, its persons, and the next step: the page stays at its address."""
     kept = freeze_receipts.kept(desk().log, month_of(month), revision)
     if kept is None:
         flask.abort(404)

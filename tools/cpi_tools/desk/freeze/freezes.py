@@ -1,6 +1,6 @@
 """The freeze by two people: one prepares the record, another one confirms it, and then it is sent.
 
-The program has one key for the desk and no roles, so this is a rule of the application. What was prepared is a file, so
+The program has one key for the desk and no roles, so this is a rule of the application. A prepared freeze is a file, so
 that it outlives the application.
 """
 
@@ -47,7 +47,7 @@ class Prepared(NamedTuple):
 
     @property
     def sum(self) -> str:
-        """A sum of what was prepared, so that nobody confirms or drops another freeze than the page showed."""
+        """A sum of the prepared freeze, so that nobody confirms or drops another freeze than the page showed."""
         return sum_of([*self[: self._fields.index("text")]])
 
 

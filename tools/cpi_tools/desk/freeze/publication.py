@@ -34,10 +34,10 @@ from ..serve.faults import met, not_as_written, of_system, says
 from .freezes import sum_of
 
 LOOKS_EVERY = 20.0
-"""Seconds from one look at what is planned to the next, at most."""
+"""The most seconds between two checks of the plan."""
 
 AGAIN_AFTER = 300
-"""Seconds after which what came to nothing is tried again."""
+"""Seconds after which a failed step is tried again."""
 
 BEGINS = f"cpi-tools {'publish'}: "
 """How a line of the tool begins."""
@@ -51,7 +51,8 @@ TOOLS = Path(__file__).resolve().parents[3]
 
 
 class Site(NamedTuple):
-    """Where the website is written, the file that says who publishes, and the key that signs it, if there is one."""
+    """The folder of the website, the file that names the publisher, and the key that signs the website, if there is
+    one."""
 
     folder: Path
     config: Path
@@ -110,7 +111,7 @@ class Publisher:
         self._thread = threading.Thread(target=self._follow, daemon=True, name="publisher")
         self.running: Optional[Running] = None
         self.before: Callable[[], object] = lambda: None
-        """What is done before the website is written; if it fails, the website is written all the same."""
+        """The step before the website is written; if it fails, the website is written all the same."""
         self.fault, self.output, self.left = Worded(""), Worded(""), Worded("")
         self._durations = Durations()
         self._failed_at, self._logged = 0.0, Worded("")
@@ -147,7 +148,7 @@ class Publisher:
     # ---- what is planned
 
     def planned(self) -> list[Planned]:
-        """What is to be published at its moment, the first one first. Raises Fault if the file can't be read."""
+        """The planned publications with their moments, the first one first. Raises Fault if the file can't be read."""
         try:
             found = json.loads(self._plan.read_text(encoding="utf-8"))
             return sorted((Planned(*it) for it in found), key=lambda it: it.at)
@@ -212,7 +213,7 @@ class Publisher:
             self.running = None
 
     def _prepare(self) -> None:
-        """Does what comes before; whatever becomes of that, the website is written."""
+        """Runs the step before; whatever its result, the website is written."""
         try:
             self.before()
         except Fault:
@@ -231,7 +232,8 @@ class Publisher:
                 self._logged = why
 
     def _keep_written(self, by: str, at: int, text: str) -> None:
-        """Keeps that the website was written; if that fails it was written all the same, and the page tells both."""
+        """Keeps that the website was written; if that fails, the website was written all the same, and the page says
+        both."""
         for step in (lambda: self._log_written(by, at, text), self._done):
             try:
                 step()
@@ -265,7 +267,7 @@ class Publisher:
         return text.strip(), errors.strip()
 
     def _done(self) -> None:
-        """Forgets what was planned and is in the website now."""
+        """Forgets planned publications that the website contains now."""
         with self._lock:
             there, planned = self.published(), self.planned()
             rest = [it for it in planned if (it.month, it.revision) not in there]
@@ -275,7 +277,7 @@ class Publisher:
     # ---- at their moments
 
     def start(self) -> None:
-        """Begins to publish what is planned."""
+        """Begins to publish as planned."""
         self._thread.start()
 
     def stop(self) -> None:
@@ -294,7 +296,7 @@ class Publisher:
             self._wake.clear()
 
     def _look(self) -> float:
-        """Publishes what is due; the seconds until the next look."""
+        """Publishes all due tables; the seconds until the next check."""
         try:
             planned = self.planned()
         except Fault as fault:

@@ -37,7 +37,7 @@ def show() -> Response:
 
 
 def shown(status: int = 200, fault: Worded = NOTHING) -> Response:
-    """The page, with what came of a step."""
+    """The page, with the result of a step."""
     publisher = desk().publisher
     if publisher is None:
         return page("publish.html", publisher=None, fault=fault)
@@ -77,7 +77,7 @@ def releases_of(publisher: Publisher) -> list[Release]:
 
 @views.post("/publish/now")
 def now() -> Response:
-    """Writes the website with what is out, if that is what the page showed."""
+    """Writes the website with all released tables, if the page showed these."""
     publisher, was, written = publisher_here(), field("shown"), field("written")
     try:
         releases = releases_of(publisher)
@@ -114,7 +114,7 @@ def plan() -> Response:
 
 
 def publisher_here() -> Publisher:
-    """What writes the website; there is no such page if the application wasn't told where the website goes."""
+    """The writer of the website; there is no such page if the application has no folder for the website."""
     found = desk().publisher
     if found is None:
         flask.abort(404)

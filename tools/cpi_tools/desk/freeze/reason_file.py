@@ -1,7 +1,7 @@
 """The file of reasons of the website's configuration, to which the desk adds why a month is revised.
 
-Whoever keeps the file edits it by hand too: a row is added to what is there at that moment, the file is replaced in one
-step, and nothing of it is changed but the columns that the row needs.
+People edit the file by hand too: a row is added to its content at that moment, the file is replaced in one step, and
+only the columns that the row needs change.
 """
 
 from __future__ import annotations
@@ -51,7 +51,7 @@ class ReasonFile(NamedTuple):
 
     @property
     def sum(self) -> str:
-        """A sum of what is in the file."""
+        """A sum of the file's content."""
         return hashlib.sha256(self.content).hexdigest()
 
     def has(self, month: str, revision: int) -> bool:
@@ -144,8 +144,7 @@ def civil_or_seconds(moment: int, clock: Clock) -> str:
 
 
 def try_room(file: ReasonFile, row: Row) -> None:
-    """Writes the file as it would be beside its place, and removes that: there is room, and a right to write. Raises
-    Fault."""
+    """Writes the future file next to its place, and removes it: there is room, and a right to write. Raises Fault."""
     beside = file.path.with_name(f".{file.path.name}-tried")
     try:
         write_whole(beside, with_row(file, row), 0o600)

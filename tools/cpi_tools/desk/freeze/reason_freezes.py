@@ -1,4 +1,4 @@
-"""The reason of a revision beside its freeze: what the second person reads of it, and whether it could still be kept."""
+"""The reason of a revision in its freeze: the second person reads it, and whether it could still be kept."""
 
 from __future__ import annotations
 
@@ -18,8 +18,8 @@ from .reason_views import NOTHING, file_here
 
 
 class Read(NamedTuple):
-    """What the second person reads: the reason by the names of the languages, the file to which it goes with a sum of
-    what is in it, or why that can't be read."""
+    """The second person's text: the reason by the names of the languages, the file to which it goes with a sum of its
+    content, or why that can't be read."""
 
     texts: Mapping[str, str]
     path: str = ""
@@ -28,7 +28,7 @@ class Read(NamedTuple):
 
 
 def reasons_read(prepared: Optional[Prepared]) -> Optional[Read]:
-    """What is read of a prepared freeze; nothing of one without a reason."""
+    """The text for a prepared freeze; nothing for a freeze without a reason."""
     if prepared is None or not prepared.reasons:
         return None
     names = in_themselves()

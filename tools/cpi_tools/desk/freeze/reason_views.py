@@ -64,7 +64,7 @@ def file_here() -> ReasonFile:
 
 
 def asked_of(state: State) -> Optional[Asked]:
-    """What is asked of a month; nothing of one that isn't reopened."""
+    """The questions about a month; none if it isn't reopened."""
     if not state.is_reopened:
         return None
     revision, month = state.revision + 1, month_text(state.month)
@@ -79,7 +79,7 @@ def asked_of(state: State) -> Optional[Asked]:
 
 
 def still_asked() -> Optional[Asked]:
-    """What is asked of the month that is reopened, which is the last frozen one, until the reason is there. Raises Fault."""
+    """The questions about the reopened month, which is the last frozen one, until the reason is given. Raises Fault."""
     with desk().copies_now() as copy, read_copy(copy.path) as office:
         frozen = max((it.month for it in office.releases()), default=0)
         asked = asked_of(state_of(office, frozen)) if frozen else None
@@ -96,7 +96,7 @@ def not_written() -> Sequence[tuple[Optional[Reason], Worded]]:
 
 
 def state_now(month: int) -> State:
-    """Where a month stands now. Raises Fault."""
+    """The month's state now. Raises Fault."""
     with desk().copies_now() as copy, read_copy(copy.path) as office:
         return state_of(office, month)
 
@@ -110,7 +110,7 @@ def show(month: str) -> Response:
 def shown(
     month: str, status: int = 200, fault: Worded = NOTHING, typed: Optional[Mapping[str, str]] = None
 ) -> Response:
-    """The form, with why it wasn't taken, and with what was filled in."""
+    """The form, with the reason why it wasn't taken, and with the typed fields."""
     asked = asked_of(state_now(month_of(month)))
     return page("reason.html", status, month=month, asked=asked, fault=fault, typed=typed or {})
 

@@ -1,5 +1,5 @@
-"""Why a month is revised, as the desk was told: it waits in a file of the application until the revision is frozen, and goes
-to the file of reasons of the website then.
+"""Why a month is revised, in the desk's words: the reason waits in a file of the application until the revision is
+frozen, and then goes to the website's file of reasons.
 
 What couldn't be written there, because that file can't be read or the disk is full, stays here and is tried again.
 """
@@ -59,7 +59,7 @@ def in_one_line(texts: Mapping[str, str], first: str) -> dict[str, str]:
 
 
 class RevisionReasons:
-    """The file, and what is written from it."""
+    """The file, and the text written from it."""
 
     def __init__(self, path: Path, log: DeskLog):
         self._path, self._log, self._lock = path, log, threading.Lock()
@@ -98,8 +98,8 @@ class RevisionReasons:
             self._write([*rest, Reason(month, revision, dict(texts), by, int(time.time()), publishes)])
 
     def settle(self, publisher: Optional[Publisher]) -> list[tuple[Reason, Worded]]:
-        """Writes what is frozen into the website's file; what couldn't be written, each with why. Raises Fault if the own
-        file can't be read."""
+        """Writes the frozen reasons into the website's file; each that couldn't be written, with its fault. Raises
+        Fault if the own file can't be read."""
         with self._lock:
             left = list[tuple[Reason, Worded]]()
             for each in [it for it in self.all() if it.publishes]:

@@ -1,1 +1,1 @@
-"""A month in the browser: at a glance, its prices to look at, its provisional table."""
+"""A month in the browser: at a glance, its prices to check, its provisional table."""

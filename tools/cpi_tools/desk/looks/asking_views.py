@@ -1,5 +1,5 @@
-"""What the desk asks collectors about single prices: from a row of the prices to look at, and as a list of the month with
-the answers."""
+"""The desk's questions to collectors about single prices: asked from a row of the prices to check, and listed for the
+month with the answers."""
 
 from __future__ import annotations
 
@@ -90,7 +90,7 @@ def of_price(price: Price) -> Of:
 
 
 def fault_of(text: str) -> Optional[Message]:
-    """What is wrong with a question, if anything is."""
+    """The fault of a question, if it has one."""
     if not text:
         return _("The question is empty, so nothing was asked: write what the collector is to look at.")
     if len(text) <= MOST_LETTERS:
@@ -121,7 +121,7 @@ def too_many(fault: TooManyOpen) -> Message:
 
 @views.post("/month/<month>/questions/<int(max=999999999):number>/withdraw")
 def withdraw(month: str, number: int) -> Response:
-    """Takes back a question that waits for an answer; from a row of the prices to look at it leads back there."""
+    """Takes back a question that waits for an answer; from a row of the prices to check, it leads back there."""
     form, row = flask.request.form, flask.request.form.get("row", "")
     collector = row.partition("-")[0] if row else ""
     try:
@@ -179,7 +179,7 @@ def show(month: str) -> Response:
 
 
 def listed(month: str, status: int = 200, fault: object = "") -> Response:
-    """The same, with what came of a step."""
+    """The same, with the result of a step."""
     questions = sorted(kept().of_month(month_of(month)), key=lambda it: (it.state != OPEN, -it.number))
     start = flask.request.args.get("from", "0")
     first = int(start) if start.isdecimal() and len(start) < 9 else 0

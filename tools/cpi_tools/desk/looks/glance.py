@@ -36,7 +36,7 @@ class Share(NamedTuple):
 
 
 class Glance(NamedTuple):
-    """What is shown of a month: the moment of the copy, where the month stands, what was sent, and its tables."""
+    """The content of a month's page: the moment of the copy, the month's state, its entries, and its tables."""
 
     at: int
     state: State

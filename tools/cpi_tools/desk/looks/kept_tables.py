@@ -1,5 +1,5 @@
-"""Provisional tables of earlier days, so that a day's can be set beside the one before it: a file a day and month, the
-last one of the day."""
+"""Provisional tables of earlier days, to compare a day's table with the one before it: a file for each day and month,
+the last one of the day."""
 
 from __future__ import annotations
 

@@ -1,4 +1,4 @@
-"""Which of the prices to look at a page shows: by what they are filtered, in which order, and from which one on.
+"""The prices to check that a page shows: their filters, their order, and the first one.
 
 A page begins after a price, not at a number: the prices that were shown before may have been marked meanwhile, and so
 be among those shown no more.
@@ -26,7 +26,7 @@ REASONS: dict[str, Message] = {
     "quality": OTHER,
     "single": ALONE,
 }
-"""Why a price is to be looked at, by the word that an address has for it."""
+"""Why a price needs a check, by its word in an address."""
 
 ORDERS: dict[str, Message] = {
     # t: an order of prices to look at: by how far each moves the index of all items

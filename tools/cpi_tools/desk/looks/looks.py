@@ -1,4 +1,4 @@
-"""The prices of a month to look at, worst first, each with why, and with what to ask its collector.
+"""The prices of a month to check, worst first, each with why, and with a question for its collector.
 
 Which are unusual is said by the rule of `cpi-tools desk month`. The order is by an estimate of how far a price moves
 all items, which is shown, as one, to the person who confirms a freeze.
@@ -39,10 +39,10 @@ class Other(NamedTuple):
 
 
 class Look(NamedTuple):
-    """A price to look at: who has it, its series, its aggregate, what it is and where, the last price and this one in
+    """A price to check: its collector, its series, its aggregate, its item and outlet, the last price and this one in
     minor units, the change in percent as a text (empty if it can't be compared), why, what to ask, by how many
-    millionths of a point all items would move without it, by the estimate; the change of its aggregate on the month
-    before in percent as a text, and the prices of the same item elsewhere, by outlet."""
+    millionths of a point all items would move without it, by the estimate; the monthly change of its aggregate in
+    percent as a text, and the prices of the same item elsewhere, by outlet."""
 
     slot: tuple[int, int]
     series: Series
@@ -65,19 +65,19 @@ class Look(NamedTuple):
 
     @property
     def says(self) -> Message:
-        """Why it is to be looked at, and what to ask, in sentences."""
+        """Why to check it, and what to ask, in sentences."""
         return sentences(message("Why: {reasons}.", reasons=row(self.why)), *self.ask)
 
 
 def looks_of(facts: Facts, width: int) -> list[Look]:
-    """The prices of a month to look at, worst first; `width` is that of the fences, in percent."""
+    """The prices of a month to check, worst first; `width` is the fences' width, in percent."""
     beside = _Beside(facts)
     found = [_look(facts, it, beside) for it in to_look_at(facts, width)]
     return sorted(found, key=lambda it: (-abs(it.weight), CONFIRMED not in it.why, it.slot))
 
 
 class _Beside:
-    """What stands next to a price: the estimate of how far it moves all items, its aggregate, and the same item
+    """The facts next to a price: the estimate of how far it moves all items, its aggregate, and the same item
     elsewhere."""
 
     def __init__(self, facts: Facts):

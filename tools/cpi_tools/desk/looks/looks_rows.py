@@ -1,5 +1,5 @@
-"""The rows of the prices to look at: each with its history as a picture, with the notes of the desk and the field, and with
-what its collector was asked.
+"""The rows of the prices to check: each with its history as a picture, with the notes of the desk and the field, and
+with the questions to its collector.
 
 The notes of the field, and the questions to collectors, at the prices that they are of.
 """
@@ -24,8 +24,8 @@ from .price_marks import Mark, Price
 
 
 class Row(NamedTuple):
-    """A price to look at as a page shows it: with its history as a picture, the desk's notes, whether its person has
-    seen it, the notes of the field, and the questions to its collector, the first ones first."""
+    """A price to check as a page shows it: with its history as a picture, the desk's notes, whether the reader has seen
+    it, the field notes, and the questions to its collector, the first ones first."""
 
     look: Look
     picture: Markup

@@ -1,4 +1,4 @@
-"""The prices to look at as a table: filtered and sorted, seen by a person, noted by the desk, and as a list for a
+"""The prices to check as a table: filtered and sorted, seen by a person, noted by the desk, and as a list for a
 collector."""
 
 from __future__ import annotations
@@ -48,7 +48,7 @@ def show(month: str) -> Response:
 
 
 def shown(month: str, asked: Mapping[str, str], status: int = 200, /, **typed: object) -> Response:
-    """The same, with what came of a form; `asked` says which prices, and from which one on."""
+    """The same, with the result of a form; `asked` says which prices, and from which one on."""
     number = month_of(month)
     found, chosen = desk().trials.latest(number), chosen_of(asked)
     named: dict[str, object] = {"refused": NOTHING, "of": None, "text": "", "question": "", "checked": frozenset[str]()}

@@ -1,6 +1,5 @@
-"""Months that `cpi` freezes on a copy for the pages, in a thread of its own, one after the other: the provisional
-table, the prices to look at, what a freeze would be. The copy with the freeze stays, so that its figures can be
-explained."""
+"""Months that `cpi` freezes on a copy for the pages, in a separate thread, one after the other: the provisional table,
+the prices to check, and a freeze's effect. The copy with the freeze stays, so that its figures can be explained."""
 
 from __future__ import annotations
 
@@ -41,9 +40,8 @@ KEPT = 2
 
 
 class Tried(NamedTuple):
-    """A month that was tried on a copy of the moment `at`: where the copy with the freeze lies, where the month stands,
-    the report, the prices to look at, what a freeze would be (None if it is frozen, or can't be), and who asked for
-    it."""
+    """A month that was tried on a copy of the moment `at`: the path of the copy with the freeze, the month's state, the
+    report, the prices to check, a freeze's effect (None if it is frozen, or can't be), and who asked for it."""
 
     at: int
     copy: Path
@@ -70,7 +68,7 @@ def known_levels(found: Optional[Tried]) -> Optional[Levels]:
 
 
 class Running(NamedTuple):
-    """A trial that runs: its month, since when, what is being done, who asked for it, and how long the last one took."""
+    """A running trial: its month, its start, its current step, who asked for it, and how long the last one took."""
 
     month: int
     begun: int
@@ -185,7 +183,7 @@ class Trials:
         return levels_of(frozen.others, month_text(month), frozen.table, reference)
 
     def close(self) -> None:
-        """Removes what is at hand."""
+        """Removes the existing trials."""
         with self._lock:
             # (a trial that still runs may put another one there)
             old = [*self._found.values()]

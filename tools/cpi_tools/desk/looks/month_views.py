@@ -87,8 +87,8 @@ DAYS = 31
 
 
 class Bar(NamedTuple):
-    """A day, counted from 1 when the window opens: how many percent of the slots had a price at its end, with one decimal,
-    and its bar: where it begins from the left and from the top, and its height."""
+    """A day, counted from 1 when the window opens: how many percent of the slots had a price at its end, with one
+    decimal, and its bar: its left and top edges, and its height."""
 
     day: int
     percent: str

@@ -1,4 +1,4 @@
-"""The history of a price as a line: a small picture of a month's row, without figures, which stand next to it."""
+"""The history of a price as a line: a small picture in a month's row, next to the figures, which it doesn't repeat."""
 
 from __future__ import annotations
 

@@ -1,7 +1,7 @@
 """What people of the desk noted of prices: `seen`, which is a person's own, and notes, which all of them read.
 
-A file that is only appended to, a JSON object a line. Each is of one price in one month: if another price comes, it is
-to be looked at again.
+A file that is only appended to, a JSON object a line. Each is for one price in one month: if another price comes, it
+needs another check.
 """
 
 from __future__ import annotations
@@ -46,7 +46,7 @@ class Mark(NamedTuple):
 
 
 class Marks:
-    """The file, and what is in it."""
+    """The file, and its content."""
 
     def __init__(self, path: Path):
         self._path, self._lock = path, threading.Lock()

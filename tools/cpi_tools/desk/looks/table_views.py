@@ -143,7 +143,7 @@ def what_if_page(month: str) -> Response:
 
 
 def shown_what_if(month: str, status: int = 200, /, **came: object) -> Response:
-    """The form, with what came of it."""
+    """The form, with its result."""
     month_of(month)
     money = desk().teller.money()
     empty: dict[str, object] = {"text": "", "fault": Worded(""), "result": None}

@@ -140,7 +140,7 @@ def twice(line: Line, place: Place, before: int) -> str:
 
 
 def not_tried(line: Line, money: Optional[Money]) -> NoReturn:
-    """Raises Fault: what the line has, and what is wanted."""
+    """Raises Fault: the content of the line, and the wanted form."""
     raise Fault(
         _(
             "Line {line}: {text} can't be tried. Wanted is a price like {price}, or {missing}, or a code like {code} to"

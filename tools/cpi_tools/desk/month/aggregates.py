@@ -1,6 +1,6 @@
-"""Aggregates to look at: small ones, imputed ones, those on the carry list, and those that may not be homogeneous.
+"""Aggregates to check: small ones, imputed ones, those on the carry list, and those that may not be homogeneous.
 
-What a series counts as is read from a copy that the program froze. Beside it stand shares, and geometric means of the
+What a series counts as is read from a copy that the program froze. Next to it are shares, and geometric means of the
 same prices, which aren't published.
 """
 
@@ -73,7 +73,7 @@ def imputed(facts: Facts) -> Section:
 
 
 def carry(facts: Facts, codes: Iterable[str]) -> Section:
-    """The aggregates of a carry list, with what was found in them in this month and in the one before."""
+    """The aggregates of a carry list, with their findings in this month and in the one before."""
     rows: list[list[Cell]] = []
     for code in codes:
         sample = facts.samples.get(code, [])
@@ -102,7 +102,7 @@ def carry_series(facts: Facts, codes: Iterable[str]) -> Section:
 
 
 def homogeneity(facts: Facts) -> Section:
-    """Dutot beside Jevons for each aggregate, the widest gap of the year first."""
+    """Dutot and Jevons for each aggregate, the widest gap of the year first."""
     found = [(code, sample, *pairs_of(facts, code, sample)) for code, sample in facts.samples.items()]
     rows: list[list[Cell]] = []
     for code, sample, month, year in sorted(found, key=lambda it: -abs(gap(it[3]) or 0)):
@@ -122,7 +122,7 @@ def homogeneity(facts: Facts) -> Section:
 
 
 def pairs_of(facts: Facts, code: str, sample: Sequence[Series]) -> tuple[Pairs, Pairs]:
-    """What the matched series count as, beside the month before; and the whole sample beside its bases."""
+    """The matched series' values, compared with the month before; and the whole sample, compared with its bases."""
     now, then, bases = facts.carried, facts.counted_before, facts.bases
     month = [(now[it].ticks, then[it]) for it in facts.matched(code) if it in then]
     return month, [(now[it].ticks, bases[it]) for it in sample if it in bases]

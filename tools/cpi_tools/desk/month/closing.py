@@ -27,7 +27,7 @@ Answer = Callable[[str], str]
 
 
 class Named(NamedTuple):
-    """An aggregate in which nothing can be compared: what was found of its series in few words, and of each."""
+    """An aggregate in which nothing can be compared: its series' findings in few words, and each finding."""
 
     code: str
     title: str
@@ -65,7 +65,7 @@ class NotClosed(Fault):
 def close(cpi: Cpi, office_copy: Path, month: int, at: int) -> Closed:
     """Freezes a month on a further copy, when its window closes or at a later moment.
 
-    Raises NotClosed where it stands frozen, Refused where the freeze is refused for anything but what can be carried.
+    Raises NotClosed if it is frozen, Refused if the freeze is refused for anything that can't be carried.
     """
     with read_copy(office_copy) as office:
         state = state_of(office, month)
@@ -96,7 +96,7 @@ def closed_of(facts: Facts, closes: int, frozen: FrozenMonth, early: list[Early]
 
 
 def named_of(facts: Facts, code: str) -> Named:
-    """What is told of an aggregate that a refusal named."""
+    """The text about an aggregate that a refusal named."""
     title = facts.title(code)
     series = aggregates.carry_series(facts, [code])._replace(title=of_others(f"{code} {title}"))
     return Named(code, title, marks_of(facts.samples[code], facts.frozen), series)
@@ -106,10 +106,10 @@ def named_of(facts: Facts, code: str) -> Named:
 
 
 def decided(closed: Closed, at: int, allowed: Optional[Sequence[str]], ask: Optional[Answer]) -> list[Decision]:
-    """What is decided on each aggregate that was named.
+    """The decision on each aggregate that was named.
 
     `allowed` are the codes that may be carried, None all of them; `ask` is asked for each, None nobody. Raises
-    NotClosed where one may not be carried, or the window is open at the moment `at`.
+    NotClosed if one may not be carried, or if the window is open at the moment `at`.
     """
     others = [it.code for it in closed.named if allowed is not None and it.code not in allowed]
     if others:
@@ -120,7 +120,7 @@ def decided(closed: Closed, at: int, allowed: Optional[Sequence[str]], ask: Opti
 
 
 def decision_on(it: Named, ask: Optional[Answer]) -> Decision:
-    """That an aggregate is carried. Raises NotClosed where the answer is another."""
+    """That an aggregate is carried. Raises NotClosed for any other answer."""
     because = f"nothing to compare: {it.marks}"
     if ask is None:
         return Decision(it.code, it.title, because)

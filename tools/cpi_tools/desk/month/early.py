@@ -125,8 +125,8 @@ class Moments:
 
 
 def early_tables(office: StoredOffice, state: State, at: int) -> list[Early]:
-    """The tables that come out too early for a month as it stands at a moment: its own before what it is computed
-    from, and one that will be computed from it before its own."""
+    """The tables that come out too early for a month in its state at a moment: its own table before a table from which
+    it is computed, and a table that will be computed from it before its own."""
     moments, month = Moments(office), state.month
     later_moment = message("Before {table} is frozen, set a later publishing moment for it.", table=month_of(month))
     if state.is_frozen:

@@ -43,7 +43,7 @@ TICKS = 10_000
 
 
 class Ratio(NamedTuple):
-    """A comparable price of the month beside the last one before it, in minor units."""
+    """A comparable price of the month, with the last one before it, in minor units."""
 
     slot: Assignment
     last: int
@@ -77,7 +77,7 @@ class Facts:
     # ---- what the survey says
 
     def quote(self, it: Assignment) -> Optional[Quote]:
-        """What stands for a slot, None where nothing was sent."""
+        """A slot's quote, None if nothing was sent."""
         return self.quotes.get(it[:2])
 
     def is_priced(self, it: Assignment) -> bool:
@@ -105,7 +105,7 @@ class Facts:
 
     @cached_property
     def holder(self) -> dict[Series, Assignment]:
-        """Who has each series in the month, or had it last."""
+        """The holder of each series in the month, or its last one."""
         found: dict[Series, Assignment] = {}
         for it in self.assignments:
             if it.first_month <= self.month or it.series not in found:

@@ -2,9 +2,9 @@
 
 Aggregates don't touch each other below the mean, so that one freeze leaves out a quote in each of several: the program
 says the index of each of these aggregates, and the mean of all items is taken of its table's rows with one index put in
-place of another. That the mean of the rows as they are is the program's own is looked at first.
+place of another. First it checks that the mean of the unchanged rows is the program's own.
 
-An estimate in whole numbers says which quotes to try; no figure that is told is an estimate.
+An estimate in whole numbers says which quotes to try; no reported figure is an estimate.
 """
 
 from __future__ import annotations
@@ -87,8 +87,8 @@ def rounds_of(facts: Facts, chosen: Sequence[Series]) -> list[Round]:
 
 
 class Trial(NamedTuple):
-    """Where quotes are left out: the program, a copy on which the month isn't frozen, when it is frozen, and its carry
-    list as it stands."""
+    """The place for leaving out quotes: the program, a copy on which the month isn't frozen, the time of its freeze,
+    and its current carry list."""
 
     cpi: Cpi
     copy: Path

@@ -25,12 +25,12 @@ PERCENT = "\u202f%"
 """Behind a figure, on the same line as it."""
 
 Now = Callable[[str], None]
-"""Is told what is being done."""
+"""A function that gets the current step."""
 
 
 class Asked(NamedTuple):
-    """What is asked of a month: at which moment, how many quotes are left out, how far the fences lie away in percent,
-    and how many priced series or outlets are few."""
+    """The questions about a month: its moment, how many quotes are left out, the fences' distance in percent, and how
+    many priced series or outlets are few."""
 
     month: int
     at: int
@@ -77,7 +77,7 @@ class Report(NamedTuple):
 
 
 class OnCopy(NamedTuple):
-    """A month that was tried on a copy: where it stands, the tables that come out too early, the freeze, and why there is
+    """A month that was tried on a copy: its state, the tables that come out too early, the freeze, and why there is
     none, if there is none."""
 
     state: State
@@ -87,10 +87,10 @@ class OnCopy(NamedTuple):
 
 
 def report_of(cpi: Cpi, office_copy: Path, asked: Asked, now: Now) -> Report:
-    """Freezes the month on a further copy where it can be frozen, and says all there is to say of it.
+    """Freezes the month on a further copy if it can be frozen, and says all there is to say about it.
 
-    It is frozen when its window closes, or at the asked moment where that is later. Raises Refused where the calendar
-    has no row of the month.
+    It is frozen when its window closes, or at the requested moment if that is later. Raises Refused if the calendar has
+    no row for the month.
     """
     with private_copy(office_copy) as copy:
         tried = tried_on(cpi, office_copy, copy, asked, now)
@@ -192,7 +192,7 @@ def gathered(
 
 
 def standing(state: State, at: int) -> Message:
-    """Where the month stands at a moment."""
+    """The month's state at a moment."""
     window, revision = state.window, whole(state.revision)
     named = {"revision": revision, "moment": moment_of(window.closes)}
     if state.is_frozen:

@@ -75,7 +75,7 @@ class Levels(NamedTuple):
 
     @property
     def has_reference(self) -> bool:
-        """Whether there are levels of a reference period beside the chained ones."""
+        """Whether there are levels with a reference period besides the chained ones."""
         return bool(self.reference)
 
     @property

@@ -9,7 +9,7 @@ from ...text.others import of_others
 
 
 def refused_words(refused: Refused) -> Message:
-    """What was refused and why, as the catalogues have it."""
+    """The refused record and the reason, as the catalogues have it."""
     words, reply = refused.words, refused.reply
     return said_as(
         str(refused),
@@ -21,7 +21,7 @@ def refused_words(refused: Refused) -> Message:
 
 
 def more_of(reply: dict[str, object]) -> Message:
-    """Where the fault is, and its number."""
+    """The place of the fault, and its number."""
     number, code = reply.get("fault"), of_others(str(reply.get("code")))
     if "code" not in reply:
         return message("Fault {number}.", number=number)

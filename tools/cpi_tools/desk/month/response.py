@@ -21,12 +21,12 @@ Key = TypeVar("Key", int, str)
 
 
 def percent(part: int, whole: int) -> str:
-    """A share in percent with one decimal; empty where there is no whole."""
+    """A share in percent with one decimal; empty if there is no whole."""
     return decimal(100 * part, whole, 1) if whole else ""
 
 
 class Count:
-    """How many slots there are, and what was sent for them."""
+    """The number of slots, and the entries for them."""
 
     def __init__(self) -> None:
         self.slots = 0
@@ -132,7 +132,7 @@ def by_division(facts: Facts) -> Section:
 
 
 def by_reason(facts: Facts) -> Section:
-    """What was sent as missing, by division and reason."""
+    """The entries for missing prices, by division and reason."""
     found = counts(facts, lambda it: facts.code(it.item)[:2])
     rows: list[list[Cell]] = [
         [code, facts.title(code), *(it.marks[reason] for reason in REASONS), it.missing]

@@ -1,8 +1,8 @@
-"""What is priced too seldom to be compared: aggregates without a match for three months, and series that are priced
-every third month only.
+"""Samples that are priced too seldom to be compared: aggregates without a match for three months, and series that are
+priced only every third month.
 
 A series is matched in a month if it has a comparable price there and an observed one in the month before
-(docs/reference/OFFICE.md, the index of a month). Without a match nothing moves what is missing in an aggregate.
+(docs/reference/OFFICE.md, the index of a month). Without a match, nothing moves the missing prices of an aggregate.
 """
 
 from __future__ import annotations
@@ -62,7 +62,7 @@ def unmatched_codes(facts: Facts) -> list[str]:
 
 
 def unmatched(facts: Facts) -> Section:
-    """The aggregates that had no match for three months, with what was found of their series in each."""
+    """The aggregates that had no match for three months, with the findings of their series in each."""
     months = months_until(facts.month, MONTHS_WITHOUT_MATCH)
     codes, rows = unmatched_codes(facts), list[list[Cell]]()
     found = [facts.office.frozen(facts.latest[month]) for month in reversed(months)] if codes else []

@@ -1,4 +1,4 @@
-"""Prices to look at: those outside the tolerance, changes outside Tukey's fences of their aggregate, those that nothing
+"""Prices to check: those outside the tolerance, changes outside Tukey's fences of their aggregate, those that nothing
 else of their aggregate is compared with, and replacements of another quality.
 
 The fences are those of the Consumer Price Index Manual: price ratios of 1 aside, and the lowest and the highest
@@ -44,7 +44,7 @@ class Fences(NamedTuple):
 
 
 def fences_of(ratios: Sequence[int], width: int = PERCENT_OF_WIDTH) -> Optional[Fences]:
-    """The fences of some ratios that aren't 1; None where they are too few. `width` is in percent."""
+    """The fences of some ratios that aren't 1; None if there are too few. `width` is in percent."""
     if len(ratios) < LEAST_RATIOS:
         return None
     aside = len(ratios) // TWENTIETH
@@ -74,7 +74,7 @@ OTHER = message("a replacement of another quality")
 
 
 class Unusual(NamedTuple):
-    """A price to look at: who has it, the last price if it has one and this one, in minor units, and why."""
+    """A price to check: its collector, the last price if it has one and this one, in minor units, and why."""
 
     slot: Assignment
     last: Optional[int]
@@ -118,14 +118,14 @@ def is_within_tolerance(facts: Facts, it: Ratio) -> bool:
 
 
 def why_unusual(facts: Facts, usual: Usual, it: Ratio) -> list[Message]:
-    """Why a price is to be looked at again, if it is."""
+    """Why a price needs another check, if it does."""
     confirmed = [] if is_within_tolerance(facts, it) else [CONFIRMED]
     return [*confirmed, *usual.why_not(facts.code(it.slot.item), in_ten_thousandths(it))]
 
 
 def to_look_at(facts: Facts, width: int) -> list[Unusual]:
-    """The prices of a month to look at: those that can be compared, then replacements of another quality; `width` is
-    that of the fences, in percent."""
+    """The prices of a month to check: those that can be compared, then replacements of another quality; `width` is the
+    fences' width, in percent."""
     return [*_unusual(facts, width), *_replaced(facts)]
 
 
@@ -147,7 +147,7 @@ def _replaced(facts: Facts) -> Iterator[Unusual]:
 
 
 def outliers(facts: Facts, width: int) -> Section:
-    """The prices to look at, the greatest changes first."""
+    """The prices to check, the greatest changes first."""
     greatest = sorted(to_look_at(facts, width), key=lambda it: -_change(it))
     rows: list[list[Cell]] = [
         [

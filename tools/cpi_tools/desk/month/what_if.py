@@ -1,4 +1,4 @@
-"""`cpi-tools desk what-if`: the table of a month beside the one that it would have if some quotes were others.
+"""`cpi-tools desk what-if`: the table of a month, compared with its table if some quotes were others.
 
 Both are frozen by the program, on two copies. Of the last frozen month it is what a further revision would change.
 """
@@ -25,7 +25,7 @@ Place = tuple[int, int]
 
 
 class Tried(NamedTuple):
-    """What is tried: slots without a price and for which reason, prices of slots in minor units, codes to carry."""
+    """The trial: slots without a price and for which reason, prices of slots in minor units, codes to carry."""
 
     missing: Sequence[Place]
     reason: str
@@ -34,7 +34,7 @@ class Tried(NamedTuple):
 
 
 class Beside(NamedTuple):
-    """A month as it stands, and as it would be; of a frozen one, by when a further revision has to come out, if by the
+    """A month now, and after the trial; for a frozen one, by when a further revision has to come out, if by the
     calendar another table will be computed from it."""
 
     as_is: Frozen
@@ -47,7 +47,7 @@ class NotTried(Fault):
 
 
 def what_if(cpi: Cpi, office_copy: Path, month: int, at: int, tried: Tried) -> Beside:
-    """Freezes a month twice. Raises Refused where the program refuses a freeze or a quote."""
+    """Freezes a month twice. Raises Refused if the program refuses a freeze or a quote."""
     with read_copy(office_copy) as office:
         state = state_of(office, month)
         carry = next((each.carry for each in reversed(office.releases()) if each.month == month), ())
@@ -63,7 +63,7 @@ def what_if(cpi: Cpi, office_copy: Path, month: int, at: int, tried: Tried) -> B
 
 
 def quotes_of(office: StoredOffice, window: Window, tried: Tried) -> Iterator[Record]:
-    """What the collectors would send, within the window. Raises NotTried where nobody has such a slot."""
+    """What the collectors would send, within the window. Raises NotTried if nobody has such a slot."""
     keys, known = office.keys(), {it[:2] for it in office.assignments()}
     sent: list[tuple[Place, list[object]]] = [(place, ["missing", tried.reason]) for place in tried.missing]
     sent += [(place, ["price", price, "confirm"]) for place, price in tried.prices]

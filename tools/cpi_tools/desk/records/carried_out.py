@@ -1,8 +1,8 @@
 """Whether a record that was sent, and whose reply was lost, was carried out: by a copy of the office's file.
 
-The office answers `done` to a record that stands exactly. So the record is asked of the program on the copy: if the
-answer is `done` and no row changed, it stood there before. A freeze is the exception, since it can't be asked twice:
-there the stored release tells.
+The office answers `done` to a record that it contains exactly. So the program gets the record on the copy: if the
+answer is `done` and no row changed, the office contained it before. A freeze is the exception, since it can't be asked
+twice: there the stored release tells.
 """
 
 from __future__ import annotations
@@ -17,7 +17,7 @@ from ...text.terminal import a_month, month_text
 from ..freeze.freezes import sum_of
 
 STANDS, ABSENT = "stands", "absent"
-"""The keys of what a look tells: `{"stands": true}`, or `{"absent": true}`, perhaps with the refusal of the copy."""
+"""The keys of a check's result: `{"stands": true}`, or `{"absent": true}`, perhaps with the refusal of the copy."""
 
 TABLES: dict[str, tuple[str, ...]] = {
     "item": ("item",),
@@ -39,7 +39,7 @@ def looked_up(cpi: Cpi, office_copy: Path, records: Sequence[Sequence[str]], sin
 
 
 def _look(cpi: Cpi, copy: Path, fields: Sequence[str], since: int) -> Reply:
-    """Looks for one record; where it wasn't there it is afterwards, so that the next one finds it."""
+    """Searches for one record; if it wasn't there, it is afterwards, so that the next search finds it."""
     word = fields[0]
     with read_copy(copy) as office:
         if word == "collector":
@@ -72,11 +72,11 @@ def is_frozen_since(office: StoredOffice, fields: Sequence[str], since: int) -> 
 CALENDAR = "calendar"
 
 REPLACED = (CALENDAR, "plan")
-"""The words of records that take the place of one that stands: any other one is refused if another one stands."""
+"""The words of records that replace an earlier one: any other record is refused if another one exists."""
 
 
 def what_stands(office: StoredOffice, records: Sequence[Sequence[str]]) -> list[str]:
-    """What stands in an office in the place of each record, as a text; nothing of those that replace nothing."""
+    """An office's content in the place of each record, as a text; nothing for records that replace nothing."""
     if not any(fields[0] in REPLACED for fields in records):
         return [""] * len(records)
     windows = {month_text(it.month): ",".join(map(str, it[1:])) for it in office.calendar()}

@@ -1,5 +1,5 @@
-"""The desk's log: a file that is only appended to, with each record that was sent to the office, by whom, when, and
-what came of it.
+"""The desk's log: a file that only grows, with each record that was sent to the office, by whom, when, and with what
+result.
 
 Each line is a JSON object, and has the SHA-256 of the line before it, so a line that is changed, taken out or put in
 breaks the chain. A line is on the disk before what it speaks of is done. One that a crash cut off stays as it is: the
@@ -52,9 +52,9 @@ HIDDEN = "(key)"
 
 
 class Entry(NamedTuple):
-    """A line: its number from 1 on, the moment in seconds since 1970 UTC, who, and what it speaks of. `records` are of
-    a line SENT, `of` is the number of that line in those that follow from it, `replies` has one reply for each of its
-    records, and `text` is what was said."""
+    """A line: its number from 1 on, the moment in seconds since 1970 UTC, who, and what it speaks of. `records` belong
+    to a line SENT, `of` is that line's number in the lines that follow from it, `replies` has one reply for each of its
+    records, and `text` is the message."""
 
     number: int
     at: int
@@ -185,7 +185,7 @@ class DeskLog:
             raise Fault(said_as(f"{text}, so nothing was done", done, of_system(fault, text))) from fault
 
     def open_entries(self) -> list[Entry]:
-        """The records that were sent, and of which it isn't known what came of them."""
+        """The records that were sent, and whose result isn't known."""
         settled = {it.of for it in self.entries if it.what in (ANSWERED, NOT_SENT, LOOKED_UP)}
         return [it for it in self.entries if it.what == SENT and it.number not in settled]
 
@@ -195,6 +195,6 @@ class DeskLog:
 
 
 def line_of_entry(entry: Entry, before: str) -> bytes:
-    """The line of an entry behind a line of that sum."""
+    """The line of an entry after a line of that sum."""
     kept: dict[str, Any] = {**entry._asdict(), "before": before}
     return json.dumps(kept, ensure_ascii=True, separators=(",", ":"), sort_keys=True).encode() + b"\n"

@@ -1,4 +1,4 @@
-"""The text of a form that takes records: a file that was chosen, or what was typed."""
+"""The text of a form that takes records: a chosen file, or typed text."""
 
 from __future__ import annotations
 
@@ -16,7 +16,7 @@ PLAN = "plan"
 
 
 TWO = _("A file was chosen, and the field has text too: empty the field, or choose no file. Nothing was sent.")
-"""What is said to a form with two texts, of which one would be lost."""
+"""The message to a form with two texts, one of which would be lost."""
 
 
 class Given(NamedTuple):
@@ -29,7 +29,7 @@ class Given(NamedTuple):
 
 
 def given() -> Given:
-    """What the form of the request has: a file, or what is typed. Raises NotRead, also if it has both."""
+    """The content of the request's form: a file, or typed text. Raises NotRead, also if it has both."""
     form, file = flask.request.form, flask.request.files.get("file")
     name = (file.filename or "") if file else ""
     content = text_of_file(name, file.read()) if file and name else None

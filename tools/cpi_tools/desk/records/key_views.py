@@ -1,5 +1,5 @@
-"""The sheet of paper that signs a collector in on a phone, as `cpi-tools keys` prints it: it has the collector's key, so the
-browser is told to keep nothing of it, and the log says who printed whose.
+"""The sheet of paper that signs a collector in on a phone, as `cpi-tools keys` prints it: it contains the collector's
+key, so the browser is asked to keep nothing of it, and the log says who printed whose.
 
 The form `/sample/collectors/sheet` takes `collector`, a number; `name`, or nothing, since the office stores no names; and
 `language`, a code such as `fr`.

@@ -31,8 +31,8 @@ SHOWN = 100
 
 
 class Line(NamedTuple):
-    """A line of the log as it is read: its number and moment, who, the record or the step, what came of it, and the fields
-    of a record with the names that those sent with it give."""
+    """A line of the log as a reader sees it: its number and moment, its person, the record or the step, its result, and
+    the fields of a record with the names that the records sent with it give."""
 
     number: int
     at: int

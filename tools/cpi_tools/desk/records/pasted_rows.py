@@ -1,7 +1,8 @@
 """Rows that a person pastes from a spreadsheet: cells apart by tabs, semicolons or commas, with a heading or without one.
 
-A text is read in one way, or refused in one line: what was read, where, and what is wanted. What the cells say is left to
-`cpi`; only months in other spellings are read as months, since a spreadsheet writes them in its own way.
+A text is read in one way, or refused in one line that quotes the text, and names its place and the wanted form. What
+the cells say is left to `cpi`; only months in other spellings are read as months, since a spreadsheet writes them in
+its own way.
 """
 
 from __future__ import annotations
@@ -118,7 +119,7 @@ def widths(kind: Kind) -> tuple[int, ...]:
 
 
 class Heading(NamedTuple):
-    """The columns of a heading, empty where a cell names none, and its cells as they are written."""
+    """The columns of a heading, empty if a cell names none, and its cells as they are written."""
 
     names: list[str]
     written: list[str]
@@ -172,7 +173,7 @@ def cells_of(line: Line, kind: Kind, names: Optional[Sequence[str]], separator: 
 
 
 def wrong_width(line: int, cells: Sequence[str], names: Sequence[str], separator: str) -> Message:
-    """What is told of a line with too few cells, or too many."""
+    """The message about a line with too few cells, or too many."""
     return message_of(
         "Line {line} has one cell by {separator}: {read}. Wanted are {columns}.",
         "Line {line} has {count} cells by {separator}: {read}. Wanted are {columns}.",
@@ -190,7 +191,7 @@ def listed(texts: Iterable[str]) -> Worded:
 
 
 def _read(cell: str, is_month: bool) -> str:
-    """A cell without a spreadsheet's mark of a text, which our files have too; a month in another spelling is that month,
-    and what is none stays for `cpi` to refuse."""
+    """A cell without a spreadsheet's mark for a text, which our files contain too; a month in another spelling becomes
+    that month, and a text that isn't a month stays for `cpi` to refuse."""
     text = unmarked(cell)
     return (month_of(text) or text) if is_month else text

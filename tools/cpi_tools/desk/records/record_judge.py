@@ -27,7 +27,7 @@ WORDS = tuple(word for word in TABLES if word != FREEZE)
 """The words that are taken here: a freeze has a page of its own, on which two people confirm it."""
 
 MOST_ROWS = 20_000
-"""Rows of an import at most, and of what is pasted into a table."""
+"""The most rows of an import, and of a text pasted into a table."""
 
 MOST_RECORDS = 200_000
 """So many assignments are in a file of 8 MB."""
@@ -84,7 +84,7 @@ def clock_warnings(text: str, clock: Clock) -> list[Message]:
 
 
 def at_clock(fields: list[str], clock: Clock) -> list[str]:
-    """A record whose civil times are moments; what is none stays, and `cpi` refuses it."""
+    """A record with moments for its civil times; a text that isn't a time stays, and `cpi` refuses it."""
     if fields[0] != "calendar":
         return fields
     return [*fields[:2], *(_moment(text, clock) for text in fields[2:])]

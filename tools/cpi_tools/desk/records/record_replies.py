@@ -27,7 +27,7 @@ class RecordReply(NamedTuple):
 
 
 def record_reply(fields: Sequence[str], reply: Optional[Reply], without: Text = NO_REPLY) -> RecordReply:
-    """A record and its reply; `without` is what is told if there is none."""
+    """A record and its reply; `without` is the text if there is none."""
     if reply is None:
         return RecordReply(line_of(fields), without, False)
     if "refused" in reply:
@@ -51,7 +51,7 @@ def refused(reply: Reply, word: str) -> Text:
 
 
 def more_of(reply: Reply) -> Iterator[Text]:
-    """What a refusal says of where the fault is."""
+    """A refusal's text about the place of the fault."""
     if "fault" in reply:
         yield _("Fault {number}.", number=whole(reply["fault"]))
     if "found" in reply:

@@ -36,7 +36,7 @@ MOST_SHOWN_BYTES = 500_000
 
 
 class Row(NamedTuple):
-    """A record with the line at which it is, what is told of it, and its sentence if there is one."""
+    """A record with its line, the message about it, and its sentence if there is one."""
 
     line: int
     reply: RecordReply
@@ -51,7 +51,7 @@ def show() -> Response:
 
 
 def records_page(status: int = 200, /, **named: object) -> Response:
-    """The page of records: what was judged, and a form for more."""
+    """The page of records: the judged ones, and a form for more."""
     empty = {
         "text": "",
         "fault": "",
@@ -144,7 +144,7 @@ def send() -> Response:
 
 @views.get("/records/sent")
 def sent() -> Response:
-    """What became of records that were sent; what isn't kept any more is in the log."""
+    """The results of sent records; the log contains those that are no longer kept."""
     came = what_came()
     if not came:
         return flask.redirect(flask.url_for("log.show"))
@@ -157,7 +157,7 @@ def sent() -> Response:
 
 
 def answered(records: Sequence[Sequence[str]], replies: Sequence[Optional[Reply]]) -> list[RecordReply]:
-    """What is told of records and their replies: after a message without one nothing was sent any more."""
+    """The messages about records and their replies: after a message without a reply, nothing more was sent."""
     waiting = {tuple(it) for entry in desk().log.open_entries() for it in entry.records}
     found = list[RecordReply]()
     for fields, reply in zip(records, replies):

@@ -146,7 +146,7 @@ def sum_of_rows(rows: Sequence[Waiting]) -> str:
 
 
 def state_of(rows: Sequence[Waiting]) -> str:
-    """A sum of the rows that would be sent, so that nothing is sent but what was seen."""
+    """A sum of the rows that would be sent, so that only rows are sent that somebody saw."""
     seen = [line_of([it.number, *it.record]) for it in rows if it.state == GOOD]
     return hashlib.sha256("\n".join(seen).encode()).hexdigest()
 
@@ -213,7 +213,7 @@ def _after(row: Waiting, since: int, reply: Optional[Reply], waiting: set[tuple[
 
 
 def settle(desk: Desk, person: str, kind: Kind) -> None:
-    """Finds in the log what became of rows that were on their way; those that were carried out go. Raises Fault."""
+    """Finds in the log the results of rows that were on their way; those that were carried out go. Raises Fault."""
     going = [it for it in desk.tray.rows(person, kind.name) if it.state == GOING]
     if going:
         entries = [*desk.log.entries]

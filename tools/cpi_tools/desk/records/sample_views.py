@@ -91,7 +91,7 @@ def first() -> Response:
 
 @views.get("/sample/<kind>")
 def show(kind: str) -> Response:
-    """What is registered of a kind, and the rows that wait."""
+    """The registered rows of a kind, and the rows that wait."""
     it = kind_of(kind)
     settle(desk(), session().person, it)
     return shown(it, **what_came())
@@ -109,7 +109,7 @@ def shown(
     unread: Worded = NOTHING,
     typed: Optional[Mapping[str, str]] = None,
 ) -> Response:
-    """The page of a kind, with what came of a step; `text` is what couldn't be read, `typed` the fields of a row that
+    """The page of a kind, with the result of a step; `text` couldn't be read, `typed` are the fields of a row that
     wasn't taken."""
     waiting = desk().tray.rows(session().person, kind.name)
     page_rows = shown_waiting(waiting)

@@ -1,7 +1,7 @@
 """How records go to the office: each is in the desk's log before it is sent, and its reply is there afterwards.
 
-A record whose reply was lost is looked up in the office's file before anything else is sent. So nothing is sent twice,
-and nothing is lost, whatever is killed at whichever step.
+A record whose reply was lost is searched for in the office's file before anything else is sent. So nothing is sent
+twice, and nothing is lost, whatever is killed at whichever step.
 """
 
 from __future__ import annotations
@@ -28,9 +28,9 @@ class Sender:
         self._lock = threading.Lock()
 
     def send(self, by: str, key: str, records: Sequence[Sequence[str]]) -> list[Optional[Reply]]:
-        """Sends records; the reply to each, None where none came, or where it wasn't sent any more.
+        """Sends records; the reply to each, None if none came, or if it was no longer sent.
 
-        A reply of `carried_out` is in the place of one that was lost and was looked up. Raises Fault if nothing was sent.
+        A reply of `carried_out` replaces one that was lost and searched for. Raises Fault if nothing was sent.
         """
         messages = messages_of(records)
         with self._lock:
@@ -56,7 +56,7 @@ class Sender:
             return self._settle(by)
 
     def _sent(self, by: str, key: str, message: Sequence[Sequence[str]]) -> Optional[list[Reply]]:
-        """Sends one message; its replies, or None if it isn't known what came of it. Raises Fault if it wasn't sent."""
+        """Sends one message; its replies, or None if its result isn't known. Raises Fault if it wasn't sent."""
         entry = self._log.append(by, SENT, message)
         try:
             replies = self._office.carry_out(key, message)
@@ -71,7 +71,7 @@ class Sender:
         return replies
 
     def _after_silence(self, by: str, entry: Entry) -> Optional[list[Reply]]:
-        """What came of a message without a reply; None if that can't be known now."""
+        """The result of a message without a reply; None if it can't be known now."""
         try:
             settled = self._settle(by)
         except Fault:

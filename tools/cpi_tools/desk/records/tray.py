@@ -1,5 +1,5 @@
-"""Rows that a person gave and that the office hasn't carried out: each stays, with what was answered, until it is carried
-out or the person drops it. They are a file, so they outlive the application.
+"""Rows that a person gave and that the office hasn't carried out: each stays, with its answer, until it is carried out
+or the person drops it. They are a file, so they outlive the application.
 
 The file has no key of a collector: a key is in memory until its row is carried out or dropped.
 """
@@ -20,17 +20,17 @@ from ..serve.faults import not_as_written
 from .desk_log import HIDDEN
 
 NEW, GOOD, REFUSED, GOING = "new", "good", "refused", "going"
-"""Where a row is: it wasn't judged yet; the copy's answer is `done`; it was refused, or not sent; it is on its way to the
-office."""
+"""The state of a row: it wasn't judged yet; the copy's answer is `done`; it was refused, or not sent; it is on its way
+to the office."""
 
 COLLECTORS, KEY = "collectors", 1
 """The kind of rows that have a key, and which of their cells it is."""
 
 
 class Waiting(NamedTuple):
-    """A row: its number; its cells as they were given; the record that was judged, without a collector's key; where it
-    is; what was answered, or else why there is no answer; of one on its way the number of the log's last line before
-    that; and what stood in the office in its place as it was judged."""
+    """A row: its number; its cells as they were given; the record that was judged, without a collector's key; its
+    state; the answer, or else why there is none; for a row on its way, the number of the log's last line before that;
+    and the office's content in its place when it was judged."""
 
     number: int
     cells: list[str]

@@ -39,7 +39,7 @@ from .site_config import prices_are
 DESK = Path(__file__).resolve().parents[1]
 TEMPLATES = DESK / "serve/templates"
 FOLDERS = [DESK / name / "templates" for name in ("serve", "records", "looks", "field", "freeze", "year")]
-"""The templates of all pages, and those beside the views that have pages of their own."""
+"""The templates of all pages, and those next to the views that have pages of their own."""
 
 
 VIEWS = (
@@ -61,7 +61,7 @@ VIEWS = (
 """The modules of the pages."""
 
 FREE = ("sign_in.show", "sign_in.enter", "style", "script")
-"""What is answered without a session, by the names of the views."""
+"""The pages that need no session, by the names of the views."""
 
 LOADED = ("style", "script", "looks.script", "year.script", "field_notes.photo")
 """What a page loads by itself, by the names of the views: no person does."""
@@ -69,13 +69,13 @@ LOADED = ("style", "script", "looks.script", "year.script", "field_notes.photo")
 SETTINGS = "CPI_DESK_FRONT, --front"
 
 FIELD, FIELD_PATHS = "field", "/notes/"
-"""The views that collectors' phones ask, each time with a key of their own, and where they are."""
+"""The views for collectors' phones, each request with a collector's key, and their folder."""
 ENDED = _("Your session has ended, so nothing was done. Sign in in another tab, go back here, and send it again.")
 NO_PAGE = _("There is no such page.")
 ONLY_A_FORM = _("A form is sent to this address, and it shows nothing. The log says what was done.")
 OWN_ERROR = _("The application met an error, which is its own. The log says what was done: read it before you go on.")
 BY_STATUS = {404: NO_PAGE, 405: NO_PAGE, 500: OWN_ERROR}
-"""What is said to a request that isn't carried out."""
+"""The message to a request that isn't carried out."""
 
 NOT_DONE, NOT_SHOWN = _("Not done"), _("This page can't be shown")
 NO_ANSWER_YET = _("No answer yet")
@@ -98,7 +98,7 @@ FIELDS = {
 
 
 AGAIN = (400, 503)
-"""The statuses of a form that a person may send again: with these the page has what was filled in."""
+"""The statuses of a form that a person may send again: with these, the page contains the typed fields."""
 
 
 def make_app(desk: Desk, reached: Reached) -> flask.Flask:
@@ -260,7 +260,7 @@ def _http_fault(fault: HTTPException) -> Response:
 
 
 def _not_so(fault: HTTPException) -> Message:
-    """What is said of another status."""
+    """The message for another status."""
     return _(
         "The application can't do this as it was asked: go back, load the page anew, and try again. Its own line: {line}",
         line=own_line(f"{fault.code} {fault.name}"),

@@ -1,4 +1,5 @@
-"""The file by which phones show when a window closes: beside the website, it follows the office's windows."""
+"""The file by which phones show when a window closes: it is in the website's folder, and follows the office's
+windows."""
 
 from __future__ import annotations
 
@@ -28,7 +29,7 @@ def may_set_windows(records: Sequence[Sequence[str]]) -> bool:
 
 class Deadlines:
     """The file of the windows, and `fault`: why it isn't as the office's calendar, or nothing. Nothing here raises
-    Fault: what was sent to the office stays sent."""
+    Fault: records sent to the office stay sent."""
 
     def __init__(self, file: Path, copies: Copies, clock: Clock):
         self.file, self.fault = file, Worded("")

@@ -48,12 +48,12 @@ FIELD_NOTES, FIELD_QUESTIONS = "field-notes.db", "field-questions.db"
 
 
 class Given(NamedTuple):
-    """What the words of the command line say: the office's URL and file, the application's folder, the program, after
-    how many idle seconds a session ends, the office's clock, where copies lie, how many quotes a trial leaves out in
-    turn, for how many months notes of the field and questions to collectors are kept, 0 if there are none, the address
-    of the front that collectors reach, if sheets with their keys are printed here, how the pages speak, where the
-    website goes, if it is written here, from how many millionths of a point on a price that nobody has seen needs a
-    reason at a freeze, and the file of the second key, if there is one.
+    """The arguments: the office's URL and file, the application's folder, the program, after how many idle seconds a
+    session ends, the office's clock, the folder of copies, how many quotes a trial leaves out in turn, for how many
+    months field notes and questions to collectors are kept, 0 if there are none, the address of the front that
+    collectors reach, if sheets with their keys are printed here, how the pages speak, the folder of the website, if it
+    is written here, from how many millionths of a point on a price that nobody has seen needs a reason at a freeze, and
+    the file of the second key, if there is one.
     """
 
     url: str
@@ -111,7 +111,7 @@ class Desk:
         self.publisher = self._publisher(given.site) if given.site else None
         self.deadlines = self._deadlines(given.site) if given.site else None
         self.answers = Kept[tuple[str, Mapping[str, object]]]()
-        """What came of forms, with the views after them that say so."""
+        """The results of forms, with the views that show them afterwards."""
         self.offers = Kept[Offer]()
         """Records that were judged on a copy and not sent."""
 
@@ -127,7 +127,7 @@ class Desk:
         return deadlines
 
     def start(self) -> None:
-        """Begins to follow the office, and to publish what is planned."""
+        """Begins to follow the office, and to publish as planned."""
         self.watch.start()
         if self.publisher:
             self.publisher.start()

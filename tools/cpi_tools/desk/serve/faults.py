@@ -55,7 +55,7 @@ def of_system(fault: OSError, text: str = "") -> Message:
 
 
 def _of_tools(fault: Exception, line: Worded) -> Message:
-    """A fault that a tool tells in its own line."""
+    """A fault that a tool reports in its own line."""
     if isinstance(fault, CpiFailed):
         return _(
             "cpi ended before it had an answer. It worked on a copy, so the office is as it was. Show its line to the"

@@ -16,7 +16,7 @@ MOST_BYTES = 16_000_000
 """Bytes of a form at most; the front takes as many."""
 
 MOST_BYTES_BEFORE = 4_096
-"""Bytes at most of what comes without a session; the front takes as many at the form to sign in."""
+"""The most bytes of a request without a session; the front takes as many at the form to sign in."""
 
 MOST_FIELDS = 10_000
 """Fields of a form at most: to freeze a month, a person may give a reason for each aggregate of the largest plan."""
@@ -34,12 +34,12 @@ TOO_LONG_BEFORE = _(
 
 
 def too_many(most: int) -> Message:
-    """What is said of a form with too many fields."""
+    """The message to a form with too many fields."""
     return _("A form has {most} fields at most, and this one has more. Nothing was done.", most=whole(most))
 
 
 def fault_of_form(is_signed_in: bool) -> Optional[Message]:
-    """What is said of the request's form if it is longer than it may be or has too many fields; None if it is taken."""
+    """The message to the request's form if it is longer than it may be or has too many fields; None if it is taken."""
     request = flask.request
     length = request.content_length or 0
     if not is_signed_in and length > MOST_BYTES_BEFORE:
@@ -61,7 +61,7 @@ def has_too_many() -> bool:
 
 
 def told_of_too_large() -> Message:
-    """What is said where the libraries refuse a form as too large: by its bytes, or by the number of its parts."""
+    """The message if the libraries refuse a form as too large: by its bytes, or by the number of its parts."""
     request = flask.request
     if (request.content_length or 0) > MOST_BYTES:
         return TOO_LONG

@@ -1,4 +1,4 @@
-"""A form that was sent after its session had ended: with what was filled in, and a button that sends it again."""
+"""A form that was sent after its session had ended: with its typed fields, and a button that sends it again."""
 
 from __future__ import annotations
 
@@ -13,7 +13,7 @@ from .request_context import desk, page
 views = flask.Blueprint("held", __name__)
 
 PATH = "/held/"
-"""Where they are, as an address has it without what a front puts before it."""
+"""Their place, as an address has it without a front's prefix."""
 
 
 @views.get(f"{PATH}<name>")
@@ -24,7 +24,7 @@ def show(name: str) -> Response:
 
 
 def shown(form: Optional[HeldForm], status: int, name: str = "") -> Response:
-    """A form with what was filled in; `name` is that under which it is kept."""
+    """A form with its typed fields; `name` is the name under which it is kept."""
     return page("held.html", status, form=form, name=name)
 
 

@@ -1,5 +1,5 @@
-"""What the application keeps in memory for a person's next page: what came of a form, records that were judged. It is there
-for that person only, also after another sign-in, until it is taken, is half a day old, or newer ones are too many.
+"""The application's memory for a person's next page: the results of a form, and judged records. It is there for that
+person only, also after another sign-in, until it is taken, is half a day old, or newer ones are too many.
 
 Records that were judged on a copy and not sent yet.
 """
@@ -21,7 +21,7 @@ MOST_OF_A_PERSON = 20
 
 
 class Kept(Generic[T]):
-    """What is kept, by names that nobody can guess. `clock` is in seconds."""
+    """The kept values, by names that nobody can guess. `clock` is in seconds."""
 
     def __init__(self, clock: Callable[[], float] = time.monotonic):
         self._clock, self._lock = clock, threading.Lock()
@@ -41,7 +41,7 @@ class Kept(Generic[T]):
         return name
 
     def of(self, name: str, person: str) -> Optional[T]:
-        """What is kept under a name for a person, if it is there yet."""
+        """The value kept under a name for a person, if it is there yet."""
         held = self._by_name.get(name)
         return held[2] if held and is_same(held[0], person) else None
 
@@ -55,7 +55,7 @@ class Kept(Generic[T]):
 
 
 class Offer(NamedTuple):
-    """The records that would be carried out, and what stood in the place of each as it was judged."""
+    """The records that would be carried out, and the office's content in the place of each when it was judged."""
 
     records: list[list[str]]
     stood: list[str]

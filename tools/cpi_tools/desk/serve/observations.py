@@ -1,7 +1,7 @@
-"""What the application saw of the office while it ran, since the file has no moments of prices: when each collector's
-last entry was first seen, and how far a month's response was, so that a later month can be set beside it.
+"""The application's observations of the office while it ran, since the file has no moments of prices: when each
+collector's last entry was first seen, and how far a month's response was, for comparison with a later month.
 
-Both are files in the application's folder. What can't be read there is told, and nothing is written over it.
+Both are files in the application's folder. An unreadable line there is reported, and nothing is written over it.
 """
 
 from __future__ import annotations
@@ -19,7 +19,7 @@ APART = 900
 """Seconds from one row of a month's response to the next."""
 
 COMPARED = 3
-"""So many earlier months are set beside a month."""
+"""A month is compared with so many earlier months."""
 
 
 class Heard(NamedTuple):

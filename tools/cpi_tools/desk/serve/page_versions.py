@@ -36,8 +36,8 @@ def changed_by_step(*begins: str, has: str = "") -> Message:
 
 
 def replaced_since(records: Sequence[Sequence[str]], stood: Sequence[str]) -> Optional[Message]:
-    """That another one stands now in the place of one of the records than when it was judged; None if none does. Raises
-    Fault."""
+    """The message that the office now contains another record in the place of one of these than when it was judged;
+    None if it doesn't. Raises Fault."""
     if not any(fields[0] in REPLACED for fields in records):
         return None
     with desk().copies_now() as copy, read_copy(copy.path) as office:
@@ -54,8 +54,8 @@ def replaced_since(records: Sequence[Sequence[str]], stood: Sequence[str]) -> Op
 
 
 def last_sent(log: DeskLog, begins: Sequence[str], stands: str) -> Optional[Entry]:
-    """The line of the last record that begins with these fields and was carried out, if it is the one that stands now, as
-    `what_stands` has it: others than this desk may have sent another one."""
+    """The line of the last record that begins with these fields and was carried out, if the office still contains it,
+    as `what_stands` gives it: others than this desk may have sent another one."""
     ends = {entry.of: entry for entry in log.entries if entry.what in (ANSWERED, LOOKED_UP)}
     for entry in reversed(log.entries):
         replies = ends[entry.number].replies if entry.what == SENT and entry.number in ends else []

@@ -19,7 +19,7 @@ DEFAULT_PORTS = {"http": ":80", "https": ":443"}
 
 
 class Reached(NamedTuple):
-    """Where the application listens, a host with a port or the path of a socket, and its address behind a front, if there
+    """The application's listener, a host with a port or the path of a socket, and its address behind a front, if there
     is one."""
 
     listen: str
@@ -76,5 +76,5 @@ class Reached(NamedTuple):
 
     @property
     def address(self) -> str:
-        """Where a person finds it."""
+        """The address for a person."""
         return self.front or f"http://{self.listen}/"

@@ -17,7 +17,7 @@ from .desk import Desk
 from .sessions import Session
 
 AFTER = "after"
-"""The part of an address that names what came of the form before."""
+"""The part of an address that names the result of the form before."""
 
 
 def desk() -> Desk:
@@ -40,14 +40,14 @@ def page(template: str, status: int = 200, /, **named: object) -> Response:
 
 
 def after(view: str, came: Mapping[str, object], /, **of_address: Any) -> Response:
-    """Leads from a form to a page that says what came of it, which is named as the page's template has it. No page answers
-    a form that was carried out, so loading it anew does nothing again."""
+    """Leads from a form to a page that shows its result, which is named as the page's template names it. No page
+    answers a form that was carried out, so loading it anew does nothing again."""
     to: dict[str, Any] = {AFTER: desk().answers.keep(session().person, (view, came))}
     return flask.redirect(flask.url_for(view, **of_address, **to), 303)
 
 
 def what_came() -> Mapping[str, Any]:
-    """What came of the form that led to this page; nothing if none did, or if it isn't kept any more."""
+    """The result of the form that led to this page; nothing if none did, or if it is no longer kept."""
     view, came = desk().answers.of(flask.request.args.get(AFTER, ""), session().person) or ("", {})
     return came if view == flask.request.endpoint else {}
 

@@ -165,6 +165,6 @@ def addresses_of(view: str) -> Iterator[str]:
 
 
 def with_names(text: str, session: Session) -> str:
-    """A page in which each form of the session has a name beside the session's token."""
+    """A page in which each form of the session has a name next to the session's token."""
     token = f'<input type="hidden" name="token" value="{session.token}">'
     return text.replace(token, f'{token}<input type="hidden" name="{ONCE}" value="{new_name()}">')

@@ -73,7 +73,7 @@ def run(chosen: argparse.Namespace) -> int:
 
 
 def site_of(chosen: argparse.Namespace) -> Optional[Site]:
-    """Where the website goes, if the words say so. Refuses words that don't go together."""
+    """The folder of the website, if the arguments name one. Refuses words that don't go together."""
     from ..freeze.publication import Site  # (its packages are this job's alone)
 
     if (chosen.site is None) != (chosen.site_config is None) or (chosen.sign and chosen.site is None):

@@ -27,12 +27,12 @@ SOCKET_MODE = "660"
 """The owner of the socket and its group open it; that group is its folder's."""
 
 FORGETTING = 3_600
-"""Seconds from one look for notes and questions that are kept no longer to the next."""
+"""The seconds between two searches for notes and questions that are no longer kept."""
 
 
 def serve(given: Given, listen: str, front: str) -> None:
-    """Serves until the process is asked to end. `listen` is an address with its port or the path of a socket, `front` the
-    application's address behind a front or nothing. Raises Fault."""
+    """Serves until the process is asked to end. `listen` is an address with its port or the path of a socket; `front`
+    is the application's address behind a front, or None. Raises Fault."""
     room(given.room)
     reached = Reached(listen, front or None)
     with new_room("cpi-desk-copies-", given.copies) as copies:
@@ -86,8 +86,8 @@ def listening(desk: Desk, reached: Reached) -> None:
 
 
 def _place(reached: Reached) -> dict[str, Any]:
-    """Where it listens, in the words of waitress. The socket of another application that still listens isn't taken away.
-    Raises OSError."""
+    """The listener's address, in the words of waitress. The socket of another application that still listens isn't
+    taken away. Raises OSError."""
     if not reached.socket:
         return {"listen": reached.listen}
     with contextlib.closing(socket.socket(socket.AF_UNIX)) as other:
@@ -97,7 +97,7 @@ def _place(reached: Reached) -> dict[str, Any]:
 
 
 def _forgetting(desk: Desk, over: threading.Event) -> None:
-    """Removes the notes of the field and the questions whose time has passed, each hour, whoever looks at the pages."""
+    """Removes the field notes and the questions whose time has passed, each hour, even if nobody opens the pages."""
     files = [it for it in (desk.field, desk.questions) if it]
     while files and not over.wait(FORGETTING):
         for file in files:

@@ -1,4 +1,5 @@
-"""Who is at the desk: sessions in memory, each with the name of a person and the desk's key, which is written nowhere.
+"""The people at the desk: sessions in memory, each with the name of a person and the desk's key, which is written
+nowhere.
 
 The key is the office's, so each one is checked by asking the office. After some wrong keys from an address nobody there
 is let in for a while (tries.py).

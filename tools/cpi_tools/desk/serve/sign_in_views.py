@@ -31,7 +31,7 @@ short."""
 
 
 def place_after(to: str) -> str:
-    """Where a person goes on after signing in: a page of this application, else its first one."""
+    """The next page of a person after signing in: a page of this application, else its first one."""
     is_own = to.startswith("/") and not to.startswith("//") and "\\" not in to and to.isprintable()
     return flask.request.script_root + (to if is_own else "/")
 

@@ -16,7 +16,7 @@ DECIMAL_SIGNS = ".,\u066b"
 """A point, a comma, and the decimal sign of Arabic."""
 
 GROUP_SIGNS = (".", ",", "\u066c", "'", "\u2019", " ", "\u00a0", "\u2009", "\u202f")
-"""What may stand between groups of three digits; the third is that of Arabic."""
+"""The characters that may separate groups of three digits; the third is the Arabic one."""
 
 MOST_LETTERS = 60
 

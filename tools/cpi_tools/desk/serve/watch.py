@@ -1,4 +1,5 @@
-"""A thread that follows the office: a right copy each half minute, if the office's file changed, and what was seen."""
+"""A thread that follows the office: each half minute it makes a right copy, if the office's file changed, and notes
+what is new."""
 
 from __future__ import annotations
 
@@ -35,7 +36,7 @@ class Watch:
         self._glances: dict[int, Glance] = {}
         self.fault, self.seconds = Worded(""), 0.0
         self.on_renewed: Callable[[], None] = lambda: None
-        """Is called after each look at the office's file."""
+        """A function that is called after each check of the office's file."""
         self._is_stale, self._is_of_now = False, True
         self._looking = threading.Lock()
         self._thread = threading.Thread(target=self._follow, daemon=True, name="watch")
@@ -89,7 +90,7 @@ class Watch:
         return self._observed.rows
 
     def renew(self) -> None:
-        """Takes a copy if the office's file changed, and notes what is new in it. Raises Fault."""
+        """Takes a copy if the office's file changed, and notes its new content. Raises Fault."""
         begun = time.monotonic()
         if self._copies.renew():
             with self._looking, self._copies.latest() as copy, read_copy(copy.path) as office:

@@ -27,7 +27,7 @@ views = flask.Blueprint("calendar", __name__)
 
 
 class Row(NamedTuple):
-    """A month as the page shows it: its moments in seconds since 1970 UTC, and where it is."""
+    """A month as the page shows it: its moments in seconds since 1970 UTC, and its state."""
 
     month: str
     opens: int
@@ -67,7 +67,7 @@ def show_year(year: int) -> Response:
 
 
 def shown_year(year: int, status: int = 200, fault: Worded = Worded(""), given: Sequence[Given] = ()) -> Response:
-    """The form of a year, with why it wasn't taken, and with what was filled in."""
+    """The form of a year, with the reason why it wasn't taken, and with the typed fields."""
     named = {"year": year, "rows": as_filled_in(year_rows(year), given), "zone": desk().given.clock.said}
     return page("year-calendar.html", status, fault=fault, **named)
 

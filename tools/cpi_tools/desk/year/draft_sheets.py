@@ -34,13 +34,13 @@ SHEETS: dict[str, Kind] = {
     PLACES: Kind(PLACES, "I", ("item", "code")),
     SERIES: Kind(SERIES, "assign", FIELDS["assign"], ("first", "last"), "slot"),
 }
-"""What is changed, by its name; weights are those of the classification, with where each comes from."""
+"""The sheets that a person edits, by name; the weights are the classification's, each with its source."""
 
 KEYS = {CLASSIFICATION: 1, WEIGHTS: 1, PLACES: 1, SERIES: 2}
 """How many columns name a row of a sheet; a series without a slot is named by all of them."""
 
 LISTS: dict[str, tuple[str, ...]] = {name: tuple(heads) for name, heads in HEADS.items()}
-"""What is only shown, by its name."""
+"""The lists that are only shown, by name."""
 
 UNITS = {"ppm": Fraction(1_000_000), **WHOLE, "money": None}
 """What weights may be given in, with what they add up to; money has no such sum."""
@@ -56,7 +56,7 @@ class Settings(NamedTuple):
 
 
 class Sum(NamedTuple):
-    """What the weights add up to, what is wanted (None of money), and the codes whose weights are no number."""
+    """The sum of the weights, the wanted sum (None for money), and the codes whose weights aren't numbers."""
 
     found: Fraction
     wanted: Optional[Fraction]
@@ -107,7 +107,7 @@ class Draft:
         return [[code, title, weight, sources.get(code, "")] for code, title, weight in rows if weight or "-" in code]
 
     def sources(self) -> dict[str, str]:
-        """Where the weights of codes come from, if that is known. Raises Fault."""
+        """The sources of codes' weights, if they are known. Raises Fault."""
         return {code: source for code, source in read_rows(self.folder / SOURCES_FILE, ("code", "source"))}
 
     def put(self, name: str, rows: Sequence[Sequence[str]], is_whole: bool = False, by: str = "") -> None:

@@ -1,5 +1,5 @@
-"""The weights of a draft beside those of the year before: the share of each in all of them, what it differs by, and what
-prices make of it, by the levels of the office's tables."""
+"""The weights of a draft, compared with those of the year before: the share of each in the total, its difference, and
+the weight that prices make of it, by the levels of the office's tables."""
 
 from __future__ import annotations
 

@@ -36,9 +36,9 @@ UTC = "UTC0"
 
 
 class Checked(NamedTuple):
-    """What `take-in` says of a draft on a copy of the moment `at`: what is refused, what a reader should look at, the
-    weights that were scaled, the records that would be carried out, by their words how many, how many rows the office has
-    already, and what stood in the office in the place of each record."""
+    """The results of `take-in` for a draft on a copy of the moment `at`: the refusals, the doubts for a reader, the
+    scaled weights, the number of records that would be carried out, by their words, the number of rows that the office
+    has already, and the office's content in the place of each record."""
 
     at: int
     problems: list[Problem]
@@ -51,12 +51,12 @@ class Checked(NamedTuple):
 
     @property
     def seen(self) -> str:
-        """A sum of the records, so that nothing is sent but what was seen."""
+        """A sum of the records, so that only records are sent that somebody saw."""
         return hashlib.sha256(repr(self.records).encode()).hexdigest()
 
 
 class Left(NamedTuple):
-    """A record that wasn't carried out, as it is shown, what was answered, and its sentence if there is one."""
+    """A record that wasn't carried out, as a page shows it, its answer, and its sentence if there is one."""
 
     record: Worded
     answer: Worded
@@ -64,7 +64,7 @@ class Left(NamedTuple):
 
 
 class Running(NamedTuple):
-    """What is being done for a year, since when, and how long that took the last time."""
+    """The work in progress for a year, its start, and its last duration."""
 
     year: int
     what: Message
@@ -96,11 +96,11 @@ class Drafts:
         return Draft(self._folder / str(year)) if (self._folder / str(year)).is_dir() else None
 
     def checked(self, year: int) -> Optional[Checked]:
-        """What was said of a draft since it was changed the last time, if anything was."""
+        """The messages about a draft since its last change, if there are any."""
         return self._checked.get(year)
 
     def changed(self, year: int) -> None:
-        """A draft was changed, or sent, so what was said of it is old."""
+        """A draft was changed, or sent, so the messages about it are old."""
         self._checked.pop(year, None)
         self.sent.pop(year, None)
 
@@ -191,7 +191,7 @@ def changed_meanwhile(by: str) -> Message:
 
 
 def records_of(bundles: Iterable[Bundle]) -> Iterator[list[str]]:
-    """The records of what was taken: each row of an import is one, and so is a plan."""
+    """The records of the taken rows: each row of an import is one, and so is a plan."""
     for it in bundles:
         if it.year:
             yield ["plan", it.year, body_of(it.rows)]

@@ -89,5 +89,5 @@ def _of_pair(pair: Pair) -> Message:
 
 
 def _cells(cells: Optional[Cells]) -> Worded:
-    """The cells of a row behind its name."""
+    """The cells of a row after its name."""
     return of_others(", ".join(it for it in (cells or [])[1:] if it) or "\u2013")

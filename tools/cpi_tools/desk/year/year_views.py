@@ -116,7 +116,7 @@ def no_draft(fault: NoDraft) -> Response:
 
 @views.get("/year/<int:year>/")
 def show(year: int) -> Response:
-    """A draft: its sheets, the sum of its weights, and what was said of it."""
+    """A draft: its sheets, the sum of its weights, and the messages about it."""
     return shown(draft_of(year), **what_came())
 
 
@@ -129,7 +129,7 @@ def shown(
     typed: Optional[Mapping[str, str]] = None,
     given: Sequence[Given] = (),
 ) -> Response:
-    """The page of a draft, with what came of a step; `typed` are the fields of a form that wasn't taken, `given` the
+    """The page of a draft, with the result of a step; `typed` are the fields of a form that wasn't taken, `given` the
     weights of one."""
     name = flask.request.values.get("sheet", WEIGHTS)
     name = name if name in SHEETS or name in LISTS else WEIGHTS
@@ -162,7 +162,7 @@ def shown(
 
 
 def query_of() -> str:
-    """What is searched for, by the address, or by the form that came from such a page."""
+    """The text to search for, from the address, or from the form that came from such a page."""
     return flask.request.values.get("query", "")
 
 
@@ -256,7 +256,7 @@ def too_long(checked: Checked) -> Worded:
 
 @views.get("/year/<int:year>/<name>.csv")
 def file(year: int, name: str) -> Response:
-    """A sheet or a list, as it is taken in; of the weights with more beside them."""
+    """A sheet or a list, as it is taken in; for weights, with more columns next to them."""
     if name not in SHEETS and name not in LISTS:
         flask.abort(404)
     draft = draft_of(year)
@@ -291,7 +291,7 @@ def to_sheet(draft: Draft, name: str, unread: Sequence[str] = ()) -> Response:
 
 
 def refused(draft: Draft, status: int, fault: Worded, given: Sequence[Given] = ()) -> Response:
-    """The page again, with what was filled in."""
+    """The page again, with the typed fields."""
     return shown(draft, status, fault, typed=flask.request.form.to_dict(), given=given)
 
 
@@ -429,7 +429,7 @@ def check(year: int) -> Response:
 
 @views.post("/year/<int:year>/send")
 def send(year: int) -> Response:
-    """Sends what was judged, once."""
+    """Sends the judged records, once."""
     draft, checked, seen = draft_of(year), desk().drafts.checked(year), field("seen")
     if checked is None or not checked.records or checked.seen != seen:
         return shown(draft, 409, _("The draft was sent already, or changed since this was shown: judge it again."))

@@ -1,4 +1,4 @@
-"""What the page of a draft has of its weights: the table beside the year before, by division too, and moved by prices."""
+"""The weights on the page of a draft: the table with the year before, by division too, and moved by prices."""
 
 from __future__ import annotations
 
