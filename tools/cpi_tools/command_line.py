@@ -75,7 +75,7 @@ def _run(words: Sequence[str]) -> int:
 
 @contextlib.contextmanager
 def _flushed() -> Iterator[None]:
-    """What was written meanwhile is written out at the end, so that its fault is one line, also after `--help`."""
+    """Text written meanwhile is written out at the end, so that its fault is one line, also after `--help`."""
     try:
         yield
     finally:

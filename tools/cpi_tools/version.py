@@ -1,8 +1,8 @@
 """Which companions these are, and whether the program that they run is the one that was shipped: `--version`.
 
-`dist/MADE` has what was shipped: the sum of the sources, the kit that proved them, and the SHA-256 of the program. It
-is in the repository and in the package, at the same place from here. If it or the program is missing, as `dist/MADE`
-is after `pip install`, a line says so.
+`dist/MADE` describes the shipped program: the sum of the sources, the kit that proved them, and the SHA-256 of the
+program. It is in the repository and in the package, at the same place from here. If it or the program is missing, as
+`dist/MADE` is after `pip install`, a line says so.
 """
 
 from __future__ import annotations
@@ -80,7 +80,7 @@ def told_of_program(top: Path, shipped: dict[str, str]) -> str:
 
 
 def lines(top: Path = TOP) -> Iterator[str]:
-    """All that is told, line by line; what isn't a line of UTF-8 is escaped."""
+    """The whole text, line by line; a line that isn't UTF-8 is escaped."""
     shipped = made(top)
     text = [f"cpi-tools {VERSION}"]
     if shipped:
@@ -92,7 +92,7 @@ def lines(top: Path = TOP) -> Iterator[str]:
 
 
 class ShowVersion(argparse.Action):
-    """The word `--version`: tells it, and ends with status 0."""
+    """The word `--version`: prints it, and ends with status 0."""
 
     def __init__(self, option_strings: Sequence[str], dest: str, **named: Any):
         super().__init__(option_strings, dest=argparse.SUPPRESS, nargs=0, **named)

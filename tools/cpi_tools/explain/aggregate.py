@@ -33,7 +33,7 @@ def mark_text(quote: Optional[Frozen], has_ended: bool = False) -> Message:
 
 
 def who_sent(sources: Sources, series: Series, month: int, quote: Frozen) -> Message:
-    """Who sent a frozen quote, with its receipt where the quote still stands."""
+    """The sender of a frozen quote, with its receipt if the quote is still stored."""
     found = sources.sent.get((series, month))
     if found is None:
         holder = sources.holder(series, month)
@@ -79,7 +79,7 @@ def base_line(sources: Sources, series: Series) -> Line:
 
 
 def quote_line(sources: Sources, series: Series) -> Line:
-    """What was found of a series in the month."""
+    """A series' finding in the month."""
     quote, name = sources.own.frozen.get(series), message("price of {series}", series=Code(slot_text(series)))
     if quote is None:
         holder = sources.holder(series, sources.month)
@@ -200,7 +200,7 @@ def index_lines(sources: Sources, code: str, sample: Sequence[Series]) -> list[L
 
 
 def aggregate_parts(sources: Sources, code: str) -> list[Part]:
-    """The parts of an aggregate, from its index down to what was found."""
+    """The parts of an aggregate, from its index down to its findings."""
     sample = sources.samples[code]
     index = Part(
         message("Elementary index"),
@@ -236,7 +236,7 @@ def carried_parts(sources: Sources, code: str, sample: Sequence[Series]) -> list
 
 
 def found_parts(sources: Sources, sample: Sequence[Series]) -> list[Part]:
-    """What was found of a sample, in the month, the month before, and the link month."""
+    """A sample's findings in the month, the month before, and the link month."""
     link, month = month_of(link_month(sources.month)), month_of(sources.month)
     return [
         Part(

@@ -60,7 +60,7 @@ def run(chosen: argparse.Namespace) -> int:
 
 
 def told_life(life: Life, html: Optional[Path], teller: Teller) -> int:
-    """Prints the life of a series, and writes its page where that is asked."""
+    """Prints the life of a series, and writes its page if asked to."""
     if html:
         with page_at(html) as explanation_pages:
             explanation_pages.write_life(life, html, teller)
@@ -70,7 +70,7 @@ def told_life(life: Life, html: Optional[Path], teller: Teller) -> int:
 
 
 def told_one(sources: Sources, chosen: argparse.Namespace, teller: Teller) -> int:
-    """Prints the lines of a node, and writes its page where that is asked."""
+    """Prints the lines of a node, and writes its page if asked to."""
     found = explained(sources, chosen.code)
     if chosen.html:
         with page_at(chosen.html) as explanation_pages:
@@ -80,7 +80,7 @@ def told_one(sources: Sources, chosen: argparse.Namespace, teller: Teller) -> in
 
 
 def told_all(sources: Sources, chosen: argparse.Namespace, teller: Teller) -> int:
-    """Looks at each line of each node, one node after the other, and writes all pages where that is asked."""
+    """Checks each line of each node, one node after the other, and writes all pages if asked to."""
     if chosen.html:
         from .explanation_pages import FIRST_PAGE, write_all
 
@@ -105,7 +105,7 @@ class Count(NamedTuple):
 
 
 def counted_lines(explanations: Iterable[Explanation]) -> Count:
-    """The counts of some explanations, of which one at a time is held; each line that isn't true is told."""
+    """The counts of some explanations, one of which is held at a time; each line that isn't true is reported."""
     nodes = expressions = untrue = 0
     for each in explanations:
         nodes += 1
@@ -123,8 +123,8 @@ def told_faults(it: Explanation) -> int:
 
 @contextlib.contextmanager
 def page_at(to: Path) -> Iterator[ModuleType]:
-    """What writes pages, where a page can stand; they can be read by their owner alone, since they have prices of shops
-    in them."""
+    """The writer of pages, if a page can be there; only their owner can read them, since they contain prices of
+    shops."""
     from ..text import page_templates as all_pages
     from . import explanation_pages  # (their package is needed for pages alone)
 

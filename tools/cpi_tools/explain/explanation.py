@@ -21,7 +21,7 @@ from .sentences import sentences_of
 def explained(sources: Sources, code: str) -> Explanation:
     """All lines of a node in the release.
 
-    Raises NotExplained where the table has no such node, or where a row that it comes from isn't stored.
+    Raises NotExplained if the table has no such node, or if a row from which it comes isn't stored.
     """
     if code not in sources.own.levels:
         places: dict[str, object] = {"month": month_of(sources.month), "rows": whole(len(sources.own.levels))}
@@ -71,7 +71,7 @@ def figures_of(sources: Sources, code: str) -> list[Figure]:
 
 
 def facts_of(sources: Sources, code: str) -> Iterator[Message]:
-    """What was decided about the month: its revisions, its carry list, and hand-overs."""
+    """The decisions about the month: its revisions, its carry list, and hand-overs."""
     own = sources.own.release
     frozen_at, publishes = sources.office.frozen_moments()[own[:2]]
     moments = {"frozen": moment_of(frozen_at), "moment": moment_of(publishes)}

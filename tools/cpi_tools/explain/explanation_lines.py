@@ -23,9 +23,9 @@ WITHIN = message("within the year; the link month is 100")
 
 
 class Line:
-    """A figure: its name, the expression that gives it (none where it is given), and its value (None where there is
-    none); what it is in words, the row of the file that holds the value, whether it is what is published, which
-    aggregate should be on the row's carry list and isn't, and the amount of money that the value is, if it is one."""
+    """A figure: its name, the expression that gives it (none if it is given), and its value (None if there is none);
+    its description, the row of the file that contains the value, whether it is the published one, which aggregate
+    should be on the row's carry list and isn't, and the value as an amount of money, if it is one."""
 
     def __init__(
         self,
@@ -50,7 +50,7 @@ class Line:
 
     @property
     def value_text(self) -> str:
-        """The value as a text; empty where there is none."""
+        """The value as a text; empty if there is none."""
         return "" if self.value is None else str(self.value)
 
     @property

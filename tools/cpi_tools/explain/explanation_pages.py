@@ -1,5 +1,5 @@
-"""Pages of explanations: one a subclass, with its aggregates on it, and one for each node above; linked where all are
-written."""
+"""Pages of explanations: one for each subclass, with its aggregates on it, and one for each node above; linked if all
+are written."""
 
 from __future__ import annotations
 
@@ -31,12 +31,12 @@ def page_of(code: str) -> str:
 
 
 def on_page(sources: Sources, node: str) -> list[str]:
-    """The nodes of a page: a subclass has its aggregates behind it."""
+    """The nodes of a page: a subclass is followed by its aggregates."""
     return [code for code in sources.own.levels if page_of(code) == node]
 
 
 def write_one(sources: Sources, code: str, to: Path, teller: Teller = ENGLISH) -> list[Explanation]:
-    """Writes the page that a node is on, which links to no other; what is on it."""
+    """Writes the page of a node, which links to no other; its content."""
     found = [explained(sources, each) for each in on_page(sources, page_of(code))]
     _write(section_pages.environment([TEMPLATES], teller), found, to, None)
     return found
@@ -58,7 +58,7 @@ def write_all(sources: Sources, folder: Path, teller: Teller = ENGLISH) -> Itera
 
 
 def _write(environment: jinja2.Environment, found: Sequence[Explanation], to: Path, linked: Optional[Sources]) -> None:
-    """Writes a page. `linked` is given where the pages of the other nodes lie beside it."""
+    """Writes a page. `linked` is given if the pages of the other nodes are next to it."""
     head = found[0]
     above = [*at_and_above(head.code)][:0:-1] if linked else []
     titles = linked.plan.titles if linked else {}

@@ -1,4 +1,4 @@
-"""The life of a series, month by month: who priced it, what was found, what it counted as, and how."""
+"""The life of a series, month by month: who priced it, the finding, the price that counted, and how."""
 
 from __future__ import annotations
 
@@ -16,7 +16,7 @@ from .release_sources import NotExplained
 
 
 class MonthOfSeries(NamedTuple):
-    """A series in a month's latest release: who had it, what was frozen of it, and what it counted as."""
+    """A series in a month's latest release: its holder, its frozen quote, and the price that counted."""
 
     release: Release
     holder: Assignment
@@ -43,7 +43,7 @@ def series_in(office: StoredOffice, place: tuple[int, int]) -> tuple[Series, lis
 
 
 def life_of(office: StoredOffice, place: tuple[int, int], until: int) -> Life:
-    """The life of the series that a slot has, up to a month. Raises NotExplained where there is no such slot."""
+    """The life of the series that a slot has, up to a month. Raises NotExplained if there is no such slot."""
     series, held = series_in(office, place)
     latest = {it.month: it for it in office.releases() if it.month <= until}
     frozen, carried = office.frozen_of(series), office.carried_of(series)

@@ -15,7 +15,7 @@ TENTHS = message("tenths of a percent")
 
 
 def chained_level_of(month: Month, revision: int) -> Message:
-    """Where a level is from."""
+    """The source of a level."""
     return message("chained level of {month}, revision {revision}", month=month, revision=revision)
 
 

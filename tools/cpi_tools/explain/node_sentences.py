@@ -38,7 +38,7 @@ def sentences_of_aggregates(sources: Sources, node: str) -> Iterator[Message]:
 
 
 def has_moved(sources: Sources, code: str) -> bool:
-    """Whether an aggregate moved what is above it in the month."""
+    """Whether an aggregate moved the nodes above it in the month."""
     own = sources.own.levels[code]
     return own.weight > 0 and own.within != index_before(sources, code)
 
@@ -66,7 +66,8 @@ def imputed_of(sources: Sources, sample: Sequence[Series]) -> list[Series]:
 
 
 def samples_part(sources: Sources, node: str) -> Part:
-    """How many prices a node rests on, how many of them are imputed, and in how many outlets they were looked for."""
+    """The number of a node's prices, how many of them are imputed, and in how many outlets collectors searched for
+    them."""
     samples = [sources.samples[code] for code in below(sources, node)]
     counts, imputed = [len(it) for it in samples], [len(imputed_of(sources, it)) for it in samples]
     outlets = len(outlets_of(sources, (series for sample in samples for series in sample)))

@@ -35,7 +35,7 @@ class NotExplained(Fault):
 
 
 class Sent(NamedTuple):
-    """A quote that stands now: who had the slot, the quote and its receipt."""
+    """A stored quote: who had the slot, the quote and its receipt."""
 
     slot: Assignment
     quote: Quote
@@ -43,7 +43,7 @@ class Sent(NamedTuple):
 
 
 class Month:
-    """What is stored of a release: carried prices, frozen quotes and the rows of its table."""
+    """The stored parts of a release: carried prices, frozen quotes and the rows of its table."""
 
     def __init__(self, office: StoredOffice, release: Release):
         self._office, self.release = office, release
@@ -76,7 +76,7 @@ def _no_table(month: int) -> Message:
 class Sources:
     """A release of a month, the months that it was computed from, the survey, and how amounts of money are written.
 
-    Raises NotExplained where the month isn't frozen, hasn't that revision, or has no table.
+    Raises NotExplained if the month isn't frozen, lacks that revision, or has no table.
     """
 
     def __init__(self, office: StoredOffice, month: int, revision: Optional[int] = None, money: Money = Money()):
@@ -137,7 +137,7 @@ class Sources:
 
     @cached_property
     def year_before(self) -> dict[str, Level]:
-        """The table of twelve months before; empty where there is none."""
+        """The table of twelve months before; empty if there is none."""
         found = self.latest(self.month - 100)
         return found.levels if found else {}
 
@@ -176,7 +176,7 @@ class Sources:
 
     @cached_property
     def sent(self) -> dict[tuple[Series, int], Sent]:
-        """The quotes that stand now for the month and for the link month, by series and month."""
+        """The quotes now stored for the month and for the link month, by series and month."""
         found: dict[tuple[Series, int], Sent] = {}
         for month in (self.month, link_month(self.month)):
             quotes, receipts = self.office.quotes(month), self.office.receipts(month)

@@ -40,7 +40,7 @@ def item_words(sources: Sources, series: Series) -> Message:
 
 
 def outlet_words(sources: Sources, series: Series) -> Worded:
-    """Where a series is priced."""
+    """The outlet of a series."""
     return of_others(sources.outlets[sources.holder(series, sources.month).outlet])
 
 

@@ -1,4 +1,5 @@
-"""Pictures as SVG, and bars for the rows of a table. Floats are made here alone, and no figure is read off a picture.
+"""Pictures as SVG, and bars for the rows of a table. Only this module makes floats, and no figure is read off a
+picture.
 
 Each picture has a title and a description, which a screen reader reads out. It is 400 units wide and is shown at 300 to
 560 pixels, so that its letters stay readable on a telephone. Names of things stand outside of the picture, in the page:
@@ -32,7 +33,7 @@ WIDEST = 24
 """How wide a column is at most, however few there are."""
 
 OWN, OTHER = "own", "other"
-"""The classes of a line: what the picture is of, and what stands beside it, which is broken."""
+"""The classes of a line: the item's own, and the compared one, which is broken."""
 
 
 def signed(value: float) -> str:
@@ -52,8 +53,8 @@ class Picture(NamedTuple):
 
 
 class Line(NamedTuple):
-    """A line of a picture: OWN or OTHER, and a value for each month, None where there is a gap. `last` is its last value
-    as a text, which is written next to it: a float could be rounded to another one."""
+    """A line of a picture: OWN or OTHER, and a value for each month, None for a gap. `last` is its last value as a
+    text, which is written next to it: a float could be rounded to another one."""
 
     kind: str
     values: Sequence[Optional[float]]
@@ -75,7 +76,7 @@ def steps(low: float, high: float, most: int = 6) -> list[float]:
 
 
 def ticked(value: float) -> str:
-    """The number behind a mark of an axis: `0`, `2.5`, `−1`."""
+    """The number next to a mark of an axis: `0`, `2.5`, `−1`."""
     text = f"{value:.1f}".replace("-", "\u2212")
     text = text[:-2] if text.endswith(".0") else text
     return "0" if text == "\u22120" else text
@@ -90,7 +91,7 @@ class Frame(NamedTuple):
     speech: Speech
 
     def x(self, at: float) -> float:
-        """Where the middle of a month is; `at` counts months."""
+        """The middle of a month; `at` counts months."""
         return _x(at, len(self.months))
 
     def y(self, value: float) -> float:
@@ -126,7 +127,7 @@ def _x(at: float, count: int) -> float:
 
 @lru_cache(maxsize=64)
 def _xs(count: int) -> Sequence[str]:
-    """Where the middle of each of so many months is, as it is written."""
+    """The middle of each of so many months, as it is written."""
     return [f"{_x(at, count):.1f}" for at in range(count)]
 
 
@@ -207,7 +208,7 @@ def _joined(low: float, high: float, values: tuple[float, ...]) -> str:
 
 
 _beside = lru_cache(maxsize=1024)(_joined)
-"""The same of what stands beside, which is one line in thousands of pictures; many of them have the same marks."""
+"""The same for the compared line, which is one line in thousands of pictures; many of them have the same marks."""
 
 
 def _last(frame: Frame, line: Line, places: Collection[float]) -> Iterator[str]:
@@ -277,7 +278,7 @@ def columns(picture: Picture, months: Sequence[str], values: Sequence[Optional[f
 
 @lru_cache(maxsize=64)
 def _lefts(count: int, wide: float) -> Sequence[str]:
-    """Where each of so many columns begins."""
+    """The left edge of each of so many columns."""
     return [f"M{_x(at, count) - wide / 2:.1f} " for at in range(count)]
 
 
@@ -303,7 +304,7 @@ _steps = lru_cache(maxsize=1024)(steps)
 
 
 class Bar(NamedTuple):
-    """A bar of a row: where it begins and how long it is, in percent of the track that all rows share."""
+    """A bar of a row: its start and its length, in percent of the track that all rows share."""
 
     start: str
     width: str
@@ -318,7 +319,7 @@ class Track(NamedTuple):
 
 
 def track(values: Sequence[float]) -> Track:
-    """The bars of some values, all on one scale; names and figures stand in cells of their own beside them."""
+    """The bars of some values, all on one scale; names and figures are in cells next to them."""
     low, high = min(0.0, *values, 0.0), max(0.0, *values, 0.0)
     span = (high - low) or 1.0
 
@@ -332,10 +333,10 @@ def track(values: Sequence[float]) -> Track:
 # ---- the same bars as a picture
 
 BARS_TOP, LABEL_LINE, BAR_HIGH, BAR_ROOM = 4, 16, 9, 12
-"""What is left free above all bars, how high a line of a label is, a bar, and what is left free below it."""
+"""The free space above all bars, the height of a line of a label and of a bar, and the free space below it."""
 
 VALUE_ROOM = 60
-"""What is kept free for the value next to a label."""
+"""The free space for the value next to a label."""
 
 
 class Labelled(NamedTuple):

@@ -1,8 +1,8 @@
 """CSV files that people open in a spreadsheet: UTF-8, RFC 4180, lines ended by LF.
 
-A spreadsheet takes a text that begins with `=`, `+`, `-`, `@` (also of full width), a tab or a carriage return as a
-formula, and a formula can send elsewhere what is next to it. A program reads the same text as it is. So a text is
-written as it is, and a line tells how many begin so; by `--safe-csv` an apostrophe is written before each of them, and
+A spreadsheet runs a text that begins with `=`, `+`, `-`, `@` (also of full width), a tab or a carriage return as a
+formula, and a formula can send nearby cells elsewhere. A program reads the same text as it is. So a text is written as
+it is, and a line says how many begin like this; with `--safe-csv` an apostrophe is written before each of them, and
 nothing computes it. A number is no formula, and neither is a sign with nothing after it, such as a dash in an empty
 cell. Files in the bytes of `cpi`, SDMX and records have none of this: programs read them.
 """
@@ -62,7 +62,7 @@ def is_safe() -> bool:
 
 
 class Cells(dict[str, str]):
-    """Texts of others as they are written in a cell, each looked at once."""
+    """Texts of others as they are written in a cell, each checked once."""
 
     def __init__(self) -> None:
         super().__init__()
@@ -112,8 +112,8 @@ def add_safe_csv(words: argparse.ArgumentParser) -> None:
 
 @contextlib.contextmanager
 def formulas_told(tool: str, is_safe: Optional[bool]) -> Iterator[None]:
-    """Meanwhile CSV files are written so; at the end a line tells how many texts a spreadsheet would compute. `is_safe`
-    is None of a tool without the word `--safe-csv`."""
+    """Meanwhile CSV files are written in this way; at the end a line says how many texts a spreadsheet would run.
+    `is_safe` is None of a tool without the word `--safe-csv`."""
     formulas = Formulas(bool(is_safe))
     before = _of_run.set(formulas)
     try:

@@ -1,7 +1,7 @@
 """Places of texts that a language joins to the word before them, as French does: "d'octobre 2025", "de mars 2025".
 
-A translation has `{of_month}` where its language would have "de {month}"; the page fills in `month`, as for the source.
-The same holds for each other place. `publish/site/assets/spoken.js` has the rule for the scripts of the site.
+A translation contains `{of_month}` if its language would write "de {month}"; the page fills in `month`, as for the
+source. The same holds for each other place. `publish/site/assets/spoken.js` has the rule for the scripts of the site.
 
 A translation that begins with a month has `{Month}`, since French and Spanish write months with a small letter: a heading
 is "Octobre 2026".
@@ -42,7 +42,7 @@ def begun(text: str) -> str:
 
 
 def is_begun(name: str) -> bool:
-    """Whether a text begins with what is in a place of this name."""
+    """Whether a text begins with the value of a place of this name."""
     return name[:1].isupper()
 
 
@@ -52,7 +52,7 @@ def plain_name(name: str) -> str:
 
 
 class Places(dict[str, Any]):
-    """What is in the places of a text, by their names, with the word before it, and with a capital letter."""
+    """The values of a text's places, by their names, with the word before it, and with a capital letter."""
 
     def __init__(self, places: Mapping[str, Any]):
         super().__init__(places)

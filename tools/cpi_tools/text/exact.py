@@ -65,7 +65,7 @@ def points(millionths: int, digits: int = 6) -> str:
 
 
 def tenths(value: Optional[int]) -> str:
-    """Tenths of a percent as a table prints them, `-0.3`; empty where there is no change."""
+    """Tenths of a percent as a table prints them, `-0.3`; empty if there is no change."""
     if value is None:
         return ""
     return fixed(value, 1)

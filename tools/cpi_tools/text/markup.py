@@ -11,12 +11,12 @@ FORBIDDEN = re.compile("[^\t\n\r\x20-\ud7ff\ue000-\ufffd\U00010000-\U0010ffff]")
 
 
 def text_of(text: str) -> str:
-    """A text as it stands between elements; what XML can't have is the character of replacement."""
+    """A text as it is between elements; a character that XML can't contain becomes the replacement character."""
     return escape(FORBIDDEN.sub("\ufffd", text))
 
 
 def attributes_of(named: Mapping[str, str]) -> str:
-    """Attributes of an element, each behind a space; what is empty is left out."""
+    """Attributes of an element, each after a space; empty ones are left out."""
     return "".join(f" {name}={quoteattr(FORBIDDEN.sub(chr(0xFFFD), value))}" for name, value in named.items() if value)
 
 

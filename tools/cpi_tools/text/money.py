@@ -15,7 +15,7 @@ AMOUNT = "{amount} {currency}"
 
 
 class Money(NamedTuple):
-    """How many minor units make a unit of money, and what is written after an amount (nothing, if it is empty)."""
+    """How many minor units make a unit of money, and the text after an amount (nothing, if it is empty)."""
 
     minor: int = 100
     currency: str = ""

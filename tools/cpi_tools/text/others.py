@@ -22,7 +22,7 @@ OPENS, CLOSES = "\u2068", "\u2069"
 """FIRST STRONG ISOLATE and POP DIRECTIONAL ISOLATE."""
 
 LEFT_TO_RIGHT = "\u2066"
-"""LEFT-TO-RIGHT ISOLATE: between it and CLOSES are figures and codes, whose signs stay where they are."""
+"""LEFT-TO-RIGHT ISOLATE: between it and CLOSES are figures and codes, whose signs stay in their order."""
 
 PARAGRAPHS = re.compile("[\n\r\x1c-\x1e\x85\u2029]")
 """What begins a paragraph, and so ends each isolate."""
@@ -96,14 +96,14 @@ def worded(form: str, **places: object) -> Worded:
 
 
 def _in_place(named: Places, name: str) -> object:
-    """What belongs in a place; a text of others stays one behind the word that is joined to it."""
+    """The value of a place; a text of others stays one after the word that is joined to it."""
     plain = None if name in named else named.get(name.removeprefix(OF))
     return Worded(before(plain) + "{}", plain) if isinstance(plain, Worded) else named[name]
 
 
 @functools.lru_cache(maxsize=1_000)
 def parsed(form: str) -> list[tuple[str, Optional[str]]]:
-    """Each part of a form: a text, and the name of the place behind it, None if there is none."""
+    """Each part of a form: a text, and the name of the place after it, None if there is none."""
     return [(literal, name) for literal, name, _, _ in Formatter().parse(form)]
 
 

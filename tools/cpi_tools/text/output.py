@@ -56,7 +56,7 @@ class Output(io.TextIOBase):
         return self._stream.fileno() if self._stream else super().fileno()
 
     def goes_nowhere(self) -> None:
-        """What is written from here on, and what is still to be written, goes nowhere."""
+        """Everything written from here on, and everything still to be written, goes nowhere."""
         with contextlib.suppress(OSError):
             os.dup2(os.open(os.devnull, os.O_WRONLY), self.fileno())
 

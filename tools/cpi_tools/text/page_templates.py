@@ -35,11 +35,11 @@ from .whole_files import in_place_of
 TEMPLATES = Path(__file__).resolve().parent / "templates"
 
 NO_FIGURE = "\u2013"
-"""What a page shows where there is none."""
+"""The text that a page shows for a missing value."""
 
 
 def percent(change: Optional[int]) -> str:
-    """`+0.3 %` of 3 tenths of a percent, or a dash where there is no change."""
+    """`+0.3 %` for 3 tenths of a percent, or a dash if there is no change."""
     return NO_FIGURE if change is None else f"{exact.with_sign(exact.tenths(change))}\u202f%"
 
 
@@ -62,7 +62,7 @@ FILTERS: Mapping[str, Callable[..., Any]] = {
 
 
 def style() -> Markup:
-    """The style of all pages as one text, for a page that stands alone."""
+    """The style of all pages as one text, for a page in a file of its own."""
     return Markup((TEMPLATES / "style.css").read_text(encoding="utf-8"))
 
 
@@ -127,7 +127,7 @@ PAGE_BEGINS = b"<!DOCTYPE html>"
 
 
 def refuse_other_files(to: Path) -> None:
-    """Raises Fault where something stands that is no page, so that a slip in a name doesn't cost it."""
+    """Raises Fault if another file than a page is there, so that a slip in a name doesn't cost it."""
     try:
         with to.open("rb") as file:
             is_page = file.read(len(PAGE_BEGINS)) == PAGE_BEGINS
@@ -181,8 +181,8 @@ class Inlined(InternationalizationExtension):
 
 
 def _placed(variables: Mapping[str, nodes.Expr], name: str) -> nodes.Expr:
-    """What is in a place of a text; with the word before it, if the language joins the two, and with a capital letter, if
-    the text begins with it."""
+    """The value of a place in a text; with the word before it, if the language joins the two, and with a capital
+    letter, if the text begins with it."""
     if name in variables:
         return variables[name]
     if is_begun(name):

@@ -76,7 +76,7 @@ class Teller:
         }
 
     def render(self, value: object) -> object:
-        """What a page has for a text, or for what is in a place of one. A text of others stays as it is."""
+        """A page's value for a text, or for a place in one. A text of others stays as it is."""
         if isinstance(value, Message):
             if value.is_english and self.speech.language.tag == SOURCE:
                 return value

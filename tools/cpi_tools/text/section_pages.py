@@ -21,7 +21,7 @@ from .speech import marked
 
 
 def style() -> Markup:
-    """The style of all pages, and what sections have beside it."""
+    """The style of all pages, and the additions for sections."""
     return page_templates.style() + Markup((page_templates.TEMPLATES / "sections.css").read_text(encoding="utf-8"))
 
 

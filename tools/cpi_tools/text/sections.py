@@ -15,7 +15,7 @@ Cell = Union[str, int, None]
 Row = Sequence[Cell]
 
 TEXT, NUMBER, CODE = "", "n", "code"
-"""The classes of a column: a number stands to the right."""
+"""The classes of a column: a number is on the right."""
 
 
 class Column(NamedTuple):
@@ -37,8 +37,8 @@ def columns(*names: str) -> tuple[Column, ...]:
 
 
 class Section(NamedTuple):
-    """A table of a report. Its key names its CSV file, `shown` is how many rows a page shows, `empty` what is said
-    where it has none, and one that isn't open is folded."""
+    """A table of a report. Its key names its CSV file, `shown` is how many rows a page shows, `empty` is the text if
+    there are none, and one that isn't open is folded."""
 
     key: str
     title: Union[Message, str]

@@ -1,7 +1,7 @@
 """How a page that a tool writes says texts, figures, months and moments: here in English, in others by `speech_cldr`.
 
-A figure comes as it is made, in ASCII with a point, perhaps with the sign of mathematics: `105.7`, `+0.3`, `−0.3`. Texts
-come by gettext; a place of a text such as `{month}` is filled with what is handed in by its name.
+A figure comes as it is made, in ASCII with a point, perhaps with the sign of mathematics: `105.7`, `+0.3`, `−0.3`.
+Texts come from gettext; an argument of that name fills a place of a text such as `{month}`.
 """
 
 from __future__ import annotations
@@ -82,7 +82,7 @@ class Speech:
 
     @property
     def signs(self) -> dict[str, str]:
-        """What stands in a figure for each sign of ASCII, if another one does."""
+        """The character in a figure for each sign of ASCII, if it is another one."""
         return {}
 
     # ---- months and moments
@@ -132,7 +132,7 @@ def speech_of(code: str, digits: str = LATIN) -> Speech:
 
 
 def marked(text: str) -> str:
-    """A text that is translated where it is used: only a mark for the catalogues."""
+    """A text that is translated when it is used: only a mark for the catalogues."""
     return text
 
 

@@ -31,7 +31,7 @@ WRITTEN = re.compile(
     r"<[^>]*>|\{[a-z_]+\}|%\([a-z_]+\)s|[A-Za-z-]*[A-Z]{2}[A-Za-z-]*\s[0-9]+(?:\.[0-9]+)*|[0-9]+(?:\.[0-9]+){2,}"
     r"|(?:(?<=&nbsp;)|(?<![A-Za-z0-9.,:/#&;_-]))(?P<number>[0-9]+(?:[.,][0-9]+)*)(?![A-Za-z0-9_/-]|[.:][A-Za-z0-9])"
 )
-"""What is passed by in a text of a catalogue, and a number in it. Tags and places are passed by, a name in capitals with
+"""The ignored parts of a catalogue's text, and a number in it. Tags and places are passed by, a name in capitals with
 its number, as COICOP 2018, and a code such as 01.1.1; a number within a name, as SHA-256, is none."""
 
 
@@ -64,7 +64,7 @@ class Cldr(Speech):
         return str(format_list(texts, locale=self._locale))
 
     def inner(self, title: str) -> str:
-        """A title as it is: where a language has small letters, CLDR doesn't say."""
+        """A title as it is: CLDR doesn't say which words a language writes with small letters."""
         return title
 
     def figure(self, text: str) -> str:

@@ -93,7 +93,7 @@ class ToolWords(argparse.ArgumentParser):
     """The parser of a tool's words, whose help is written in lines as it is printed."""
 
     status_of_error = 2
-    """The exit status where the words are refused."""
+    """The exit status if the arguments are refused."""
 
     def __init__(self, **named: Any):
         super().__init__(formatter_class=argparse.RawDescriptionHelpFormatter, **named)
@@ -153,7 +153,7 @@ def a_slot(text: str) -> tuple[int, int]:
 
 
 class Progress:
-    """Tells on standard error what is being done, where that is a terminal and the work takes longer than a second.
+    """Reports the current step on standard error, if that is a terminal and the work takes longer than a second.
 
     A line says the work, how far it is, and its seconds so far; it is written once a second, over the one before, and
     is gone at the end.
@@ -167,7 +167,7 @@ class Progress:
         self._thread: Optional[threading.Thread] = None
 
     def now(self, what: str) -> None:
-        """What is done from here on."""
+        """The current step from here on."""
         self.what = what
 
     def __enter__(self) -> Progress:
@@ -226,7 +226,7 @@ def _end(number: int, _: Optional[FrameType]) -> None:
 
 
 def needs(module: str, package: str) -> None:
-    """Raises Fault where this Python hasn't a package that one tool needs, with what to install."""
+    """Raises Fault if this Python lacks a package that one tool needs, with the package to install."""
     if importlib.util.find_spec(module) is None:
         raise Fault(
             f"{sys.executable} has no {module}: Debian's {package} has it for /usr/bin/python3,"

@@ -21,8 +21,8 @@ class BadToml(Exception):
 
 
 class Toml(NamedTuple):
-    """The words of a file, and the line of each key behind those of its tables. A table of an array has its number, from
-    0 on, behind its name."""
+    """The words of a file, and the line of each key, below the name of its table. A table of an array has its number,
+    from 0 on, after its name."""
 
     path: Path
     words: Mapping[str, Any]

@@ -12,8 +12,8 @@ from pathlib import Path
 
 @contextlib.contextmanager
 def in_place_of(to: Path, beside: Path) -> Iterator[None]:
-    """The file that is written at `beside` meanwhile takes the place of another one; after a fault it is removed. An
-    OSError has the name of that place."""
+    """The file that is written at `beside` meanwhile replaces another one; after a fault it is removed. An OSError has
+    the name of that place."""
     try:
         yield
         beside.replace(to)
@@ -42,8 +42,8 @@ def write_whole(to: Path, content: bytes, mode: int) -> None:
 
 
 def link_or_copy(path: Path, to: Path) -> None:
-    """A second link to a file, at a place where nothing is; a copy if the file system or its rules have no links.
-    Neither file may be written in place from then on. Raises OSError."""
+    """A second link to a file, at a free place; a copy if the file system or its rules have no links. Neither file may
+    be written in place from then on. Raises OSError."""
     try:
         os.link(path, to)
     except OSError:

@@ -31,13 +31,13 @@ LOCALHOST = "localhost"
 
 
 DESK = "127.0.0.1:8090"
-"""Where the desk's application listens if nobody says otherwise."""
+"""The address of the desk's application if nobody names another one."""
 
 
 class Place(NamedTuple):
-    """Where a front listens and what it serves: its name, address and port; where plain HTTP comes in (a port with its
-    address, or a socket), the port of the office, and the folder of its pages. `desk` is where the desk's application
-    listens: an address with its port, or `unix:` and the path of a socket.
+    """A front's listener and content: its name, address and port; where plain HTTP comes in (a port with its address,
+    or a socket), the port of the office, and the folder of its pages. `desk` is the address of the desk's application:
+    an address with its port, or `unix:` and the path of a socket.
 
     `config` is the `config.js` of the pages, `published` the folder of the website, and `calendar` the file of `cpi-tools
     calendar`; without them they are those of the folder of the pages.
@@ -60,7 +60,7 @@ class Place(NamedTuple):
 
 
 def system_program(name: str) -> str:
-    """A program of the system, `/usr/sbin` too; a Fault where it isn't there."""
+    """A program of the system, in `/usr/sbin` too; a Fault if there is none."""
     found = shutil.which(name, path=f"{os.environ.get('PATH', '')}:/usr/sbin:/sbin")
     if not found:
         raise Fault(f"there is no program {name} (Debian has it in {PACKAGES.get(name, name)})")
@@ -77,8 +77,8 @@ PACKAGES: Mapping[str, str] = {"nginx": "nginx-light", "certutil": "libnss3-tool
 def draw_certificate(folder: Path, host: str, days: int = CERTIFICATE_DAYS) -> None:
     """Draws a certificate for one host, `site.pem` with `site.key`, by an authority of its own, `ca.crt`.
 
-    Who trusts the authority trusts nothing else by it: it may speak for this host alone, and its key is thrown away as
-    soon as the certificate is drawn.
+    A person who trusts the authority trusts nothing else through it: it may certify only this host, and its key is
+    thrown away as soon as the certificate is drawn.
     """
     folder.mkdir(mode=0o700, parents=True, exist_ok=True)
     named = names_of(host)
@@ -101,8 +101,8 @@ def draw_certificate(folder: Path, host: str, days: int = CERTIFICATE_DAYS) -> N
 
 
 def keep_certificate(folder: Path, host: str) -> None:
-    """Draws a certificate where the folder has none for this host that is good for some days yet: who trusts the one
-    that is there needn't trust another."""
+    """Draws a certificate if the folder has none for this host that is good for some days yet: a person who trusts the
+    existing one needn't trust another."""
     parts = [folder / name for name in ("ca.crt", "site.pem", "site.key")]
     if all(part.exists() for part in parts):
         output = _openssl(folder, "x509", "-in", "site.pem", "-noout", "-subject", "-nameopt", "multiline")
@@ -138,7 +138,7 @@ def _openssl(folder: Path, *words: str) -> str:
 
 
 def filled(text: str, words: Mapping[str, str]) -> str:
-    """A file of `ops/` with its words between @ signs filled in. A Fault where one is left."""
+    """A file of `ops/` with its words between @ signs filled in. A Fault if one is left."""
     for word, value in words.items():
         text = text.replace(f"@{word}@", value)
     left = re.search(r"@[A-Z]+@", text)
@@ -148,7 +148,7 @@ def filled(text: str, words: Mapping[str, str]) -> str:
 
 
 def configuration(source: Path, folder: Path, place: Place) -> str:
-    """`ops/nginx.conf` for a place; what it writes lies in a folder. It listens at that one address alone."""
+    """`ops/nginx.conf` for a place; what it writes lies in a folder. It listens only at that address."""
     text = "".join(line for line in source.read_text(encoding="utf-8").splitlines(True) if "[::]:" not in line)
     return filled(
         text,
@@ -174,8 +174,8 @@ def configuration(source: Path, folder: Path, place: Place) -> str:
 def whole_configuration(site: str, folder: Path) -> str:
     """The file of an nginx of its own around the servers of a site.
 
-    Root's nginx would give its work to another user, who may not read these folders. A log of all that it has to tell
-    (`info`) would have lines of odd messages in it, and so keys.
+    Root's nginx would give its work to another user, who may not read these folders. A log of all its messages (`info`)
+    would contain lines of odd messages, and so keys.
     """
     user = "user root;\n" if os.geteuid() == 0 else ""
     kinds = ("client_body", "proxy", "fastcgi", "uwsgi", "scgi")
@@ -190,7 +190,7 @@ def whole_configuration(site: str, folder: Path) -> str:
 
 
 class Front:
-    """An nginx of its own, whose files lie in a folder beside the certificate."""
+    """A separate nginx, whose files are in a folder next to the certificate."""
 
     def __init__(self, source: Path, folder: Path, place: Place):
         self.source, self.folder, self.place = source, folder, place
@@ -258,7 +258,7 @@ def free_port(address: str = "127.0.0.1") -> int:
 
 @contextlib.contextmanager
 def standing(front: Front, change: Callable[[str], str] = str) -> Iterator[Front]:
-    """A front that stands meanwhile; `change` is of `Front.start`."""
+    """A front that runs meanwhile; `change` is an argument of `Front.start`."""
     front.start(change)
     try:
         yield front

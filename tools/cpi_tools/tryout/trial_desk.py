@@ -1,4 +1,4 @@
-"""The desk's application in a trial (`ops/try`): a process beside the office, behind the trial's front."""
+"""The desk's application in a trial (`ops/try`): a process next to the office, behind the trial's front."""
 
 from __future__ import annotations
 
@@ -20,7 +20,7 @@ NOTES_MONTHS = 13
 
 
 class Tried(NamedTuple):
-    """What the application of a trial is about: the office's port, file and clock, its own folder and socket, its address
+    """The settings of a trial's application: the office's port, file and clock, its own folder and socket, its address
     behind the front, the language of its pages, or none if it is English, and the website's folder and configuration.
     """
 

@@ -37,8 +37,8 @@ NO_REASONS = "month,revision,reason\n"
 
 
 class TrialSite(NamedTuple):
-    """Where a trial's website is, such as `https://localhost:8443/published/`, the file with the reasons of its revisions,
-    which is made if it isn't there, and the language that its pages are in first, and in English too."""
+    """The address of a trial's website, such as `https://localhost:8443/published/`, the file with the reasons of its
+    revisions, which is made if it isn't there, and the first language of its pages, which are in English too."""
 
     address: str
     reasons: Path
