@@ -84,8 +84,8 @@ def read_note(path: Path) -> Optional[Note]:
 
 
 def last_line_of(path: Path) -> str:
-    """The number and the SHA-256 of the last line of the desk's log, `line 17, SHA-256 ..`, or `no line`: one that a crash
-    cut off has no number. Raises BackupFailed if the file can't be read."""
+    """The number and the SHA-256 of the last line of the desk's log, `line 17, SHA-256 ..`, or `no line`: a line that a
+    crash cut off has no number. Raises BackupFailed if the file can't be read."""
     try:
         lines = path.read_bytes().split(b"\n")[:-1]
     except OSError as fault:
@@ -122,7 +122,7 @@ def settle(cpi: Cpi, copy: Path, of: Path) -> int:
 
 
 def remove_log(copy: Path) -> None:
-    """Removes the log of a copy that the program has closed. Raises CpiFailed where something is left in it."""
+    """Removes the log of a copy that the program has closed. Raises CpiFailed if a part of the log is left in it."""
     if has_frames(copy):
         raise CpiFailed("cpi ended, and its log isn't in the file")
     log_beside(copy).unlink(missing_ok=True)
@@ -142,7 +142,7 @@ def back_up(
     """Makes the backup `to` of an office's file, and a note next to it, with the last line of `desk_log` if there is
     one; the note. `desk` is the folder of the desk's pages, which goes along.
 
-    `is_replacing` lets it replace an existing file. `patience` (seconds) and `pause` (a process) are those of
+    `is_replacing` lets it replace an existing file. `patience` (seconds) and `pause` (a process) are arguments of
     `right_copy`. Raises BackupFailed, CopyFailed or CpiFailed, and leaves nothing, if it wasn't made.
     """
     now = progress.now if progress else lambda _: None
@@ -237,7 +237,7 @@ def _put(copy: Path, written: Path, to: Path, is_replacing: bool, archive: Optio
 
 
 def _rename_to_new(path: Path, to: Path) -> None:
-    """Renames a file to a name that nothing has, not even something that came a moment ago."""
+    """Renames a file to a free name, even if another file took it a moment ago."""
     try:
         os.link(path, to)
     except FileExistsError:

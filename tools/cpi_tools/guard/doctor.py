@@ -34,7 +34,7 @@ from .other_logs import other_log_of
 from .promote import HERE
 
 HALF = 50
-"""From so many percent on that the next open takes of what it may take, there is a warning, as in the probe."""
+"""If the next open takes so many percent of its limit, there is a warning, as in the probe."""
 
 LEAST_FREE = 1 << 20
 """With less room on its disk than this an office can't be written for long."""
@@ -47,7 +47,7 @@ OTHERS = (
     (b"\xfd7zXZ", "an xz file"),
     (b"PK\x03\x04", "a zip file"),
 )
-"""What a file may be instead, by its first bytes."""
+"""The kinds of other files, by their first bytes."""
 
 RESTORE = "Restore the last good backup: `cpi-tools restore` puts the file and its log aside"
 DOUBT = "if a backup was put there, the log is that of the file before, and what it has comes into the backup"
@@ -152,7 +152,8 @@ def of_restore(path: Path) -> Iterator[Cause]:
 
 
 def of_access(path: Path, user: User) -> Iterator[Cause]:
-    """What a user may not do that an open needs: enter the folders, read and write file and log, or make the log."""
+    """The missing rights of a user that an open needs: to enter the folders, read and write file and log, or make the
+    log."""
     folders = [*reversed(path.parents), *reversed(path.resolve().parents)]
     with acting_as(user):
         denied = [each for each in folders if not may(each, os.X_OK)]
@@ -174,11 +175,11 @@ def of_access(path: Path, user: User) -> Iterator[Cause]:
 
 
 NEEDS = {"read": 0o400, "write": 0o200, "make the log in": 0o200, "enter": 0o100}
-"""What the owner's part of a mode has if the owner may do something."""
+"""The bits of the owner's part of a mode that let the owner act."""
 
 
 def _denied(path: Path, what: str, user: User) -> tuple[str, str]:
-    """What a user may not do, why, and how that is mended."""
+    """A user's missing right, the reason, and the remedy."""
     owner, mode = owner_and_mode(path)
     folder, _ = owner_and_mode(path.parent)
     word = quote(str(path))
@@ -196,9 +197,9 @@ def _denied(path: Path, what: str, user: User) -> tuple[str, str]:
 
 
 def opener_of(path: Path, named: Optional[str]) -> User:
-    """The user that is to open a file: the one that was named, or the one that runs this program. For root, who may
-    open everything, it is the owner of the folder, as of the folder of a service. Raises Fault if there is no such
-    user, or this one can't take its rights."""
+    """The user that is to open a file: the named one, or the one that runs this program. For root, who may open
+    everything, it is the owner of the folder, as of the folder of a service. Raises Fault if there is no such user, or
+    if this one can't take that user's rights."""
     if named is None:
         folder = path.absolute().parent
         return user_of(folder.stat().st_uid) if os.geteuid() == 0 and folder.is_dir() else this_user()
@@ -283,7 +284,7 @@ def _of_free_memory(path: Path) -> Iterator[Cause]:
 
 
 def of_beginning(path: Path) -> Iterator[Cause]:
-    """Whether a file begins as those of SQLite do. An empty one gets the tables of an office from cpi."""
+    """Whether a file begins as SQLite's files do. An empty one gets the tables of an office from cpi."""
     with path.open("rb") as file:
         begin = file.read(4096)
     if not begin or begin.startswith(MAGIC):
@@ -294,13 +295,13 @@ def of_beginning(path: Path) -> Iterator[Cause]:
 
 
 def _is_text(begin: bytes) -> bool:
-    """Whether the first bytes of a file are a text, of which the last letter may be cut off."""
+    """Whether the first bytes of a file are a text, whose last letter may be cut off."""
     text = begin.decode("utf-8", errors="replace")
     return all(each.isprintable() or each in "\t\r\n" for each in text[:-1]) and text.count("\ufffd", 0, -1) == 0
 
 
 def of_log(path: Path) -> Iterator[Cause]:
-    """Whether its log is that of another file, if that is sure."""
+    """Whether its log surely belongs to another file."""
     if (other := other_log_of(path)) and other.is_sure:
         log = log_beside(path)
         yield Cause(
@@ -311,7 +312,7 @@ def of_log(path: Path) -> Iterator[Cause]:
 
 
 def of_content(path: Path, copy: Path, cpi: Cpi) -> Iterator[Cause]:
-    """What cpi and SQLite say of a copy. Raises CpiFailed if it isn't the file that cpi failed at."""
+    """The messages of cpi and SQLite about a copy. Raises CpiFailed if it isn't the file that cpi failed at."""
     try:
         replies = cpi.open(copy, path, [record(LAST_MOMENT, "public", asked) for asked in ("tables", "items")])
     except CpiFailed as fault:
@@ -351,7 +352,7 @@ def _opens_without_log(path: Path, cpi: Cpi) -> bool:
 
 
 def _of_tables(copy: Path) -> Iterator[Cause]:
-    """What SQLite says of a copy that cpi refused."""
+    """SQLite's message about a copy that cpi refused."""
     try:
         with stored_office(copy) as office:
             tables = {name for (name,) in office.ask("SELECT name FROM sqlite_master WHERE type = 'table'")}
@@ -425,7 +426,7 @@ def add_words(tools: argparse._SubParsersAction[ToolWords]) -> None:
 
 
 def _looked_at_log(path: Path) -> int:
-    """Looks only whether the log is that of another file; the exit status."""
+    """Checks only whether the log belongs to another file; the exit status."""
     try:
         causes = [*of_log(path)]
         other = other_log_of(path)

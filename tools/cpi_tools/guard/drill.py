@@ -101,7 +101,7 @@ def warnings_of(path: Path, counts: Counts) -> Iterator[str]:
 
 def note_of(path: Path, faults: list[str]) -> Optional[Note]:
     """The note next to a copy; a fault if it isn't for these bytes, or isn't a note. A backup is one file, so a log
-    with something in it makes it another state than that of its note."""
+    with data makes it another state than its note's."""
     try:
         note = read_note(path)
         if note and note.sha256 != hash_of(path):
@@ -137,7 +137,7 @@ def desk_faults_of(path: Path, wanted: str) -> list[str]:
 def _printed(cpi: Cpi, copy: Path, faults: list[str]) -> Optional[Printed]:
     """Each table that the program lists, as it prints it; None, and a fault, if it doesn't open the file.
 
-    They are read at the last moment there is, so those under embargo too: they are compared, and never told.
+    They are read at the last possible moment, and so are tables under embargo: they are compared, and never shown.
     """
     try:
         with cpi.session(copy) as session:
@@ -199,7 +199,7 @@ def _stored_faults(office: StoredOffice, counts: Counts) -> Iterator[str]:
 
 
 def computed_faults(office: StoredOffice, printed: Optional[Printed], counts: Counts) -> Iterator[list[str]]:
-    """Computes each release anew and compares it; the faults of each in turn."""
+    """Recomputes each release and compares it; the faults of each in turn."""
     releases, months = office.releases(), Months(office)
     if printed is not None and [*printed] != [release[:2] for release in releases]:
         yield [f"{counted(len(releases), 'release')} stored, {counted(len(printed), 'table')} listed by cpi"]

@@ -1,8 +1,8 @@
 """`cpi-tools follow FILE DEST`: keeps a second copy of an office up to date while `cpi` serves.
 
-Each round looks first whether the place was promoted. If it was, the file of this machine gets a mark next to it, by
-which `cpi-serve` doesn't start, and the follower ends. A round isn't carried if the office is damaged, or doesn't go on
-from the newest copy: then that copy has what the office lost.
+Each round looks first whether the place was promoted. If it was, the file of this machine gets a mark next to it, so
+`cpi-serve` doesn't start, and the follower ends. A round isn't carried if the office is damaged, or doesn't continue
+the newest copy: then that copy contains what the office lost.
 """
 
 from __future__ import annotations
@@ -25,7 +25,7 @@ from .copies.places import Place, kept_for_one, place_of
 from .copies.second_copies import REFUSED, CopyNote, Promotion, State, second_text, write_refusal
 
 EVERY = 20
-"""Seconds from the beginning of a round to that of the next one."""
+"""Seconds from the beginning of a round to the beginning of the next one."""
 
 TOLD_AGAIN = 3600
 """Seconds after which a fault that lasts has one more line."""
@@ -52,7 +52,7 @@ def restoring_beside(office: Path) -> Path:
 
 
 def mark_as_former(office: Path, promotion: Promotion) -> str:
-    """Puts the mark next to an office's file; what it says. Raises OSError."""
+    """Puts the mark next to an office's file; the mark's text. Raises OSError."""
     text = (
         f"{promotion.machine} was promoted {second_text(promotion.promoted)} with the copy of"
         f" {second_text(promotion.copied)} ({promotion.copied})"
@@ -62,14 +62,14 @@ def mark_as_former(office: Path, promotion: Promotion) -> str:
 
 
 class Causes:
-    """Why something isn't carried: each cause is said once, and again each hour while it stays so."""
+    """Why a copy isn't carried: each cause is reported once, and again each hour while it lasts."""
 
     def __init__(self) -> None:
         self._cause, self._said_at = "", 0.0
 
     @property
     def is_said(self) -> bool:
-        """Whether a cause was said that isn't over."""
+        """Whether a reported cause isn't over."""
         return bool(self._cause)
 
     def say(self, text: str, cause: str) -> None:
@@ -86,7 +86,7 @@ class Causes:
 
 
 class Follower:
-    """A follower of an office's file, and what it has told."""
+    """A follower of an office's file, and its reports."""
 
     def __init__(
         self,
@@ -139,8 +139,8 @@ class Follower:
         return ""
 
     def desk_round(self) -> bool:
-        """Carries what changed in the desk's folder, after a round of the office; whether its copy is as it is to be. A
-        fault is said, and holds the office's rounds up in nothing."""
+        """Carries the changes of the desk's folder, after a round of the office; whether its copy is up to date. A
+        fault is reported, and never delays the office's rounds."""
         if not self._desk:
             return True
         try:

@@ -1,6 +1,6 @@
 """`cpi-tools gaps FILE --receipts LIST`: which prices somebody has a receipt for, and the office doesn't have. With
-`--records` it is the same of what the desk sent (`gaps_of_records`), with `--office` of all that the office's old file has
-(`gaps_of_offices`).
+`--records` it checks the desk's sent records in the same way (`gaps_of_records`), with `--office` the whole content of
+the office's old file (`gaps_of_offices`).
 
 After a copy was promoted, or a backup restored, the office knows less than those who sent to it. A receipt counts for
 each collector from 1, so the office gives the same numbers again: a receipt that is there may be of another price. So a
@@ -30,7 +30,7 @@ from .gaps_written import HEADS, because_of_entry, lines_of, rows_by_person, wri
 from .other_logs import other_log_of
 
 MISSING = 3
-"""The exit status if something is missing. A fault has 1, and so has Python if a module isn't there."""
+"""The exit status if anything is missing. A fault has 1, and so has Python if a module isn't there."""
 
 MOST_BYTES = 1 << 26
 """Bytes of a list that are read: more than a million rows."""
@@ -51,7 +51,7 @@ class Sent(NamedTuple):
 
 
 class Gap(NamedTuple):
-    """A row that the office doesn't have, and what it has in its place."""
+    """A row that the office lacks, and the row that it has instead."""
 
     sent: Sent
     because: str
@@ -146,7 +146,7 @@ def gaps(sent: Iterable[Sent], stored: Stored) -> list[Gap]:
 
 
 def _because(row: Sent, there: Optional[Entry]) -> str:
-    """What the office has in place of a row; empty if it has the row, or a later one."""
+    """The office's row in place of a row; empty if it has the row, or a later one."""
     if there and (there[:2] == (row.mark, row.value) or there.receipt > row.receipt):
         return ""
     return because_of_entry(there)
@@ -266,7 +266,7 @@ def _run_of_offices(chosen: argparse.Namespace) -> int:
 
 
 def compared_offices(cpi: Cpi, file: Path, old: Path) -> Lacking:
-    """What an office lacks of its old file; both are read from private copies. Raises Fault."""
+    """The gaps of an office compared with its old file; both are read from private copies. Raises Fault."""
     try:
         if (other := other_log_of(old)) and other.is_sure:
             raise Fault(f"the log next to {old} isn't its own: {other.because}")

@@ -1,12 +1,12 @@
-"""`cpi-tools gaps NEW --office OLD`: what only the old file of an office has, as rows to send.
+"""`cpi-tools gaps NEW --office OLD`: the rows that only the old file of an office contains, as rows to send.
 
-After a promotion, a restore or a cut line two files go on from one office. OLD has answered what NEW hasn't: its prices,
-and its records of the desk.
+After a promotion, a restore or a cut line two files go on from one office. OLD contains answered commands that NEW
+lacks: its prices, and its records of the desk.
 
 **Which of two prices is the later one.** No file has moments of prices. But a collector's receipts count on from those
-that both files have. So whatever differs between the files came after the last common receipt, and the greatest number
-that all differences leave for that receipt is taken for it. A price of OLD is missing if only its own receipt is greater;
-if only that of NEW is, NEW put it right since. If both are greater nobody knows, and a person decides. So it is with
+that both files have. So every difference between the files came after the last common receipt, which is taken to be the
+greatest number that all differences leave for it. A price of OLD is missing if only its own receipt is greater; if only
+NEW's receipt is, NEW has corrected it since. If both are greater nobody knows, and a person decides. So it is with
 records of the desk that both have and that differ, which have no receipts.
 
 A slot that both gave to different series, or a number to different persons, is one too: nothing is sent for it.
@@ -47,7 +47,7 @@ class Entry(NamedTuple):
 
     @property
     def text(self) -> str:
-        """What a person reads of it."""
+        """The report for a person."""
         return f"{self.mark} {self.value}, receipt {self.receipt}"
 
 
@@ -67,8 +67,8 @@ class Missing(NamedTuple):
 
 
 class Different(NamedTuple):
-    """What both have, but not the same: who sent it (`desk`, or the number of a collector), what it is, and how OLD and
-    NEW have it."""
+    """A row that both have with other content: its sender (`desk`, or the number of a collector), its kind, and OLD's
+    and NEW's content."""
 
     by: str
     what: str
@@ -77,8 +77,8 @@ class Different(NamedTuple):
 
 
 class Lacking(NamedTuple):
-    """What NEW lacks: the records of the desk in the order in which an office takes them, the prices by collector, and
-    the freezes, which come after them; what differs; and how many prices NEW put right since."""
+    """NEW's gaps: the records of the desk in the order in which an office takes them, the prices by collector, and the
+    freezes, which come after them; the differences; and how many prices NEW has corrected since."""
 
     records: list[Fields]
     prices: list[Missing]
@@ -93,7 +93,7 @@ class Lacking(NamedTuple):
 
 
 def lacking(old: StoredOffice, new: StoredOffice) -> Lacking:
-    """What one file of an office has and another one lacks. Raises Fault if they are of two offices."""
+    """The rows that one file of an office contains and another one lacks. Raises Fault if they are of two offices."""
     has, knows = known_of(old), known_of(new)
     if has.keys and knows.keys and not {*has.keys.items()} & {*knows.keys.items()}:
         raise Fault("they are of two offices: no collector has the same key in both")
@@ -141,7 +141,7 @@ def body_of(rows: Iterable[Iterable[str]]) -> str:
 
 
 class Registered:
-    """The records of the desk that NEW has, by what one of OLD has in common with the one in its place."""
+    """NEW's records of the desk, by the fields that a record of OLD shares with the one in its place."""
 
     def __init__(self, knows: Known):
         self._knows = knows
@@ -151,7 +151,7 @@ class Registered:
         self._moved = {(way, *row[at : at + 2]): row for row in knows.handovers for way, at in (("from", 0), ("to", 2))}
 
     def here(self, fields: Fields) -> Optional[Fields]:
-        """The record that NEW has in the place of one of OLD; None if it has none."""
+        """NEW's record in the place of a record of OLD; None if it has none."""
         word, first = fields[:2]
         if word == "assign":
             return _after((word,), _same_or_first(fields[1:], self._places.get(fields[1:3], [])))
@@ -187,7 +187,7 @@ def _after(fields: Fields, others: Optional[Fields]) -> Optional[Fields]:
 
 
 def _compared(fields: Fields, here: Optional[Fields]) -> tuple[str, str, str]:
-    """What a record is, and how OLD and NEW have it, None if NEW has another collector. A key is in no text."""
+    """A record's kind, and OLD's and NEW's content, None if NEW has another collector. A key is in no text."""
     word, first = fields[:2]
     if word == "collector" or here is None:
         what = f"{word} {first}" if word == "collector" else f"{word} {first}/{fields[2]}"
@@ -243,8 +243,8 @@ def _barred(old: StoredOffice, new: StoredOffice, others: Collection[str]) -> di
 
 
 def last_common(old: Mapping[At, Entry], new: Mapping[At, Entry]) -> dict[int, int]:
-    """By collector the greatest receipt up to which both may be one office. Whatever differs came after it: a price that
-    one of them lacks, or the later one of two."""
+    """By collector the greatest receipt up to which both may be one office. Every difference came after it: a price
+    that one of them lacks, or the later one of two."""
     found = dict[int, int]()
     for at in old.keys() | new.keys():
         entries = old.get(at), new.get(at)

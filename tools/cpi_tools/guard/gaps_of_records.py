@@ -1,8 +1,8 @@
 """`cpi-tools gaps FILE --records LIST`: which records of the desk an office doesn't have.
 
 The list has the rows of an import, as the desk keeps the files that it sends. After a second copy was promoted, or a
-backup restored, what the desk sent since the moment of that copy is missing. A row that is missing is written as it was
-sent, in the order of the list, so that the output can be sent as it is.
+backup restored, the records that the desk sent since the moment of that copy are missing. A row that is missing is
+written as it was sent, in the order of the list, so that the output can be sent as it is.
 """
 
 from __future__ import annotations
@@ -28,7 +28,7 @@ WIDTHS = {word: 1 + len(FIELDS[word]) for word in WORDS if word != "plan"} | {"p
 """How many fields each has, its word included; a freeze may have more."""
 
 LATER_WINS = {"item": 2, "outlet": 2, "collector": 2, "calendar": 2, "plan": 2}
-"""The records of which a later one takes the place of one before, and how many fields they have in common then."""
+"""The kinds of records that replace an earlier one, and how many fields they share with it then."""
 
 
 class Record(NamedTuple):
@@ -57,7 +57,7 @@ def records_in(text: str, name: str) -> list[Record]:
 
 
 def _form_fault(record: Record) -> str:
-    """Why a record is none that the desk sends; empty if it is one."""
+    """Why the desk can't have sent a record; empty if it can."""
     if record.word not in WORDS:
         return f"the record is {record.word!r}: wanted is one of {', '.join(WORDS)}"
     has, wanted = len(record.fields), WIDTHS[record.word]
@@ -76,7 +76,7 @@ def missing_records(cpi: Cpi, records: Iterable[Record], stored: StoredOffice, z
 
 
 def _place_of(record: Record) -> tuple[str, ...]:
-    """What two records have in common of which only the later one counts."""
+    """The shared fields of two records, only the later one of which counts."""
     return record.fields[: LATER_WINS.get(record.word, len(record.fields))]
 
 

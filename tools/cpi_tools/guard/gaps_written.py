@@ -1,5 +1,5 @@
-"""What an office lacks of its old file, as it is written: rows to send, by the person who sends them, in the order in which
-an office takes them; and each thing that both have and that differs, a line each.
+"""The written gaps between an office and its old file: rows to send, by the person who sends them, in the order in
+which an office takes them; and each difference between both, a line each.
 
     1-desk.csv           records of the desk: rows of an import
     2-collector-7.csv    prices of a collector: rows of an import under that collector's key
@@ -27,7 +27,7 @@ HEADS = ("collector", "slot", "month", "mark", "value", "receipt")
 """The columns of a list of prices."""
 
 DIFFERENT = ("by", "record", "old", "new")
-"""The columns of what differs."""
+"""The columns of differences."""
 
 
 def rows_by_person(lacks: Lacking) -> Iterator[tuple[str, ...]]:
@@ -43,7 +43,7 @@ def write_records(file: TextIO, rows: Iterable[Sequence[str]]) -> None:
 
 
 def because_of_entry(here: Optional[Entry]) -> str:
-    """Why a price is missing: what the office has in its place."""
+    """Why a price is missing: the office's row in its place."""
     if here is None:
         return "nothing is stored for this slot and month"
     return f"{here.mark} {here.value} is stored, with receipt {here.receipt}"
@@ -79,7 +79,7 @@ def _files(lacks: Lacking) -> Iterator[tuple[str, list[Fields]]]:
 
 
 def lines_of(lacks: Lacking, old: Path, new: Path) -> Iterator[str]:
-    """What a person has to know besides the rows: what differs, a line each, and the sum."""
+    """The report for a person besides the rows: the differences, a line each, and the sum."""
     for it in lacks.different:
         yield f"{it.what} differs, so a person decides: old {it.old}; new {it.new}"
     for each in lacks.prices:

@@ -63,7 +63,7 @@ CHECK_SECONDS = 1800
 DAY = 86_400
 
 LOCK = "keep.lock"
-"""The file by which one keeper at a time works in the folder."""
+"""The lock file of the only keeper that works in the folder."""
 
 
 class Kept(NamedTuple):
@@ -115,8 +115,8 @@ def keep(cpi: Cpi, dest: Path, folder: Path, clock: Callable[[], float] = time.t
 
 
 def _kept_in(answer: dict[str, Any], last: LastDrill, now: int) -> Kept:
-    """What another user's process answered. A copy of the future would never be old, so it is of now. Raises Fault if it
-    isn't what that process writes."""
+    """The answer of another user's process. A copy of the future would never be old, so it is of now. Raises Fault if
+    that process can't have written it."""
     name, failed, left, desk, damaged = (
         str(answer[part]) for part in ("generation", "failed", "left", "desk", "damaged")
     )
@@ -167,7 +167,8 @@ def _answer(cpi: Cpi, opened: Opened, folder: Path) -> dict[str, Any]:
 
 def _checked(repository: Repository, opened: Opened, faults: list[str], is_made: bool) -> dict[str, Any]:
     """Checks a repository if the last check is some days old, or a day if that check found a fault or wasn't done; the
-    record of checks then. Why it can't be done is one more fault. All of one that was made now was just drilled."""
+    record of checks then. If it can't be done, the reason is one more fault. A repository made now was just drilled as
+    a whole."""
     last, now = opened.last, opened.now
     known = {"checked": last.checked, "tried": last.tried, "damaged": last.damaged}
     if is_made:
@@ -208,7 +209,7 @@ def _repository(folder: Path, last: LastDrill) -> Repository:
 
 
 def _remove_unfinished(repository: Repository, names: list[str]) -> list[str]:
-    """Removes what a keeper that was stopped put there and didn't drill; a line for each."""
+    """Removes archives that a stopped keeper made and didn't drill; a line for each."""
     left = [name for name in names if name.startswith(NEW)]
     if left:
         repository.remove(left)
@@ -227,7 +228,7 @@ def _drilled_anew(cpi: Cpi, repository: Repository, name: str, now: int, room: P
 
 
 def _prune(repository: Repository, is_failed: bool) -> str:
-    """Removes older generations, if the new one passed its drill, else older ones that failed; why it couldn't, else
+    """Removes older generations if the new one passed its drill, else older ones that failed; why it couldn't, or
     nothing: the new one is kept all the same."""
     try:
         repository.prune(*((FAILED, KEEP_FAILED) if is_failed else (PASSED, KEEP)))

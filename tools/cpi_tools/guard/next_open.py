@@ -1,8 +1,8 @@
-"""What the next open of an office's file takes of the memory and time that its unit and this machine allow.
+"""The share of the memory and time, allowed by its unit and this machine, that the next open of an office's file takes.
 
-`cpi` tests each row of a file as it opens it. It holds the rows of one table after the other, so the largest table decides
-how much memory it needs, and all rows decide how long it takes. An office that runs shows nothing of that: it holds what
-its last open left. `bench/age` measures both for files of one to ten years.
+`cpi` tests each row of a file as it opens it. It holds the rows of one table after the other, so the largest table
+decides how much memory it needs, and all rows decide how long it takes. A running office shows nothing of that: it
+holds the memory that its last open left. `bench/age` measures both for files of one to ten years.
 """
 
 from __future__ import annotations
@@ -23,15 +23,15 @@ BYTES = 300
 """Bytes of memory that an open takes for each row of the largest table (282 to 296 were measured)."""
 
 MICROSECONDS = 12
-"""Microseconds that an open takes for each row (6 to 9 were measured, of a processor of 2.5 GHz with nothing else)."""
+"""Microseconds that an open takes for each row (6 to 9 were measured, on an idle processor of 2.5 GHz)."""
 
 ROWS = """
 SELECT (SELECT max(rowid) FROM quote_2), (SELECT max(rowid) FROM frozen_2), (SELECT max(rowid) FROM carried_2),
 (SELECT max(quotes) FROM (SELECT count(*) AS quotes FROM frozen_2
 WHERE month = (SELECT max(month) FROM release_2) GROUP BY revision))
 """
-"""The last number of a row in each of the large tables, of which none ever loses a row, and the quotes that the last
-month's freeze has."""
+"""The last number of a row in each of the large tables, none of which ever loses a row, and the quotes of the last
+month's freeze."""
 
 
 class Rows(NamedTuple):
@@ -54,7 +54,7 @@ class Rows(NamedTuple):
 
 
 class Allowed(NamedTuple):
-    """What an open may take: bytes of memory, and who says so; the seconds of a start, None if nobody bounds them."""
+    """The limits of an open: bytes of memory, and who sets them; the seconds of a start, None if nobody bounds them."""
 
     memory: int
     bounded_by: str
@@ -62,7 +62,7 @@ class Allowed(NamedTuple):
 
 
 class NextOpen(NamedTuple):
-    """What the next open of a file takes, and what it may take."""
+    """The needs of the next open of a file, and its limits."""
 
     rows: Rows
     allowed: Allowed
@@ -140,8 +140,8 @@ def _bounds_of_groups() -> Iterator[int]:
 
 
 def allowed_of(unit: Optional[str]) -> Allowed:
-    """What a unit may take on this machine, or any program if no unit is named or systemd doesn't know it. Raises Fault
-    if systemd can't be asked."""
+    """The limits of a unit on this machine, or of any program if no unit is named or systemd doesn't know it. Raises
+    Fault if systemd can't be asked."""
     memory, bounded_by = machine_memory(), "this machine"
     values = properties(unit, "MemoryMax", "TimeoutStartUSec") if unit else {}
     bound = bytes_of(values.get("MemoryMax", ""))
@@ -152,7 +152,7 @@ def allowed_of(unit: Optional[str]) -> Allowed:
 
 
 def next_open(path: Path, unit: Optional[str]) -> NextOpen:
-    """What the next open of an office's file will take, and what its unit allows. Raises Fault if one of them can't be
+    """The needs of the next open of an office's file, and the limits of its unit. Raises Fault if one of them can't be
     known."""
     return NextOpen(rows_of(path), allowed_of(unit))
 

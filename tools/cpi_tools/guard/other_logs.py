@@ -1,17 +1,16 @@
 """Whether the log next to an office's file belongs to it, before a program puts it into the file.
 
-SQLite's format doesn't tie them: salts and sums of a log are its own, and `cpi` leaves the change counter of the file as
-it is. So they are judged by what they hold, in a private copy.
+SQLite's format doesn't tie them: salts and sums of a log are its own, and `cpi` leaves the change counter of the file
+as it is. So they are judged by their content, in a private copy.
 
 **What is sure.** Without its log, the file is the office as it was when the log had been copied into it. So if it is
-whole by itself, it is whole with its log too, is the same office, and has all that it had (`office_marks`): also each
-item, outlet and collector, of which no row is ever changed. If it isn't, the log is that of another file. A file that
-isn't whole by itself may have been written when the machine stopped: of its log nothing is known here, and `cpi` judges
-both.
+whole without its log, it is whole with it too, is the same office, and has all that it had (`office_marks`): also each
+item, outlet and collector, whose rows never change. If it isn't, the log belongs to another file. A file that isn't
+whole by itself may have been written when the machine stopped: of its log nothing is known here, and `cpi` judges both.
 
-**What isn't sure.** A backup next to the log that came after it may be whole together with it: it is the office of before
-then, and nothing of that is lost. `cpi` writes the file first and the log afterwards, so a file that is younger than the
-last write of its log was perhaps put there: that is a warning.
+**What isn't sure.** A backup next to the log that came after it may be whole together with it: it is the office at the
+time before it, and nothing of that is lost. `cpi` writes the file first and the log afterwards, so a file that is
+younger than the last write of its log was perhaps put there: that is a warning.
 """
 
 from __future__ import annotations
@@ -30,15 +29,15 @@ FIXED = ("collector", "outlet", "item")
 
 
 class OtherLog(NamedTuple):
-    """Why a log seems to be that of another file than the one next to it, and whether that is sure."""
+    """Why a log seems to belong to another file than the one next to it, and whether that is sure."""
 
     because: str
     is_sure: bool
 
 
 def other_log_of(path: Path) -> Optional[OtherLog]:
-    """Why the log next to an office's file seems to be that of another one; None if nothing says so. Neither is opened
-    or locked. Raises CopyFailed and OSError."""
+    """Why the log next to an office's file seems to belong to another one; None if nothing shows that. Neither is
+    opened or locked. Raises CopyFailed and OSError."""
     if not path.exists() or not path.stat().st_size or not has_frames(path):
         return None
     with private_copy(path) as copy:

@@ -1,7 +1,7 @@
 """`cpi-tools promote DEST`: the copy that `cpi-tools follow` kept at DEST becomes the office of this machine.
 
 The copy is taken to a folder that only this user can change, and compared with its note there. Then it is drilled. Only
-then DEST gets the mark by which the follower of the first machine stops that office, and last the copy gets its name.
+then DEST gets the mark that makes the first machine's follower stop that office, and last the copy gets its name.
 
 Root runs it, but both folders belong to others: DEST to the user who carries, and the office's to the one who serves.
 So below them each file is opened by its plain name from the folder's descriptor (`held_folders`), and the office's user
@@ -137,8 +137,8 @@ def _look_at(office: Path, is_replacing: bool) -> None:
 
 
 def _place_of_room(office: Path) -> Optional[Path]:
-    """The nearest folder that only this user can change, for the copy until it has its place: that of the office, or
-    the one above it, so that it needn't be copied once more; else None, for the folder of temporary files."""
+    """The nearest folder that only this user can change, for the copy until it has its place: the office's folder, or
+    the one above it, so that it needn't be copied again; else None, for the folder of temporary files."""
     for folder in (office.parent, office.absolute().parent.parent):
         if not folder.is_dir():
             return None
@@ -237,8 +237,8 @@ def _copied(dest: Path, wanted: Optional[str], to: Path) -> tuple[str, CopyNote]
 
 
 def _copy(path: Path, to: Path, note: CopyNote) -> None:
-    """Copies a file of a copy and its log, with mode 0600 and onto the disk, and no more of them than what its note says and
-    a byte. A log without a byte is none. Raises Fault if there is no room for what the note says."""
+    """Copies a file of a copy and its log, with mode 0600 and onto the disk, and at most one byte more of them than its
+    note says. A log without a byte is none. Raises Fault if there is no room for the sizes in the note."""
     size, log = note.file.size, note.log.size
     for target in (to, log_beside(to)):
         target.unlink(missing_ok=True)
@@ -274,7 +274,7 @@ def _other(dest: Path, name: str, to: Path) -> str:
 
 
 def _drilled(cpi: Cpi, copy: Path, of: Path) -> Drilled:
-    """What a drill of the copy found. Raises Fault if something is wrong."""
+    """The findings of the copy's drill. Raises Fault if there is a fault."""
     found = drill(cpi, copy)
     for line in found.faults[1:MOST_TOLD]:
         print(f"cpi-tools promote: {of}: {line}", file=sys.stderr)
@@ -450,13 +450,13 @@ def _promoted(chosen: argparse.Namespace, room: Path) -> Promoted:
 
 
 def desk_of(office: Path, named: Optional[Path]) -> Optional[Path]:
-    """The desk's folder that belongs to an office's file: as it is named, or that of the package."""
+    """The desk's folder that belongs to an office's file: the named one, or the package's."""
     return named or (DESK if office.absolute() == HERE else None)
 
 
 def _place_desk(chosen: argparse.Namespace, found: Promoted, room: Path) -> None:
-    """Puts the copy of the desk's folder into its place: that of a generation, if one with it was promoted. The office is in
-    its own by then, whatever comes of this."""
+    """Puts the copy of the desk's folder into its place: a generation's, if one with it was promoted. The office is in
+    its own place by then, whatever the result of this."""
     desk = desk_of(chosen.office, chosen.desk)
     if not desk:
         return

@@ -1,7 +1,7 @@
-"""`cpi-tools receive FOLDER`: puts the changed pages that a follower carried to a place into their copy there, and so what
-changed in the desk's folder.
+"""`cpi-tools receive FOLDER`: puts the changed pages that a follower carried to a place into their copy there, and the
+changes of the desk's folder too.
 
-`cpi-receive` runs it, the command of the key by which the follower of another machine carries.
+`cpi-receive` runs it, the command of the key with which another machine's follower carries.
 """
 
 from __future__ import annotations

@@ -1,8 +1,8 @@
 """`cpi-tools restore BACKUP`: a backup becomes the office of this machine, and the existing file and log are put aside
 together.
 
-All of it is checked before anything changes. While the files change their places a mark lies next to the office, by
-which `cpi-serve` starts none: a file without its log, or a log next to another file, would be an office of another day.
+All of it is checked before anything changes. While the files change their places, a mark next to the office keeps
+`cpi-serve` from starting: a file without its log, or a log next to another file, would be an office of another day.
 """
 
 from __future__ import annotations
@@ -47,7 +47,7 @@ UNITS = ("cpi.service", "cpi-follow.service")
 START = "systemctl start cpi.service"
 
 BESIDE = ("-wal", "-shm", "-journal")
-"""What SQLite may have next to a file, by the ends of their names: each belongs to that file."""
+"""SQLite's files next to a file, by the ends of their names: each belongs to that file."""
 
 
 class Looked(NamedTuple):
@@ -164,7 +164,7 @@ def newer_lines(backup: Path, looked: Looked, folders: list[Path]) -> Iterator[s
 
 
 def _newer(backup: Path, looked: Looked, last: CopyNote) -> str:
-    """Which is newer, the backup or a second copy of this note: by what they hold, or else by their moments."""
+    """Whether the backup or a second copy with this note is newer: by their content, or else by their moments."""
     of_copy = f"the second copy of {second_text(last.copied)}"
     if last.marks:
         try:
@@ -221,7 +221,7 @@ def _write(source: IO[bytes], to: Path) -> None:
 
 
 def _move(there: list[Path], aside: Path) -> None:
-    """Moves files to a folder, the office's file first: a log without a file is no office."""
+    """Moves files to a folder, the office's file first: a log without a file isn't an office."""
     for path in there:
         path.rename(aside / path.name)
     for folder in (aside, aside.parent):

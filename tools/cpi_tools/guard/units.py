@@ -1,4 +1,4 @@
-"""What systemd knows of a unit of this machine."""
+"""Systemd's facts about a unit of this machine."""
 
 from __future__ import annotations
 

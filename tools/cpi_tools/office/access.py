@@ -1,4 +1,4 @@
-"""What a user may do with files, as the system answers it: by modes, groups, lists of access and mounts alike."""
+"""The rights of a user on files, as the system decides them: by modes, groups, access lists and mounts alike."""
 
 from __future__ import annotations
 
@@ -52,7 +52,7 @@ def acting_as(user: User) -> Iterator[None]:
 
 
 def may(path: Path, asked: int) -> bool:
-    """Whether this process may do something with a file: R_OK, W_OK, X_OK of `os`."""
+    """Whether this process can read, write or execute a file: R_OK, W_OK, X_OK of `os`."""
     return os.access(path, asked, effective_ids=True)
 
 

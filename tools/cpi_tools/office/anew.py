@@ -1,4 +1,4 @@
-"""Each release of an office computed anew from its frozen quotes, in one pass over all months and revisions.
+"""Recomputes each release of an office from its frozen quotes, in one pass over all months and revisions.
 
 The rules are the functions of `recompute`. An earlier month is read from its latest revision, as computed here: no
 carried price and no level from the file is used.
@@ -17,8 +17,8 @@ Kept = dict[str, dict[Series, tuple[int, int, int, int]]]
 
 
 class Computed(NamedTuple):
-    """A release as it has to be: its carried prices, and the figures of its table; and what the table is computed from:
-    the weights in use, and the sample of each aggregate with its bases."""
+    """A release as it has to be: its carried prices, and the figures of its table; and the source of the table: the
+    weights in use, and the sample of each aggregate with its bases."""
 
     release: Release
     carried: dict[Series, Carried]
@@ -29,7 +29,7 @@ class Computed(NamedTuple):
 
 
 class Months:
-    """The pass over the months: what those before the one at hand say, each in its latest revision."""
+    """The pass over the months: the earlier months, each in its latest revision."""
 
     def __init__(self, office: StoredOffice):
         self._office = office

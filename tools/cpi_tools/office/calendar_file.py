@@ -1,9 +1,9 @@
 """`cpi-tools calendar FILE --out CALENDAR`: the windows of the months as JSON, by which the phone's page shows a deadline.
 
 `{"months": [{"month": "2026-11", "opens": 1793487600, "closes": 1796079599}]}`, in the order of the months, in seconds
-since 1970 UTC. With the office's clock a month also has `"opens_zone": ["CET", 3600]` and `"closes_zone"`: what that clock
-calls its time then, and by how many seconds it is ahead of UTC. Everybody can read it at the front's `/calendar.json`, so it has neither publishing moments nor anything
-of collectors.
+since 1970 UTC. With the office's clock, a month also contains `"opens_zone": ["CET", 3600]` and `"closes_zone"`: that
+clock's name for its time then, and by how many seconds it is ahead of UTC. Everybody can read it at the front's
+`/calendar.json`, so it has neither publishing moments nor anything of collectors.
 """
 
 from __future__ import annotations
@@ -32,7 +32,7 @@ COLUMNS = ("month", "opens", "closes")
 """The fields of a window that are written."""
 
 ZONES = ("opens_zone", "closes_zone")
-"""What the office's clock calls the time of both moments, and by how many seconds that is ahead of UTC."""
+"""The name of the office's clock for the time at both moments, and by how many seconds that is ahead of UTC."""
 
 
 def windows_since(windows: Iterable[Window], since: Optional[int], now: int) -> list[Window]:
@@ -43,7 +43,7 @@ def windows_since(windows: Iterable[Window], since: Optional[int], now: int) -> 
 
 
 def row_of(it: Window, clock: Clock) -> dict[str, object]:
-    """A month of the calendar; a clock that is UTC isn't told."""
+    """A month of the calendar; a clock that is UTC isn't named."""
     row: dict[str, object] = dict(zip(COLUMNS, (month_text(it.month), it.opens, it.closes)))
     if clock.zone:
         row.update(zip(ZONES, map(clock.zone_at, (it.opens, it.closes))))
@@ -69,7 +69,7 @@ def is_calendar(content: bytes) -> bool:
 
 
 def refuse_other_files(to: Path) -> None:
-    """Raises Fault if the file at a place is no calendar, so that a slip in a name doesn't cost it."""
+    """Raises Fault if the file at a place isn't a calendar, so that a slip in a name doesn't cost it."""
     try:
         content = to.read_bytes()
     except FileNotFoundError:
@@ -83,8 +83,8 @@ def refuse_other_files(to: Path) -> None:
 def write_calendar(file: Path, to: Path, since: Optional[int] = None, clock: Clock = UTC) -> list[Window]:
     """Writes the calendar of an office's file, whole or not at all, with mode 0644; the windows in it.
 
-    FILE is copied, and not a byte of it changes. Raises Fault if no right copy can be made, if it is no office, or if
-    the calendar can't be put in its place.
+    FILE is copied, and not a byte of it changes. Raises Fault if no right copy can be made, if it isn't an office, or
+    if the calendar can't be put in its place.
     """
     refuse_other_files(to)
     with private_copy(file) as copy, read_copy(copy) as office:
@@ -95,7 +95,7 @@ def write_calendar(file: Path, to: Path, since: Optional[int] = None, clock: Clo
 
 def put_windows(to: Path, windows: Iterable[Window], clock: Clock = UTC) -> None:
     """Writes some windows as a calendar, whole or not at all, with mode 0644, unless the file has them already. Raises
-    Fault, also if a file that is no calendar is at that place."""
+    Fault, also if a file that isn't a calendar is at that place."""
     refuse_other_files(to)
     content = text_of(windows, clock).encode()
     try:

@@ -46,7 +46,7 @@ class Comparison(NamedTuple):
 
 
 def pairs_of(computed: Computed, code: str) -> Pairs:
-    """What the sample of an aggregate counts as, and its bases."""
+    """The current prices of an aggregate's sample, and its bases."""
     bases = computed.bases[code]
     return [(price[0], bases[series][0]) for series, price in computed.kept[code].items()]
 
@@ -121,8 +121,8 @@ def rows_of(comparison: Comparison) -> Iterator[list[object]]:
 
 
 def shifts(comparison: Comparison, formula: str) -> list[tuple[int, str]]:
-    """How far each aggregate moves the index of all items if a formula takes the place of the published one, in
-    millionths of a point within the year, the farthest first."""
+    """How far each aggregate moves the index of all items if a formula replaces the published one, in millionths of a
+    point within the year, the farthest first."""
     total = sum(comparison.weights.values())
     own, other = comparison.tables[PUBLISHED], comparison.tables[formula]
     moves = [

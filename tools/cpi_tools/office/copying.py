@@ -13,7 +13,7 @@ earlier file and the later log. Answered commands are then missing, and no check
 and after. So the log wasn't emptied meanwhile: each page that was being written into the file is whole in frames that
 were read afterwards, and these come first when the copy is opened. A transaction that is being written ends the log, or
 is whole: its first byte that counts is written last. So the copy is what a crash could leave at one moment after the
-copy began, and has each command that was answered before. No lock is taken and nothing is written to the office.
+copy began, and contains each command that was answered before. No lock is taken and nothing is written to the office.
 
 It is true for file systems of this machine, where a read sees every earlier write of another program.
 """
@@ -43,7 +43,7 @@ EMPTIED_BYTES = 41
 """The rest of the log when `cpi` ends: the header, and the gate of a first frame, shut. No frame is in it."""
 
 PATIENCE = 60
-"""Seconds after which a copy is given up for which the log never was quiet long enough."""
+"""Seconds after which a copy is given up because the log never was quiet long enough."""
 
 
 class CopyFailed(Fault):
@@ -86,8 +86,8 @@ def right_copy(path: Path, folder: Path, patience: float = PATIENCE, pause: Opti
 
     `cpi` may run and write meanwhile. The copies have mode 0600, since the collectors' keys are in them, and the times
     of now. Files in the folder with the same names are replaced. `patience` is in seconds. `pause` is the number of the
-    process of `cpi`, which then stands still while it is copied: its files are those that a crash would leave, whatever
-    their size and however busy it is. Raises CopyFailed, and leaves nothing, if no right copy was made.
+    process of `cpi`, which then stops while it is copied: its files are those that a crash would leave, whatever their
+    size and however busy it is. Raises CopyFailed, and leaves nothing, if no right copy was made.
     """
     copy = folder / path.name
     try:
@@ -111,7 +111,7 @@ def right_copy(path: Path, folder: Path, patience: float = PATIENCE, pause: Opti
 
 @contextlib.contextmanager
 def private_copy(path: Path, patience: float = PATIENCE) -> Iterator[Path]:
-    """A right copy in a folder of its own that nobody else can read, and that goes at the end."""
+    """A right copy in a separate folder that nobody else can read, and that is removed at the end."""
     with new_room("cpi-tools-") as room:
         yield right_copy(path, room, patience)
 

@@ -1,6 +1,6 @@
 """Work that another user does: a process that has been root gives that up for good, and answers in JSON.
 
-What root opened before stays open in it. So a user gets the files that are meant for it, and no way to others.
+Files that root opened before stay open in it. So a user gets the files that are meant for it, and no way to others.
 """
 
 from __future__ import annotations
@@ -26,8 +26,8 @@ Work = Callable[[], dict[str, Any]]
 
 
 def done_as(user: User, work: Work) -> dict[str, Any]:
-    """What some work answers that a user does. Raises the Fault of the work, or another one if its process ends without
-    an answer, or if this process, which isn't root, has another user."""
+    """The answer of some work that a user does. Raises the Fault of the work, or another one if its process ends
+    without an answer, or if this process, which isn't root, has another user."""
     if user.number == os.geteuid():
         return work()
     if os.geteuid() != 0:

@@ -69,8 +69,8 @@ def written_folder(out: Path, known_by: str, is_private: bool = True) -> Iterato
 
 
 def _put(new: Path, out: Path, old: Path) -> None:
-    """Puts a folder in its place; the former content is put aside first, and comes back if that fails. If something
-    else is there by then, it stays next to it, under a name that the fault tells."""
+    """Puts a folder in its place; the former content is put aside first, and comes back if that fails. If another
+    folder is there by then, it stays next to it, under a name that the fault contains."""
     if not out.exists():
         new.rename(out)
         return

@@ -1,7 +1,7 @@
 """Formulas of an elementary index: how the prices of a sample moved, as one figure (the Manual's chapter on elementary
 indices).
 
-A sample is pairs of prices: what a series counts as now, and its base. An index is in parts of `ONE`.
+A sample is pairs of prices: a series' current price, and its base. An index is in parts of `ONE`.
 """
 
 from __future__ import annotations
@@ -13,7 +13,7 @@ ONE, ONE_DIGITS = 10**8, 8
 """An index of 1 (100 points, in millionths of a point), and its digits."""
 
 Pairs = Sequence[tuple[int, int]]
-"""What the series of a sample count as now, and their bases, in ticks."""
+"""The current prices of the series of a sample, and their bases, in ticks."""
 
 
 def dutot(pairs: Pairs) -> int:

@@ -32,14 +32,14 @@ class NotPlain(OSError):
 
 
 class HeldFolder:
-    """A folder that is open: its path, which is only told, and its descriptor, by which all is done."""
+    """An open folder: its path, which is only for messages, and its descriptor, through which every step is done."""
 
     def __init__(self, path: Path, number: int):
         self.path, self.number = path, number
 
     def opened(self, name: str, flags: int = os.O_RDONLY, links: Optional[int] = None) -> int:
-        """The descriptor of a plain file, of so many links if that is said. Raises NotPlain and other OSErrors, which
-        have the file's path."""
+        """The descriptor of a plain file, with so many links if a number is given. Raises NotPlain and other OSErrors,
+        which have the file's path."""
         try:
             opened = os.open(name, flags | PLAIN, 0o600, dir_fd=self.number)
         except OSError as fault:
@@ -124,7 +124,7 @@ class HeldFolder:
             raise to._named(fault, as_name) from fault
 
     def write_whole(self, name: str, content: bytes, mode: int) -> None:
-        """Writes a file of a mode, whole or not at all, whatever is at its place. Raises OSError."""
+        """Writes a file with a mode, whole or not at all, in place of any other. Raises OSError."""
         beside = f".{name}-{secrets.token_hex(8)}"
         opened = self.opened(beside, os.O_WRONLY | os.O_CREAT | os.O_EXCL)
         try:

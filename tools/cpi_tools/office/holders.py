@@ -16,7 +16,7 @@ from pathlib import Path
 from typing import NamedTuple, Optional
 
 LOCK_BEGIN, LOCK_BYTES = 0x40000000, 512
-"""The bytes that are locked, by SQLite's file format: the pending byte, the reserved byte, and those of readers."""
+"""The locked bytes, by SQLite's file format: the pending byte, the reserved byte, and the readers' bytes."""
 
 FLOCK = "hhqqi4x"
 """`struct flock` of fcntl(2): type, whence, start, length, process."""
@@ -62,7 +62,7 @@ def _has_locked(process: Path, file: tuple[int, int]) -> bool:
 
 
 def _name_of(process: int) -> str:
-    """The name of a program. (Its words aren't told: a key may be among them.)"""
+    """The name of a program. (Its arguments aren't printed: they may contain a key.)"""
     try:
         return Path(f"/proc/{process}/comm").read_text(encoding="utf-8", errors="replace").strip()
     except OSError:
@@ -77,6 +77,6 @@ def _unit_of(process: int) -> Optional[str]:
 
 
 def unit_in(groups: str) -> Optional[str]:
-    """`cpi.service` of what /proc/PID/cgroup says, None if it names no service of the machine."""
+    """`cpi.service` from the text of /proc/PID/cgroup, None if it names no service of the machine."""
     found = re.search(r"/system\.slice/(?:[^/\n]+/)*?([^/\n]+\.service)(?=/|$)", groups, re.M)
     return found[1] if found else None

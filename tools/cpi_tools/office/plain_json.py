@@ -1,5 +1,5 @@
-"""JSON that another machine or another user wrote: texts and whole numbers, as the tools write it. Whatever else it is, it is
-a fault of that text, and no end of the tool that reads it."""
+"""JSON that another machine or another user wrote: texts and whole numbers, as the tools write it. Every other error is
+a fault of that text, and doesn't end the tool that reads it."""
 
 from __future__ import annotations
 
@@ -7,14 +7,15 @@ import json
 from typing import Any, NoReturn, Union
 
 LAST_SECOND = 253_402_300_799
-"""The last second of the year 9999, since 1970 UTC: a later moment can't be said."""
+"""The last second of the year 9999, since 1970 UTC: a later moment can't be printed."""
 
 MOST = 1 << 62
 """No number of a note comes near it."""
 
 
 def plain_json(text: Union[str, bytes]) -> Any:
-    """What a text says. Raises ValueError if it is no JSON, is nested too deep, or has other numbers than whole ones."""
+    """What a text says. Raises ValueError if it isn't JSON, is nested too deep, or contains numbers that aren't
+    whole."""
     try:
         return json.loads(text, parse_float=_refuse, parse_constant=_refuse)
     except RecursionError as fault:
@@ -34,5 +35,5 @@ def whole_number(value: Any, most: int = MOST) -> int:
 
 
 def moment_of(value: Any) -> int:
-    """A moment in seconds since 1970 UTC. Raises ValueError or TypeError if it is none that can be said."""
+    """A moment in seconds since 1970 UTC. Raises ValueError or TypeError if it can't be printed."""
     return whole_number(value, LAST_SECOND)

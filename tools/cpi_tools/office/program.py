@@ -1,7 +1,7 @@
 """Finds and runs the program `cpi`: records in, replies out as Python values, many in one process; tables as bytes.
 
-A record is a text as `docs/reference/FORMATS.md` has it, `moment,caller,word,arguments`. A reply is what `json.loads` makes
-of its line, so `{"refused": 24}` is a dictionary.
+A record is a text in the form of `docs/reference/FORMATS.md`, `moment,caller,word,arguments`. A reply is the value that
+`json.loads` gives for its line, so `{"refused": 24}` is a dictionary.
 """
 
 from __future__ import annotations
@@ -59,7 +59,7 @@ def beside_the_package() -> Optional[Path]:
 
 
 def find_program(given: Optional[PathLike] = None) -> Path:
-    """The program: as given (`--program`), else by the variable CPI, else the repository's `./cpi`, else on the path.
+    """The program: as given (`--program`), or else from the variable CPI, or the repository's `./cpi`, or on the path.
 
     Raises CpiFailed if a named one isn't a program, or none is found.
     """
@@ -113,8 +113,8 @@ class Cpi:
         return replies
 
     def open(self, copy: Path, of: Path, asked: Iterable[str] = ()) -> list[Reply]:
-        """Opens a copy of the file `of`, in which each row is tested, and which has the tables of this program then;
-        the replies to some records.
+        """Opens a copy of the file `of`, which tests each row, so that it then contains the tables of this program; the
+        replies to some records.
 
         Raises CpiFailed, which names the file and not the copy, if it isn't an office.
         """
@@ -140,8 +140,8 @@ class Cpi:
     def session(self, db: Optional[Path] = None, zone: Optional[str] = None) -> Iterator[Session]:
         """One run of the program that is asked a record at a time: the file is opened once for all of them.
 
-        At the end the input ends, so the program copies its log into the file; after an exception it is killed, and
-        what it answered stands on the disk.
+        At the end the input ends, so the program copies its log into the file; after an exception it is killed, and its
+        answered commands are on the disk.
         """
         words = [str(self.path), *replay_words(db, zone)]
         try:
@@ -237,7 +237,7 @@ def name_of_signal(number: int) -> str:
 
 
 def end_text(status: int, errors: bytes) -> str:
-    """One line for a status that isn't 0: the program's own, with what it means; or how it was ended."""
+    """One line for a status that isn't 0: the program's own, with its meaning; or how it was ended."""
     lines = errors.decode(errors="replace").strip().splitlines()
     if status < 0:
         return f"cpi was ended by the signal {name_of_signal(-status)}"

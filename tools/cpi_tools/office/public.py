@@ -2,7 +2,7 @@
 
 Only the records `tables` and `table,MONTH,csv,REVISION` of the caller `public` are sent, by one replay over a private
 copy; or the same two pages are got. A table under embargo is never answered, so nothing that is written from here can
-hold one. Of the modules of `cpi-tools publish` this is the only one that reaches an office.
+hold one. Of the modules of `cpi-tools publish`, only this one reaches an office.
 """
 
 from __future__ import annotations
@@ -29,7 +29,7 @@ TIMEOUT = 60.0
 MONTH = re.compile(r"2[01][0-9]{2}-(0[1-9]|1[0-2])")
 
 Report = Callable[[int, int], None]
-"""Is told how many of how many are done."""
+"""A function that gets the number of finished tables, and of all."""
 
 
 def no_report(_: int, __: int) -> None:
@@ -93,7 +93,8 @@ class Source(NamedTuple):
 
 
 IN_MEMORY = 1 << 24
-"""Bytes of tables that are kept in memory; those of thirty years of a national office are in a file without a name."""
+"""Bytes of tables that are kept in memory; the tables of thirty years of a national office are in a file without a
+name."""
 
 
 class Sources:
@@ -124,7 +125,8 @@ def _is_listed(row: Any) -> bool:
 
 
 def from_file(cpi: Cpi, path: Path, at: int, report: Report = no_report) -> list[Published]:
-    """What the public reads at the moment `at` of the office of a file, by one run of the program over a copy.
+    """The tables that the public reads at the moment `at` from the office in a file, with one run of the program over a
+    copy.
 
     Raises NotPublic, CopyFailed or CpiFailed.
     """
@@ -144,7 +146,8 @@ def read_file(cpi: Cpi, path: Path, at: int, report: Report = no_report) -> Iter
 
 
 def from_url(url: str, report: Report = no_report) -> list[Published]:
-    """What the public reads now at the address of an office, such as `http://127.0.0.1:8080`. Raises NotPublic."""
+    """The tables that the public reads now at the address of an office, such as `http://127.0.0.1:8080`. Raises
+    NotPublic."""
     return [*read_url(url, report)]
 
 

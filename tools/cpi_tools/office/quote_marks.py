@@ -10,7 +10,7 @@ from ..text.message import Price, Message, row, message, whole
 from .stored import OBSERVED, Frozen, Series
 
 SILENT = "silent"
-"""Stands for the mark of a slot for which nothing was sent."""
+"""The mark of a slot for which nothing was sent."""
 
 MARKS: Mapping[str, Message] = {
     # t: a price was found

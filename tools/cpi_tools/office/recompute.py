@@ -2,12 +2,12 @@
 
     examples/recompute FILE MONTH [REVISION]        (a month like 2026-01; else its latest revision)
 
-This is the whole of that example, and it needs only Python: an auditor reads it from here to its end. The tools that
-compute a figure anew do so by its functions.
+This is the whole of that example, and it needs only Python: an auditor reads it from here to its end. Tools that
+recompute a figure do so with its functions.
 
-Only frozen quotes, plans with their reference months, assignments and carry lists are read, from the first
-December on; an earlier month is read in its latest revision. The rules are those of
-docs/reference/OFFICE.md, the chapter "The index of a month". The exit status is 0 only if no figure differs.
+Only frozen quotes, plans with their reference months, assignments and carry lists are read, from the first December on;
+an earlier month is read in its latest revision. The rules are in docs/reference/OFFICE.md, in the chapter "The index of
+a month". The exit status is 0 only if no figure differs.
 """
 
 from __future__ import annotations
@@ -60,7 +60,7 @@ def begun(ask: Ask, year: int, now: Quotes, kept: Kept) -> tuple[dict[str, int],
 
 
 def in_use(ask: Ask, year: int, weights: dict[str, int], levels: Levels) -> dict[str, int]:
-    """The weights of a year; those of a plan with a reference month moved by prices from there to the link month."""
+    """The weights of a year; with a reference month, prices move the plan's weights from there to the link month."""
     for (reference,) in ask("SELECT month FROM plan_ref WHERE year = ?", year):
         now, then = levels[year * 100 - 88], levels[reference]
         return {code: rounded(weight * now[code], then[code]) for code, weight in weights.items()}

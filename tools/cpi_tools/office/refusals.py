@@ -1,6 +1,6 @@
-"""Each refusal of the office and each fault line of the program in words, and what to do about it.
+"""A text for each refusal of the office and each fault line of the program, and what to do about it.
 
-The rows of the desk and of the collectors are those of `docs/desk/DESK.md` and `docs/desk/COLLECTING.md`, word for
+The rows for the desk and the collectors are the rows of `docs/desk/DESK.md` and `docs/desk/COLLECTING.md`, word for
 word (a link there is its text here).
 """
 
@@ -11,7 +11,7 @@ from typing import Any, NamedTuple, Optional
 
 
 class Words(NamedTuple):
-    """Why something was refused or ended, and what to do."""
+    """The reason of a refusal or an end, and what to do."""
 
     because: str
     do: str
@@ -251,7 +251,7 @@ def refusal_words(reply: Mapping[str, Any], to: str = DESK, word: Optional[str] 
 
 
 def told_fault(line: str) -> str:
-    """A line of the program with what it means and what to do, such as `cpi: no port (..; ..)`."""
+    """A line of the program with its meaning and what to do, such as `cpi: no port (..; ..)`."""
     words = FAULTS.get(line[5:]) if line.startswith("cpi: ") else None
     return f"{line} ({words.because}; {words.do})" if words else line
 

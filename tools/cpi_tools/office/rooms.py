@@ -1,5 +1,5 @@
-"""Folders for what a tool makes meanwhile: copies of an office, files that aren't whole yet. Each goes at the end of its
-tool, and that of a tool that was killed goes when the next tool makes one in the same place."""
+"""Folders for a tool's intermediate files: copies of an office, files that aren't whole yet. Each is removed at the end
+of its tool; if a tool was killed, the next tool that makes one in the same place removes its folder."""
 
 from __future__ import annotations
 
@@ -25,8 +25,8 @@ YOUNG = 60.0
 
 @contextlib.contextmanager
 def new_room(prefix: str, folder: Optional[Path] = None) -> Iterator[Path]:
-    """A new folder of mode 0700 in `folder`, or else in that for temporary files; at the end it goes with all that is in
-    it. Rooms of the same prefix that killed tools left in the same place go before. Raises OSError."""
+    """A new folder of mode 0700 in `folder`, or else in the folder for temporary files; at the end it is removed with
+    all its content. Rooms of the same prefix that killed tools left in the same place go before. Raises OSError."""
     place = folder or Path(tempfile.gettempdir())
     _remove_left(place, prefix)
     with tempfile.TemporaryDirectory(prefix=prefix, dir=place) as made, (Path(made) / MARK).open("xb") as mark:

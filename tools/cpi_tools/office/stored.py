@@ -1,7 +1,7 @@
-"""What the file of an office has stored, as Python values: the one place with SQL, but for `stored_pages`.
+"""The content of an office's file, as Python values: the only module with SQL, except `stored_pages`.
 `docs/reference/FORMATS.md` has the tables.
 
-A file is read by Python's sqlite3, so by the C library, and is never one that `cpi` has open: it is a copy.
+A file is read with Python's sqlite3, and so with the C library; it is always a copy, never a file that `cpi` has open.
 """
 
 from __future__ import annotations
@@ -48,7 +48,7 @@ class Frozen(NamedTuple):
 
 
 class Carried(NamedTuple):
-    """What a series counts as in a month: its item and last month; ticks, the scale's two numbers, two flags."""
+    """The carried price of a series in a month: its item and last month; ticks, the scale's two numbers, two flags."""
 
     item: str
     last_month: int
@@ -95,7 +95,7 @@ Slot = tuple[int, int]
 
 
 class Assignment(NamedTuple):
-    """What a slot prices from its first to its last month, and the series that this is."""
+    """A slot's item and outlet from its first to its last month, and their series."""
 
     collector: int
     slot: int
@@ -149,7 +149,8 @@ class StoredOffice:
     # ---- whether the file is sound
 
     def broken(self) -> Iterator[str]:
-        """What the C library finds wrong with the file, and which rows lack the row that they name; a line each."""
+        """The faults that the C library finds in the file, and the rows that lack the row that they name; a line
+        each."""
         for (text,) in self.ask("PRAGMA integrity_check"):
             # (one of its rows may be many lines, behind one that names the database)
             lines = [line for line in text.splitlines() if line != "ok" and not line.startswith("*** ")]
@@ -258,7 +259,7 @@ class StoredOffice:
         return {(row[0], row[1]): Quote(row[2], row[3]) for row in self.ask(text, month)}
 
     def months_of_quotes(self) -> list[int]:
-        """The months of which there is a stored quote."""
+        """The months that have a stored quote."""
         return [month for (month,) in self.ask("SELECT DISTINCT month FROM quote_2 ORDER BY month")]
 
     # ---- series and quotes
@@ -276,8 +277,8 @@ class StoredOffice:
         return int(self.ask("SELECT count(*) FROM quote_2")[0][0])
 
     def quotes_beside_frozen(self) -> tuple[int, int]:
-        """Of the months in their latest revisions: how many frozen quotes have no stored quote, and how many have one
-        that is another by now."""
+        """For the months in their latest revisions: how many frozen quotes have no stored quote, and how many have a
+        stored quote that differs by now."""
         ((lost, other),) = self.ask(
             """
             SELECT coalesce(sum(stored.month IS NULL), 0), coalesce(sum(stored.mark <> frozen.mark
@@ -311,7 +312,7 @@ class StoredOffice:
         return [(collector, outlet, item, mark, count) for collector, outlet, item, mark, count in rows]
 
     def last_sent(self) -> dict[int, tuple[int, int]]:
-        """By collector the latest month of which there is a quote, and the greatest receipt."""
+        """By collector the latest month that has a quote, and the greatest receipt."""
         rows = self.ask("SELECT collector, max(month), max(receipt) FROM quote_2 GROUP BY collector")
         return {collector: (month, receipt) for collector, month, receipt in rows}
 
@@ -363,7 +364,7 @@ class StoredOffice:
         return {(row[0], row[1]): Frozen(*row[2:]) for row in self.ask(text, *series)}
 
     def carried_of(self, series: Series) -> dict[tuple[int, int], Carried]:
-        """What a series counted as, by month and revision."""
+        """The carried prices of a series, by month and revision."""
         text = (
             "SELECT month, revision, item, last_month, ticks, knum, kden, observed, imputed FROM carried_2"
             " WHERE collector = ? AND slot = ?"
@@ -376,7 +377,8 @@ class StoredOffice:
         return {month: (mark, value, receipt) for month, mark, value, receipt in self.ask(text, *slot)}
 
     def quotes_of_series(self, wanted: Iterable[Series]) -> dict[Series, dict[int, tuple[str, int]]]:
-        """By series mark and price of each of its quotes, whoever had it, by month; a series without one isn't there.
+        """By series the mark and price of each of its quotes, from any collector, by month; a series without one isn't
+        there.
 
         It is one query: assignments have no index of their series, so it reads all of them once, and of the quotes only
         those that it returns (`CROSS JOIN` keeps SQLite from beginning with these).
@@ -399,8 +401,8 @@ class StoredOffice:
         return [(collector, slot, month, receipt) for collector, slot, month, receipt in self.ask(text, most, newer)]
 
     def grown(self) -> tuple[int, ...]:
-        """What only grows: how many collectors, outlets, items, slots, months of the calendar, releases and quotes there
-        are, and the sum of the receipts."""
+        """The figures that only grow: how many collectors, outlets, items, slots, months of the calendar, releases and
+        quotes there are, and the sum of the receipts."""
         tables = ("collector", "outlet", "item", "assignment_2", "calendar", "release_2", "quote_2")
         counts = ", ".join(f"(SELECT count(*) FROM {table})" for table in tables)
         ((*found,),) = self.ask(f"SELECT {counts}, (SELECT coalesce(sum(receipt), 0) FROM quote_2)")
@@ -444,8 +446,8 @@ def read_copy(copy: Path) -> Iterator[StoredOffice]:
 
 @contextlib.contextmanager
 def unchanged_office(path: Path) -> Iterator[StoredOffice]:
-    """The rows of a file and its log, neither of which is written: what the C library makes next to them goes again.
-    Raises sqlite3.Error if it isn't a database."""
+    """The rows of a file and its log, neither of which is written: the C library's files next to them are removed
+    again. Raises sqlite3.Error if it isn't a database."""
     try:
         with contextlib.closing(sqlite3.connect(f"{path.absolute().as_uri()}?mode=ro", uri=True)) as link:
             yield StoredOffice(link)

@@ -1,6 +1,6 @@
-"""Pages of what an office has registered: the rows in which each word of a search is somewhere, so many at a time. They
-are read from a copy, as in `stored`, and quickly for 200,000 series: the text of an outlet or an item is read once, and
-not for each of its slots.
+"""Pages of an office's registered rows: the rows that contain each word of a search, so many at a time. They are read
+from a copy, as in `stored`, and quickly for 200,000 series: the text of an outlet or an item is read once, and not for
+each of its slots.
 
 No row here has a collector's key.
 """

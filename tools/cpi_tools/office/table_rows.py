@@ -1,8 +1,8 @@
 """The rows of a printed table in columns of whole numbers, as thirty years of them have to be held at once.
 
 Units: indices and levels are in millionths of a point, changes in tenths of a percent, weights as they are in the
-table. Codes and titles are mostly those of the month before, and so are weights: then both tables have the same ones.
-Each row that is read here gives the program's digits again (`Row.texts`): a row that wouldn't isn't accepted.
+table. Codes, titles and weights are mostly the same as in the month before: then both tables share them. Each row that
+is read here gives the program's digits again (`Row.texts`): a row that wouldn't isn't accepted.
 """
 
 from __future__ import annotations
@@ -26,7 +26,7 @@ FIGURES = re.compile(rf"({_WEIGHT}),({_POINTS}),({_POINTS}),({_CHANGE}),((?:{_CH
 """Weight, index within the year, chained level, both changes, and 1 if a price was imputed: each in one spelling."""
 
 WEIGHTS, LEVELS = (re.compile(rf"(?:{each}\n)+") for each in (_WEIGHT, _POINTS))
-"""A column of weights, and one of indices or of levels, each with an end of line."""
+"""A column of weights, and a column of indices or of levels, each with an end of line."""
 
 QUOTED = re.compile(r'"(?:[^"\r\n\0]|"")*"')
 """A title in quotation marks."""
@@ -34,7 +34,7 @@ QUOTED = re.compile(r'"(?:[^"\r\n\0]|"")*"')
 IS_IMPUTED = bytes.maketrans(b"01", b"\0\1")
 
 NO_CHANGE = -(1 << 62)
-"""What the column of annual changes has if there is none."""
+"""The text in the column of annual changes if there is none."""
 
 
 class Row(NamedTuple):
@@ -111,7 +111,7 @@ class Rows(Mapping[str, Row]):
         return self.named.places.keys()
 
     def levels_for(self, other: Rows) -> Sequence[Optional[int]]:
-        """The levels of these rows in the order of those of another table, None if a row isn't here."""
+        """The levels of these rows in the order of another table, None if a row isn't here."""
         if self.named.codes is other.named.codes:
             return self.chained
         places, levels = self.named.places, self.chained
@@ -126,7 +126,7 @@ NO_ROWS = Rows(Named((), (), {}, ()), [array("q")] * 5, b"")
 
 
 class _Changes(dict[str, int]):
-    """Tenths of a percent by how they are printed: a few thousand changes are those of millions of rows."""
+    """Tenths of a percent by their printed text: a few thousand changes cover millions of rows."""
 
     def __missing__(self, text: str) -> int:
         found = self[text] = int(text.replace(".", "")) if text else NO_CHANGE
@@ -140,17 +140,17 @@ Columns = list[tuple[str, ...]]
 
 
 def rows_of(text: str, last: Rows = NO_ROWS) -> Rows:
-    """The rows of a printed table; what they have in common with those of the `last` one is shared.
+    """The rows of a printed table; values that equal those of the `last` one are shared.
 
-    Raises ValueError or csv.Error if it is no table.
+    Raises ValueError or csv.Error if it isn't a table.
     """
     columns = _of_lines(text, last.named) or _of_fields(text)
     return _in_columns(columns, last) if columns else NO_ROWS
 
 
 def _of_lines(text: str, last: Named) -> Columns:
-    """The columns of a table each of whose rows is a line, as the program prints them; none if it isn't such a table. The
-    codes are tested only if they aren't those of the last one."""
+    """The columns of a table each of whose rows is a line, as the program prints them; none if it isn't such a table.
+    The codes are tested only if they differ from the codes of the last one."""
     columns = _parted(text)
     if not columns:
         return []
@@ -185,7 +185,7 @@ def _is_column(form: re.Pattern[str], texts: Iterable[str]) -> bool:
 
 def _of_fields(text: str) -> Columns:
     """The same field by field, of a table that has a title with an end of line, or another end of its lines. Raises
-    ValueError or csv.Error if it is no table."""
+    ValueError or csv.Error if it isn't a table."""
     return [*zip(*map(_fields, csv.reader(io.StringIO(text, newline=""), strict=True)))]
 
 
@@ -212,7 +212,8 @@ def _in_columns(columns: Columns, last: Rows) -> Rows:
 
 
 def _named(codes: tuple[str, ...], written: tuple[str, ...], last: Named) -> Named:
-    """Codes and titles, those of the table before if they are the same. Raises ValueError if they aren't in order."""
+    """Codes and titles, shared with the table before if they are the same. Raises ValueError if they aren't in
+    order."""
     if codes == last.codes and written == last.written:
         return last
     titles = tuple(it[1:-1].replace('""', '"') if it[:1] == '"' else it for it in written)

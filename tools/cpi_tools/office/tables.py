@@ -37,8 +37,7 @@ class Table(NamedTuple):
 
 
 def table_of(published: Published, last: Rows = NO_ROWS) -> Table:
-    """A published table, read exactly, which shares with the rows of another one what they have in common. Raises
-    NotATable."""
+    """A published table, read exactly, which shares equal values with the rows of another one. Raises NotATable."""
     month, revision, moment = published.listed
     data = published.table
     try:
@@ -49,7 +48,7 @@ def table_of(published: Published, last: Rows = NO_ROWS) -> Table:
 
 
 def tables_of(published: Iterable[Published]) -> Iterator[tuple[Published, Table]]:
-    """Some published tables, each of which shares with the one before what they have in common. Raises NotATable."""
+    """Some published tables, each of which shares equal values with the one before. Raises NotATable."""
     last = NO_ROWS
     for each in published:
         found = table_of(each, last)
@@ -80,8 +79,9 @@ def iso(moment: int) -> str:
 
 
 class Aggregated(NamedTuple):
-    """A special aggregate, which no table has: its title, its rows by month, the first months of its runs, the months
-    from which other elementary aggregates belong to it than before, these by year, and the greatest nodes wholly in it.
+    """A special aggregate, which no table contains: its title, its rows by month, the first months of its runs, the
+    months from which other elementary aggregates belong to it than before, these by year, and the greatest nodes wholly
+    in it.
     """
 
     title: str
@@ -92,7 +92,7 @@ class Aggregated(NamedTuple):
     cover: list[str]
 
     def part(self, last: str) -> Aggregated:
-        """The same up to a month, but for the greatest nodes in it, on which later tables have a say."""
+        """The same up to a month, except for the greatest nodes in it, which later tables affect."""
         return Aggregated(
             self.title,
             {month: row for month, row in self.rows.items() if month <= last},
@@ -104,8 +104,8 @@ class Aggregated(NamedTuple):
 
 
 class CoreRow(NamedTuple):
-    """The figures of a core measure in a month, by the changes of aggregates on the month and on the year before, in tenths of
-    a percent; the second is None as long as there is no year."""
+    """The figures of a core measure in a month, by the monthly and the annual changes of aggregates, in tenths of a
+    percent; the second is None in the first year."""
 
     monthly: int
     annual: Optional[int]
@@ -117,8 +117,9 @@ class CoreRow(NamedTuple):
 
 
 class CoreMeasure(NamedTuple):
-    """A measure of analytical core inflation, which no table has: its title, whether it is a share and no change, its
-    figures by month, what it was in each (`median`), and the months from which on it is another one than before."""
+    """A measure of analytical core inflation, which no table contains: its title, whether it is a share and not a
+    change, its figures by month, what it was in each (`median`), and the months from which on it is another one than
+    before."""
 
     title: str
     is_share: bool
@@ -224,7 +225,7 @@ class Series:
 
     @property
     def moment(self) -> int:
-        """When the last of them was published: the moment of all that is written, in seconds since 1970 UTC."""
+        """When the last of them was published: the moment of all output, in seconds since 1970 UTC."""
         return max(table.moment for table in self.vintages)
 
     @functools.cached_property
@@ -280,7 +281,7 @@ class Series:
         return functools.lru_cache(maxsize=256)(functools.partial(_groups, self._rows))
 
     def twelve(self, month: str) -> dict[str, int]:
-        """By code, the sum of the levels of the twelve months up to one, in millionths of a point; a node that has no
+        """By code, the sum of the levels of the twelve months up to one, in millionths of a point; a node without a
         level in one of them isn't there."""
         found = self._twelve.get(month)
         if found is None:
@@ -327,7 +328,8 @@ class Series:
         return HUNDRED if found is None else found
 
     def link_level(self, month: str, code: str) -> int:
-        """What a node's level in the month of a year is linked to, in millionths of a point: 100 in its first year."""
+        """The level to which a node's level in the month of a year is linked, in millionths of a point: 100 in its
+        first year."""
         return self.level_in(link_of(month), code)
 
     def runs(self, code: str) -> list[list[str]]:
@@ -397,13 +399,13 @@ class Series:
         return self.level(before(month, 12), code)
 
     def is_change_shown(self, month: str, row: Row, is_annual: bool) -> bool:
-        """Whether a row's change, if it has one, is that of the published levels."""
+        """Whether a row's change, if it has one, comes from the published levels."""
         change = row.year_change if is_annual else row.month_change
         base = (self.year_base if is_annual else self.month_base)(month, row.code)
         return change is None or (base is not None and change == rounded_change(base, row.chained))
 
     def is_shown(self, month: str, is_annual: bool) -> bool:
-        """Whether the changes of a month are those of the published levels.
+        """Whether the changes of a month come from the published levels.
 
         They aren't if a revision of the month with which they are compared isn't published yet: the office computes
         with the latest revision, published or not. An annual change goes over December before, to whose level the month
@@ -440,7 +442,8 @@ class Series:
         return True
 
     def unexplained(self, months: Optional[Iterable[str]] = None) -> Iterator[Unexplained]:
-        """Those of some months whose changes aren't those of the published levels; of all months, if none are named."""
+        """The months among some whose changes don't come from the published levels; among all months, if none are
+        named."""
         for month in self.every if months is None else months:
             for is_annual in (False, True):
                 if not self.is_shown(month, is_annual):
@@ -469,7 +472,7 @@ def _children(codes: Iterable[str]) -> dict[str, list[str]]:
 
 
 def _starts(tables: Iterable[Table]) -> dict[str, list[str]]:
-    """By code, the months whose table has it while the one before hasn't; tables are in the order of months."""
+    """By code, the months whose table contains it while the one before doesn't; tables are in the order of months."""
     found: dict[str, list[str]] = {}
     earlier = NO_ROWS
     for table in tables:

@@ -1,4 +1,4 @@
-"""A month frozen by the program itself, on a copy: what would happen, told by the one who does it.
+"""A month that the program itself freezes, on a copy: the real result, before the freeze.
 
 No rule of the office is written here. Each code that comes onto a carry list was named by a refusal of the program, and
 each table is as the program prints it to the public from its moment on.
@@ -103,7 +103,7 @@ def freeze_on_copy(
 ) -> Frozen:
     """Freezes a month on a copy at a moment, and lets each aggregate that a refusal names be carried.
 
-    The copy is changed. `carry` is what the list begins with, `sent` are records that are sent first. With `known`,
+    The copy is changed. `carry` is the beginning of the list, and `sent` are records that are sent first. With `known`,
     tables that are at hand, the tables of all other months are there too, and only those are printed that aren't known.
     One run of the program does it all, so the copy is opened once. Raises Refused if one of these is refused, or the
     freeze for any other reason.
@@ -149,8 +149,8 @@ def frozen_with(session: Session, month: int, at: int, carry: Sequence[str]) -> 
 
 
 def tables_around(session: Session, month: str, revision: int) -> list[Published]:
-    """The tables of the month before, of a year before and of the link month, in their latest revisions, and last that
-    of a revision of the month: as they are printed once all are published."""
+    """The tables of the month before, of a year before and of the link month, in their latest revisions, and last the
+    table of a revision of the month: as they are printed once all are published."""
     earlier = {before(month), before(month, 12), link_of(month)}
     listed = listed_in(session.ask(record(LAST_MOMENT, "public", "tables")))
     latest = {each.month: each for each in listed if each.month in earlier}
@@ -159,8 +159,8 @@ def tables_around(session: Session, month: str, revision: int) -> list[Published
 
 
 def other_tables_in(session: Session, month: str, known: Sequence[Published]) -> list[Published]:
-    """The latest tables of all months but one, as they are printed once all are published. Those that are known aren't
-    printed again: a revision of a month has one table for ever."""
+    """The latest tables of all months but one, as they are printed once all are published. Known tables aren't printed
+    again: a revision of a month always has the same table."""
     had = {it.listed[:2]: it.table for it in known}
     listed = listed_in(session.ask(record(LAST_MOMENT, "public", "tables")))
     latest = {each.month: each for each in sorted(listed) if each.month != month}

@@ -3,11 +3,11 @@
 Borg runs as the user to whom the folder belongs, whoever runs the tool, so nothing in it ever belongs to another one.
 Extracted bytes come through a pipe: borg writes no file for the tool, and gives none a name, an owner or a mode.
 
-Borg's locks are folders, which stay if a run is killed. Borg takes away those of processes of this host that are gone. But
-it knows a host by its network card, and a unit without a network has none; and once the machine started anew, another
-process may have that number. So a run is named by its machine and the start of that, and locks of earlier starts of the
-same machine go first. Those of another machine stay, as on a disk that two have, and those of a container on the same
-kernel: their processes may run.
+Borg's locks are folders, which stay if a run is killed. Borg takes away the locks of processes of this host that are
+gone. But it knows a host by its network card, and a unit without a network has none; and once the machine has started
+again, another process may have that number. So a run is named by its machine and the start of that, and locks of
+earlier starts of the same machine go first. Locks of another machine stay, as on a disk that two machines share, and so
+do locks of a container on the same kernel: their processes may run.
 """
 
 from __future__ import annotations
@@ -30,13 +30,13 @@ from ...office.plain_json import plain_json
 from ...text.terminal import Fault, because_of, counted
 
 LOCK_WAIT = 120
-"""Seconds for which borg waits until another one has done its work in the repository."""
+"""Seconds for which borg waits until another run has done its work in the repository."""
 
 FOLDER = "repository"
 """The repository, in the folder of its user."""
 
 OWN = "borg"
-"""What borg keeps for itself, in the same folder: its cache, and which repositories it knows."""
+"""Borg's own files, in the same folder: its cache, and the repositories that it knows."""
 
 CUT = ("--chunker-params", "fixed,16384", "--files-cache", "disabled", "--compression", "zstd,3")
 """How a file is cut and packed: an office's file changes page by page in its place, so pieces of four pages stay."""
@@ -46,13 +46,13 @@ MOST_BYTES = 1 << 20
 """Bytes of a file of borg's that are read here."""
 
 FOUND = 1
-"""The exit status of borg's check if it found something wrong; what it couldn't do has a greater one."""
+"""The exit status of borg's check if it found a fault; if it couldn't do something, the status is greater."""
 
 HOST = "cpi-keep@"
-"""How the name begins by which borg knows who has a lock; what follows is the machine and its start."""
+"""The beginning of the name by which borg knows the holder of a lock; the machine and its start follow."""
 
 NO_LOCK = "Failed to create/acquire the lock"
-"""What borg says if another one works in the repository."""
+"""Borg's message if another run works in the repository."""
 
 LOCKED, ROSTER = "lock.exclusive", "lock.roster"
 """Borg's locks: a folder with a file for an exclusive holder, and a file that lists exclusive and shared holders."""
@@ -139,7 +139,7 @@ class Repository:
         return ["borg", "--lock-wait", str(LOCK_WAIT), *words]
 
     def _how(self, folder: Optional[Path] = None) -> dict[str, Any]:
-        """How borg is run: as the owner, with no setting of another one's, and with hours and days by UTC."""
+        """How borg is run: as the owner, with nobody else's settings, and with hours and days in UTC."""
         kept = {"PATH": os.environ.get("PATH", os.defpath), "LC_ALL": "C.UTF-8", "TZ": "UTC"}
         kept.update(BORG_BASE_DIR=str(self._own), HOME=str(self._own), PYTHONDONTWRITEBYTECODE="1")
         kept["BORG_HOST_ID"] = this_start().host
@@ -151,7 +151,7 @@ class Repository:
         return how
 
     def _run(self, *words: str, folder: Optional[Path] = None) -> bytes:
-        """Runs borg; what it writes. Raises Fault with its cause in one line."""
+        """Runs borg; its output. Raises Fault with its cause in one line."""
         ran = self._ran(*words, folder=folder)
         if ran.returncode:
             self._refuse(ran.stderr)
@@ -201,8 +201,8 @@ class Repository:
 
 
 class Start(NamedTuple):
-    """A start of a machine: what names the machine, the run of its kernel, and the space in which processes have numbers.
-    Empty is what this user can't see."""
+    """A start of a machine: the machine's identity, the run of its kernel, and the space in which processes have
+    numbers. Parts that this user can't see are empty."""
 
     machine: str
     kernel: str
@@ -210,11 +210,12 @@ class Start(NamedTuple):
 
     @property
     def host(self) -> str:
-        """How borg names who has a lock."""
+        """Borg's name for the holder of a lock."""
         return HOST + "_".join(self)
 
     def is_after(self, host: str) -> bool:
-        """Whether a host, as borg names it, is an earlier start of the same machine. What one can't see shows nothing."""
+        """Whether a host, as borg names it, is an earlier start of the same machine. A part that can't be seen shows
+        nothing."""
         if not host.startswith(HOST) or host.count("_") < 2:
             return False
         was = Start(*host.removeprefix(HOST).rsplit("_", 2))
@@ -231,7 +232,7 @@ def this_start() -> Start:
 
 
 def _text_of(path: str) -> str:
-    """What a file of the system says, in a line; empty if it isn't there, or is hidden."""
+    """The text of a system file, in a line; empty if it isn't there, or is hidden."""
     with contextlib.suppress(OSError):
         return Path(path).read_text(encoding="ascii", errors="replace").strip()
     return ""
@@ -246,7 +247,7 @@ def _is_alone(folder: HeldFolder) -> bool:
 
 
 def _who_locks(folder: Path) -> Iterator[str]:
-    """The holders of locks in a folder, as borg names hosts. What isn't borg's has no known name. Raises OSError."""
+    """The holders of locks in a folder, as borg names hosts. A name that isn't borg's isn't known. Raises OSError."""
     with contextlib.suppress(FileNotFoundError, NotADirectoryError), held(folder) as opened:
         with contextlib.suppress(FileNotFoundError), opened.folder(LOCKED) as locks:
             yield from (name.rpartition("-")[0].rpartition(".")[0] for name in os.listdir(locks.number))
@@ -277,7 +278,7 @@ def _written(stream: IO[bytes], place: Callable[[str], Optional[Path]]) -> set[s
 
 
 def cause_in(said: str) -> str:
-    """Why borg failed: the system's first fault in what it wrote, else its first line that isn't of a traceback."""
+    """Why borg failed: the system's first fault in its output, else its first line outside of a traceback."""
     if system := re.search(r"\[Errno \d+\] (.+?)(?:: '.*)?$", said, re.M):
         return system[1]
     others = ("Local Exception", "Traceback")

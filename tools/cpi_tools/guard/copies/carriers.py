@@ -1,4 +1,5 @@
-"""What carries a second copy to another machine: rsync over ssh, or rclone. Each has its own checks and its own access.
+"""Programs that carry a second copy to another machine: rsync over ssh, or rclone. Each has its own checks and its own
+access.
 
 `fetch` brings the notes of a place and the mark of its promotion to a folder of this machine; `carry` brings a copy to
 one of the two folders there, its note last.
@@ -31,10 +32,10 @@ SSH = (
 other side is silent."""
 
 OWN = re.compile(r"rsync: |\[\w+\] |cpi-receive: |cpi-tools receive: |\S*rrsync\b|\d{4}/\d\d/\d\d \S+ ERROR\b")
-"""What a line of a carrier begins with, here or on the other machine. ssh warns in lines of its own."""
+"""The beginning of a carrier's line, here or on the other machine. ssh warns in lines of its own."""
 
 AFTERWARDS = re.compile(r"rsync error: |rsync: connection unexpectedly closed|rsync: \[\w+\] (read|write) error: ")
-"""What rsync says once the other side has ended, whatever the cause was."""
+"""The message of rsync once the other side has ended, whatever the cause was."""
 
 BESIDE = re.compile(r"Warning: Permanently added|(\d{4}/\d\d/\d\d \S+ )?NOTICE\b")
 """Lines that name no cause."""
@@ -44,7 +45,7 @@ MODES = ("--perms", "--chmod=D700,F600")
 
 
 class Carrier(Protocol):
-    """What carries to a place on another machine."""
+    """A program that carries to a place on another machine."""
 
     name: str
 
@@ -78,8 +79,8 @@ class Rsync:
         _run([*self._words, "--recursive", "--delete", "--ignore-times", *chosen, self._at, f"{to}/"], self.name)
 
     def carry(self, copy: Path, to: str, is_whole: bool) -> None:
-        """In place, each file on the disk there before the next one begins. Unless all is compared, a file of the same size
-        and of the time of before is passed over: `taken_and_stamped` gives each change a second of its own."""
+        """In place, each file on the disk there before the next one begins. Unless all is compared, a file with the
+        same size and the earlier time is skipped: `taken_and_stamped` gives each change a second of its own."""
         how = ["--inplace", "--no-whole-file", f"--block-size={PAGE}", "--fsync", *MODES]
         how += ["--ignore-times"] if is_whole else []
         _run([*self._words, *how, *_files_of(copy), f"{self._at}{to}/"], self.name)
@@ -118,7 +119,7 @@ def _files_of(copy: Path) -> list[str]:
 
 
 def carrier_of(dest: str, ssh: Optional[str] = None) -> Optional[Carrier]:
-    """What carries to a place: `rclone:REMOTE:PATH` by rclone, `[USER@]MACHINE:FOLDER` by rsync; None of a folder of
+    """The carrier to a place: rclone for `rclone:REMOTE:PATH`, rsync for `[USER@]MACHINE:FOLDER`; None for a folder of
     this machine, which has a slash before any colon, or no colon."""
     if dest.startswith("rclone:"):
         return Rclone(dest.partition(":")[2])
@@ -152,8 +153,8 @@ def _run(words: Sequence[str], name: str) -> str:
 
 
 def _cause(output: str) -> str:
-    """The line that says why a carrying failed: the first one of the carrier, else the last one of another program, else
-    what rsync said afterwards. The times of rclone go."""
+    """The line that says why a carrying failed: the carrier's first one, else the last one of another program, else
+    rsync's last message. The times of rclone go."""
     lines = [line for each in output.splitlines() if (line := each.strip()) and not BESIDE.match(line)]
     causes = [line for line in lines if not AFTERWARDS.match(line)]
     own = [line for line in causes if OWN.match(line)]

@@ -1,4 +1,4 @@
-"""The desk's folder in a backup: one file next to that of the office, `office.db.desk.tar`, with its sum in the note on the
+"""The desk's folder in a backup: one file next to the office's, `office.db.desk.tar`, with its sum in the note on the
 backup. A backup of an earlier version has none.
 
 The office's file is copied first. So the desk's log in the backup has each record that the office in it has.
@@ -52,7 +52,8 @@ def _add(tar: tarfile.TarFile, desk: Path, name: str) -> None:
 
 
 def read_desk(tar: Path, to: Path) -> None:
-    """Writes the files of a desk's folder in a backup to a folder that is empty. Raises Fault if it has anything else."""
+    """Writes the files of a desk's folder in a backup to a folder that is empty. Raises Fault if it contains anything
+    else."""
     try:
         with tarfile.open(tar, mode="r:") as files:
             for each in files:

@@ -1,5 +1,5 @@
-"""What a copy of the desk's folder hasn't got of a newer one, as one file: it is carried to the place of the copy, and put
-into it there.
+"""The parts of the desk's folder that a copy lacks, as one file: it is carried to the place of the copy, and put into
+it there.
 
     DEST/desk/index.json     which of the folders counts, and the size and sum of each file in it
     DEST/desk/1, 2, ..       the folder, and one for each desk that didn't go on from the one before
@@ -7,9 +7,9 @@ into it there.
     the first line: the index before and then, and of each file how it is written
     the bytes of these, one after the other
 
-**A log is only appended to**, by the program that puts changes in too: whoever has taken the first machine can add lines,
-and takes none away. If a log doesn't go on from the copy's, a new folder is begun, and the former one stays as it is.
-The index comes last, so whatever stops it, the next changes begin from what the index says.
+**A log only grows**, even for the program that puts changes in: an intruder on the first machine can add lines, and
+takes none away. If a log doesn't continue the copy's, a new folder is begun, and the former one stays as it is. The
+index comes last, so whatever stops it, the next changes begin from the state that the index describes.
 
 The carried file comes from another machine: each file is opened by its plain name from the place's descriptor
 (`held_folders`), and a link, a pipe or a file with a second name is refused.
@@ -159,7 +159,7 @@ def desk_received_text(index: Index) -> str:
 
 
 def read_desk_head(file: IO[bytes]) -> DeskChanges:
-    """What the first line of a file of changes says; the file is at its first byte then. Raises NotFitting."""
+    """The content of the first line of a file of changes; the file is at its first byte then. Raises NotFitting."""
     try:
         read = plain_json(file.readline(LONGEST_LINE))
         before, index = (index_in(read[name]) for name in ("before", "index"))
@@ -219,7 +219,7 @@ def _refuse(place: HeldFolder, changes: DeskChanges, size: int) -> None:
 
 
 def _refuse_logs(before: Index, index: Index, ways: Mapping[str, str]) -> None:
-    """Raises NotFitting if a log of the copy would be something else than appended to."""
+    """Raises NotFitting if the changes would do anything but append to a log of the copy."""
     for name in LOGS:
         if name in before.files and (name not in index.files or ways.get(name, APPEND) != APPEND):
             raise NotFitting(f"{name} is only appended to")

@@ -1,6 +1,6 @@
-"""The files of the desk's application as they are copied: its folder has the desk's log, notes on prices, notes of the
-field, questions to collectors, the draft of a year, and what waits. A backup, a second copy, a restore and a promotion all
-read it so.
+"""The files of the desk's application as they are copied: its folder contains the desk's log, notes on prices, field
+notes, questions to collectors, the draft of a year, and waiting entries. A backup, a second copy, a restore and a
+promotion all read it so.
 
 Each file is read at one moment, while the application runs. The logs are only appended to, and only whole lines are
 taken. All others but the notes of the field and the questions are written whole or not at all. Of those, SQLite files,
@@ -37,10 +37,10 @@ NOTES = "field-notes.db"
 """The notes of the field."""
 
 DATABASE = ".db"
-"""How the name of an SQLite file ends."""
+"""The ends of the names of SQLite files."""
 
 ASIDE = "before-"
-"""How the name of a folder begins that has an earlier desk, which was put aside."""
+"""The beginning of the name of a folder that contains an earlier desk, which was put aside."""
 
 MOST_FILES = 10_000
 """Files of a folder at most."""
@@ -49,18 +49,18 @@ NAME = re.compile(r"(?!before-)[A-Za-z0-9][A-Za-z0-9._-]{0,99}(/[A-Za-z0-9][A-Za
 """A file's name below the folder. Hidden files are not whole yet."""
 
 BESIDE = ("-journal", "-wal", "-shm")
-"""What SQLite has next to a file meanwhile."""
+"""SQLite's temporary files next to a file."""
 
 
 class Sized(NamedTuple):
-    """The size of a file in bytes, and its sum as `mirrors` has it."""
+    """The size of a file in bytes, and its sum as in `mirrors`."""
 
     size: int
     sum: str
 
 
 class Seen(NamedTuple):
-    """What changes if a file does: its number, its size and its time in nanoseconds since 1970 UTC."""
+    """Values that change if a file does: its number, its size and its time in nanoseconds since 1970 UTC."""
 
     number: int
     size: int
@@ -114,13 +114,13 @@ def sized(data: bytes) -> Sized:
 
 
 def goes_on(data: bytes, before: Optional[Sized]) -> bool:
-    """Whether a log goes on from an earlier one, of which only size and sum are known."""
+    """Whether a log continues an earlier one, whose size and sum are all that is known."""
     return before is None or (len(data) >= before.size and sized(data[: before.size]) == before)
 
 
 def is_later(folder: Path, other: Path) -> bool:
-    """Whether the logs of a folder go on from those of another one, or are the same. What isn't a plain file doesn't. Raises
-    OSError."""
+    """Whether the logs of a folder continue the logs of another one, or are the same. A file that isn't plain doesn't.
+    Raises OSError."""
     try:
         return all(lines_in(folder / name).startswith(lines_in(other / name)) for name in LOGS)
     except NotPlain:
@@ -128,8 +128,8 @@ def is_later(folder: Path, other: Path) -> bool:
 
 
 class Notes(NamedTuple):
-    """How far the notes of the field are: the number of the last one that ever came, which only grows; and of the last
-    one that is kept its number and its sum."""
+    """How far the field notes go: the number of the last note that ever came, which only grows; and the number and the
+    sum of the last note that is kept."""
 
     came: int
     kept: int
@@ -155,8 +155,8 @@ def notes_go_on(link: sqlite3.Connection, before: Notes) -> bool:
 
 @contextlib.contextmanager
 def unchanging(path: Path) -> Iterator[sqlite3.Connection]:
-    """Meanwhile nobody commits a change to an SQLite file. Raises Fault. (Whoever opens the file in this process and
-    closes it ends that: so it is read once.)"""
+    """Meanwhile nobody commits a change to an SQLite file. Raises Fault. (Opening and closing the file in this process
+    ends that: so it is read once.)"""
     try:
         address = f"{path.absolute().as_uri()}?mode=ro"
         with contextlib.closing(sqlite3.connect(address, uri=True, isolation_level=None)) as link:

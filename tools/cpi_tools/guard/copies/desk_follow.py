@@ -1,5 +1,5 @@
-"""The follower's part of the desk's folder: after each round of the office what changed in it is carried to the place of
-the copy (`desk_changes`).
+"""The follower's part of the desk's folder: after each round of the office, its changes are carried to the place of the
+copy (`desk_changes`).
 
 The office is copied first. So the log there has each record that the office there has, and it may have later ones.
 """
@@ -33,7 +33,7 @@ from .mirrors import PAGE, Mirror
 from .places import Place
 
 MIRRORS = "desk-mirrors"
-"""The folder of the place with a copy of each SQLite file, by which the pages are known that changed."""
+"""The folder of the place with a copy of each SQLite file, which shows the changed pages."""
 
 
 class DeskFollower:
@@ -48,8 +48,8 @@ class DeskFollower:
         self._notes, self._beside, self._is_other = NO_NOTES, NO_NOTES, False
 
     def carry(self) -> str:
-        """Carries the changes; a line to print if the copy's log doesn't go on. Raises Fault: the copy is that of
-        before then."""
+        """Carries the changes; a line to print if the copy's log doesn't go on. Raises Fault: the copy then is the
+        earlier one."""
         try:
             there, seen = self._place.desk_index(), seen_in(self._desk)
             if self._settled == (seen, there) or (there is None and LOG not in seen):
@@ -61,7 +61,7 @@ class DeskFollower:
             raise Fault(because_of(fault)) from fault
 
     def _carry(self, there: Optional[Index], seen: dict[str, Seen]) -> str:
-        """The same, if something may have changed."""
+        """The same, if a file may have changed."""
         files, data = self._look(seen, there)
         other = self._other(there, files, data) if there else ""
         known = there.files if there and not other else {}
@@ -141,7 +141,7 @@ class DeskFollower:
         return Part(name, PAGES, tuple(sorted(pages)))
 
     def _other(self, there: Index, files: Mapping[str, Sized], data: Mapping[str, bytes]) -> str:
-        """What doesn't go on from the copy: a log, or the notes of the field; empty if all do."""
+        """The file that doesn't continue the copy's: a log, or the field notes; empty if all do."""
         changed = [name for name in LOGS if files.get(name) != there.files.get(name)]
         others = [name for name in changed if not goes_on(data.get(name, b""), there.files.get(name))]
         return next(iter(others), NOTES if self._is_other else "")

@@ -1,8 +1,8 @@
-"""A copy of the desk's folder takes its place: that of a second copy in a promotion, or that of a backup in a restore.
+"""A copy of the desk's folder takes its place: a second copy's in a promotion, or a backup's in a restore.
 
-Root does it, in a folder that belongs to the office's user: each file is made new below the folder's descriptor, and the
-file that was written is given away. The former files are put aside in a folder in it. A folder whose logs go on from those
-of the copy has all that the copy has, so it stays.
+Root does it, in a folder that belongs to the office's user: each file is made new below the folder's descriptor, and
+the file that was written is given away. The former files are put aside in a folder in it. A folder whose logs continue
+the copy's contains all of the copy, so it stays.
 """
 
 from __future__ import annotations
@@ -30,7 +30,7 @@ from .second_copies import DESK, second_text
 
 
 def add_desk(words: argparse.ArgumentParser) -> None:
-    """The word of a tool by which the desk's folder takes its place."""
+    """The option of a tool with which the desk's folder takes its place."""
     named = f"where the desk's folder belongs ({HERE} for the package's office)"
     words.add_argument("--desk", type=Path, metavar="FOLDER", help=named)
 
@@ -46,8 +46,8 @@ class Placed(NamedTuple):
 
 
 def promoted_desk(dest: Path, target: Path, like: Path, kept: Optional[Path] = None) -> Iterator[str]:
-    """Puts the desk's folder of a second copy into its place, with the owner of the folder `like`: that of `dest`, or
-    the one that lies in `kept`, out of a generation. The line that reports it. Raises Fault."""
+    """Puts the desk's folder of a second copy into its place, with the owner of the folder `like`: the folder at
+    `dest`, or the one in `kept`, out of a generation. The line that reports it. Raises Fault."""
     try:
         with new_room("cpi-desk-") as room:
             made = room / "files"
@@ -65,7 +65,7 @@ def promoted_desk(dest: Path, target: Path, like: Path, kept: Optional[Path] = N
 
 
 def _others(dest: Path, index: Index, is_kept: bool) -> Iterator[str]:
-    """Which other desk's folders stay with the copies, after one of them, or of a generation, took its place."""
+    """The other desk's folders that stay with the copies, after one of them, or of a generation, took its place."""
     if not is_kept and index.number > 1:
         yield f"{dest / DESK}: earlier ones that it doesn't go on from are in folders 1 to {index.number - 1}"
     last: Optional[Index] = None
@@ -141,7 +141,7 @@ def _copy_from(folder: HeldFolder, name: str, to: Path) -> None:
 
 
 def refuse_desk(made: Path, target: Path) -> bool:
-    """Whether the folder `target` stays, since its logs go on from those of `made`. Raises Fault if it is to be replaced
+    """Whether the folder `target` stays, since its logs continue those of `made`. Raises Fault if it is to be replaced
     and the desk's pages have it, and OSError."""
     if seen_in(target) and is_later(target, made):
         return True
@@ -197,7 +197,7 @@ def _folder(folder: HeldFolder, name: str, owner: os.stat_result) -> Iterator[He
 
 
 def _put_aside(home: HeldFolder, owner: os.stat_result) -> Optional[Path]:
-    """Moves all that is in a folder to a new one in it, but for those of before; which one, or None."""
+    """Moves all content of a folder to a new folder in it, except earlier ones; the new folder, or None."""
     there = [name for name in sorted(os.listdir(home.number)) if not name.startswith((ASIDE, "."))]
     if not there:
         return None

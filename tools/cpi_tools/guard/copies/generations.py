@@ -1,16 +1,16 @@
-"""Generations of a second copy: what an office was in each hour of a day, each day of a month and each month of a year.
+"""Generations of a second copy: the office's state in each hour of a day, each day of a month and each month of a year.
 
     FOLDER/repository    a repository of borg, with an archive for each generation
     FOLDER/borg          what borg keeps for itself
 
 FOLDER belongs to a user of its own, whom neither the machine that carries nor the user of the copies reaches. A
 generation is called `new-MOMENT` until it was taken out again and passed its drill; then it is `drilled-MOMENT`, and
-only then it counts. One that failed is `failed-MOMENT`. The moment is that of the clock of this machine, so the machine
-that carries can't choose which generations stay.
+only then it counts. One that failed is `failed-MOMENT`. The moment comes from this machine's clock, so the machine that
+carries can't choose which generations stay.
 
     DEST/drilled.json    the generation that passed its drill last, next to the copies, for a follower to read
 
-The repository itself is checked once a week (`CHECK_DAYS`): what only an old generation has is read by no drill.
+The repository itself is checked once a week (`CHECK_DAYS`): no drill reads data that only an old generation contains.
 """
 
 from __future__ import annotations
@@ -34,14 +34,14 @@ KEPT = Path("/var/lib/cpi-keep")
 """The folder of the package for generations."""
 
 FILES = (OFFICE, LOG, NOTE)
-"""What a generation has: the office's file, its log, and the note of the copy that it was; and the desk's folder, if there
-is one (`kept_desk`)."""
+"""The content of a generation: the office's file, its log, and the note of the copy that it was; and the desk's folder,
+if there is one (`kept_desk`)."""
 
 CHECK_DAYS = 7
 """So many days after a check of the repository the next one begins."""
 
 NEW, PASSED, FAILED = "new-", "drilled-", "failed-"
-"""How the name of an archive begins, by what its drill found."""
+"""The beginning of an archive's name, by the result of its drill."""
 
 KEEP = ("--keep-hourly", "24", "--keep-daily", "31", "--keep-monthly", "12")
 """Borg's words for the generations that stay, of those that passed their drill."""
@@ -135,8 +135,9 @@ def drilled_in(names: list[str]) -> list[str]:
 
 
 def taken_generation(repository: Repository, archive: str, room: Path) -> CopyNote:
-    """Takes the files of an archive to a folder, as they lie at a place; the note of the copy that it was, of which file and
-    log have the sums. A log without a byte is none. Raises Damaged if it isn't whole, other Faults, and OSError."""
+    """Takes the files of an archive to a folder, as they were at a place; the note of the copy that it was, whose sums
+    the file and the log have. A log without a byte is none. Raises Damaged if it isn't whole, other Faults, and
+    OSError."""
     written = repository.take_out(archive, lambda name: room / name if name in FILES else place_in(room, name))
     if lacks := sorted(set(FILES) - written):
         raise Damaged(f"it isn't whole: it has no {lacks[0]}")

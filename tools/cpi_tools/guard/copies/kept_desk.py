@@ -44,8 +44,8 @@ class OpenDesk(NamedTuple):
 
 
 class KeptDesk(NamedTuple):
-    """The desk's folder of a generation: a sum by which another one is known, empty if there is none, and a line for each
-    file that isn't as the index says."""
+    """The desk's folder of a generation: a sum that tells it from another one, empty if there is none, and a line for
+    each file that isn't as the index says."""
 
     sum: str
     faults: tuple[str, ...]
@@ -102,7 +102,7 @@ def _let_open(count: int) -> None:
 
 
 def take_desk(desk: OpenDesk, to: Path) -> KeptDesk:
-    """Copies an open desk's folder to a folder, as it lies at its place; nothing of one that can't be copied."""
+    """Copies an open desk's folder to a folder, as it is at its place; nothing if it can't be copied."""
     if desk.listed is None:
         return KeptDesk("", desk.faults)
     size = sum(os.fstat(number).st_size for number in desk.files.values())
@@ -152,7 +152,7 @@ def kept_desk_in(folder: Path) -> KeptDesk:
 
 
 def _faults(folder: Path, index: Index) -> Iterator[str]:
-    """What isn't as an index says, and what SQLite finds wrong with a file of it."""
+    """The files that differ from an index, and the faults that SQLite finds in one of them."""
     for name, wanted in index.files.items():
         try:
             if sum_of(folder / name) != wanted:
@@ -164,7 +164,7 @@ def _faults(folder: Path, index: Index) -> Iterator[str]:
 
 
 def _fault_of(path: Path) -> str:
-    """What SQLite finds wrong with a file first; empty if nothing is."""
+    """The first fault that SQLite finds in a file; empty if there is none."""
     try:
         with unchanged_office(path) as opened:
             return opened.quick_fault()

@@ -1,12 +1,12 @@
 """A copy of an office's file and log that is brought up to date in place: only pages that changed are written.
 
-A round reads the office's file and log as `copying` has it, in their order and with the same mark before and after, so
-what the mirror has at the end is a right copy of one moment. While it is being written it is none, so whoever keeps a
-mirror keeps a second one that is whole meanwhile.
+A round reads the office's file and log as `copying` does, in their order and with the same mark before and after, so
+the mirror at the end is a right copy of one moment. While it is being written it isn't one, so the keeper of a mirror
+keeps a second one that is whole meanwhile.
 
 **The sum.** A SHA-256 of 300 MB takes more than a second of a processor without instructions for it. So each block of
-16 KiB has its own SHA-256, which is computed anew only if the block changed, and the sum of a file is the SHA-256 of
-those of its blocks, one after the other. `sum_of` computes the same of a file that nobody knows yet.
+16 KiB has its own SHA-256, which is recomputed only if the block changed, and the sum of a file is the SHA-256 of its
+blocks' sums, one after the other. `sum_of` computes the same of a file that nobody knows yet.
 """
 
 from __future__ import annotations
@@ -30,12 +30,13 @@ SUMMED = 1 << 14
 """Bytes of a block that has its own sum."""
 
 QUIET_WITHIN = 5
-"""Seconds for which the next emptying of the log is awaited: a pass that begins right after it has the longest time."""
+"""Seconds for which a pass waits until the log is emptied again: a pass that begins right after that has the longest
+time."""
 
 
 class Taken(NamedTuple):
-    """A round of a mirror: the moment at which the pass began that was right (seconds since 1970 UTC), how many passes
-    it took, and the bytes that were written."""
+    """A round of a mirror: the moment at which the right pass began (seconds since 1970 UTC), how many passes it took,
+    and the bytes that were written."""
 
     moment: int
     passes: int
@@ -46,7 +47,7 @@ class Mirror:
     """A file that is brought to the bytes of another one, and the sum of each of its blocks."""
 
     def __init__(self, path: Path):
-        """The mirror at a path, with what a former run left there. Raises OSError."""
+        """The mirror at a path, with the content that a former run left there. Raises OSError."""
         self.path = path
         self._sums = list[bytes]()
         self._size = 0
@@ -139,7 +140,8 @@ class MirroredOffice:
     """The mirrors of an office's file and of its log, in a folder."""
 
     def __init__(self, folder: Path, name: str):
-        """The mirror of the file gets a name there, that of the log the one that belongs to it. Raises OSError."""
+        """The mirror of the file gets a name there, and the log's mirror the name that belongs to it. Raises
+        OSError."""
         self.file = Mirror(folder / name)
         self.log = Mirror(log_beside(folder / name))
 
@@ -187,14 +189,14 @@ def second_of(path: Path) -> int:
 
 
 def stamp(path: Path, before: int) -> None:
-    """Gives a file that was written since a later time than the one of before, in whole seconds. Raises OSError."""
+    """Gives a file that was written since a time later than before, in whole seconds. Raises OSError."""
     if path.stat().st_mtime_ns != before * SECOND:
         later = max(int(time.time()), before + 1) * SECOND
         os.utime(path, ns=(later, later))
 
 
 def sum_of(path: Path) -> tuple[int, str]:
-    """The size of a file in bytes, and its sum as a mirror has it. Raises OSError."""
+    """The size of a file in bytes, and its sum as for a mirror. Raises OSError."""
     sums, size = list[bytes](), 0
     with naming(path), path.open("rb", buffering=0) as file:
         for block in _blocks(file):
@@ -219,8 +221,8 @@ def sync(path: Path) -> None:
 
 
 def _blocks(file: RawIOBase) -> Iterator[bytes]:
-    """The blocks of a file in their order, each but the last one of BLOCK bytes, whatever a read gives. The first end
-    that is seen is the end: what a log gets afterwards would begin within a block."""
+    """The blocks of a file in their order, each but the last one of BLOCK bytes, whatever size a read returns. The
+    first end that is seen is the end: what a log gets afterwards would begin within a block."""
     while True:
         block = b""
         while len(block) < BLOCK and (more := file.read(BLOCK - len(block))):

@@ -1,8 +1,8 @@
-"""Whether an office goes on from its copy: which office it is, what only grows in its life, and its last quotes.
+"""Whether an office continues its copy: its identity, the figures that only grow in its life, and its last quotes.
 
-**Which office.** A collector's number never gets another key, and keys are drawn. So the key of one collector says which
-office a file is of, whatever its machine, its folder and its name are. The note on the first copy that has a collector
-keeps that number with a sum of the key, and each later note has the same.
+**Which office.** A collector's number never gets another key, and keys are drawn. So the key of one collector shows to
+which office a file belongs, whatever its machine, its folder and its name are. The note on the first copy that has a
+collector keeps that number with a sum of the key, and each later note has the same.
 
 **Marks.** No row of these tables is ever removed, and a quote that is put right gets a greater receipt. So no count of
 rows gets smaller, and the sum of all receipts grows with each answered price.
@@ -36,7 +36,7 @@ class Identity(NamedTuple):
 
 
 class Marks(NamedTuple):
-    """What only grows: how many rows there are of each kind, and the sum of the receipts of all quotes."""
+    """The figures that only grow: how many rows there are of each kind, and the sum of the receipts of all quotes."""
 
     collectors: int
     outlets: int
@@ -49,7 +49,7 @@ class Marks(NamedTuple):
 
 
 NAMES = ("collectors", "outlets", "items", "assigned slots", "months", "tables", "quotes", "sum of receipts")
-"""What the marks are called."""
+"""The names of the marks."""
 
 Quoted = tuple[int, int, str, int]
 """Collector, slot, month and receipt of a quote."""
@@ -140,7 +140,7 @@ def _refuse(office: StoredOffice, before: Known) -> None:
 
 
 def _other_collector(office: StoredOffice, identity: Optional[Identity]) -> str:
-    """Why a collector says that it is another office; empty if it doesn't."""
+    """Why a collector shows that it is another office; empty if the collector doesn't."""
     if not identity:
         return ""
     key = office.keys().get(identity.collector)
@@ -170,11 +170,11 @@ def _other_quote(before: tuple[Quoted, ...], now: tuple[Quoted, ...]) -> Optiona
 
 
 def identity_in(value: Any) -> Optional[Identity]:
-    """The identity of what a note tells. Raises ValueError, LookupError or TypeError if it is none."""
+    """The identity in a note. Raises ValueError, LookupError or TypeError if it is none."""
     return None if value is None else Identity(whole_number(value["collector"]), str(value["sum"]))
 
 
 def marks_in(value: Any) -> Optional[Marks]:
-    """The marks of what a note tells; None of a note that an earlier version wrote. Raises ValueError, LookupError or
-    TypeError if they are none."""
+    """The marks in a note; None if an earlier version wrote the note. Raises ValueError, LookupError or TypeError if
+    they are none."""
     return None if value is None else Marks(*(whole_number(value[name]) for name in Marks._fields))

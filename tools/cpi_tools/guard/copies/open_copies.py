@@ -27,8 +27,8 @@ class NotWhole(Fault):
 
 
 class OpenCopy(NamedTuple):
-    """A copy of a place: the path of its folder, the descriptors of its note, its file and its log, None of what isn't
-    there; and why it can't be read, empty if it can."""
+    """A copy of a place: the path of its folder, the descriptors of its note, its file and its log, None for missing
+    ones; and why it can't be read, empty if it can."""
 
     path: Path
     note: Optional[int]

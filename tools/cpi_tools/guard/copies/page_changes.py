@@ -5,7 +5,7 @@ into it there.
     the pages, one after the other, in the order of their numbers; the last one of a file may be shorter
 
 The note goes before the first page is written, and the new one comes last, as in each round. So whatever stops it, the
-copy is none until a whole one is carried, and the other copy counts.
+copy isn't whole until a whole one is carried, and the other copy counts.
 
 The carried files come from another machine, and only pages are taken from them: each file below the place is opened by
 its plain name from the place's descriptor (`held_folders`), and a link, a pipe or a file with a second name is refused
@@ -110,7 +110,7 @@ def received_text(name: str, note: CopyNote) -> str:
 
 
 def read_head(file: IO[bytes]) -> Changes:
-    """What the first line of a file of changes says; the file is at its first page then. Raises NotFitting."""
+    """The content of the first line of a file of changes; the file is at its first page then. Raises NotFitting."""
     try:
         fields = plain_json(file.readline(LONGEST_LINE))
         before, note = (note_in(fields[name]) for name in ("before", "note"))
@@ -149,7 +149,7 @@ def put_in(place: Path) -> Changes:
 
 def drop_changes(place: Path) -> None:
     """Removes changes that lie at a place: no copy takes them once one was promoted, and they may have the last room of
-    its disk. What can't be removed stays."""
+    its disk. Files that can't be removed stay."""
     with contextlib.suppress(OSError), held(place) as whole, whole.folder(CAME) as came:
         came.remove(CARRIED)
 

@@ -41,10 +41,10 @@ from .second_copies import (
 )
 
 LOCK = "follow.lock"
-"""The file by which one follower at a time writes to a folder."""
+"""The lock file of the only follower that writes to a folder."""
 
 ASIDE = "aside"
-"""The folder with what isn't carried, next to the copies, as long as rounds are refused."""
+"""The folder with files that aren't carried, next to the copies, as long as rounds are refused."""
 
 COMPARED_EACH = 3600.0
 """Seconds after which a copy elsewhere is compared as a whole, so that a page that its disk lost is carried again."""
@@ -64,8 +64,8 @@ class Place(Protocol):
         copy. Raises Fault and OSError, and the newer copy is whole then."""
 
     def desk_index(self) -> Optional[Index]:
-        """What the copy of the desk's folder has, as it was seen last with the state; None if there is none. Raises
-        OSError."""
+        """The content of the copy of the desk's folder, as it was last seen with the state; None if there is none.
+        Raises OSError."""
 
     def put_desk(self, after: Index, write: Callable[[Path], None]) -> None:
         """Puts changes of the desk's folder into its copy, which has `after` then; `write` writes them to a file. Raises
@@ -113,8 +113,8 @@ class Folder:
             self._mirrors.remove(aside)
 
     def _put_back(self, mirror: MirroredOffice, folder: Path, state: State) -> None:
-        """Brings the older copy, which has what isn't carried, to the newest one: so both are whole. If that can't be
-        done, it has no note, and the newest one stays."""
+        """Brings the older copy, with the files that aren't carried, up to the newest one: so both are whole. If that
+        can't be done, it has no note, and the newest one stays."""
         if not (newest := state.newest()):
             return
         with contextlib.suppress(OSError, CopyFailed):
@@ -123,7 +123,7 @@ class Folder:
                 _write_note(mirror, folder, state.notes[newest])
 
     def desk_index(self) -> Optional[Index]:
-        """What the copy of the desk's folder has."""
+        """The content of the copy of the desk's folder."""
         return index_of(self._folder)
 
     def put_desk(self, after: Index, write: Callable[[Path], None]) -> None:
@@ -169,7 +169,7 @@ class Elsewhere:
             write_whole(seen, text.encode(), 0o600)
 
     def round(self, office: Path, state: State, patience: float, is_anew: bool) -> tuple[CopyNote, Taken]:
-        """The mirror needn't be on the disk: what it lacks after a crash is seen in the next round."""
+        """The mirror needn't be on the disk: the next round sees the parts that it lacks after a crash."""
         name, number = state.next()
         folder = self._room / "mirror"
         folder.mkdir(mode=0o700, exist_ok=True)
@@ -190,7 +190,7 @@ class Elsewhere:
         return note, taken
 
     def desk_index(self) -> Optional[Index]:
-        """What the copy of the desk's folder has, as it was fetched last."""
+        """The content of the copy of the desk's folder, as it was fetched last."""
         return index_of(self._room / "there")
 
     def put_desk(self, after: Index, write: Callable[[Path], None]) -> None:
@@ -268,7 +268,7 @@ class Mirrors:
         self._known = dict[Path, MirroredOffice]()
 
     def taken(self, folder: Path, office: Path, patience: float) -> tuple[MirroredOffice, Taken]:
-        """The mirror in a folder, brought to an office's file. It is read anew after a fault, which may have left a
+        """The mirror in a folder, brought to an office's file. It is read again after a fault, which may have left a
         block that was written in part. Raises CopyFailed and OSError."""
         mirror = self._known.pop(folder, None) or MirroredOffice(folder, OFFICE)
         taken = mirror.taken_and_stamped(office, patience)

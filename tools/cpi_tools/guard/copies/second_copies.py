@@ -7,13 +7,13 @@ a note on the kept generations.
     DEST/drilled.json
 
 Each round brings the older of the two copies up to date, and writes its note last. So whatever stops a round, the other
-copy is whole. A note has the sums of its file and log, so a copy that was cut off shows even if a note of before is next
-to it. The copy that counts is the one whose note has the greatest number of a round.
+copy is whole. A note has the sums of its file and log, so a copy that was cut off shows even if a note of before is
+next to it. The copy that counts is the one whose note has the greatest number of a round.
 
-The two files of a copy are what a crash could leave at its moment, so `cpi` opens them as they are.
+The two files of a copy are in a state that a crash could leave at its moment, so `cpi` opens them as they are.
 
-The machine that carries to a place may have been taken by somebody else. So files there are read only by their plain
-names, never through a link; and the mark is in a folder where that machine's key can't write (`cpi-receive`).
+An intruder may control the machine that carries to a place. So files there are read only by their plain names, never
+through a link; and the mark is in a folder where that machine's key can't write (`cpi-receive`).
 """
 
 from __future__ import annotations
@@ -37,20 +37,20 @@ NAMES = ("copy-1", "copy-2")
 """The folders that take turns."""
 
 OFFICE = "office.db"
-"""What the office's file is called in a copy."""
+"""The name of the office's file in a copy."""
 
 LOG = f"{OFFICE}-wal"
-"""What its log is called there."""
+"""The name of its log there."""
 
 NOTE = "office.db.json"
 """The note on a copy. By its name it comes after file and log, since rsync carries files in the order of their names."""
 
 MARK = "promoted.json"
-"""The mark of a place whose copy was promoted: nothing is carried there any more. `promote` writes it, and the key by
-which a follower carries only reads it."""
+"""The mark of a place whose copy was promoted: nothing is carried there any more. `promote` writes it, and a follower's
+key only reads it."""
 
 DESK, INDEX = "desk", "index.json"
-"""The folder of a place with the copy of the desk's folder, and the file in it that says what the copy has."""
+"""The folder of a place with the copy of the desk's folder, and the file in it that describes the copy's content."""
 
 RECEIVED = "received.lock"
 """A lock at a place on another machine where a program puts changed pages into a copy: one carrying at a time holds
@@ -60,8 +60,8 @@ REFUSED = "refused.json"
 """Is there as long as rounds are refused, since the office doesn't go on from its copy."""
 
 DRILLED = "drilled.json"
-"""Which generation of the copies passed its drill last, if somebody keeps them (`generations`). The key by which a
-follower carries only reads it."""
+"""Which generation of the copies passed its drill last, if somebody keeps them (`generations`). A follower's key only
+reads it."""
 
 MOST_BYTES = 1 << 16
 """Bytes of a note that are read."""
@@ -91,12 +91,12 @@ class CopyNote(NamedTuple):
 
     @property
     def known(self) -> Known:
-        """What it knows of the office."""
+        """The record of the office in it."""
         return Known(self.identity, self.marks, self.receipts)
 
 
 class Promotion(NamedTuple):
-    """That the copy of a place was promoted: on which machine, when, and the moment of that copy, in seconds since 1970
+    """The promotion of a place's copy: the machine, the time, and the moment of that copy, in seconds since 1970
     UTC."""
 
     machine: str
@@ -111,7 +111,7 @@ class State(NamedTuple):
     promotion: Optional[Promotion]
 
     def of_another(self, office: Path) -> str:
-        """Whose copy is the newest one, if it isn't that of an office's file on this machine; else nothing."""
+        """The office of the newest copy, if it isn't from an office's file on this machine; else nothing."""
         note = self.last()
         if note and (note.machine, note.office) != (socket.gethostname(), str(office.absolute())):
             return f"{note.office} of {note.machine}"
@@ -201,7 +201,7 @@ def state_in(place: HeldFolder) -> State:
 
 
 def promotion_of(folder: Path) -> Optional[Promotion]:
-    """The promotion of a place. Raises Fault if its mark can't be read, since nobody knows then what it says."""
+    """The promotion of a place. Raises Fault if its mark can't be read, since nobody knows then what the mark says."""
     try:
         with held(folder) as place:
             return _promotion_in(place)
@@ -264,7 +264,7 @@ def note_in(text: str) -> Optional[CopyNote]:
 
 
 def fault_of(office: Path, note: CopyNote) -> str:
-    """Why the file of a copy and its log aren't those of a note; empty if they are. Raises OSError."""
+    """Why the file of a copy and its log don't match a note; empty if they do. Raises OSError."""
     for path, wanted in ((office, note.file), (log_beside(office), note.log)):
         try:
             found = Sum(*sum_of(path))

@@ -1,4 +1,4 @@
-"""When a certificate ends: one in a file, or the one that a server shows."""
+"""The end of a certificate: one in a file, or the one that a server shows."""
 
 from __future__ import annotations
 
@@ -76,7 +76,7 @@ def _shown_by(server: Server, seconds: int) -> bytes:
 
 def end_of(certificate: bytes) -> int:
     """The end of a certificate: the second time of its validity (RFC 5280, 4.1). Raises ValueError or IndexError if the
-    bytes are no certificate."""
+    bytes aren't a certificate."""
     signed = _parts(_one(certificate, SEQUENCE))[0]
     fields = _parts(_value(signed, SEQUENCE))
     if fields[0][0] == EXPLICIT_0:

@@ -1,4 +1,4 @@
-"""Whether the last write of an office succeeded, from what `cpi serve` said and from its files.
+"""Whether the last write of an office succeeded, from the messages of `cpi serve` and from its files.
 
 `cpi serve` says a line as it closes its file and opens it again after a failed request, and one if the open fails.
 Readers get answers all the while, so an answer doesn't show that the disk refuses every write. The log does:
@@ -28,14 +28,14 @@ FAILED = (
     r"^cpi: (database failed|(a request was refused by 90|a response couldn't be written|out of memory)"
     r"(, opening the file again)?)$"
 )
-"""What the program says after a request that failed or may have failed, and when it can't open its file. After the last
-connection of its limit it doesn't open the file again."""
+"""The program's messages after a request that failed or may have failed, and when it can't open its file. After the
+last connection of its limit it doesn't open the file again."""
 
 CLOSE_SECONDS = 300
 """No close takes longer than this: it writes a log of some 1,000 pages into the file."""
 
 MARKS = (bytes.fromhex("377f0682"), bytes.fromhex("377f0683"))
-"""The first bytes of a log that holds something, by SQLite's file format."""
+"""The first bytes of a log that contains data, by SQLite's file format."""
 
 HOUR = 3600
 
@@ -63,7 +63,7 @@ def writes_of(path: Optional[Path], said: Said) -> Writes:
 
 
 def last_commit(path: Path) -> float:
-    """When the log of a file last changed, if it holds a commit; else 0.
+    """When the log of a file last changed, if it contains a commit; else 0.
 
     The first frame of the log has the header's salts once it holds a commit: its first salt is written last.
     """

@@ -24,7 +24,7 @@ class MachineClock(NamedTuple):
 
     @property
     def is_synchronized(self) -> bool:
-        """Whether something keeps it right."""
+        """Whether a daemon keeps it right."""
         return self.error < UNSYNCHRONIZED
 
 
@@ -45,7 +45,7 @@ class Timex(ctypes.Structure):
 
 
 def timex() -> Timex:
-    """What the kernel says of the clock. Raises Fault if it doesn't."""
+    """The kernel's facts about the clock. Raises Fault if it doesn't."""
     found = Timex()
     library = ctypes.CDLL(None, use_errno=True)
     # (with modes 0 nothing is set, which every user may ask)

@@ -46,13 +46,14 @@ Found = TypeVar("Found")
 
 
 class Looks:
-    """Looks one after the other, each of which may fail without the others: `faults` has a line for each that did."""
+    """Runs checks one after the other, each of which may fail without the others: `faults` has a line for each that
+    did."""
 
     def __init__(self) -> None:
         self.faults = list[str]()
 
     def at(self, look: Callable[..., Found], *of: object) -> Optional[Found]:
-        """What a look finds; None, and a fault, if it can't."""
+        """The result of a check; None, and a fault, if it can't be done."""
         try:
             return look(*of)
         except Fault as fault:
@@ -89,8 +90,7 @@ def look(chosen: argparse.Namespace, now: int) -> Seen:
 
 
 def _answer(chosen: argparse.Namespace, looks: Looks) -> tuple[Optional[Answer], str]:
-    """What the office answered, or why there is no answer. An authority that can't be read says nothing of the
-    office."""
+    """The office's answer, or why there is none. An authority that can't be read says nothing of the office."""
     trusted = looks.at(trusting, chosen.authority)
     if trusted is None:
         return None, ""
@@ -107,7 +107,7 @@ def _late(answer: Answer, backups: Optional[Backups], file: Optional[Path], now:
 
 
 def unit_of(chosen: argparse.Namespace) -> Optional[str]:
-    """The unit that serves the office; None if it isn't one of systemd."""
+    """The unit that serves the office; None if it isn't a unit of systemd."""
     if chosen.output or not shutil.which("systemctl"):
         return None
     return chosen.unit or UNIT

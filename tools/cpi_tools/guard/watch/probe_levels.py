@@ -15,11 +15,11 @@ BY_WEIGHT = (OK, UNKNOWN, WARNING, CRITICAL)
 """A part that can't be checked outweighs parts that are well, and hides no part that isn't."""
 
 Judgement = tuple[int, str]
-"""A state, and what to say of it."""
+"""A state, and the text for it."""
 
 
 class Levels(NamedTuple):
-    """From which value on a figure is a warning, and from which on it is critical."""
+    """The value from which on a figure is a warning, and the value from which on it is critical."""
 
     warning: int
     critical: int

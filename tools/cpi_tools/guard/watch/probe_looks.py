@@ -34,7 +34,7 @@ class Table(NamedTuple):
 
 
 class Answer(NamedTuple):
-    """What the office answered: its published tables, and in how many milliseconds."""
+    """The office's answer: its published tables, and after how many milliseconds it came."""
 
     tables: tuple[Table, ...]
     milliseconds: int
@@ -161,7 +161,7 @@ def backups_of(folder: Path) -> Backups:
 
 class SecondCopy(NamedTuple):
     """The newest second copy, by its note: when copying it began, in seconds since 1970 UTC, None if there is no copy;
-    the machine on which it was promoted, empty if it wasn't; and why the office isn't carried to it any more, empty if it
+    the machine on which it was promoted, empty if it wasn't; and why the office is no longer carried to it, empty if it
     is."""
 
     copied: Optional[int]
@@ -170,8 +170,8 @@ class SecondCopy(NamedTuple):
 
 
 def second_copy_of(folder: Path) -> SecondCopy:
-    """The second copy that `cpi-tools follow` keeps in a folder, or of which it keeps the last note there. Raises Fault
-    if the folder can't be read."""
+    """The second copy that `cpi-tools follow` keeps in a folder, or whose last note it keeps there. Raises Fault if the
+    folder can't be read."""
     state = state_of(folder)
     newest = state.newest()
     promoted_on = state.promotion.machine if state.promotion else ""
@@ -179,7 +179,7 @@ def second_copy_of(folder: Path) -> SecondCopy:
 
 
 def calendar_of(backup: Optional[Backup], file: Optional[Path]) -> Optional[list[Window]]:
-    """The calendar as the last backup has it, else as a copy of the office's file has it; None where neither is named.
+    """The calendar in the last backup, or else in a copy of the office's file; None if neither is named.
 
     Raises Fault if it can't be read.
     """

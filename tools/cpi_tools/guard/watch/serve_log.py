@@ -1,6 +1,6 @@
-"""What `cpi serve` said: its lines in the journal of a unit, or in a file that its output was sent to.
+"""The messages of `cpi serve`: its lines in the journal of a unit, or in a file that received its output.
 
-How many connections of its limit a running `cpi serve` has left, as far as it said so.
+How many connections of its limit a running `cpi serve` has left, as far as its messages say.
 """
 
 from __future__ import annotations
@@ -18,8 +18,8 @@ MOST_BYTES = 1 << 20
 """Bytes at the end of a file that are read: more than 10,000 lines of `cpi serve`."""
 
 EARLIER = 0.001
-"""Seconds before the last line of a file: the times of files are as coarse as some milliseconds, so what the program
-writes to its log just after a line may have the same time as the line."""
+"""Seconds before the last line of a file: the times of files are only exact to some milliseconds, so a write to the log
+just after a line may have the same time as the line."""
 
 HARMLESS = ("Journal file ", "-- ")
 """How the lines of journalctl begin that report one old file of the journal, or that there is no entry."""
@@ -101,11 +101,11 @@ class OutputFile:
 LEFT = r"cpi: ([0-9]+) connections of --limit are left"
 
 TURNS = rf"^({LEFT}|cpi: listening on .*|cpi: served as many connections as --limit says)$"
-"""What the program says of its connections; a start or an end makes what it said before of no worth."""
+"""The program's messages about its connections; after a start or an end, earlier messages no longer count."""
 
 
 def connections_left(said: Said) -> Optional[int]:
-    """So many connections were left when the program said so last; None if it said nothing since it started. Raises
+    """So many connections were left at the program's last message; None if it printed none since it started. Raises
     Fault if its lines can't be read."""
     last = said.last(TURNS)
     found = re.fullmatch(LEFT, last.text) if last else None
