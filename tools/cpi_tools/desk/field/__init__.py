@@ -1,1 +1,1 @@
-"""Notes of the field: what collectors say of prices from their phones, and what the desk asks them."""
+"""Field notes: collectors' remarks about prices from their phones, and the desk's questions to them."""

@@ -17,8 +17,8 @@ from ...text.terminal import Fault, because_of
 
 
 class FieldFile:
-    """Such a file. Rows are kept for so many months, the one that it is now being the first; `clock` tells the seconds
-    since 1970 UTC."""
+    """Such a file. Rows are kept for so many months, beginning with the current one; `clock` gives the seconds since
+    1970 UTC."""
 
     SCHEMA = ""
     """The statements that make its tables."""

@@ -1,4 +1,4 @@
-"""What a note of the field, and a question to a collector, may have at most.
+"""The limits of a field note, and of a question to a collector.
 
 `web/collect/note-limits.js` has the same names for the phone.
 """

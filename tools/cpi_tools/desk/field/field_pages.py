@@ -1,4 +1,4 @@
-"""The notes of the field for the desk: those of a month with what they are of, their photographs, and a CSV file."""
+"""The field notes for the desk: a month's notes with their slots, their photographs, and a CSV file."""
 
 from __future__ import annotations
 

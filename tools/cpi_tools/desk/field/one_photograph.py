@@ -1,4 +1,4 @@
-"""What opens one photograph that a phone sent: a program in a process of its own, which `photographs` starts.
+"""Opens one photograph that a phone sent: a program in a separate process, which `photographs` starts.
 
 A picture is a program's input that a stranger wrote. So the process bounds itself before it reads one: its memory, its
 processor time, and that it writes no file. Pillow reads the picture (Debian: python3-pil); what leaves the process is a

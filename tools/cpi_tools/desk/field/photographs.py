@@ -1,8 +1,8 @@
-"""Photographs that collectors send: each is opened in a process of its own, one at a time, and written anew without what
-cameras add, such as the place.
+"""Photographs that collectors send: each is opened in a separate process, one at a time, and written again without a
+camera's additions, such as the place.
 
-So a picture that is made to take all memory and time takes those of its process, which are bounded, and the pages of the
-desk go on. Nothing of the sent bytes is kept but the pixels.
+So a picture made to use up all memory and time uses up only its process's, which are bounded, and the desk's pages go
+on. Nothing of the sent bytes is kept but the pixels.
 """
 
 from __future__ import annotations

@@ -1,5 +1,5 @@
-"""What the person reads who confirms a freeze: the figures of the trial whose table was prepared, the prices that nobody at
-the desk has seen, and what changed since it was prepared."""
+"""The page for the person who confirms a freeze: the figures of the trial whose table was prepared, the prices that
+nobody at the desk has seen, and the changes since it was prepared."""
 
 from __future__ import annotations
 

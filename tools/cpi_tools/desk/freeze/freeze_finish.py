@@ -1,4 +1,4 @@
-"""The freeze against the office: whether it would still be the one that was prepared, and its receipt once the office has
+"""The freeze compared with the office: whether it would still be the prepared one, and its receipt once the office has
 carried it out."""
 
 from __future__ import annotations
@@ -29,7 +29,7 @@ CHANGED = _(
 
 
 def what_differs(prepared: Prepared) -> Worded:
-    """Why a freeze now wouldn't be the one that was prepared, or nothing: it is tried again on a copy."""
+    """Why a freeze now would differ from the prepared one, or nothing: it is tried again on a copy."""
     try:
         with desk().copies_now() as copy:
             closed = close(desk().cpi, copy.path, prepared.month, int(time.time()))

@@ -1,4 +1,4 @@
-"""The checklist before a freeze, as the last trial of the month has it."""
+"""The checklist before a freeze, from the last trial of the month."""
 
 from __future__ import annotations
 
@@ -15,8 +15,7 @@ NOTHING = Worded("")
 
 
 class Step(NamedTuple):
-    """A step of the checklist: what it is, how it is, and whether it is as it should be: None is for people to
-    judge."""
+    """A step of the checklist: its name, its state, and whether that is right: None is for people to judge."""
 
     name: Message
     says: Worded

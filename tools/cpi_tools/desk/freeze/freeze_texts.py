@@ -13,7 +13,7 @@ NOT_PREPARED = _("No freeze of this month is prepared: somebody may have sent or
 
 
 def other_trial(trial: Tried) -> Message:
-    """That the page showed another trial than the last one."""
+    """The message that the page showed another trial than the last one."""
     if not trial.by:
         return _(
             "The month was tried again, and the trial differs from the one that you saw: read it. Nothing was done."

@@ -1,5 +1,5 @@
-"""The office's website, written by `cpi-tools publish` in a process of its own: now, or at the moment at which a table is
-out. No table under embargo can be in it, since `publish` reads as the public does.
+"""The office's website, which `cpi-tools publish` writes in a separate process: now, or when a table is released. No
+table under embargo can be in it, since `publish` reads as the public does.
 
 Which tables somebody wants to be published at their moment is a file. If the application isn't running at that moment, it
 publishes as soon as it is.

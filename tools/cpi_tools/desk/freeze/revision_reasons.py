@@ -1,7 +1,8 @@
 """Why a month is revised, in the desk's words: the reason waits in a file of the application until the revision is
 frozen, and then goes to the website's file of reasons.
 
-What couldn't be written there, because that file can't be read or the disk is full, stays here and is tried again.
+A reason that couldn't be written there, because that file can't be read or the disk is full, stays here and is tried
+again.
 """
 
 from __future__ import annotations

@@ -1,1 +1,1 @@
-"""`cpi-tools keys`: for each collector a sheet of paper with the key, by which the collector signs in on a phone."""
+"""`cpi-tools keys`: for each collector a sheet of paper with the key, with which the collector signs in on a phone."""

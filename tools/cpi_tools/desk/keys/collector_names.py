@@ -1,4 +1,5 @@
-"""The names of collectors, which no office stores: those of a CSV file with the columns `collector` and `name`."""
+"""The names of collectors, which no office stores: they come from a CSV file with the columns `collector` and
+`name`."""
 
 from __future__ import annotations
 

@@ -1,4 +1,4 @@
-"""How a collector signs in to the phone's page: by a link with the key in it, or by a key that is typed.
+"""How a collector signs in to the phone's page: with a link that contains the key, or with a typed key.
 
 The check character after a key that people type: ISO/IEC 7064:2003, the hybrid system MOD 37,36.
 

@@ -1,7 +1,7 @@
 """The prices of a month to check, worst first, each with why, and with a question for its collector.
 
-Which are unusual is said by the rule of `cpi-tools desk month`. The order is by an estimate of how far a price moves
-all items, which is shown, as one, to the person who confirms a freeze.
+The rule of `cpi-tools desk month` says which are unusual. The order is by an estimate of how far a price moves all
+items, which is shown, as one, to the person who confirms a freeze.
 """
 
 from __future__ import annotations

@@ -1,6 +1,7 @@
 """The month at a glance.
 
-The response of a month by day, as a small picture and as rows: what the application saw while the window was open.
+The response of a month by day, as a small picture and as rows: the application's observations while the window was
+open.
 """
 
 from __future__ import annotations

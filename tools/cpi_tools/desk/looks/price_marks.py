@@ -1,4 +1,4 @@
-"""What people of the desk noted of prices: `seen`, which is a person's own, and notes, which all of them read.
+"""Marks of the desk's people on prices: `seen`, which is for one person, and notes, which all of them read.
 
 A file that is only appended to, a JSON object a line. Each is for one price in one month: if another price comes, it
 needs another check.

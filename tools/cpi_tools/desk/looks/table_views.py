@@ -1,5 +1,5 @@
-"""The provisional table of a month, what each figure comes from, what changed since yesterday, and what a handful of
-prices would change."""
+"""The provisional table of a month, the source of each figure, the changes since yesterday, and the effect of changing
+a few prices."""
 
 from __future__ import annotations
 

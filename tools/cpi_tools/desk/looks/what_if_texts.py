@@ -1,5 +1,6 @@
-"""What a text asks to try in *What if*: `7/2=2.10`, `7/2=missing`, a reason for which it is missing, or a code to carry, one
-a line. A price is an amount with the currency's digits, or in minor units of money if the currency isn't known."""
+"""The trials that a text asks for in *What if*: `7/2=2.10`, `7/2=missing`, a reason for which it is missing, or a code
+to carry, one on each line. A price is an amount with the currency's digits, or in minor units of money if the currency
+isn't known."""
 
 from __future__ import annotations
 

@@ -1,7 +1,7 @@
 """Aggregates to check: small ones, imputed ones, those on the carry list, and those that may not be homogeneous.
 
-What a series counts as is read from a copy that the program froze. Next to it are shares, and geometric means of the
-same prices, which aren't published.
+The prices that count for a series are read from a copy that the program froze. Next to it are shares, and geometric
+means of the same prices, which aren't published.
 """
 
 from __future__ import annotations

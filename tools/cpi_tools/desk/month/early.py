@@ -1,4 +1,5 @@
-"""Tables that come out before a revision that they are computed from: what everybody can compute of it from them.
+"""Tables that come out before a revision from which they are computed: everybody can compute figures of that revision
+from them.
 
 A month is computed from the latest revisions of months before it, published or not (docs/reference/OFFICE.md, the index of
 a month). So its table shows something of these revisions, and a revision that comes out later has lost its embargo. The

@@ -1,7 +1,8 @@
-"""What a copy says of a month that the program froze there, or couldn't: then what depends on the freeze is empty.
+"""A copy's facts about a month that the program froze there, or couldn't: then the facts that depend on the freeze are
+empty.
 
-Prices are in minor units of money, what a series counts as in ticks (10,000 a minor unit), indices and levels in
-millionths of a point, months are numbers like 202601.
+Prices are in minor units of money, the prices that count for a series in ticks (10,000 to a minor unit), indices and
+levels in millionths of a point, months are numbers like 202601.
 """
 
 from __future__ import annotations

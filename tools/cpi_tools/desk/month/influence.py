@@ -1,4 +1,4 @@
-"""What all items would be without a quote: the program freezes the month on copies, with quotes left out.
+"""The level of all items without a quote: the program freezes the month on copies, with quotes left out.
 
 Aggregates don't touch each other below the mean, so that one freeze leaves out a quote in each of several: the program
 says the index of each of these aggregates, and the mean of all items is taken of its table's rows with one index put in

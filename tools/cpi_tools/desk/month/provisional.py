@@ -1,4 +1,5 @@
-"""The provisional table: as the program froze it on a copy, with what each node adds to the changes of all items."""
+"""The provisional table: as the program froze it on a copy, with each node's contribution to the changes of all
+items."""
 
 from __future__ import annotations
 
@@ -33,7 +34,7 @@ def heads_of(facts: Facts) -> tuple[Column, ...]:
 IMPUTED = message("i")
 
 INDEX, BEFORE, LEVEL = 3, 4, 5
-"""Cells of a row: the index, the level of the month before, and that of the month."""
+"""Cells of a row: the index, and the levels of the month before and of the month."""
 
 
 def added(ratio: Optional[Ratio]) -> str:

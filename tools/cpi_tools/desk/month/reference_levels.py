@@ -1,4 +1,4 @@
-"""Levels in the reference period of the website, computed by what computes those that it publishes.
+"""Levels in the reference period of the website, computed with the code that computes the published ones.
 
 The program's own levels are chained: a node has 100 in the December before its first month. Without a reference period a
 page has these only, and it names the period in any case.

@@ -1,4 +1,4 @@
-"""A refusal of the program in the sentences of the desk's page: a terminal has it in one line."""
+"""A refusal of the program in the sentences of the desk's page: a terminal shows it in one line."""
 
 from __future__ import annotations
 

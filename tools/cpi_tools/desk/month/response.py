@@ -1,4 +1,5 @@
-"""Who answered: slots priced, missing by reason and silent, by collector, outlet and division; who is missing for long.
+"""The response: slots priced, missing by reason and silent, by collector, outlet and division; and collectors who have
+been missing for long.
 
 Nothing here depends on a freeze.
 """

@@ -1,4 +1,4 @@
-"""The desk's log: searched, saved as CSV, and what has no reply yet."""
+"""The desk's log: searched, saved as CSV, and its records without a reply."""
 
 from __future__ import annotations
 
@@ -24,7 +24,7 @@ views = flask.Blueprint("log", __name__)
 # t: a line of the log: what a person did here
 STEP = _("a step at the desk")
 STEPS = {SAID: STEP, FROZEN: STEP, CUT_OFF: _("a line that isn't whole")}
-"""What the page says of lines that no record is in."""
+"""The page's texts for lines that contain no record."""
 
 SHOWN = 100
 """Lines of a page."""

@@ -24,7 +24,7 @@ from .carried_out import TABLES
 FREEZE = "freeze"
 
 WORDS = tuple(word for word in TABLES if word != FREEZE)
-"""The words that are taken here: a freeze has a page of its own, on which two people confirm it."""
+"""The words that are accepted here: a freeze has its own page, on which two people confirm it."""
 
 MOST_ROWS = 20_000
 """The most rows of an import, and of a text pasted into a table."""

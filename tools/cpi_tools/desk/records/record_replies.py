@@ -1,4 +1,4 @@
-"""What the office answered a record of the desk, in words."""
+"""The office's answers to the desk's records, in words."""
 
 from __future__ import annotations
 
@@ -19,7 +19,7 @@ LOST_AND_DONE = _("done: its reply was lost, and the office's file has it")
 
 
 class RecordReply(NamedTuple):
-    """A record as a line, what the office answered, and whether it was carried out."""
+    """A record as a line, the office's answer, and whether it was carried out."""
 
     record: str
     answer: Text

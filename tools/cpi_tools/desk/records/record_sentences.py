@@ -1,7 +1,7 @@
 """Each record as a sentence, so that a person reads it before it is sent: with moments by the office's clock and in
 UTC, bounds in percent, prices as amounts, and names next to numbers and codes.
 
-A record of another form than docs/reference/FORMATS.md has is no sentence: a page shows it as it is.
+A record whose form isn't in docs/reference/FORMATS.md has no sentence: a page shows it as it is.
 """
 
 from __future__ import annotations

@@ -1,4 +1,4 @@
-"""The kinds of rows that the sample's pages take: what the record of each has, by the names of its fields."""
+"""The kinds of rows that the sample's pages take: the content of each record, by the names of its fields."""
 
 from __future__ import annotations
 

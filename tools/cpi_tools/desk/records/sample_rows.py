@@ -1,5 +1,5 @@
-"""Rows of a person's tray: judged by `cpi` on a copy, row by row, and sent to the office. What isn't carried out stays in
-the tray with the answer.
+"""Rows of a person's tray: judged by `cpi` on a copy, row by row, and sent to the office. A row that isn't carried out
+stays in the tray with the answer.
 
 Slots that nobody named: of an assignment, or of a hand-over's new holder. It is the slot that has exactly this already,
 so that rows that are given twice are no second series; else the first that is free.

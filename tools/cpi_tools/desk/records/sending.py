@@ -1,4 +1,4 @@
-"""How records go to the office: each is in the desk's log before it is sent, and its reply is there afterwards.
+"""How records go to the office: the desk's log contains each before it is sent, and its reply afterwards.
 
 A record whose reply was lost is searched for in the office's file before anything else is sent. So nothing is sent
 twice, and nothing is lost, whatever is killed at whichever step.

@@ -1,7 +1,7 @@
 """The application: its requests are let in, answered by the views, and sent out with the fields that keep a page safe.
 
-A page has scripts that are files of the application, and the policy lets no other run: what a person or a collector
-wrote is text, whatever it looks like. Each page can be used without them.
+A page's scripts are files of the application, and the policy lets no other run: whatever a person or a collector wrote
+is text. Each page can be used without them.
 """
 
 from __future__ import annotations

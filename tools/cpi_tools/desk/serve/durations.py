@@ -1,4 +1,4 @@
-"""How long work of a kind took the last time, so that a page can say for how long a person waits."""
+"""How long work of a kind took the last time, so that a page can say how long a person waits."""
 
 from __future__ import annotations
 
@@ -10,7 +10,7 @@ from collections.abc import Callable, Iterator
 from ...text.message import Message, sentences, message_of
 
 SHORT = 2
-"""Seconds that nobody needs to be told of."""
+"""Seconds that needn't be mentioned."""
 
 LONG = 120
 """Seconds from which on minutes are said."""

@@ -1,4 +1,4 @@
-"""What a page says of a fault: a sentence in its language, with what to do, and the line of the program as it is."""
+"""A page's text about a fault: a sentence in its language, with what to do, and the program's line as it is."""
 
 from __future__ import annotations
 
@@ -23,7 +23,7 @@ MISSING = (errno.ENOENT, errno.ENOTDIR)
 
 
 def says(fault: Exception) -> Worded:
-    """A text of ours, which the page has in its language; of another fault what it means, with its own line."""
+    """For our own texts, the text in the page's language; for another fault its meaning, with its own line."""
     if isinstance(fault, Refused):
         return refused_words(fault)
     text = fault.args[0] if fault.args else ""

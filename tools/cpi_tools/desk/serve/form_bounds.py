@@ -1,5 +1,5 @@
-"""How much of a form is taken. It is counted before it is taken apart: each field of a form costs the application far
-more than its bytes do, so one that is all fields would keep it busy for a minute.
+"""The limits of a form that is taken. It is counted before it is parsed: each field of a form costs the application far
+more than its bytes do, so a form full of fields would keep it busy for a minute.
 
 Whoever has no session sends the form to sign in, and nothing else that is read. That form is short.
 """

@@ -1,4 +1,4 @@
-"""Pages that load themselves anew: only one that was asked for by its address, never one that answers a form."""
+"""Pages that reload themselves: only a page that was requested by its address, never one that answers a form."""
 
 from __future__ import annotations
 

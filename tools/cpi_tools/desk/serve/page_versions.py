@@ -1,4 +1,5 @@
-"""Who changed what a page showed before its form came back: such a form does nothing, and the page says who was quicker."""
+"""Changes by others to the content of a page before its form came back: such a form does nothing, and the page names
+the other person."""
 
 from __future__ import annotations
 
@@ -17,7 +18,8 @@ NOTHING_DONE = _("Nothing was done: this page has what is here now, with what yo
 
 
 def changed_by(name: str, at: int) -> Message:
-    """That somebody changed what a page showed, at a moment in seconds since 1970 UTC; nobody if it isn't known who."""
+    """The message that somebody changed a page's content, at a moment in seconds since 1970 UTC; without a name if it
+    isn't known who."""
     if not name:
         return sentences(_("This was changed after your page was loaded."), NOTHING_DONE)
     places = {"name": of_others(name), "moment": moment_of(at)}

@@ -1,8 +1,8 @@
-"""How the application is reached: at a port of this machine, or through a front that speaks TLS and passes on whose
-request it is.
+"""How people reach the application: at a port of this machine, or through a front that speaks TLS and says who sent
+each request.
 
-Whoever may open the place at which the application listens may say whose request it is, as the front does. A port is
-open to each process of the machine; a socket is for the front only, by its owner and mode.
+Anyone who can open the application's address can say who sent a request, as the front does. A port is open to each
+process of the machine; a socket is for the front only, by its owner and mode.
 """
 
 from __future__ import annotations

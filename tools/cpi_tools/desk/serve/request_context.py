@@ -1,4 +1,4 @@
-"""What a view works with: the desk, the person's session, and how a page is made of a template."""
+"""The context of a view: the desk, the person's session, and how a template becomes a page."""
 
 from __future__ import annotations
 

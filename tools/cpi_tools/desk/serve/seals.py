@@ -1,4 +1,5 @@
-"""A seal on what the application hands out: it knows its own again, also after a new start, and nobody else can make one."""
+"""A seal on texts that the application gives out: it recognizes its own seal, also after a new start, and nobody else
+can make one."""
 
 from __future__ import annotations
 

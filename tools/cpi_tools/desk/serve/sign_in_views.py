@@ -23,7 +23,7 @@ KEPT = _("Your session had ended, so nothing was done. What you filled in is kep
 COOKIE = "cpi_desk"
 
 MOST_OF_ADDRESS = 60
-"""Letters of an address that is none, as far as a line has it."""
+"""The letters of a wrong address that a line shows."""
 
 MOST_OF_PLACE = 2_000
 """Letters, as an address has them, of the page to which a person goes on: the form is sent without a session, so it is

@@ -1,5 +1,5 @@
-"""What the website's configuration says of the figures of the desk: the currency of prices. The file is read anew when it
-changes, so that the pages go by what the website will be written by."""
+"""The website's settings for the desk's figures: the currency of prices. The file is read again when it changes, so
+that the pages use the same settings as the website."""
 
 from __future__ import annotations
 

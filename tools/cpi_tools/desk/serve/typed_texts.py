@@ -1,5 +1,5 @@
 """Numbers as people type them at the desk: in digits of any script, with a point or a comma, with or without marks
-between groups of three digits. What can be read in two ways isn't read.
+between groups of three digits. A text that can be read in two ways isn't read.
 
 What a person types, with whatever keyboard.
 """

@@ -1,4 +1,5 @@
-"""Civil times that the office's clock leaves out, or has twice: what such a time becomes is said before it is sent."""
+"""Civil times that the office's clock leaves out, or has twice: the page shows the resulting moment before such a time
+is sent."""
 
 from __future__ import annotations
 

@@ -1,5 +1,5 @@
-"""The changes of a draft of a coming year: who changed what and when, with each row as it was and as it is. By these a page
-knows what others changed since it was shown."""
+"""The changes of a draft of a coming year: who changed which row and when, with each row before and after. They show a
+page the changes by others since it was shown."""
 
 from __future__ import annotations
 

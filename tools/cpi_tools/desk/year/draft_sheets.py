@@ -1,6 +1,6 @@
 """The draft of a coming year, as `cpi-tools next-year` makes it and `take-in` reads it: a folder with the sheets of the
-plan and of the new series, which people change row by row or by pasting, and the lists of what leaves the sample. Beside
-the sheets are the sources of the weights, and the changes of the draft."""
+plan and of the new series, which people change row by row or by pasting, and the lists of rows that leave the sample.
+Beside the sheets are the sources of the weights, and the changes of the draft."""
 
 from __future__ import annotations
 

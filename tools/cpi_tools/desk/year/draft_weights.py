@@ -13,7 +13,7 @@ from .draft_changes import Change
 from .draft_sheets import ONE_FILE, UNITS, Draft
 
 DIGITS = 3
-"""Decimals of a share in percent, and of what two of them differ by."""
+"""Decimals of a share in percent, and of the difference of two shares."""
 
 MILLION = 1_000_000
 

@@ -1,5 +1,5 @@
-"""The table of weights as a form: what it showed of each row and what a person wrote there, so that only what they changed
-is put, and nothing of another person's goes with it."""
+"""The table of weights as a form: its earlier content of each row and a person's text there, so that only that person's
+changes are put, and nobody else's go with them."""
 
 from __future__ import annotations
 
