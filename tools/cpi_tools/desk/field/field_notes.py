@@ -37,7 +37,7 @@ class Of(NamedTuple):
 
 
 class Said(NamedTuple):
-    """What a collector says of a price: whether it is a sale's, brand and quantity of a replacement, a text, and a
+    """A collector's note on a price: whether it is a sale's, brand and quantity of a replacement, a text, and a
     photograph as it came, empty for none."""
 
     is_sale: bool

@@ -42,10 +42,10 @@ COLUMNS = "number, collector, slot, month, price, receipt, at, by, text, gone_at
 IS_OPEN = "gone_at = 0 AND NOT EXISTS (SELECT 1 FROM answer WHERE answer.question = question.number)"
 
 CONFIRMED, CORRECTED, TEXT = "confirmed", "corrected", "text"
-"""What an answer says: that the price is right, that another one is stored in its place, or a text only."""
+"""The kinds of answers: the price is right, another one is stored in its place, or a text only."""
 
 OPEN, ANSWERED, WITHDRAWN = "open", "answered", "withdrawn"
-"""What has become of a question."""
+"""The states of a question."""
 
 
 class Of(NamedTuple):
@@ -59,8 +59,8 @@ class Of(NamedTuple):
 
 
 class Said(NamedTuple):
-    """What a collector answers: CONFIRMED, CORRECTED or TEXT; the receipt that the office has, its mark, or the reason why
-    there is no price, and the price in minor units (0 and empty for TEXT); a text."""
+    """A collector's answer: CONFIRMED, CORRECTED or TEXT; the office's receipt, its mark, or the reason why there is no
+    price, and the price in minor units (0 and empty for TEXT); a text."""
 
     what: str
     receipt: int
@@ -270,7 +270,7 @@ def _of(row: Sequence[Any]) -> Of:
 
 
 def answer_in_words(it: Answer) -> Message:
-    """What an answer says, but for its text."""
+    """The content of an answer, except its text."""
     said = it.said
     entered = mark_text(Frozen("", 0, said.mark, said.value)) if said.mark else ""
     places = {"entered": entered, "receipt": said.receipt, "moment": moment_of(it.at)}
@@ -284,7 +284,7 @@ def answer_in_words(it: Answer) -> Message:
 
 
 def gone_in_words(it: Question) -> Message:
-    """That a question was taken back, and whether by another one."""
+    """The message that a question was taken back, and whether another one replaced it."""
     places = {"name": of_others(it.gone_by), "moment": moment_of(it.gone_at)}
     if it.next:
         return _("{name} asked another question instead, {moment}.", **places)

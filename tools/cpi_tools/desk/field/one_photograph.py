@@ -25,7 +25,7 @@ MOST_SECONDS = 8
 """Seconds of a processor that it has: ten times what such a picture takes."""
 
 NICE = 10
-"""How much later than the pages of the desk it gets its turn at a processor."""
+"""How much lower its priority for a processor is than the priority of the desk's pages."""
 
 FORMATS = ("JPEG", "PNG", "WEBP")
 """The formats that are opened; a file of any other format isn't a picture."""
@@ -34,7 +34,7 @@ QUALITIES = (82, 70, 55, 40)
 """Of JPEG, the best first."""
 
 NO_PICTURE, TOO_LARGE, TOO_COSTLY = 3, 4, 5
-"""How it ends without a JPEG: the bytes are no picture, it has more pixels than are taken, or it takes more memory."""
+"""How it ends without a JPEG: the bytes aren't a picture, it has too many pixels, or it takes too much memory."""
 
 
 class TooLarge(Exception):

@@ -42,7 +42,7 @@ SIGNALS = {
     -signal.SIGABRT: NO_PICTURE,
     -signal.SIGBUS: NO_PICTURE,
 }
-"""What a signal that ended the process says of its picture."""
+"""The meaning for its picture of a signal that ended the process."""
 
 
 class NotAPicture(Fault):

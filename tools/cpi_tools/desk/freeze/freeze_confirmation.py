@@ -66,7 +66,7 @@ def has_other_table(prepared: Prepared, trial: Tried) -> bool:
 
 
 def changed(prepared: Prepared, trial: Tried) -> Optional[Message]:
-    """What changed since a freeze was prepared: if anything did, it isn't sent any more."""
+    """The changes since a freeze was prepared: if there are any, it is no longer sent."""
     says = list[Message]()
     if has_other_table(prepared, trial):
         says.append(_("The table is another one than the one that was prepared."))

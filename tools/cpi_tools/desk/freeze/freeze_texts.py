@@ -27,7 +27,7 @@ def other_trial(trial: Tried) -> Message:
 
 
 def other_prepared(prepared: Prepared) -> Message:
-    """That another freeze is prepared than the page showed."""
+    """The message that another freeze is prepared than the page showed."""
     return _(
         "{name} prepared another freeze than the one that you saw, {moment}: read it. Nothing was done.",
         name=of_others(prepared.by),
@@ -36,7 +36,7 @@ def other_prepared(prepared: Prepared) -> Message:
 
 
 def not_prepared() -> Message:
-    """That no freeze is prepared, with who sent or dropped the last one."""
+    """The message that no freeze is prepared, with who sent or dropped the last one."""
     for entry in reversed(desk().log.entries):
         if entry.text.startswith(PREPARED):
             break

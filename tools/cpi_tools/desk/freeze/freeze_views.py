@@ -91,7 +91,7 @@ def titles_of(prepared: Prepared) -> dict[str, str]:
 
 
 def signed(prepared: Optional[Prepared], trial: Optional[Tried]) -> Optional[Signed]:
-    """What the person reads who confirms; None without a trial that shows it."""
+    """The text for the person who confirms; None without a trial that shows it."""
     if prepared is None or trial is None:
         return None
     return signed_of(prepared, trial, open_looks(trial), desk().given.reason_above)

@@ -57,12 +57,12 @@ def sum_of(shown: object) -> str:
 
 
 def table_sum(table: bytes) -> str:
-    """What a prepared freeze has of a table."""
+    """A prepared freeze's figures of a table."""
     return hashlib.sha256(table).hexdigest()
 
 
 def prepared_of(by: str, closed: Closed, publishes: int, why: Sequence[str]) -> Prepared:
-    """What one person prepares of a month that was frozen on a copy; `why` is of each aggregate on the carry list."""
+    """One person's preparation for a month that was frozen on a copy; `why` is for each aggregate on the carry list."""
     carry = [it.code for it in closed.named]
     if lacks := [code for code, each in zip(carry, why) if not each.strip()]:
         # t: codes is a list of elementary aggregates, with commas

@@ -40,7 +40,7 @@ AGAIN_AFTER = 300
 """Seconds after which a failed step is tried again."""
 
 BEGINS = f"cpi-tools {'publish'}: "
-"""How a line of the tool begins."""
+"""The beginning of the tool's lines."""
 
 WRITING = "writing"
 

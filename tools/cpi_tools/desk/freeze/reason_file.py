@@ -37,7 +37,7 @@ NO_SITE = _(
 CHANGED = _("Somebody is changing the file of reasons just now.")
 
 TRIES = 3
-"""How often a row is added to the file anew, if somebody wrote the file meanwhile."""
+"""How often adding a row is tried again, if somebody wrote the file meanwhile."""
 
 
 class ReasonFile(NamedTuple):
@@ -108,7 +108,7 @@ class Row(NamedTuple):
 
 
 def with_row(file: ReasonFile, row: Row) -> bytes:
-    """What the file has with a further row: its other rows stay as they are, unless the row needs another column."""
+    """The file's content with a further row: its other rows stay as they are, unless the row needs another column."""
     text = file.content.decode("utf-8-sig")
     rows = [*csv.reader(io.StringIO(text, newline=""), strict=True)]
     head, cells = [*rows[0]], _cells(file, row)

@@ -32,8 +32,8 @@ NOTHING = Worded("")
 
 
 class Asked(NamedTuple):
-    """What a form asks: the month like `2026-01`, its next revision, the languages by their tags with their own names, the
-    reason that waits, and why none can be kept, or nothing."""
+    """The fields of a form: the month like `2026-01`, its next revision, the languages by their tags with their own
+    names, the reason that waits, and why none can be kept, or nothing."""
 
     month: str
     revision: int
@@ -44,7 +44,7 @@ class Asked(NamedTuple):
 
     @property
     def was(self) -> str:
-        """What the form says that it showed."""
+        """The content that the form says it showed."""
         return self.reason.sum if self.reason else ""
 
     @property

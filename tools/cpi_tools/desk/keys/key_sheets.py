@@ -24,7 +24,7 @@ QUIET = 4
 
 
 class Sheet(NamedTuple):
-    """What one collector is handed: the number, the name if it is known, the key as it is typed, and the code."""
+    """One collector's sheet: the number, the name if it is known, the key as it is typed, and the code."""
 
     collector: int
     name: Optional[str]

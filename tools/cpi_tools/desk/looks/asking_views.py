@@ -80,7 +80,7 @@ def number_in(text: str) -> int:
 
 
 def of_price(price: Price) -> Of:
-    """What a question is of: the price with its receipt, by the trial whose page showed it."""
+    """The subject of a question: the price with its receipt, by the trial whose page showed it."""
     found = desk().trials.latest(price.month)
     assert found is not None
     slot = price.collector, price.slot
@@ -100,7 +100,7 @@ def fault_of(text: str) -> Optional[Message]:
 
 
 def changed_question(now: Optional[Question]) -> Message:
-    """That somebody asked, or withdrew a question, after a page was loaded: who, when and what."""
+    """The message that somebody asked, or withdrew a question, after a page was loaded: who, when and what."""
     if now is None:
         return changed_by("", 0)
     if now.gone_at:
@@ -110,7 +110,7 @@ def changed_question(now: Optional[Question]) -> Message:
 
 
 def too_many(fault: TooManyOpen) -> Message:
-    """That so many questions wait for an answer."""
+    """The message that so many questions wait for an answer."""
     most = whole(fault.most)
     if fault.is_of_all:
         wait = _("{most} questions to collectors wait for an answer, and there can't be more.", most=most)
@@ -137,7 +137,7 @@ def withdraw(month: str, number: int) -> Response:
 
 
 def answered_meanwhile(now: Optional[Question]) -> Optional[Message]:
-    """That the collector has answered a question that a page showed as open; None if not."""
+    """The message that the collector has answered a question that a page showed as open; None if not."""
     if now is None or not now.answers:
         return None
     places = {"number": now.of.collector, "moment": moment_of(now.answers[-1].at)}

@@ -27,8 +27,8 @@ NO_SLOTS = message("The month has no slots.")
 
 
 class Share(NamedTuple):
-    """How much of a month has come: slots with a price, all slots, and in millionths the priced share by the weights of
-    the plan (None without a plan)."""
+    """The response in a month: slots with a price, all slots, and in millionths the priced share by the weights of the
+    plan (None without a plan)."""
 
     priced: int
     slots: int

@@ -50,7 +50,7 @@ ASKED: dict[str, Message] = {
     # t: of prices: their collectors have answered the desk's question
     ANSWERED: _("Answered"),
 }
-"""What has become of the question about a price, by the word that an address has for it."""
+"""The state of the question about a price, by its word in an address."""
 
 SORTED_BY: dict[str, Callable[[Look], Any]] = {
     "change": lambda it: -abs(float(it.percent or 0)),
@@ -62,9 +62,9 @@ SORTED_BY: dict[str, Callable[[Look], Any]] = {
 
 
 class Chosen(NamedTuple):
-    """What an address says: which prices are shown (a key of SHOWS), of which reason, division and collector, about which
-    a collector was asked (a key of ASKED), in which order, after or before which price, and which one only; each is empty
-    if it isn't said."""
+    """An address's choice: which prices are shown (a key of SHOWS), of which reason, division and collector, about
+    which a collector was asked (a key of ASKED), in which order, after or before which price, and which one only; each
+    is empty if the address doesn't say it."""
 
     show: str = ""
     reason: str = ""
@@ -78,7 +78,7 @@ class Chosen(NamedTuple):
 
     @property
     def query(self) -> dict[str, str]:
-        """What it is in an address."""
+        """Its form in an address."""
         return {name: text for name, text in self._asdict().items() if text}
 
     @property
@@ -116,7 +116,7 @@ def key_of(it: Look) -> str:
 
 
 def chosen_of(asked: Mapping[str, str]) -> Chosen:
-    """What an address or a form says; what none of these pages has said counts for nothing."""
+    """The choice of an address or a form; words that none of these pages uses are ignored."""
     known = Chosen(**{name: asked.get(name, "") for name in Chosen._fields})
     show = ALL if asked.get("all") else known.show
     return known._replace(

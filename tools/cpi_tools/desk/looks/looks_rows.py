@@ -41,12 +41,12 @@ class Row(NamedTuple):
 
     @property
     def key(self) -> str:
-        """What the row is called in an address: `8-1`."""
+        """The row's name in an address: `8-1`."""
         return key_of(self.look)
 
     @property
     def shown(self) -> str:
-        """What a form carries of it: `8-1-252`."""
+        """The row's name in a form: `8-1-252`."""
         return f"{self.key}-{self.look.price}"
 
 
@@ -98,7 +98,7 @@ def questions_by_slot(month: int) -> dict[tuple[int, int], list[Question]]:
 
 
 def state_of(questions: list[Question]) -> str:
-    """What has become of the questions of a slot: OPEN if one is, else ANSWERED if one was; empty if all of them were
+    """The state of a slot's questions: OPEN if one is, else ANSWERED if one was; empty if all of them were
     withdrawn."""
     states = {it.state for it in questions}
     return next((it for it in (OPEN, ANSWERED) if it in states), "")

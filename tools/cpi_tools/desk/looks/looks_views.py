@@ -68,7 +68,7 @@ def shown(month: str, asked: Mapping[str, str], status: int = 200, /, **typed: o
 
 
 def choices() -> dict[str, object]:
-    """What a person chooses from: each list by its words of an address, with what it is called."""
+    """A person's choices: each list by its words in an address, with its label."""
     render = desk().teller.render
     reasons = [("", render(_("Any reason"))), *((name, render(text)) for name, text in REASONS.items())]
     shows, orders, asked = ([(name, render(text)) for name, text in each.items()] for each in (SHOWS, ORDERS, ASKED))
@@ -77,7 +77,7 @@ def choices() -> dict[str, object]:
 
 
 def filters_of(found: Tried) -> dict[str, object]:
-    """What the prices of a month can be filtered by: the divisions with their titles, and the collectors."""
+    """The filters for the prices of a month: the divisions with their titles, and the collectors."""
     titles = {it.code: it.title for it in found.report.divisions}
     codes = sorted({it.code[:2] for it in found.looks})
     divisions = [(code, titles.get(code, "")) for code in codes]
@@ -138,7 +138,8 @@ def shown_price(month: int, numbers: Sequence[str]) -> Price:
 
 
 def changed_since(month: int, prices: Sequence[Price]) -> Optional[Message]:
-    """That some of the prices aren't those of the month any more, and who had it tried since; None if they are."""
+    """The message that some of the prices no longer belong to the month, and who had it tried since; None if they all
+    do."""
     found = desk().trials.latest(month)
     known = {price_of(month, it) for it in found.looks} if found else set()
     gone = [it for it in prices if it not in known]
@@ -175,7 +176,7 @@ def back(month: str, chosen: Chosen, place: str) -> Response:
 
 @views.get("/month/<month>/looks/<int:collector>.txt")
 def to_send(month: str, collector: int) -> Response:
-    """What to ask a collector, as a text to send. Prices are that collector's own."""
+    """The question to a collector, as a text to send. Prices are that collector's own."""
     found = desk().trials.latest(month_of(month))
     looks = [it for it in (found.looks if found else []) if it.slot[0] == collector]
     if not looks:

@@ -63,7 +63,7 @@ def glance_file(month: str, key: str) -> Response:
 
 
 def time_left(found: Glance, now: int) -> Message:
-    """How long the window is open yet, or when it opens, in days and hours: `3 days and 4 hours`."""
+    """How long the window is still open, or when it opens, in days and hours: `3 days and 4 hours`."""
     window = found.state.window
     seconds = (window.opens if now < window.opens else window.closes) - now
     if seconds <= 0:

@@ -35,8 +35,7 @@ class Price(NamedTuple):
 
 
 class Mark(NamedTuple):
-    """What a person noted: the moment in seconds since 1970 UTC, who, of which price, SEEN, UNSEEN or NOTE, the
-    text."""
+    """A person's mark: the moment in seconds since 1970 UTC, the person, the price, SEEN, UNSEEN or NOTE, the text."""
 
     at: int
     by: str
@@ -111,7 +110,8 @@ class Marks:
         return {price for (_by, price), what in latest.items() if what == SEEN}
 
     def last_of(self, month: int) -> tuple[str, int]:
-        """Who marked a price of a month last, and when in seconds since 1970 UTC; nobody, if nobody did."""
+        """The person who marked a price of a month last, and the time in seconds since 1970 UTC; nobody, if nobody
+        did."""
         return next(((mark.by, mark.at) for mark in reversed(self._all) if mark.of.month == month), ("", 0))
 
     def notes_of(self, month: int) -> dict[Price, list[Mark]]:

@@ -158,7 +158,7 @@ def digits_of(money: Optional[Money]) -> str:
 
 @views.post("/month/<month>/what-if")
 def try_prices(month: str) -> Response:
-    """What a handful of prices would change."""
+    """The effect of changing a few prices."""
     number, text, money = month_of(month), field("text"), desk().teller.money()
     if flask.request.form.get("digits", digits_of(money)) != digits_of(money):
         fault = _(

@@ -17,7 +17,7 @@ DIGITS = 6
 """Decimals of a level: what differs may be small."""
 
 Head = Callable[[str], Message]
-"""What makes the heading of one of the tables of the name of a figure."""
+"""A function that makes the heading of one of the tables from the name of a figure."""
 
 Rows = dict[str, list[str]]
 

@@ -47,12 +47,13 @@ def example_price(money: Optional[Money]) -> str:
 
 
 def example(money: Optional[Money]) -> str:
-    """What the field has as long as it is empty."""
+    """The field's content while it is empty."""
     return f"{example_price(money)}\n{OTHER_SLOT}={MISSING}\n{CODE}"
 
 
 def tried_of(text: str, money: Optional[Money], group_sign: str = ",") -> Tried:
-    """What a text asks to try; `group_sign` is what the pages have between groups of three digits. Raises Fault."""
+    """The trials that a text asks for; `group_sign` is the pages' character between groups of three digits. Raises
+    Fault."""
     missing, prices, carry, lines = list[Place](), list[tuple[Place, int]](), list[str](), dict[Place, int]()
     for line in lines_in(text):
         if not line.right:
@@ -131,7 +132,7 @@ def minor_of(line: Line, money: Optional[Money], group_sign: str) -> int:
 
 
 def twice(line: Line, place: Place, before: int) -> str:
-    """That two lines are of one slot."""
+    """The message that two lines name the same slot."""
     return _(
         "Lines {before} and {line} are both of the slot {slot}: leave one of them.",
         before=whole(before),

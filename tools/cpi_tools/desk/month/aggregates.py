@@ -129,7 +129,7 @@ def pairs_of(facts: Facts, code: str, sample: Sequence[Series]) -> tuple[Pairs, 
 
 
 def gap(pairs: Pairs) -> Optional[int]:
-    """How far Dutot lies from Jevons."""
+    """How far the Dutot index is from the Jevons index."""
     return dutot(pairs) - jevons(pairs) if pairs else None
 
 

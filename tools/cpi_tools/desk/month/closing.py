@@ -51,7 +51,7 @@ class Closed(NamedTuple):
 
 
 class Decision(NamedTuple):
-    """That an aggregate is carried, and why."""
+    """A decision to carry an aggregate, and the reason."""
 
     code: str
     title: str
@@ -120,7 +120,7 @@ def decided(closed: Closed, at: int, allowed: Optional[Sequence[str]], ask: Opti
 
 
 def decision_on(it: Named, ask: Optional[Answer]) -> Decision:
-    """That an aggregate is carried. Raises NotClosed for any other answer."""
+    """The decision to carry an aggregate. Raises NotClosed for any other answer."""
     because = f"nothing to compare: {it.marks}"
     if ask is None:
         return Decision(it.code, it.title, because)

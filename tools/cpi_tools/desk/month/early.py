@@ -31,7 +31,7 @@ WEIGHTS = (
     "how the prices of each aggregate moved from that revision to December, if they know the plan: the row's weight in"
     " use, divided by its weight there"
 )
-"""What readers of a table can compute of a month that it is computed from, and how."""
+"""The figures of a month that a table's readers can compute from it, and how."""
 
 WAYS: Mapping[str, Message] = {
     LINK: message(

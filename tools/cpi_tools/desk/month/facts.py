@@ -124,7 +124,7 @@ class Facts:
 
     @cached_property
     def contributions(self) -> Optional[Contributions]:
-        """What each node gives to the changes of those above it."""
+        """Each node's contribution to the changes of the nodes above it."""
         return Contributions(self.tables) if self.tables else None
 
     @cached_property
@@ -140,7 +140,7 @@ class Facts:
 
     @cached_property
     def carried(self) -> dict[Series, Carried]:
-        """What each series of a sample counts as."""
+        """The price that counts for each series of a sample."""
         return dict(sorted(self.office.carried(self.release).items())) if self.release else {}
 
     @cached_property
@@ -176,7 +176,7 @@ class Facts:
 
     @cached_property
     def counted_before(self) -> dict[Series, int]:
-        """What each series counted as in the month before, in ticks; in January its base."""
+        """The price that counted for each series in the month before, in ticks; in January its base."""
         if self.month % 100 == 1:
             return self.bases
         before = self.latest.get(month_before(self.month))

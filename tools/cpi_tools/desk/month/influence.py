@@ -130,13 +130,13 @@ def rows_without(session: Session, facts: Facts, trial: Trial, each: Round, turn
 
 
 def quote_record(facts: Facts, window: Window, series: Series, *sent: object) -> Record:
-    """What the one who has a series in the month sends for it."""
+    """The record that the collector of a series in the month sends for it."""
     it = facts.holder[series]
     return [window.opens, facts.keys[it.collector], "quote", it.slot, month_text(window.month), *sent]
 
 
 def left_of(facts: Facts, each: Round, without: Mapping[str, Row]) -> Iterator[Left]:
-    """What the rows without the quotes of a round say of each of them."""
+    """The results for each quote of a round, from the rows without these quotes."""
     rows = [row for code, row in facts.rows.items() if depth_of(code) == AGGREGATE]
     total, weight = sum(row.weight * row.within for row in rows), sum(row.weight for row in rows)
     if rounded(total, weight) != facts.rows[ALL_ITEMS].within:

@@ -48,7 +48,7 @@ class Card(NamedTuple):
 
 
 class Division(NamedTuple):
-    """What a division adds to the month's change of all items: percentage points as a text and for a picture."""
+    """A division's contribution to the month's change of all items: percentage points as a text and for a picture."""
 
     code: str
     title: str
@@ -57,7 +57,7 @@ class Division(NamedTuple):
 
 
 class Report(NamedTuple):
-    """What a page and a text say of a month; `warnings` are of tables that come out too early."""
+    """The content of a page and a text about a month; `warnings` are about tables that come out too early."""
 
     month: Month
     at: Moment
@@ -215,7 +215,7 @@ def standing(state: State, at: int) -> Message:
 
 
 def lead(facts: Facts, is_frozen: bool) -> Optional[Message]:
-    """What the month says, or would say."""
+    """The month's figures, or the figures that it would have."""
     top = facts.all_items
     if top is None:
         return None
@@ -262,7 +262,7 @@ def of_most(most: Sequence[Division]) -> Message:
 
 
 def divisions(facts: Facts) -> list[Division]:
-    """What each division adds to the month's change of all items."""
+    """Each division's contribution to the month's change of all items."""
     found = []
     for code in facts.rows:
         given = provisional.to_month(facts, code) if depth_of(code) == 1 else None

@@ -43,7 +43,7 @@ def added(ratio: Optional[Ratio]) -> str:
 
 
 def to_month(facts: Facts, code: str) -> Optional[Ratio]:
-    """What a node adds to the month's change of all items, in percentage points."""
+    """A node's contribution to the month's change of all items, in percentage points."""
     month = month_text(facts.month)
     return facts.contributions.of(month, code, ALL_ITEMS).to_month if facts.contributions else None
 

@@ -29,7 +29,7 @@ LEAST_RATIOS = 4
 TWENTIETH = 20
 
 PERCENT_OF_WIDTH = 250
-"""How far away the fences lie, in percent of the distances of the half middles from the middle."""
+"""The distance of the fences, in percent of the distances of the half middles from the middle."""
 
 
 class Fences(NamedTuple):

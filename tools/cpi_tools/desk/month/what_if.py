@@ -63,7 +63,7 @@ def what_if(cpi: Cpi, office_copy: Path, month: int, at: int, tried: Tried) -> B
 
 
 def quotes_of(office: StoredOffice, window: Window, tried: Tried) -> Iterator[Record]:
-    """What the collectors would send, within the window. Raises NotTried if nobody has such a slot."""
+    """The records that the collectors would send, within the window. Raises NotTried if nobody has such a slot."""
     keys, known = office.keys(), {it[:2] for it in office.assignments()}
     sent: list[tuple[Place, list[object]]] = [(place, ["missing", tried.reason]) for place in tried.missing]
     sent += [(place, ["price", price, "confirm"]) for place, price in tried.prices]

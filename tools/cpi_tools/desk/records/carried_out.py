@@ -33,7 +33,7 @@ TABLES: dict[str, tuple[str, ...]] = {
 
 
 def looked_up(cpi: Cpi, office_copy: Path, records: Sequence[Sequence[str]], since: int) -> list[Reply]:
-    """What the file has of some records that were sent at the moment `since`, in their order. Raises Fault."""
+    """The file's content for some records that were sent at the moment `since`, in their order. Raises Fault."""
     with private_copy(office_copy) as copy:
         return [_look(cpi, copy, fields, since) for fields in records]
 

@@ -25,17 +25,17 @@ from ...text.terminal import Fault, because_of
 from ..serve.faults import of_system
 
 FIRST = "0" * 64
-"""What the first line has in the place of a sum."""
+"""The first line's text in the place of a sum."""
 
 SENT, ANSWERED, NOT_SENT, LOOKED_UP, SAID, CUT_OFF = "sent", "answered", "not sent", "looked up", "said", "cut off"
-"""What a line speaks of: records that go out; the replies to them; that they couldn't be sent; what the office's file
-has of them; a step of a person; a line that isn't whole."""
+"""The kinds of lines: records that go out; the replies to them; a failure to send them; the office's file's content for
+them; a step of a person; a line that isn't whole."""
 
 FROZEN = "frozen"
 """The same: a month that two people froze. Its one reply is the receipt (`freeze_receipts`)."""
 
 PREPARED, DROPPED, CONFIRMED, DONE_ALREADY = "prepared: ", "dropped: ", "confirmed: ", "carried out already: "
-"""How a step of a freeze begins, which goes on as `freeze_texts.said` has it."""
+"""The beginning of a step of a freeze, which goes on as `freeze_texts.said` writes it."""
 
 FROZEN_STEP = "frozen: {what}; prepared by {by}"
 UNSEEN = "; confirmed with prices that nobody has seen: {because}"
@@ -76,7 +76,7 @@ def shown(fields: Sequence[str]) -> list[str]:
 
 
 def sum_of(line: bytes) -> str:
-    """What the next line has of a line, its end included."""
+    """The sum of a line that the next line contains; the line's end is included."""
     return hashlib.sha256(line).hexdigest()
 
 

@@ -81,7 +81,7 @@ def bound_of(text: str, column: str) -> Bound:
 
 
 def wanted(text: str, column: str) -> Message:
-    """That a text isn't a bound, and which texts are; of thousandths also what they are in percent."""
+    """The message that a text isn't a bound, and which texts are; for thousandths also their value in percent."""
     least, most = RANGES[column]
     if THOUSANDTHS.fullmatch(text) and least <= int(text) <= most:
         places = {"text": of_others(text), "percent": of_others(f"{percent_of(int(text))} %")}
@@ -91,7 +91,7 @@ def wanted(text: str, column: str) -> Message:
 
 
 def wanted_percent(text: str, column: str) -> Message:
-    """That a text isn't a bound in percent, and which texts are."""
+    """The message that a text isn't a bound in percent, and which texts are."""
     least, most = (of_others(f"{percent_of(it)} %") for it in RANGES[column])
     places = {"text": of_others(text[:MOST_LETTERS]), "least": least, "most": most}
     example = of_others(f"{percent_of(EXAMPLES[column])} %")

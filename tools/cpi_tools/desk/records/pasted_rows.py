@@ -1,7 +1,7 @@
 """Rows that a person pastes from a spreadsheet: cells apart by tabs, semicolons or commas, with a heading or without one.
 
-A text is read in one way, or refused in one line that quotes the text, and names its place and the wanted form. What
-the cells say is left to `cpi`; only months in other spellings are read as months, since a spreadsheet writes them in
+A text is read in one way, or refused in one line that quotes the text, and names its place and the wanted form. `cpi`
+judges the content of the cells; only months in other spellings are read as months, since a spreadsheet writes them in
 its own way.
 """
 
@@ -23,7 +23,7 @@ MOST_SHOWN = 8
 """Cells of a line that are shown if it isn't read."""
 
 SEPARATORS = {"\t": _("tabs"), ";": _("semicolons"), ",": _("commas")}
-"""What may be between two cells, and how it is called; the first one that fits is taken."""
+"""The separators of cells, with their names; the first one that fits is taken."""
 
 
 class Pasted(NamedTuple):

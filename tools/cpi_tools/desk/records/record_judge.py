@@ -98,7 +98,7 @@ def _moment(text: str, clock: Clock) -> str:
 
 
 class Judged(NamedTuple):
-    """What `cpi` answers to records, and warnings of tables that would come out too early by their windows."""
+    """The answers of `cpi` to records, and warnings about tables that would come out too early by their windows."""
 
     replies: list[Reply]
     warnings: list[Message]
