@@ -58,6 +58,8 @@ def test_a_changed_formula_is_found_and_printed(clone: Path) -> None:
         ("cpi_office", "Theorem", "NoneFails rs →", "⊤ →"),
         ("cpi_release", "Theorem", "observed = false; imputed = true }", "observed = true; imputed = true }"),
         ("cpi_store", "Theorem", "× (r.carried ≡ carried p", "× (r.carried ≡ carry p"),
+        ("cpi_store", "Orderly", "keys : HaveOwnKeys o.collectors", "keys : ⊤"),
+        ("cpi_store", "Sound", "orderly : IsOrderly o", "orderly : ⊤"),
     ],
 )
 def test_any_formula_and_statement_that_changed_is_found(

@@ -153,6 +153,6 @@ module _ (plans : List Plan) (month : ℕ) where
 pub judged_meets_preconditions : JudgedMeetsPreconditions
 judged_meets_preconditions o now month carry row s e =
     let same : row.month ≡ month = judged_month now month carry o.releases o.calendar o.plans row e in
-    next_meets_preconditions o.plans row.month o.releases s.releases s.released
+    next_meets_preconditions o.plans row.month o.releases s.orderly.releases s.released
     (ap (λ k. is_next_month k (frozen_months o.releases)) same
     ∙ judged_follows now month carry o.releases o.calendar o.plans row e)

@@ -5,10 +5,11 @@ use Rattle.std.proofs.lemmas.List.{append-nil}
 use Rattle.std.proofs.lemmas.Grind.{flat_map-append}
 use Rattle.cpi_store.specs.Office.{Office, Change, PutsItem, PutsPlan, PutsCalendar, Registers, PutsOutlet}
 use Rattle.cpi_store.specs.Office.{Assigns, HandsOver, Quotes, Freezes}
+use Rattle.cpi_store.specs.Orderly.{IsOrderly}
 use Rattle.cpi_office.specs.Projections.{View, view}
 use Rattle.cpi_office.specs.Verdicts.{Verdict, Refuses, Stands, Makes, after_verdict, accepted_changes, new_changes}
 use Rattle.cpi_office.specs.ProjectedChanges.{sights, sights_of, build}
-use Rattle.cpi_office.specs.Isolation.{Judgement, Answering, Replying, RepliesByView, JudgesFit, IsFit, IsOrderly}
+use Rattle.cpi_office.specs.Isolation.{Judgement, Answering, Replying, RepliesByView, JudgesFit, IsFit}
 use Rattle.cpi_office.specs.Isolation.{NamesRows, IsNew, office_next, replies_in_turn, RepliesAreFromViews}
 use Rattle.cpi_office.specs.Isolation.{office_after, accepted, StaysOrderly, ViewsAreRebuilt, AnswersAreAlike}
 use Rattle.cpi_office.specs.declared.request.Ask.{Ask}

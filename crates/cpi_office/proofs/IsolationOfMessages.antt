@@ -1,13 +1,14 @@
 -- Equal responses under any rules, any parser and any printer.
 use Rattle.std.proofs.Common.{◌≡◌, ◌≢◌, ℕ, List, [], ◌∷◌, ◌++◌, refl, sym, ap, ◌∙◌}
 use Rattle.cpi_store.specs.Office.{Office}
+use Rattle.cpi_store.specs.Orderly.{IsOrderly}
 use Rattle.cpi_office.specs.Projections.{view}
 use Rattle.cpi_office.specs.ProjectedChanges.{sights_of, build}
 use Rattle.cpi_office.specs.Verdicts.{accepted_changes}
 use Rattle.cpi_office.specs.Runs.{request_verdict, reply_to}
 use Rattle.cpi_office.specs.Answers.{answer as answer_from}
 use Rattle.cpi_office.specs.Entries.{of_collector}
-use Rattle.cpi_office.specs.Isolation.{Judgement, Answering, Replying, RepliesByView, IsOrderly, JudgesFit, office_next}
+use Rattle.cpi_office.specs.Isolation.{Judgement, Answering, Replying, RepliesByView, JudgesFit, office_next}
 use Rattle.cpi_office.specs.Isolation.{office_after, accepted, replies_in_turn}
 use Rattle.cpi_office.specs.IsolationOfMessages.{EntryJudgement, JudgesByView, AreOf, ResponsesAreAlike}
 use Rattle.cpi_office.specs.declared.caller.Caller.{Caller}

@@ -13,13 +13,14 @@ use Rattle.cpi_survey.specs.declared.decision.Decision.TheVariants.{Again, Put}
 use Rattle.cpi_survey.specs.declared.refusal.Refusal.{Refusal as EntryRefusal}
 use Rattle.cpi_store.specs.Office.{Office, Change, office_with, PutsItem, PutsPlan, PutsCalendar, Registers, PutsOutlet}
 use Rattle.cpi_store.specs.Office.{Assigns, HandsOver, Quotes, Freezes}
+use Rattle.cpi_store.specs.Orderly.{IsOrderly}
 use Rattle.cpi_office.specs.Projections.{View, OwnView, view}
 use Rattle.cpi_office.specs.Verdicts.{Verdict, Refuses, Stands, Makes, after_verdict, accepted_changes}
 use Rattle.cpi_office.specs.Desk.{command_verdict}
 use Rattle.cpi_office.specs.Entries.{of_collector, entry_verdict, decision_verdict}
 use Rattle.cpi_office.specs.Runs.{request_verdict}
 use Rattle.cpi_office.specs.ProjectedChanges.{sights_of, build}
-use Rattle.cpi_office.specs.Isolation.{Judgement, Answering, Replying, RepliesByView, IsOrderly, JudgesFit, office_next}
+use Rattle.cpi_office.specs.Isolation.{Judgement, Answering, Replying, RepliesByView, JudgesFit, office_next}
 use Rattle.cpi_office.specs.IsolationOfRequests.{without_quotes, IsOwnQuote, KeepsApart, replies_to_key}
 use Rattle.cpi_office.specs.IsolationOfRequests.{OthersDoNotMatter}
 use Rattle.cpi_office.specs.NonInterference.{requests_without, passes_on, NonePassesOn}

@@ -66,7 +66,7 @@ pub asked_for : (o : Office) → IsSound o → (now : ℕ) (row : CalendarPart) 
     is_next_month row.month (frozen_months o.releases) ≡ true →
     MayFreeze (office_sources o) (plan_for o.plans (frozen_months o.releases) row.month) (frozen_with now row carry o)
 asked_for o s now row carry next =
-    let w = next_meets_preconditions o.plans row.month o.releases s.releases s.released next in
+    let w = next_meets_preconditions o.plans row.month o.releases s.orderly.releases s.released next in
     record { plan_is = w.plan_is; quotes = refl; after = λ some. (w.after some).0 }
 
 pub asked_back : (s t : Sources) (p q : Option Plan) (x y : Freeze) → s ≡ t → p ≡ q → x ≡ y → MayFreeze t q y →

@@ -14,7 +14,7 @@ use Rattle.cpi_office.specs.declared.reply.Reply.{Reply}
 use Rattle.cpi_office.specs.declared.caller.Caller.{Caller}
 use Rattle.cpi_office.specs.declared.caller.Caller.TheVariants.{Desk}
 use Rattle.cpi_office.specs.declared.request.Request.{Request}
-use Rattle.cpi_office.proofs.Fit.{judged_fit, sound_orderly}
+use Rattle.cpi_office.proofs.Fit.{judged_fit}
 use Rattle.cpi_office.proofs.Isolation.{answers_are_alike, from_view}
 use Rattle.cpi_office.proofs.IsolationOfMessages.{replied_by_view}
 use Rattle.cpi_office.proofs.Served.{run_sound}
@@ -40,6 +40,6 @@ pub replies_are_alike : {B C : Type 0} (state : B → State Office) (state' : C 
 replies_are_alike state state' t k r asks others rs ss reply reply' old mid new old' mid' new' other one two same sees =
     reply_is (state old) (state mid) (state new) asks rs t k r reply other one
     ∙ answers_are_alike answer request_verdict request_verdict judged_fit judged_fit (all_served asks rs)
-    (all_served others ss) (state old).held (state' old').held k t r (sound_orderly (state old).held one.sound)
-    (sound_orderly (state' old').held two.sound) same sees
+    (all_served others ss) (state old).held (state' old').held k t r one.sound.orderly two.sound.orderly
+    same sees
     ∙ sym (reply_is (state' old') (state' mid') (state' new') others ss t k r reply' other two)

@@ -16,7 +16,7 @@ use Rattle.cpi_office.specs.NonInterferenceOfRuns.{RunsTellAlike}
 use Rattle.cpi_office.specs.declared.request.Ask.{Ask}
 use Rattle.cpi_office.specs.declared.reply.Reply.{Reply}
 use Rattle.cpi_office.specs.ComputedTables.{TellsTable, computed_reply}
-use Rattle.cpi_office.proofs.Fit.{judged_fit, sound_orderly}
+use Rattle.cpi_office.proofs.Fit.{judged_fit}
 use Rattle.cpi_office.proofs.RebuiltProjections.{next_sound}
 use Rattle.cpi_office.proofs.ComputedTables.{tables_are_told}
 use Rattle.cpi_office.proofs.IsolationOfMessages.{replied_by_view}
@@ -26,7 +26,7 @@ use Rattle.cpi_office.proofs.IsolationOfRequests as requests
 others_do_not_matter : (key : ℕ) (asks : List Ask) (o : Office) → IsSound o → NonePassesOn asks →
     collector_replies key asks o ≡ collector_replies key (requests_without key asks) o
 others_do_not_matter key asks o s none = requests.others_do_not_matter answer reply_to request_verdict judged_fit
-    requests.judged_apart replied_by_view key asks o (sound_orderly o s) none
+    requests.judged_apart replied_by_view key asks o s.orderly none
 
 -- the replies of a run, beside its requests
 told_is : (key : ℕ) (asks : List Ask) (o : Office) → replies_to key asks (replies asks o) ≡ collector_replies key asks o

@@ -71,7 +71,7 @@ use Rattle.cpi_office.specs.declared.request.Request.TheVariants as request
 use Rattle.cpi_office.specs.declared.caller.Caller.{Caller}
 use Rattle.cpi_office.specs.declared.caller.Caller.TheVariants as caller
 use Rattle.cpi_office.proofs.Failures.{if_holds}
-use Rattle.cpi_office.proofs.Fit.{judged_fit, sound_orderly}
+use Rattle.cpi_office.proofs.Fit.{judged_fit}
 use Rattle.cpi_office.proofs.Isolation.{step_shows}
 
 abbrev Asked : Caller → Request → Verdict → Type 0
@@ -348,13 +348,13 @@ office_is (Some (Makes c)) o fit = refl
 pub changes_one : OfficesChangeOneRow
 changes_one now k r o s =
     let v = request_verdict now k r o in
-    let fit = judged_fit now k r o (sound_orderly o s) in
+    let fit = judged_fit now k r o s.orderly in
     record {
       changes = accepted_changes v;
       asked = verdict_asked now o k r;
       one = one_accepted v;
       office = office_is v o fit;
-      views = λ c t. step_shows o (sound_orderly o s) c t v fit;
+      views = λ c t. step_shows o s.orderly c t v fit;
     }
 
 -- a request that is served changes one row, and one that is answered 90 none
@@ -400,7 +400,7 @@ after_all (a ∷ asks) o s =
     let v = request_verdict a.now a.caller a.request o in
     after_all asks (next a o) (next_sound a o s)
     ∙ ap (office_with_all (trace asks (next a o)))
-    (office_is v o (judged_fit a.now a.caller a.request o (sound_orderly o s)))
+    (office_is v o (judged_fit a.now a.caller a.request o s.orderly))
     ∙ sym (all_with_append (accepted_changes v) (trace asks (next a o)) o)
 
 pub changes_rows : (asks : List Ask) (o : Office) → IsSound o → ChangesRows asks o (after asks o)

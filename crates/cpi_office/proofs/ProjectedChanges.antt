@@ -21,8 +21,7 @@ use Rattle.cpi_office.specs.ProjectedChanges.{Sight, IsAssigned, HasEnded, HasQu
 use Rattle.cpi_office.specs.ProjectedChanges.{is_registration_of}
 use Rattle.cpi_office.specs.ProjectedChanges.{with_assigned}
 use Rattle.cpi_office.specs.ProjectedChanges.{with_end, with_quote}
-use Rattle.cpi_store.specs.Sound.{HaveOwnKeys}
-use Rattle.cpi_office.specs.Isolation.{IsOrderly, HasCollector, HasOutlet}
+use Rattle.cpi_store.specs.Orderly.{HaveOwnKeys, IsOrderly, ListsCollector, ListsOutlet}
 use Rattle.cpi_plan.specs.declared.items.Item.{Item}
 use Rattle.cpi_plan.specs.Plan.{Plan}
 use Rattle.cpi_plan.specs.Calendar.{CalendarPart}
@@ -271,7 +270,7 @@ own_names o s u new c =
     ap (λ rows. record { number = c.number; part = record { assignments = rows; quotes = held_by c.number o.quotes } })
     (names_stay c.number u o.outlets o.assignments s.outlets new (known o.assignments s.given))
   where
-    known : (rows : List (ℕ × Given)) → AllByRecursion (λ row. HasCollector row.0 o × HasOutlet row.1.assignment.outlet o) rows →
+    known : (rows : List (ℕ × Given)) → AllByRecursion (λ row. ListsCollector row.0 o × ListsOutlet row.1.assignment.outlet o) rows →
         AllByRecursion (λ row. IsSome (row_by_number (λ u. u.number) row.1.assignment.outlet o.outlets)) rows
     known [] all = tt
     known (r ∷ rows) all = (all.0.1, known rows all.1)
@@ -295,7 +294,7 @@ module _ (o : Office) (s : IsOrderly o) (b : Registration)
   no_assignments : held_by b.number o.assignments ≡ []
   no_assignments = none_held b.number o.collectors o.assignments (known o.assignments s.given) new
     where
-      known : (rows : List (ℕ × Given)) → AllByRecursion (λ row. HasCollector row.0 o × HasOutlet row.1.assignment.outlet o) rows →
+      known : (rows : List (ℕ × Given)) → AllByRecursion (λ row. ListsCollector row.0 o × ListsOutlet row.1.assignment.outlet o) rows →
           AllByRecursion (λ row. IsSome (row_by_number (λ b. b.number) row.0 o.collectors)) rows
       known [] all = tt
       known (r ∷ rows) all = (all.0.0, known rows all.1)

@@ -16,7 +16,7 @@ use Rattle.cpi_office.proofs.Accepted.{Holds, Fits}
 use Rattle.cpi_office.proofs.ProjectedChanges.{build_append}
 use Rattle.cpi_store.proofs.Released.{release_total}
 use Rattle.cpi_office.proofs.Isolation.{views_are_rebuilt, change_shows}
-use Rattle.cpi_office.proofs.Fit.{judged_fit, sound_orderly}
+use Rattle.cpi_office.proofs.Fit.{judged_fit}
 use Rattle.cpi_rows.specs.Keyed.{row_at}
 use Rattle.cpi_rows.proofs.Puts.{row_at_put_found}
 use Rattle.cpi_release.specs.FrozenMonths.{ReleaseKey, release_cmp, release_key}
@@ -32,7 +32,7 @@ module _ (o : Office) (s : IsSound o) where
   kept (Some (Makes c)) h = stays_sound c o s h
 
 pub next_sound : (a : Ask) (o : Office) → IsSound o → IsSound (next a o)
-next_sound a o s = kept o s (request_verdict a.now a.caller a.request o) (verdict_holds a.now o s.collectors a.caller a.request)
+next_sound a o s = kept o s (request_verdict a.now a.caller a.request o) (verdict_holds a.now o s.orderly.collectors a.caller a.request)
 
 pub sound_runs : StaysSound
 sound_runs [] o s = s
@@ -41,7 +41,7 @@ sound_runs (a ∷ asks) o s = sound_runs asks (next a o) (next_sound a o s)
 -- the office runs under its own judgement
 pub rebuilt : (asks : List Ask) (o : Office) (k : Caller) (t : ℕ) → IsSound o →
     view k t (after asks o) ≡ build (view k t o) (sights_of k t (trace asks o))
-rebuilt asks o k t s = views_are_rebuilt request_verdict judged_fit asks o k t (sound_orderly o s)
+rebuilt asks o k t s = views_are_rebuilt request_verdict judged_fit asks o k t s.orderly
 
 pub changes_are_enough : ChangesAreEnough
 changes_are_enough [] o k t s = refl
@@ -49,7 +49,7 @@ changes_are_enough (a ∷ asks) o k t s =
     let v = request_verdict a.now a.caller a.request o in
     changes_are_enough asks (next a o) k t (next_sound a o s)
     ∙ ap (λ w. build w (sights_of k t (changes asks (next a o))))
-    (change_shows o (sound_orderly o s) k t v (judged_fit a.now a.caller a.request o (sound_orderly o s)))
+    (change_shows o s.orderly k t v (judged_fit a.now a.caller a.request o s.orderly))
     ∙ sym (build_append (view k t o) (sights_of k t (new_changes v)) (sights_of k t (changes asks (next a o))))
     ∙ ap (build (view k t o)) (sym (flat_map-append (sights k t) (new_changes v) (changes asks (next a o))))
 
@@ -66,8 +66,8 @@ module _ (o : Office) (s : IsSound o) (key : ReleaseKey) (r : Release)
   stays_after (Assigns b a) h = there
   stays_after (HandsOver n) h = there
   stays_after (Quotes b q) h = there
-  stays_after (Freezes n) h = row_at_put_found release_total release_key n o.releases s.releases
-      (h.0 s.releases) key r there
+  stays_after (Freezes n) h = row_at_put_found release_total release_key n o.releases s.orderly.releases
+      (h.0 s.orderly.releases) key r there
 
   stays_next : (v : Option Verdict) → Holds v o →
       row_at release_cmp release_key key (after_verdict v o).releases ≡ Some r
@@ -81,4 +81,4 @@ releases_stay [] o s key r there = there
 releases_stay (a ∷ asks) o s key r there =
     releases_stay asks (next a o) (next_sound a o s) key r
     (stays_next o s key r there (request_verdict a.now a.caller a.request o)
-    (verdict_holds a.now o s.collectors a.caller a.request))
+    (verdict_holds a.now o s.orderly.collectors a.caller a.request))

@@ -12,7 +12,7 @@ use Rattle.cpi_rows.specs.Keyed.{IsInOrder, row_by_number, put_by}
 use Rattle.cpi_rows.specs.Held.{held_by}
 use Rattle.cpi_store.specs.Registration.{registration_of}
 use Rattle.cpi_store.specs.Outlet.{with_name}
-use Rattle.cpi_store.specs.Sound.{HaveOwnKeys}
+use Rattle.cpi_store.specs.Orderly.{HaveOwnKeys}
 use Rattle.cpi_store.specs.declared.registration.Registration.{Registration}
 use Rattle.cpi_store.specs.declared.outlet.Outlet.{Outlet}
 use Rattle.cpi_store.specs.declared.given.Given.{Given}

@@ -14,7 +14,8 @@ use Rattle.cpi_store.specs.Office.{Assigns, HandsOver, Quotes, Freezes}
 use Rattle.cpi_office.specs.Projections.{view}
 use Rattle.cpi_release.specs.declared.release.Release.{Release}
 use Rattle.cpi_office.specs.ProjectedChanges.{sights, build}
-use Rattle.cpi_office.specs.Isolation.{IsOrderly, NamesRows}
+use Rattle.cpi_store.specs.Orderly.{IsOrderly}
+use Rattle.cpi_office.specs.Isolation.{NamesRows}
 use Rattle.cpi_store.specs.declared.registration.Registration.{Registration}
 use Rattle.cpi_store.specs.declared.given.Given.{Given}
 use Rattle.cpi_store.specs.Series.{first_of_series}

@@ -3,7 +3,7 @@ use Rattle.std.proofs.Common.{sym}
 use Rattle.cpi_release.specs.State.{State}
 use Rattle.cpi_store.specs.Office.{Office}
 use Rattle.cpi_office.specs.Theorem.{TheProgramIsTheOffice, ACrashLeavesIt, OwnRulesAreFit}
-use Rattle.cpi_office.proofs.Fit.{judged_fit, sound_orderly}
+use Rattle.cpi_office.proofs.Fit.{judged_fit}
 use Rattle.cpi_office.proofs.IsolationOfMessages.{replied_by_view, judged_by_view}
 use Rattle.cpi_office.proofs.IsolationOfRequests.{judged_apart}
 use Rattle.cpi_office.proofs.Served.{run_sound}
@@ -21,7 +21,7 @@ a_crash_leaves_it state old new asks rs ran none = ran.over.lasts ran.clean ran.
 
 pub own_rules_are_fit : OwnRulesAreFit
 own_rules_are_fit = record {
-  orderly = sound_orderly;
+  orderly = λ o s. s.orderly;
   fit = judged_fit;
   replies = replied_by_view;
   viewed = judged_by_view;

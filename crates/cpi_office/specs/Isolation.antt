@@ -1,17 +1,13 @@
 -- Isolation under any rules: whatever the desk decides, and whatever an answer makes of a view.
-use Rattle.std.specs.Prelude.{◌≡◌, ◌≢◌, ℕ, List, [], ◌∷◌, ◌++◌, length, slice_get, Option, Some, None, IsSome, ⊤}
-use Rattle.std.specs.List.{AllByRecursion}
-use Rattle.std.specs.Ordering.{nat_cmp}
-use Rattle.cpi_rows.specs.Keyed.{IsInOrder, row_at, row_by_number}
-use Rattle.cpi_rows.specs.Held.{held_cmp, held_key}
-use Rattle.cpi_survey.specs.Quote.{quote_cmp, quote_key}
+use Rattle.std.specs.Prelude.{◌≡◌, ◌≢◌, ℕ, List, [], ◌∷◌, ◌++◌, length, slice_get, Option, Some, None, ⊤}
+use Rattle.cpi_rows.specs.Keyed.{row_at, row_by_number}
 use Rattle.cpi_release.specs.FrozenMonths.{release_cmp, release_key}
 use Rattle.cpi_store.specs.Office.{Office, Change, office_with}
 use Rattle.cpi_store.specs.Office.{Registers, PutsOutlet, Assigns, HandsOver, Quotes, Freezes}
 use Rattle.cpi_store.specs.Outlet.{with_name}
 use Rattle.cpi_store.specs.Registration.{registration_of}
 use Rattle.cpi_store.specs.declared.registration.Registration.{Registration}
-use Rattle.cpi_store.specs.Sound.{HaveOwnKeys}
+use Rattle.cpi_store.specs.Orderly.{IsOrderly, ListsOutlet}
 use Rattle.cpi_office.specs.Projections.{View, view}
 use Rattle.cpi_office.specs.ProjectedChanges.{sights_of, build}
 use Rattle.cpi_office.specs.Verdicts.{Verdict, Refuses, Stands, Makes, after_verdict, accepted_changes}
@@ -64,39 +60,18 @@ accepted judge [] o = []
 accepted judge (a ∷ asks) o =
     accepted_changes (judge a.now a.caller a.request o) ++ accepted judge asks (office_next judge a o)
 
--- ---- what isolation asks of an office and of a judgement
-
-abbrev pub HasCollector : ℕ → Office → Type 0
-HasCollector number o = IsSome (row_by_number (λ b. b.number) number o.collectors)
-
-abbrev pub HasOutlet : ℕ → Office → Type 0
-HasOutlet number o = IsSome (row_by_number (λ u. u.number) number o.outlets)
+-- ---- what isolation asks of a judgement
 
 -- the collector is there, with this key
 abbrev pub HasRegistered : Registration → Office → Type 0
 HasRegistered b o = row_by_number (λ b. b.number) b.number o.collectors ≡ Some b
 
--- The lists are in the order of their keys, no two collectors share a key, each assignment has its collector and its
--- outlet, and each quote its collector.
-pub record IsOrderly (o : Office) : Type 0 where
-  pub items : IsInOrder nat_cmp (λ i. i.code) o.items
-  pub plans : IsInOrder nat_cmp (λ y. y.year) o.plans
-  pub calendar : IsInOrder nat_cmp (λ r. r.month) o.calendar
-  pub collectors : IsInOrder nat_cmp (λ b. b.number) o.collectors
-  pub keys : HaveOwnKeys o.collectors
-  pub outlets : IsInOrder nat_cmp (λ u. u.number) o.outlets
-  pub assignments : IsInOrder (held_cmp nat_cmp) (held_key (λ g. g.assignment.slot)) o.assignments
-  pub given : AllByRecursion (λ row. HasCollector row.0 o × HasOutlet row.1.assignment.outlet o) o.assignments
-  pub quotes : IsInOrder (held_cmp quote_cmp) (held_key quote_key) o.quotes
-  pub quoted : AllByRecursion (λ row. HasCollector row.0 o) o.quotes
-  pub releases : IsInOrder release_cmp release_key o.releases
-
 -- the rows that a change speaks of are there, and it shows an outlet's name as it is
 abbrev pub NamesRows : Change → Office → Type 0
 NamesRows (Assigns b a) o =
-    HasRegistered b o × HasOutlet a.assignment.outlet o × (a ≡ with_name o.outlets a.assignment)
+    HasRegistered b o × ListsOutlet a.assignment.outlet o × (a ≡ with_name o.outlets a.assignment)
 NamesRows (HandsOver h) o =
-    HasRegistered h.former o × HasRegistered h.taker o × HasOutlet h.assigned.assignment.outlet o
+    HasRegistered h.former o × HasRegistered h.taker o × ListsOutlet h.assigned.assignment.outlet o
     × (h.assigned ≡ with_name o.outlets h.assigned.assignment)
 NamesRows (Quotes b q) o = HasRegistered b o
 NamesRows _ o = ⊤

@@ -3,10 +3,11 @@
 use Rattle.std.specs.Prelude.{◌≡◌, ◌≢◌, ℕ, List, Option, None}
 use Rattle.std.specs.List.{AllByRecursion}
 use Rattle.cpi_store.specs.Office.{Office}
+use Rattle.cpi_store.specs.Orderly.{IsOrderly}
 use Rattle.cpi_office.specs.Projections.{View, view}
 use Rattle.cpi_office.specs.ProjectedChanges.{sights_of}
 use Rattle.cpi_office.specs.Verdicts.{Verdict}
-use Rattle.cpi_office.specs.Isolation.{Judgement, Answering, Replying, RepliesByView, IsOrderly, JudgesFit}
+use Rattle.cpi_office.specs.Isolation.{Judgement, Answering, Replying, RepliesByView, JudgesFit}
 use Rattle.cpi_office.specs.Isolation.{office_after, accepted, replies_in_turn}
 use Rattle.cpi_office.specs.declared.caller.Caller.{Caller}
 use Rattle.cpi_office.specs.declared.caller.Caller.TheVariants.{Public, Collector, Desk}

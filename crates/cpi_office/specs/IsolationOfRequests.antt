@@ -2,9 +2,10 @@
 use Rattle.std.specs.Prelude.{◌≡◌, ℕ, IsFalse, List, [], ◌∷◌, ◌++◌, None, if◌then◌else◌}
 use Rattle.std.specs.List.{AllByRecursion}
 use Rattle.cpi_store.specs.Office.{Office, Change, Quotes}
+use Rattle.cpi_store.specs.Orderly.{IsOrderly}
 use Rattle.cpi_office.specs.Projections.{view}
 use Rattle.cpi_office.specs.Verdicts.{accepted_changes}
-use Rattle.cpi_office.specs.Isolation.{Judgement, Answering, Replying, RepliesByView, IsOrderly, JudgesFit, office_next}
+use Rattle.cpi_office.specs.Isolation.{Judgement, Answering, Replying, RepliesByView, JudgesFit, office_next}
 use Rattle.cpi_office.specs.NonInterference.{has_this_key, requests_without, passes_on, NonePassesOn}
 use Rattle.cpi_office.specs.declared.caller.Caller.TheVariants.{Public, Collector, Desk}
 use Rattle.cpi_office.specs.declared.request.Request.{Request}

@@ -5,11 +5,12 @@
 use Rattle.std.specs.Prelude.{◌≡◌, List}
 use Rattle.cpi_release.specs.State.{State}
 use Rattle.cpi_store.specs.Office.{Office}
+use Rattle.cpi_store.specs.Orderly.{IsOrderly}
 use Rattle.cpi_store.specs.Sound.{IsSound}
 use Rattle.cpi_office.specs.Answers.{answer}
 use Rattle.cpi_office.specs.Calls.{Lasts}
 use Rattle.cpi_office.specs.Entries.{of_collector}
-use Rattle.cpi_office.specs.Isolation.{IsOrderly, JudgesFit, RepliesByView, office_after, replies_in_turn}
+use Rattle.cpi_office.specs.Isolation.{JudgesFit, RepliesByView, office_after, replies_in_turn}
 use Rattle.cpi_office.specs.IsolationOfMessages as messages
 use Rattle.cpi_office.specs.IsolationOfRequests as requests
 use Rattle.cpi_office.specs.Runs.{request_verdict, reply_to}

@@ -22,7 +22,7 @@ use Rattle.cpi_store.specs.declared.series_move.SeriesMove.{SeriesMove}
 use Rattle.cpi_store.specs.Series.{same_series, last_of_series, own_series, first_of_series}
 use Rattle.cpi_store.specs.Office.{Office, put_given, given_until, end_given, given_over, hand_over}
 use Rattle.cpi_store.specs.FrozenLists.{IsOfSeries, HasFrozenList}
-use Rattle.cpi_store.specs.Sound.{IsSound, HasItsRows, HasItsAssignment, IsWellMade, HasItsSeries, AreApart, AllPairs}
+use Rattle.cpi_store.specs.Sound.{IsSound, HasItsItem, HasItsAssignment, IsWellMade, HasItsSeries, AreApart, AllPairs}
 use Rattle.cpi_store.proofs.Slots.{all_of_found, all_from_found, pairs_of_found, pairs_from_found, AreTwo}
 use Rattle.cpi_store.proofs.GivenRows.{AreInOrder, held_ended_other, at_ended_same, at_ended_other, end_in_order}
 use Rattle.cpi_store.proofs.GivenRows.{put_given_in_order, at_put_same, at_put_found, found_put, found_ended}
@@ -70,7 +70,7 @@ pub record IsHandover (rows : List (ℕ × Given)) (quotes : List (ℕ × QuoteR
       (held_by h.former.number quotes) ≡ false
 
 pub sound_given : (o : Office) → IsSound o → AreGiven o.assignments
-sound_given o s = record { in_order = s.assignments; made = s.made; series = s.series; apart = s.apart }
+sound_given o s = record { in_order = s.orderly.assignments; made = s.made; series = s.series; apart = s.apart }
 
 -- ---- what holds of each row, and of whatever two
 
@@ -249,11 +249,11 @@ module _ (rows : List (ℕ × Given)) (n : ℕ) (a : Assignment) (all : AreGiven
       AllByRecursion (HasFrozenList (put_given n (first_of_series n a) rows)) releases
   frozen_assigned releases frozen = all_weaker (HasFrozenList rows) (HasFrozenList more_rows) one_frozen releases frozen
 
--- each row has its collector, outlet and item, in whatever office, as the new one has
-pub rows_assigned : (o : Office) (n : ℕ) (a : Assignment) (rows : List (ℕ × Given)) →
-    HasItsRows o (n, first_of_series n a) → AllByRecursion (HasItsRows o) rows →
-    AllByRecursion (HasItsRows o) (put_given n (first_of_series n a) rows)
-rows_assigned o n a rows has all = all_put (HasItsRows o) (held_cmp nat_cmp)
+-- each assignment prices an item that is there, as the new one does
+pub priced_assigned : (o : Office) (n : ℕ) (a : Assignment) (rows : List (ℕ × Given)) →
+    HasItsItem o (n, first_of_series n a) → AllByRecursion (HasItsItem o) rows →
+    AllByRecursion (HasItsItem o) (put_given n (first_of_series n a) rows)
+priced_assigned o n a rows has all = all_put (HasItsItem o) (held_cmp nat_cmp)
     (held_key (λ (g : Given). g.assignment.slot)) (n, first_of_series n a) rows has all
 
 -- ---- when an assignment is active
@@ -471,14 +471,13 @@ module _ (rows : List (ℕ × Given)) (quotes : List (ℕ × QuoteRow)) (h : Ser
       }
       cases (inr stands) = record { now = x; found = stands; series = refl; item = refl }
 
-  -- each row comes from a row that was there before: it has its series, item and outlet, and its months
+  -- each row comes from a row that was there before: it has its series and item, and its months
   record ComesFrom (x : Given) : Type 0 where
     pub number : ℕ
     pub before : Given
     pub found : row_by_number place before.assignment.slot (held_by number rows) ≡ Some before
     pub series : x.series ≡ before.series
     pub item : x.assignment.item ≡ before.assignment.item
-    pub outlet : x.assignment.outlet ≡ before.assignment.outlet
     pub first : before.assignment.first_month ≤ x.assignment.first_month
     pub last : x.assignment.last_month ≤ before.assignment.last_month
 
@@ -495,7 +494,6 @@ module _ (rows : List (ℕ × Given)) (quotes : List (ℕ × QuoteRow)) (h : Ser
     found = former_found;
     series = series_over;
     item = over.item;
-    outlet = over.outlet;
     first = let low = over.after_first in omega (arith, low);
     last = let same = over.last in omega (arith, same);
   }
@@ -507,7 +505,6 @@ module _ (rows : List (ℕ × Given)) (quotes : List (ℕ × QuoteRow)) (h : Ser
     found = former_found;
     series = ap (λ (g : Given). g.series) over.ended;
     item = ap (λ (g : Given). g.assignment.item) over.ended;
-    outlet = ap (λ (g : Given). g.assignment.outlet) over.ended;
     first = let same : h.ended.assignment.first_month ≡ over.former.assignment.first_month =
         ap (λ (g : Given). g.assignment.first_month) over.ended in omega (arith, same);
     last = let low = over.after_first in let high = over.until_last in let end = ends in omega (arith, low, high, end);
@@ -520,8 +517,6 @@ module _ (rows : List (ℕ × Given)) (quotes : List (ℕ × QuoteRow)) (h : Ser
     found = found;
     series = refl;
     item = refl;
-    outlet =
-        refl;
     first = omega arith;
     last = omega arith;
   }
@@ -740,30 +735,14 @@ module _ (rows : List (ℕ × Given)) (quotes : List (ℕ × QuoteRow)) (h : Ser
       AllByRecursion (HasFrozenList (hand_over h rows)) releases
   frozen_handed releases frozen = all_weaker (HasFrozenList rows) (HasFrozenList handed_rows) one_handed releases frozen
 
-  -- each row has its collector, outlet and item, in whatever office that has the taker
-  pub rows_handed : (o : Office) → IsSome (row_by_number (λ b. b.number) h.taker.number o.collectors) →
-      AllByRecursion (HasItsRows o) rows → AllByRecursion (HasItsRows o) (hand_over h rows)
-  rows_handed o taker has = all_from_found place _ handed_rows handed_in_order each
+  -- each assignment still prices an item that is there
+  pub priced_handed : (o : Office) → AllByRecursion (HasItsItem o) rows →
+      AllByRecursion (HasItsItem o) (hand_over h rows)
+  priced_handed o priced = all_from_found place _ handed_rows handed_in_order each
     where
-      before : (d k : ℕ) (y : Given) → row_by_number place k (held_by d rows) ≡ Some y → HasItsRows o (d, y)
-      before d k y there = all_of_found place (HasItsRows o) d k y rows has there
-
       each : (c : ℕ) (x : Given) → row_by_number place x.assignment.slot (held_by c handed_rows) ≡ Some x →
-          HasItsRows o (c, x)
+          HasItsItem o (c, x)
       each c x found =
           let from = comes c x found in
-          let old = before from.number from.before.assignment.slot from.before from.found in (
-            cases (handed_found c x.assignment.slot x found),
-            subst (λ n. IsSome (row_by_number (λ u. u.number) n o.outlets)) (sym from.outlet) old.1,
-            subst (λ n. IsSome (row_by_number (λ i. i.code) n o.items)) (sym from.item) old.2,
-          )
-        where
-          cases : (IsTaker c x.assignment.slot × (x ≡ given_over h))
-              ⊎ ((IsFormer c x.assignment.slot × (x ≡ h.ended))
-              ⊎ ((row_by_number place x.assignment.slot (held_by c rows) ≡ Some x) ×
-              (IsFormer c x.assignment.slot → ⊥))) →
-              IsSome (row_by_number (λ b. b.number) c o.collectors)
-          cases (inl new) = subst (λ n. IsSome (row_by_number (λ b. b.number) n o.collectors)) (sym new.0.0) taker
-          cases (inr (inl former)) = subst (λ n. IsSome (row_by_number (λ b. b.number) n o.collectors)) (sym former.0.0)
-              (before h.former.number h.ended.assignment.slot over.former over.found).0
-          cases (inr (inr other)) = (before c x.assignment.slot x other.0).0
+          subst (λ n. IsSome (row_by_number (λ i. i.code) n o.items)) (sym from.item)
+          (all_of_found place (HasItsItem o) from.number from.before.assignment.slot from.before rows priced from.found)

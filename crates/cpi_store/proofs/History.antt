@@ -238,13 +238,13 @@ module _ (plans : List Plan) (nodes : AllByRecursion HasNodesInOrder plans) wher
 
 pub releases_sound : ReleasesAreSound
 releases_sound o s = let frozen = frozen_by_serial o.assignments s.made o.releases s.frozen in record {
-  years = s.plans;
+  years = s.orderly.plans;
   in_order = record {
     months = months o.plans o.releases s.released;
     ordered = λ month r found. (latest_all (λ (x : Release). x.month) month IsOrdered o.releases r
         (all_ordered o.plans s.nodes [] o.releases tt frozen s.released) found).0;
   };
-  planned = planned o.plans o.releases s.releases s.released;
+  planned = planned o.plans o.releases s.orderly.releases s.released;
   consistent = consistent o.assignments s.made o.releases s.frozen;
   computed = sym (all_same o.plans [] o.releases s.released);
 }

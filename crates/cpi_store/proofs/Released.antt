@@ -107,7 +107,7 @@ module _ (month : ℕ) (quotes : List (ℕ × QuoteRow)) (given : List (ℕ × G
 module _ (o : Office) (s : IsSound o) (month : ℕ) where
   pub month_active : AllByRecursion (IsActiveIfQuoted month o.quotes o.assignments) o.assignments
   month_active = all_active month o.quotes o.assignments s.quoted o.assignments
-      (each_found (λ g. g.assignment.slot) o.assignments s.assignments)
+      (each_found (λ g. g.assignment.slot) o.assignments s.orderly.assignments)
 
   pub month_in_order : IsInOrder series_cmp (λ f. f.series) (quotes_of_month month o)
   month_in_order = by_series_in_order (stored_rows month o.quotes o.assignments)

@@ -1,36 +1,24 @@
--- What holds of an office at all times: its lists are in order, what a row names is there, and its releases are
--- made one after the other.
+-- What holds of an office at all times: it is orderly, what its rows name is there, and its releases are made one after
+-- the other.
 use Rattle.std.specs.Prelude.{◌≡◌, ℕ, ◌≤◌, true, List, [], ◌∷◌, Some, IsSome, ⊤}
 use Rattle.std.specs.List.{AllByRecursion}
-use Rattle.std.specs.Ordering.{nat_cmp}
 use Rattle.cpi_rows.specs.Keyed.{IsInOrder, row_by_number}
-use Rattle.cpi_rows.specs.Held.{held_cmp, held_key, held_by}
+use Rattle.cpi_rows.specs.Held.{held_by}
 use Rattle.cpi_codes.specs.CodeOrder.{code_cmp}
 use Rattle.cpi_codes.specs.declared.limits.TheConstants.{GREATEST_SLOT}
 use Rattle.cpi_plan.specs.Plan.{Plan}
-use Rattle.cpi_survey.specs.Quote.{QuoteRow, quote_cmp, quote_key}
+use Rattle.cpi_survey.specs.Quote.{QuoteRow}
 use Rattle.cpi_survey.specs.declared.assignment.Assignment.{Assignment}
 use Rattle.cpi_survey.specs.Assignment.{is_active}
-use Rattle.cpi_release.specs.FrozenMonths.{release_cmp, release_key}
-use Rattle.cpi_store.specs.declared.registration.Registration.{Registration}
 use Rattle.cpi_store.specs.declared.given.Given.{Given}
-use Rattle.cpi_store.specs.Registration.{registration_of}
 use Rattle.cpi_store.specs.Office.{Office}
 use Rattle.cpi_store.specs.FrozenLists.{HasFrozenList}
 use Rattle.cpi_store.specs.Released.{AreReleased}
+use Rattle.cpi_store.specs.Orderly.{IsOrderly}
 
--- the key of each registration finds that registration: no two share a key
-abbrev pub HaveOwnKeys : List Registration → Type 0
-HaveOwnKeys registrations =
-    (number : ℕ) (b : Registration) → row_by_number (λ b. b.number) number registrations ≡ Some b → registration_of
-    b.key registrations ≡ Some b
-
--- the collector, the outlet and the item of an assignment are there
-abbrev pub HasItsRows : Office → ℕ × Given → Type 0
-HasItsRows o row =
-    IsSome (row_by_number (λ b. b.number) row.0 o.collectors)
-    × IsSome (row_by_number (λ u. u.number) row.1.assignment.outlet o.outlets)
-    × IsSome (row_by_number (λ i. i.code) row.1.assignment.item o.items)
+-- the item of an assignment is there
+abbrev pub HasItsItem : Office → ℕ × Given → Type 0
+HasItsItem o row = IsSome (row_by_number (λ i. i.code) row.1.assignment.item o.items)
 
 -- the quote's slot is one that its collector has, and its month one in which the slot is active
 abbrev pub HasItsAssignment : List (ℕ × Given) → ℕ × QuoteRow → Type 0
@@ -69,24 +57,16 @@ abbrev pub HasNodesInOrder : Plan → Type 0
 HasNodesInOrder p = IsInOrder code_cmp (λ n. n.code) p.nodes
 
 pub record IsSound (o : Office) : Type 0 where
-  -- no two rows of a list agree in what it is listed by
-  pub items : IsInOrder nat_cmp (λ i. i.code) o.items
-  pub plans : IsInOrder nat_cmp (λ y. y.year) o.plans
-  pub calendar : IsInOrder nat_cmp (λ r. r.month) o.calendar
-  pub collectors : IsInOrder nat_cmp (λ b. b.number) o.collectors
-  pub outlets : IsInOrder nat_cmp (λ u. u.number) o.outlets
-  pub assignments : IsInOrder (held_cmp nat_cmp) (held_key (λ g. g.assignment.slot)) o.assignments
-  pub quotes : IsInOrder (held_cmp quote_cmp) (held_key quote_key) o.quotes
-  pub releases : IsInOrder release_cmp release_key o.releases
-  pub keys : HaveOwnKeys o.collectors
-  -- each assignment has its collector, outlet and item, each quote its assignment, in whose months it is
-  pub assigned : AllByRecursion (HasItsRows o) o.assignments
-  pub quoted : AllByRecursion (HasItsAssignment o.assignments) o.quotes
-  -- each assignment is one that there can be
+  -- isolation asks no more than this
+  pub orderly : IsOrderly o
+  -- each assignment is one that there can be, and prices an item that is there
   pub made : AllByRecursion (λ row. IsWellMade (row.0, row.1.assignment)) o.assignments
+  pub priced : AllByRecursion (HasItsItem o) o.assignments
   -- each series is named by its first slot, and has one assignment a month
   pub series : AllByRecursion (HasItsSeries o.assignments) o.assignments
   pub apart : AllPairs AreApart o.assignments
+  -- each quote has its assignment, in whose months it is
+  pub quoted : AllByRecursion (HasItsAssignment o.assignments) o.quotes
   -- the nodes of each plan are by code
   pub nodes : AllByRecursion HasNodesInOrder o.plans
   -- each release has the frozen quotes of the office's series, and is what is released after those before it

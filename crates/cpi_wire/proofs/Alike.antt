@@ -15,7 +15,7 @@ use Rattle.cpi_office.specs.declared.caller.Caller.{Caller}
 use Rattle.cpi_office.specs.declared.caller.Caller.TheVariants.{Desk}
 use Rattle.cpi_office.specs.declared.request.Ask.{Ask as Asking}
 use Rattle.cpi_office.specs.declared.reply.Reply.{Reply}
-use Rattle.cpi_office.proofs.Fit.{judged_fit, sound_orderly}
+use Rattle.cpi_office.proofs.Fit.{judged_fit}
 use Rattle.cpi_office.proofs.IsolationOfMessages.{responses_are_alike, replied_by_view, judged_by_view}
 use Rattle.cpi_office.proofs.RebuiltProjections.{sound_runs}
 use Rattle.cpi_wire.specs.Answer.{Answer}
@@ -41,8 +41,8 @@ pub printed_alike : (print : List Reply → List ℕ) (asked : Ask) (k : Caller)
 printed_alike print asked k other from front others o u s z same shown =
     responses_are_alike answer_from of_collector reply_to reply_to request_verdict request_verdict judged_fit judged_fit
     judged_by_view judged_by_view replied_by_view replied_by_view (λ message. requests_of_record asked)
-    (λ message. print) [] k (moment_of asked) other (requests_of k asked from) front others o u (sound_orderly o s)
-    (sound_orderly u z) same shown
+    (λ message. print) [] k (moment_of asked) other (requests_of k asked from) front others o u s.orderly
+    z.orderly same shown
 
 -- ---- over books
 

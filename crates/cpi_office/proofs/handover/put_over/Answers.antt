@@ -12,7 +12,8 @@ use Rattle.cpi_release.specs.FrozenMonths.{frozen_months, last_frozen}
 use Rattle.cpi_release.specs.declared.frozen_month.FrozenMonth.{FrozenMonth}
 use Rattle.cpi_store.specs.declared.given.Given.{Given}
 use Rattle.cpi_store.specs.Office.{Office, given_until, office_with, HandsOver}
-use Rattle.cpi_store.specs.Sound.{IsSound, HasItsRows}
+use Rattle.cpi_store.specs.Orderly.{ListsCollector, ListsOutlet}
+use Rattle.cpi_store.specs.Sound.{IsSound}
 use Rattle.cpi_store.specs.declared.outlet.Outlet.{Outlet}
 use Rattle.cpi_store.proofs.Slots.{all_of_found}
 use Rattle.cpi_office.specs.HandingOver.{over_judged, judged_over, is_handed_within, is_not_after, taken_on}
@@ -88,7 +89,9 @@ outlet_stands : (o : Office) → IsSound o → (c k : ℕ) (g : Given) →
     row_by_number (λ (g : Given). g.assignment.slot) k (held_by c o.assignments) ≡ Some g →
     IsSome (row_by_number (λ (u : Outlet). u.number) g.assignment.outlet o.outlets)
 outlet_stands o sound c k g found =
-    (all_of_found (λ (g : Given). g.assignment.slot) (HasItsRows o) c k g o.assignments sound.assigned found).1
+    (all_of_found (λ (g : Given). g.assignment.slot)
+    (λ row. ListsCollector row.0 o × ListsOutlet row.1.assignment.outlet o) c k g o.assignments sound.orderly.given
+    found).1
 
 pub returns-in-None : goal.returns-in-None
 returns-in-None g c =
