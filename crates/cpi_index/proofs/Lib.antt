@@ -17,3 +17,4 @@ pub mod BySeries
 pub mod CarryRise
 pub mod Ordered
 pub mod OneTable
+pub mod InSamples

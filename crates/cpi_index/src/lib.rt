@@ -11,6 +11,7 @@ mod fault;
 mod frozen;
 mod group;
 mod index;
+mod item_places;
 mod lack;
 mod level;
 mod limits;

@@ -13,7 +13,7 @@ use cpi_plan::{Weight, YearPlan};
 use std::alloc::{AllocError, Global};
 
 // The place of an aggregate among the weights.
-fn place_of(weights: &[Weight], aggregate: Code) -> Option<usize>
+pub(crate) fn place_of(weights: &[Weight], aggregate: Code) -> Option<usize>
     requires { IsInOrder code_cmp (λ w. w.code) weights.now }
     ensures { result ≡ place_among aggregate weights.now }
 {
@@ -39,7 +39,7 @@ pub(crate) fn place_rows(
 ) -> Result<Vec<PlacedRow>, AllocError>
     ensures { IfOk result (λ v. v.items ≡ rows_with_places plan.now rows.now) }
 {
-    let mut placed = Vec::new(alloc);
+    let mut placed = Vec::with_capacity(alloc, rows.len())?;
     for row in rows {
         if let Some(place) = place_of_item(plan, row.link.item()) {
             placed.push(PlacedRow { place, row: *row })?;
