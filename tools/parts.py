@@ -116,7 +116,7 @@ class Parts:
         results = self.results.values()
         second = tuple(name for result in results for name in result.second_tries)
         failures = tuple(f"{part}: {name}" for part, result in self.results.items() for name in result.failures)
-        passed, failed = (sum(result[place] for result in results) for place in (0, 1))
+        passed, failed = sum(result.passed for result in results), sum(result.failed for result in results)
         return Result(passed, failed, second, failures)
 
     def _give_up(self, name: str, hours: float, running: subprocess.Popen[str]) -> None:
