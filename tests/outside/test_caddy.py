@@ -391,20 +391,27 @@ def test_the_website_and_what_an_office_sets_lie_outside_of_the_pages(front: Fro
 
 
 def test_the_website_has_its_own_page_for_a_wrong_address(front: Front, tmp_path: Path) -> None:
-    """At any depth, as long as it is there; nothing else has it."""
-    assert front.asked("GET", "/published/node/nothing.html")[0] == 404
+    """At any depth, and beside the website too, as long as it is there; what programs ask for has none. Its style is allowed
+    there."""
+    for path in ("/published/node/nothing.html", "/nothing"):
+        assert front.asked("GET", path) == (404, b"404"), path
     (tmp_path / "site/404.html").write_text("<!DOCTYPE html>none here")
     with contextlib.closing(front.line()) as line:
         for path, body in (
             ("/published/nothing", b"<!DOCTYPE html>none here"),
             ("/published/node/deep/nothing.html", b"<!DOCTYPE html>none here"),
-            ("/nothing", b"404"),
+            ("/nothing", b"<!DOCTYPE html>none here"),
+            ("/collect/nothing", b"<!DOCTYPE html>none here"),
+            ("/calendar.json", b"404"),
+            ("/notes/nothing", b""),
             ("/api/nothing", b""),
         ):
             line.request("GET", path)
             answer = line.getresponse()
             assert (answer.status, answer.read()) == (404, body), path
-            assert path.startswith("/api/") or answer.getheader("Cache-Control") == "no-store"
+            assert path.startswith(("/api/", "/notes/")) or answer.getheader("Cache-Control") == "no-store"
+            (policy,) = answer.headers.get_all("Content-Security-Policy") or []
+            assert ("style-src 'self' 'unsafe-inline'" in policy) == body.startswith(b"<!DOCTYPE"), path
 
 
 def test_cards_feed_and_calendar_are_for_other_sites(front: Front, tmp_path: Path) -> None:

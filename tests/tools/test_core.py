@@ -6,6 +6,7 @@ import csv
 import hashlib
 import json
 import random
+import re
 import shutil
 from fractions import Fraction
 from pathlib import Path
@@ -217,6 +218,8 @@ def test_pages_have_them(first: Path, again: dict[tuple[str, str, str], str]) ->
     signed = f"\u2212{median[1:]}" if median.startswith("-") else f"+{median}"
     for text in (page, home):
         assert "Analytical core inflation" in text and f"{signed}\u202f%" in text and f">{share}\u202f%" in text
+    captions, headings = (re.findall(f"<{it}[^>]*>(.*?)</{it}>", page) for it in ("caption", "h2"))
+    assert len(captions) == len(headings) == 2 and not {*captions} & {*headings}
     words = words_of(first / "core.html")
     assert "without 24 percent of all weight at the lower end and 31.25 percent at the upper end" in words
     assert 'href="core.html"' in home

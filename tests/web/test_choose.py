@@ -168,7 +168,7 @@ def test_each_line_says_where_it_is_100(
     found = {row[0]: row[1:] for row in years.run(CELLS)}
     names = {"2011-01": "January 2011", "2011-12": "December 2011", "2012-01": "January 2012", "2012-12": "December 2012",
              "2013-01": "January 2013", "2013-02": "February 2013"}  # fmt: skip
-    assert years.run(UNITS) == [unit] and years.run(HEADS) == ["Month", *heads]
+    assert years.run(UNITS) == [f"{unit}; the axis doesn't begin at zero"] and years.run(HEADS) == ["Month", *heads]
     assert {month: found[names[month]] for month in rows} == rows and years.run(MARKED) == marks
     said = str(years.find("#parts .picture svg").get_attribute("aria-label"))
     assert unit in said and ("December" in pressed(years)) == ("own = 100" in unit)

@@ -247,22 +247,32 @@ def test_the_first_page_and_the_tables_are_the_websites(stage: Stage, tmp_path: 
     assert stage.ask("GET", "/tablesx").status == 404 and stage.ask("POST", path, body="x").status == 403
 
 
+BESIDE = ("/nothing", "/news/2026/index.html", "/collect/nothing")
+MACHINES = ("/api/nothing", "/news/../api/x", "/calendar.json")
+
+
 def test_the_website_has_its_own_page_for_a_wrong_address(stage: Stage) -> None:
-    """At any depth, as long as it is there; nothing else has it. A calendar has its type."""
+    """At any depth, and beside the website too, as long as it is there; what programs ask for has none. Its style is allowed
+    there. A calendar and a text have their types."""
     site = stage.folder / "lost"
     site.mkdir()
     (site / "calendar.ics").write_text("BEGIN:VCALENDAR\r\n" * 100)
+    (site / "release.txt").write_text("Prix")
     stage.front.stop()
     with standing(Front(stage.front.source, stage.folder, stage.front.place._replace(published=site))):
-        assert stage.ask("GET", "/published/nothing").status == 404
+        for path in ("/published/nothing", *BESIDE):
+            answer = stage.ask("GET", path)
+            assert answer.status == 404 and b"nginx" in answer.body, path
         (site / "404.html").write_text("<!DOCTYPE html>none here")
-        for path in ("/published/nothing", "/published/node/deep/nothing.html", "/nothing", "/api/nothing"):
+        for path in ("/published/nothing", "/published/node/deep/nothing.html", *BESIDE, *MACHINES):
             answer = stage.ask("GET", path)
             is_own = answer.body == b"<!DOCTYPE html>none here"
-            assert answer.status == 404 and is_own == path.startswith("/published/"), path
+            assert answer.status == 404 and is_own == (path not in MACHINES), path
             assert answer.fields["Cache-Control"] == "no-store"
-        answer = stage.ask("GET", "/published/calendar.ics")
-        assert answer.fields["Content-Type"] == "text/calendar; charset=utf-8"
+            assert ("style-src 'self' 'unsafe-inline'" in answer.fields["Content-Security-Policy"]) == is_own, path
+        assert stage.ask("POST", "/nothing", body="x").status == 403
+        for name, kind in (("calendar.ics", "text/calendar"), ("release.txt", "text/plain")):
+            assert stage.ask("GET", f"/published/{name}").fields["Content-Type"] == f"{kind}; charset=utf-8"
 
 
 def test_cards_feed_and_calendar_are_for_other_sites(stage: Stage) -> None:

@@ -35,6 +35,7 @@ def test_a_household_has_an_index_of_its_own(years: Browser) -> None:
     years.run("document.querySelector('#picture svg').focus()")
     ActionChains(years.driver).send_keys(Keys.END).perform()  # type: ignore[no-untyped-call]
     years.wait_text("#readout", "February 2013: My household 102.0, All items 104.5")
+    assert years.text("#unit") == "December 2012 = 100; the axis doesn't begin at zero"
     assert [*faults_at_sizes(years, ()), *faults_for_keys(years)] == []
 
 

@@ -156,6 +156,21 @@ def test_pages_are_readable_in_both_schemes(
         assert browser.faults() == [], name
 
 
+CARDS = """
+const cards = [...document.querySelectorAll(".card")].map((it) => it.getBoundingClientRect());
+const figures = [...document.querySelectorAll(".card dd")].map((it) => it.getBoundingClientRect());
+const edge = document.documentElement.dir === "rtl" ? "left" : "right";
+return [new Set(figures.map((it) => Math.round(it[edge]))).size, Math.max(...cards.map(({ height }) => height))];
+"""
+
+
+def test_the_figures_of_the_first_page_are_in_a_column_on_a_phone(browser: Browser, site: Path) -> None:
+    """Each beside what it is, in one line."""
+    open_page(browser, site, "index.html", 360)
+    columns, high = browser.run(CARDS)
+    assert columns == 1 and high < 56 and len(browser.all(".card")) == 3
+
+
 CAPTIONS = """
 return [...document.querySelectorAll("table")].filter((it) => !it.caption?.textContent.trim()).map((it) => it.outerHTML.slice(0, 80));
 """

@@ -2,7 +2,7 @@
 // its source in it. Its colours are attributes, in the light colours of choose.css, since not each program reads a style
 // sheet. What is too long for a line is broken by the usual width of letters.
 import { made, isolated } from "./elements.js";
-import { MOST_LINES, pictureOfMeasure } from "./shown.js";
+import { MOST_LINES, pictureOfMeasure, unitOf } from "./shown.js";
 
 const WIDE = 640, EDGE = 12; // the picture, and what is left free round the whole
 const LETTER = 0.55; // the width of a letter, in sizes of its font
@@ -27,7 +27,7 @@ export const lookOf = (n) => ({ fill: "none", stroke: COLOURS[n], "stroke-width"
 export function fileOf(measure, months, source) {
   const picture = pictureOfMeasure(measure, months, WIDE, () => {});
   if (!picture) throw new Error("no figure");
-  const { name, unit, lines } = measure, few = lines.slice(0, MOST_LINES);
+  const { name, lines } = measure, few = lines.slice(0, MOST_LINES);
   const [, , , high] = picture.getAttribute("viewBox").split(" ").map(Number), label = picture.getAttribute("aria-label");
   const parts = [], add = (...more) => parts.push(...more);
   let top = EDGE;
@@ -38,7 +38,7 @@ export function fileOf(measure, months, source) {
     }
   };
   write(name, 14, { "font-weight": 650, fill: INK });
-  write(unit, 11.5);
+  write(unitOf(measure), 11.5);
   add(made("svg:g", { transform: `translate(${EDGE} ${top})` }, ...withLooks(picture)));
   top += high;
   few.forEach(({ title, hundred }, n) => {

@@ -6,7 +6,7 @@ import { monthsBetween } from "./choice.js";
 import { byId, isolated, made, others } from "./elements.js";
 import { itemOf, site } from "./files.js";
 import { chosenRows, decimal, millionths, signed } from "./lines.js";
-import { pictureOf } from "./picture.js";
+import { pictureOf, unitOfPicture } from "./picture.js";
 import { keyOf, read } from "./shown.js";
 
 const form = byId("household"), known = form.dataset; // top, titles, digits, currency, last: see my-inflation.html
@@ -117,7 +117,7 @@ function tell(spent, all, months) {
 function drawLines(lines, months) {
   const unit = t("{period} = 100", { period: monthText(months[0]) }), name = t("{name} ({unit})", { name: t("Index"), unit });
   const told = (n) => byId("readout").replaceChildren(...(n === null ? [] : read(lines, months, n)));
-  byId("unit").textContent = unit;
+  byId("unit").textContent = unitOfPicture(unit, lines, false);
   byId("key").replaceChildren(...lines.map(keyOf));
   byId("readout").replaceChildren();
   const width = Math.max(280, Math.floor(byId("picture").clientWidth));

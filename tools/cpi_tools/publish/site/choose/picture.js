@@ -18,6 +18,18 @@ export function axisOf(least, greatest, parts = 5) {
   return { low: Math.floor(low / step + 1e-9) * step, high: Math.ceil(high / step - 1e-9) * step, step };
 }
 
+/** The axis of the values of some lines, with zero on it if it has to be there. */
+function axisOfLines(lines, hasZero) {
+  const values = lines.flatMap((line) => line.values.filter((value) => value !== null)).concat(hasZero ? [0] : []);
+  return axisOf(Math.min(...values), Math.max(...values));
+}
+
+/** A unit, and that the axis of the picture of some lines is cut if it neither begins at zero nor crosses it. */
+export function unitOfPicture(unit, lines, hasZero) {
+  const { low, high } = axisOfLines(lines, hasZero);
+  return low > 1e-9 || high < -1e-9 ? t("{unit}; the axis doesn't begin at zero", { unit }) : unit;
+}
+
 /**
  * A picture of lines `{ title, texts, values, hundreds, breaks, begins }`, a figure a month, null if there is none;
  * before each month of `breaks` (counted from 0) is a mark, and at `begins` a line begins anew. `told(n)` is called with
@@ -25,8 +37,7 @@ export function axisOf(least, greatest, parts = 5) {
  */
 export function pictureOf({ name, months, lines, hasZero, width }, told) {
   const height = Math.round(between(width * 0.48, 240, 400));
-  const values = lines.flatMap((line) => line.values.filter((value) => value !== null)).concat(hasZero ? [0] : []);
-  const axis = axisOf(Math.min(...values), Math.max(...values));
+  const axis = axisOfLines(lines, hasZero);
   const x = (n) => LEFT + (months.length < 2 ? 0.5 : n / (months.length - 1)) * (width - LEFT - RIGHT);
   const y = (value) => TOP + (axis.high - value) / (axis.high - axis.low) * (height - TOP - FOOT);
   const place = { width, height, x, y };

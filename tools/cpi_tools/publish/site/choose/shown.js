@@ -4,7 +4,7 @@ import { monthsOf } from "./choice.js";
 import { made, others } from "./elements.js";
 import { chosenRows, hundredOf } from "./lines.js";
 import { measureOf } from "./measured.js";
-import { pictureOf } from "./picture.js";
+import { pictureOf, unitOfPicture } from "./picture.js";
 
 export const MOST_LINES = 6; // lines that a picture shows
 
@@ -17,12 +17,13 @@ export function shownOf(choice, found, known) {
 }
 
 /** What is shown of a measure but its name: a place for the picture, which `drawPictures` fills, and the key to it. */
-export function partsOf({ unit, lines }, caption) {
+export function partsOf(measure, caption) {
+  const { lines } = measure;
   const values = { shown: figureText(String(MOST_LINES)), all: figureText(String(lines.length)) };
   const few = lines.length > MOST_LINES ? [made("p", { class: "note" },
     t("The picture shows the first {shown} of {all} items.", values))] : [];
   return [
-    made("figure", { class: "lines" }, made("figcaption", {}, ...caption, made("small", {}, unit)),
+    made("figure", { class: "lines" }, made("figcaption", {}, ...caption, made("small", {}, unitOf(measure))),
       made("div", { class: "picture" })),
     made("p", { class: "note readout", "aria-live": "polite" }),
     made("ul", { class: "lines-key" }, ...lines.slice(0, MOST_LINES).map(keyOf)), ...few,
@@ -48,12 +49,26 @@ export function drawPictures({ measures, months }) {
   return width;
 }
 
-/** The picture of a measure; null if there is no figure. */
-export function pictureOfMeasure({ name, unit, isLevel, word, lines }, months, width, told) {
+/** Whether the picture of a measure has zero on its axis, as one of changes has. */
+const hasZero = ({ isLevel, word }) => !isLevel && word !== "weight";
+
+/** The lines of a picture that has any figure; null if it has none. */
+function drawnOf({ lines }) {
   const few = lines.slice(0, MOST_LINES);
-  if (!few.some(({ values }) => values.some((value) => value !== null))) return null;
-  const hasZero = !isLevel && word !== "weight";
-  return pictureOf({ name: t("{name} ({unit})", { name, unit }), months, lines: few, hasZero, width }, told);
+  return few.some(({ values }) => values.some((value) => value !== null)) ? few : null;
+}
+
+/** What is said below the name of a picture: the unit of a measure, and whether the axis is cut. */
+export function unitOf(measure) {
+  const lines = drawnOf(measure);
+  return lines ? unitOfPicture(measure.unit, lines, hasZero(measure)) : measure.unit;
+}
+
+/** The picture of a measure; null if there is no figure. */
+export function pictureOfMeasure(measure, months, width, told) {
+  const lines = drawnOf(measure), { name, unit } = measure;
+  if (!lines) return null;
+  return pictureOf({ name: t("{name} ({unit})", { name, unit }), months, lines, hasZero: hasZero(measure), width }, told);
 }
 
 /** The figures of a month in words. */
