@@ -13,18 +13,43 @@ from .readable import faults_enlarged, faults_for_keys, faults_of_page
 from .stage import Stage
 
 
+SHOWN = """return [...document.querySelectorAll(".lead")].filter((it) => it.checkVisibility()).map((it) => it.lang || "en");"""
+
+
 @pytest.mark.sampled(2)
 @pytest.mark.parametrize("scheme", ["light", "dark"])
 @pytest.mark.parametrize("width", [360, 1280])
 def test_before_a_website_is_published_the_first_page_says_so(browser: Browser, width: int, scheme: str) -> None:
+    """It is for everybody: nothing on it leads to the office's own pages."""
     browser.shown_as(scheme)
     browser.size(width, 800)
     browser.open("/tables/")
     assert browser.run("return location.pathname") == "/"
-    assert browser.text("h2") == "Nothing has been published here yet"
+    browser.wait_text("h1", "Consumer price index office")
+    assert browser.text(".lead").startswith("No figures have been published here yet.")
+    assert browser.run(SHOWN) == ["en"] and browser.all("a, form, button") == []
     assert [*faults_of_page(browser), *faults_for_keys(browser), *faults_enlarged(browser)] == []
-    links = [str(link.get_attribute("href")) for link in browser.all("main a")]
-    assert [re.sub(r"^https://[^/]+", "", link) for link in links] == ["/collect/", "/desk/"]
+
+
+def test_it_is_in_the_language_of_the_office(browser: Browser, stage: Stage) -> None:
+    """And in those of the reader's browser; without a script in all of them."""
+    stage.speaks('export const office = { name: "المكتب", language: "ar-EG" };\n')
+    try:
+        browser.open("/")
+        browser.wait_text("h1", "المكتب")
+        root = browser.run("const { lang, dir } = document.documentElement; return [lang, dir, document.title]")
+        assert browser.run(SHOWN) == ["en", "ar"] and root == ["en", "ltr", "المكتب"]
+        browser.cdp("Emulation.setUserAgentOverride", userAgent="a browser", acceptLanguage="ar")
+        browser.open("/")
+        browser.wait(lambda: browser.run(SHOWN) == ["ar"], "one language")
+        root = browser.run("const { lang, dir } = document.documentElement; return [lang, dir]")
+        assert root == ["ar", "rtl"] and [*faults_of_page(browser), *faults_enlarged(browser)] == []
+    finally:
+        browser.cdp("Emulation.setUserAgentOverride", userAgent="", acceptLanguage="")
+        stage.front.stop()
+        stage.front.start()
+    page = (ROOT / "web/index.html").read_text(encoding="utf-8")
+    assert re.findall(r'<p class="lead" (?:data-t|lang="(..)")', page) == ["", "ar", "es", "fr"]
 
 
 def test_the_first_page_is_the_websites(browser: Browser, stage: Stage, website: Path) -> None:
@@ -62,7 +87,7 @@ const filled = (ground, ink) => {
 const pairs = [["band", "band-ink"], ["hover", "link"], ["hover", "ink"], ["main", "on-link"], ["main-hover", "on-link"],
   ["warn-fill", "on-fill"], ["warn-fill-hover", "on-fill"], ["bad-fill", "on-fill"], ["head", "on-head"],
   ["head-hover", "on-head"], ["deep", "on-head"]];
-document.querySelector("header").append(make("button", { class: "quiet" }, "Sign out"));
+document.body.prepend(make("header", { class: "top" }, make("p", {}, "A head"), make("button", { class: "quiet" }, "Sign out")));
 document.querySelector("main").replaceChildren(make("div", { class: "card" }, ...parts()), ...parts(),
   ...pairs.map((pair) => filled(...pair)));
 """
@@ -82,6 +107,7 @@ def test_each_part_of_a_page_is_seen(browser: Browser, scheme: str) -> None:
 def test_it_is_printed_black_on_white(browser: Browser, scheme: str) -> None:
     browser.shown_as(scheme, "print")
     browser.open("/")
+    browser.run("document.body.insertAdjacentElement('afterbegin', document.createElement('header')).className = 'top'")
     colours = "const { color, backgroundColor } = getComputedStyle(document.body); return [color, backgroundColor];"
     assert browser.run(colours) == ["rgb(0, 0, 0)", "rgb(255, 255, 255)"]
     top = "return getComputedStyle(document.querySelector('.top')).backgroundColor"
