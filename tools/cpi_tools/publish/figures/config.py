@@ -9,7 +9,7 @@ from __future__ import annotations
 
 import configparser
 import re
-from collections.abc import Mapping, Sequence
+from collections.abc import Collection, Mapping, Sequence
 from pathlib import Path
 from typing import NamedTuple, Optional
 
@@ -42,7 +42,7 @@ ADDRESS = re.compile(r"https?://[A-Za-z0-9.-]+(:[0-9]{1,5})?(/[A-Za-z0-9._~-]+)*
 NAMES = ("agency", "area", "office", "title", "country", "contact", "licence", "reference", "currency", "minor_digits",
          "without", "aggregates", "rates", "language", "provisional", "address", "zone",
          "calendar", "years", "revisions", "languages", "digits", "about", "doi", "quality",
-         "least_outlets", "profiles", "core")  # fmt: skip
+         "least_outlets", "profiles", "core", "press")  # fmt: skip
 NEEDED = ("agency", "area", "office")
 
 
@@ -95,7 +95,8 @@ class Config(NamedTuple):
     is what the office says of the index in its own words, and `doi` is the DOI of the index, with which those of its
     releases begin. With `has_quality` quality is told in figures, with the `counts` of the survey, in which a division has
     `least_outlets`. `profiles` are the structures of other agencies in which the series are written too, and `core` the
-    office's measures of analytical core inflation.
+    office's measures of analytical core inflation. `press` are the ids of special aggregates and of such measures that the
+    sentences of releases name, those of months from `press_since` on.
     """
 
     agency: str
@@ -131,6 +132,8 @@ class Config(NamedTuple):
     profiles: tuple[Profile, ...] = ()
     doi: str = ""
     core: tuple[CoreDefinition, ...] = ()
+    press: tuple[str, ...] = ()
+    press_since: str = ""
 
     def reference_in(self, month: str) -> str:
         """The reference period of the release of a month."""
@@ -166,6 +169,7 @@ def read_config(path: Path, known: KnownIds = KnownIds()) -> Config:
     """
     parser = _read_sections(path)
     found = _office_words(parser)
+    press = found.pop("press", "")
     quality, least_outlets = found.pop("quality", ""), _least_outlets(path, found.pop("least_outlets", ""))
     profiles = found.pop("profiles", "").replace(",", " ").split()
     ids = dict(parser["sdmx"]) if "sdmx" in parser else {}
@@ -181,8 +185,12 @@ def read_config(path: Path, known: KnownIds = KnownIds()) -> Config:
         raise BadConfig(f"{path}: {fault}") from None
     except BadLanguages as fault:
         raise BadConfig(str(fault)) from None
+    measures = _core(path, core, config.specials) if core else ()
+    named, since = _press(path, press, {it.id for it in config.specials} | {it.id for it in measures})
     return config._replace(
-        core=_core(path, core, config.specials) if core else (),
+        core=measures,
+        press=named,
+        press_since=since,
         speaks=speaks,
         planned=read_planned(path.parent / calendar, config.clock) if calendar else (),
         reasons=read_reasons(path.parent / reasons, config.clock) if reasons else (),
@@ -202,6 +210,22 @@ def _core(path: Path, name: str, specials: tuple[Special, ...]) -> tuple[CoreDef
     if twice:
         raise BadConfig(f"{path}: core: {twice[0]} is the id of a special aggregate")
     return found
+
+
+PRESS = re.compile(r"(.*?)(?: +from +(2[01][0-9]{2}-(?:0[1-9]|1[0-2])))?")
+
+
+def _press(path: Path, text: str, ids: Collection[str]) -> tuple[tuple[str, ...], str]:
+    """What the sentences of releases name, and the month of the first release that does. Raises BadConfig."""
+    read = PRESS.fullmatch(text.replace(",", " ").strip())
+    assert read
+    names = tuple(read[1].split())
+    for name in names:
+        if name not in ids:
+            raise BadConfig(f"{path}: press: {name} is no id of `aggregates` or `core`")
+    if len({*names}) < len(names):
+        raise BadConfig(f"{path}: press names an id twice")
+    return names, read[2] or ""
 
 
 def read_least_outlets(path: Path) -> int:

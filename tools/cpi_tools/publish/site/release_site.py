@@ -22,8 +22,10 @@ from ..releases.cards import NO_CARDS, Cards
 from ..releases.citations import BIBTEX, DATACITE, RIS, doi_of, write_citations
 from ..releases.feed import write_feed
 from ..releases.release_pictures import ReleasePictures
+from ..releases.press_texts import END, write_press_text
 from ..releases.releases import Release, ReleasePages, hundreds_of
 from ..releases.site_languages import ALONE, Version
+from ..releases.statements import Statements
 from .addresses import LOST, address_of, dataset, release_dataset
 
 
@@ -35,6 +37,7 @@ class ReleaseSite:
         self.series, self.config, self.speech = known.series, config, known.shown.speech
         self.cards = cards if config.address else NO_CARDS
         self.releases = ReleasePages(known, config)
+        self.statements = Statements(known.series, config, self.speech)
         self.calendar = CalendarOf(known.series, config)
 
     def prepare(self, pages: jinja2.Environment) -> None:
@@ -56,6 +59,7 @@ class ReleaseSite:
             dataset="",
             cited_in=[("BibTeX", BIBTEX), ("RIS", RIS)],
             DATACITE=DATACITE,
+            PRESS_TEXT=END,
             doi_of=partial(doi_of, self.config),
         )
 
@@ -93,8 +97,10 @@ class ReleaseSite:
         self, pack: Path, pictures: ReleasePictures, release: Release, rows: Sequence[Given]
     ) -> dict[str, object]:
         """Where the page of a release is, its pictures, and what it says to other programs."""
-        found = self.version.standing("../", f"{release.name}.html", release.page)
+        found: dict[str, object] = self.version.standing("../", f"{release.name}.html", release.page)
         found.update(pictures.write(release, rows))
+        paragraphs = found["statement"] = self.statements.of(release, rows)
+        write_press_text(pack, self.config, release, paragraphs, self.version)
         if not self.config.address:
             return found
         found["dataset"] = release_dataset(self.config, release, self._size(pack, release), self.version)

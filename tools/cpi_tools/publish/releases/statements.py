@@ -1,0 +1,258 @@
+"""What an office says of a release to the press, in whole sentences, made of the figures that were published by its day.
+
+The sentences of special aggregates and of core inflation are those that the office names (`press`). Their figures are those
+of the release's day. If a set or a measure got another definition for all months later, what it had then isn't computed any
+more, and the releases before that say nothing of it.
+"""
+
+from __future__ import annotations
+
+from collections.abc import Iterator, Sequence
+from fractions import Fraction
+from typing import NamedTuple, Optional
+
+from ...office.tables import Series, Table, before
+from ...text.exact import ALL_ITEMS, Ratio, scaled, tenths, with_sign
+from ...text.others import Worded, of_others, worded
+from ...text.speech import Speech
+from ..figures.aggregated import Vintages, vintages_of
+from ..figures.config import Config
+from ..figures.contributions import Given
+from ..figures.core_measures import CoreComputed, measures_of
+from ..figures.measures import Contributions
+from ..figures.reasons import Reasons, given_reasons
+from ..figures.revised_levels import Revised
+from ..figures.shown_figures import EXACT
+from ..forms.site_texts import month_lead
+from .figure_words import pp
+from .releases import Release, revised_since, revision_before
+
+MOST_NAMED = 3
+"""Contributions that a sentence names."""
+
+
+class Named(NamedTuple):
+    """The changes of a special aggregate or of a measure of core inflation in a release, in tenths of a percent."""
+
+    title: str
+    is_core: bool
+    monthly: int
+    annual: Optional[int]
+
+
+class Statements:
+    """The sentences of all releases of a site, in its language."""
+
+    def __init__(self, series: Series, config: Config, speech: Speech):
+        self._series, self._config, self._speech = series, config, speech
+        self._reasons: Reasons = given_reasons(config.reasons, series, config.planned)
+        named = [name for name in config.press if name in series.specials]
+        self._vintages: Vintages = vintages_of(series) if named else {}
+
+    def of(self, release: Release, rows: Sequence[Given]) -> list[Worded]:
+        """The paragraphs of a release below its headline; the rows say what divisions give to its change."""
+        paragraphs = (
+            self._contributions(rows),
+            [_plain(month_lead(self._speech, release.whole))] if release.is_annual else [],
+            [_named(self._speech, it) for it in self._all_named(release)],
+            self._since_last_month(release),
+            self._revised(release),
+        )
+        return [_joined([*it]) for found in paragraphs if (it := [*found])]
+
+    # ---- contributions
+
+    def _contributions(self, rows: Sequence[Given]) -> Iterator[Worded]:
+        """The largest ones up and down, of those that are shown with another figure than zero."""
+        t, shown = self._speech.t, [it for it in rows if _is_seen(it.value)]
+        ups = [it for it in shown if it.value.over > 0][:MOST_NAMED]
+        downs = [it for it in shown[::-1] if it.value.over < 0][:MOST_NAMED]
+        if len(ups) == 1:
+            form = t("The largest upward contribution, in percentage points, came from {items}.")
+        else:
+            form = t("The largest upward contributions, in percentage points, came from {items}.")
+        if ups:
+            yield worded(form, items=self._listed(ups))
+        if len(downs) == 1:
+            form = t("The largest downward contribution, in percentage points, came from {items}.")
+        else:
+            form = t("The largest downward contributions, in percentage points, came from {items}.")
+        if downs:
+            yield worded(form, items=self._listed(downs))
+
+    def _listed(self, rows: Sequence[Given]) -> Worded:
+        """Some items, each with what it gives."""
+        # t: an item with its contribution in percentage points: Transport (+0.51)
+        form = self._speech.t("{title} ({points})")
+        found = [worded(form, title=of_others(it.title), points=pp(it.value, 2, self._speech)) for it in rows]
+        return Worded(self._speech.listed(["{}"] * len(found)), *found)
+
+    # ---- special aggregates and core inflation
+
+    def _all_named(self, release: Release) -> Iterator[Named]:
+        """What the office names, in its order, with the figures of the release's day."""
+        config, month = self._config, release.table.month
+        if release.shown.rates != EXACT or month < config.press_since:
+            return
+        measures = {name: it for name, it in measures_of(config.core).items() if name in config.press}
+        core = CoreComputed(release.as_of.latest).rows(measures, month) if measures else {}
+        for name in config.press:
+            if release.table.moment < self._defined(name):
+                continue
+            if name in core and name in self._series.core and not self._series.core[name].is_share:
+                title = self._series.called(name, self._series.core[name].title)
+                yield Named(title, True, core[name].monthly, core[name].annual)
+            elif name in self._series.specials:
+                yield from self._set(name, release)
+
+    def _set(self, name: str, release: Release) -> Iterator[Named]:
+        """The changes of a special aggregate as they were on the release's day."""
+        month, moment = release.table.month, release.table.moment
+        row = self._series.specials[name].rows.get(month)
+        found = self._vintages.get(name, {}).get(month, [])
+        then = [it.row for it in found if it.moment <= moment]
+        row = then[-1] if then else None if found else row
+        if row:
+            yield Named(self._series.title(name), False, row.month_change, row.year_change)
+
+    def _defined(self, name: str) -> int:
+        """The moment from which on the definition of a set or a measure is the one of now."""
+        return max((it.moment for of, given in self._reasons.items() if of[0] == name for it in given), default=0)
+
+    # ---- against the month before
+
+    def _since_last_month(self, release: Release) -> Iterator[Worded]:
+        """The change on the year before of the month before, and which contributions differ most from those of then."""
+        month, speech = before(release.table.month), self._speech
+        row = release.shown.row(month, ALL_ITEMS) if month in release.as_of.latest else None
+        if not release.is_annual or row is None or row.year_change is None:
+            return
+        change = speech.percent(with_sign(tenths(row.year_change)))
+        yield _plain(
+            speech.t("In {month} the change on the year before was {change}.", month=speech.month(month), change=change)
+        )
+        differences = self._differences(release, month)
+        if differences:
+            yield from self._moved(differences)
+
+    def _differences(self, release: Release, month: str) -> list[tuple[Fraction, str]]:
+        """By how much the contribution of each division to the change on the year before differs from that of the month
+        before, the greatest first; none if one of both isn't known."""
+        as_of, now = release.as_of, release.table.month
+        if not (as_of.is_shown(month, True) and as_of.is_shown(now, True)):
+            return []
+        contributions = Contributions(as_of, [])
+        earlier, later = (
+            {it.code: Fraction(*it.to_year) for it in contributions.below(each, ALL_ITEMS) if it.to_year}
+            for each in (month, now)
+        )
+        found = [(later.get(code, Fraction()) - earlier.get(code, Fraction()), code) for code in {**later, **earlier}]
+        return [(value, as_of.title(code)) for value, code in sorted(found, key=lambda it: (-it[0], it[1]))]
+
+    def _moved(self, differences: Sequence[tuple[Fraction, str]]) -> Iterator[Worded]:
+        """The contributions that rose and fell most."""
+        t, (first, last) = self._speech.t, (differences[0], differences[-1])
+        is_up, is_down = (_is_seen(_ratio(it[0])) and it[0] * sign > 0 for it, sign in ((first, 1), (last, -1)))
+        up, down = of_others(first[1]), of_others(last[1])
+        points, other_points = (pp(_ratio(it[0]), 2, self._speech) for it in (first, last))
+        if is_up and is_down:
+            form = t(
+                "Compared with that month, in percentage points, the contribution of {up} rose most ({points}), and that of"
+                " {down} fell most ({other_points})."
+            )
+            yield worded(form, up=up, points=points, down=down, other_points=other_points)
+        elif is_up:
+            form = t("Compared with that month, in percentage points, the contribution of {up} rose most ({points}).")
+            yield worded(form, up=up, points=points)
+        elif is_down:
+            form = t("Compared with that month, in percentage points, the contribution of {down} fell most ({points}).")
+            yield worded(form, down=down, points=other_points)
+
+    # ---- revisions
+
+    def _revised(self, release: Release) -> Iterator[Worded]:
+        """What was revised since the release before, or by this one, and why."""
+        t, own, since = self._speech.t, revision_before(release.as_of), revised_since(release.as_of)
+        if own:
+            yield from self._own(release, own)
+        for it in since:
+            last = self._speech.month(before(release.table.month))
+            now, then = self._both(release, it)
+            places = {"month": self._speech.month(it.new.month), "last": last, "now": now, "then": then}
+            if now == then:
+                form = t(
+                    "After the release of {last}, {month} was revised: the index of all items differs by less than is"
+                    " shown."
+                )
+            else:
+                form = t(
+                    "After the release of {last}, {month} was revised: the index of all items is {now}, and was {then}"
+                    " before."
+                )
+            yield worded(form, **places)
+            yield from self._why(it.new, release.table.moment)
+
+    def _own(self, release: Release, own: Revised) -> Iterator[Worded]:
+        """What a further revision changed."""
+        t, (now, then) = self._speech.t, self._both(release, own)
+        places = {"month": self._speech.month(own.new.month), "now": now, "then": then}
+        if now == then:
+            form = t("This release revises {month}: the index of all items differs by less than is shown.")
+        else:
+            form = t("This release revises {month}: the index of all items is {now}, and was {then} before.")
+        yield worded(form, **places)
+        yield from self._why(own.new, release.table.moment)
+
+    def _both(self, release: Release, it: Revised) -> tuple[str, str]:
+        """The index of all items by a revision, and by the one before."""
+        levels = ((each.rows[ALL_ITEMS].chained, it.new.month) for each in (it.new, it.old))
+        found = [release.shown.of_level(chained, month, ALL_ITEMS) for chained, month in levels]
+        now, then = (self._speech.figure(tenths(scaled(*each, 1))) for each in found)
+        return now, then
+
+    def _why(self, table: Table, moment: int) -> Iterator[Worded]:
+        """The reasons that the office had given by a moment."""
+        tag = self._speech.language.tag
+        for it in self._reasons.get((table.month, table.revision), ()):
+            if it.moment <= moment:
+                yield worded(self._speech.t("Reason: {reason}"), reason=of_others(it.said(tag)))
+
+
+def _named(speech: Speech, it: Named) -> Worded:
+    """The sentence of a special aggregate, or of a measure of core inflation."""
+    monthly, annual = (
+        "" if change is None else speech.percent(with_sign(tenths(change))) for change in (it.monthly, it.annual)
+    )
+    if it.is_core and annual:
+        form = speech.t(
+            "Analytical core inflation ({title}) was {annual} against the year before and {monthly} against the month"
+            " before."
+        )
+    elif it.is_core:
+        form = speech.t("Analytical core inflation ({title}) was {monthly} against the month before.")
+    elif annual:
+        form = speech.t(
+            "The index of {title} changed by {annual} against the year before and by {monthly} against the month before."
+        )
+    else:
+        form = speech.t("The index of {title} changed by {monthly} against the month before.")
+    return worded(form, title=of_others(it.title), annual=annual, monthly=monthly)
+
+
+def _joined(sentences: Sequence[Worded]) -> Worded:
+    """Some sentences as one paragraph."""
+    return Worded(" ".join(["{}"] * len(sentences)), *sentences)
+
+
+def _plain(text: str) -> Worded:
+    """Words of ours without texts of others."""
+    return Worded(text.replace("{", "{{").replace("}", "}}"))
+
+
+def _ratio(value: Fraction) -> Ratio:
+    return Ratio(value.numerator, value.denominator)
+
+
+def _is_seen(value: Ratio) -> bool:
+    """Whether percentage points are shown with another figure than zero."""
+    return scaled(*value, 2) != 0
