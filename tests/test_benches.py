@@ -141,6 +141,11 @@ FORMS: dict[str, list[str]] = {
         rf"taken: 28 files, {N} MB",
     ],
     "run": [ANY, *rows("C++/C++, a write for each line/cpi/Python, C SQLite in memory", 3, "the same")],
+    "sheets": [
+        rf"{N} series, {N} months, {N} prices",
+        rf"take-in: {N} s, {N} s of processor, {N} µs a price",
+        rf"memory: {N} MB of the tool, {N} MB of the program; records of {N} MB",
+    ],
     "turns": [
         ANY,
         *rows("the first answer, with the open/a bare commit of the C library", 2),

@@ -3,7 +3,11 @@ is a problem at a cell."""
 
 from __future__ import annotations
 
-import tomllib
+import importlib.util
+import random
+import secrets
+import sys
+from collections.abc import Callable
 from pathlib import Path
 from typing import Optional
 
@@ -12,7 +16,9 @@ import pytest
 from cpi_tools.office.program import Cpi
 from cpi_tools.office.stored import stored_office
 from cpi_tools.sheets.maps.month_names import NAMES, folded, in_english
+from cpi_tools.sheets.maps.mapped_rows import TableRows
 from cpi_tools.sheets.maps.patterns import Pattern
+from cpi_tools.sheets.maps.plain_rows import PlainRows
 from cpi_tools.sheets.months_of_texts import month_of
 from cpi_tools.sheets.several_prices import Given, Rule, one_of
 from cpi_tools.text.toml_files import toml_of
@@ -20,7 +26,7 @@ from lib.places import ROOT
 from .forms_of_offices import FORMS, KOBO, Form, office
 from .habits import Quotes
 from .ran import Ran, rows_of, run
-from .spreadsheets import replayed, written
+from .spreadsheets import replayed, sheets, written
 
 
 def made(folder: Path, form: Form) -> tuple[Path, Path]:
@@ -75,6 +81,68 @@ def test_a_map_without_a_line_is_a_problem_at_the_cell(cpi: Cpi, tmp_path: Path,
     assert ran.status in (1, 3), ran.err
     cells = [(it["file"], int(it["row"]), it["column"]) for it in problems(folder) if it["kind"] != "warning"]
     assert form.told[line] in cells, (ran.err, problems(folder))
+
+
+# ---- rows that need no look
+
+
+def odd(folder: Path, form: Form, seed: str) -> None:
+    """Writes odd texts into some cells of the files of a form."""
+    chance = random.Random(seed)
+    known = {"outlet-codes.csv", *(f"{name}.csv" for name in sheets())}
+    files = [it for it in folder.iterdir() if it.suffix in (".csv", ".dat", ".tab") and it.name not in known]
+    for path in sorted(files):
+        encoding = "windows-1252" if "windows-1252" in form.map else "utf-8"
+        lines = path.read_text(encoding=encoding).splitlines()
+        sign = max(",;\t", key=lines[0].count)
+        rows = [line.split(sign) for line in lines]
+        for row in chance.choices(rows[1:], k=3):
+            row[chance.randrange(len(row))] = chance.choice(ODD_TEXTS)
+        rows += [rows[0], [], [*rows[-1], "beyond"], rows[1][:-1]]
+        path.write_text("".join(f"{sign.join(row)}\n" for row in rows), encoding=encoding)
+
+
+ODD_TEXTS = ["", "stock", "9999.99", "none", "x", "1,234.5", "1.250", "comparable 2.46", "'2.00", "2026-13", "2025-12",
+             "RICE", "10", "3", "S", "100000000000000000000", "price 2", "missing stock"]  # fmt: skip
+
+
+@pytest.mark.parametrize("seed", range(3))
+@pytest.mark.parametrize("name", FORMS)
+def test_a_row_that_needs_no_look_is_what_a_look_makes_of_it(
+    cpi: Cpi, tmp_path: Path, monkeypatch: pytest.MonkeyPatch, name: str, seed: int
+) -> None:
+    folder, path = made(tmp_path, FORMS[name])
+    if seed:
+        odd(folder, FORMS[name], f"{name} {seed}")
+    plain, looked_at = tmp_path / "plain", tmp_path / "looked_at"
+    monkeypatch.setattr(secrets, "token_hex", lambda size: "f" * 2 * size)
+    ran = [run(cpi, "take-in", folder, "--map", path, "--check", "--out", plain)]
+    with monkeypatch.context() as patch:
+        patch.setattr(PlainRows, "rows", lambda *_: None)
+        ran.append(run(cpi, "take-in", folder, "--map", path, "--check", "--out", looked_at))
+    one, other = (str(it).replace(str(plain), "").replace(str(looked_at), "") for it in ran)
+    assert one == other
+    for file in ("problems.csv", "report.html", "codes.csv"):
+        assert (plain / file).read_text() == (looked_at / file).read_text()
+
+
+def test_most_rows_need_no_look(cpi: Cpi, tmp_path: Path, monkeypatch: pytest.MonkeyPatch) -> None:
+    folder, path = made(tmp_path, FORMS["CSPro"])
+    looks: list[object] = []
+    monkeypatch.setattr(TableRows, "_looked_at", counted(TableRows._looked_at, looks))
+    assert run(cpi, "take-in", folder, "--map", path, "--check").status == 0
+    # (of seven rows the first of each month)
+    assert len(looks) == 3
+
+
+def counted(function: Callable[..., object], calls: list[object]) -> Callable[..., object]:
+    """A function whose calls are noted."""
+
+    def of_it(*words: object) -> object:
+        calls.append(words)
+        return function(*words)
+
+    return of_it
 
 
 # ---- weights
@@ -241,6 +309,22 @@ def test_a_bad_map_is_refused_in_a_line(cpi: Cpi, tmp_path: Path, text: str, say
     assert f"cpi-tools take-in: {path}{separator}{says}" in ran.err
 
 
+@pytest.mark.parametrize("has_package", [True, False])
+def test_python_without_a_parser_of_toml_needs_the_package(
+    cpi: Cpi, tmp_path: Path, monkeypatch: pytest.MonkeyPatch, has_package: bool
+) -> None:
+    folder, path = made(tmp_path, FORMS["nines"])
+    package = importlib.import_module("tomllib")
+    missing = ("tomllib",) if has_package else ("tomllib", "tomli")
+    find = importlib.util.find_spec
+    monkeypatch.setattr(importlib.util, "find_spec", lambda name: None if name in missing else find("json"))
+    if has_package:
+        monkeypatch.setitem(sys.modules, "tomli", package)
+    ran = run(cpi, "take-in", folder, "--map", path, "--check")
+    assert ran.status == (0 if has_package else 1)
+    assert ("python3-tomli" in ran.err) is not has_package
+
+
 # ---- ready maps
 
 
@@ -264,9 +348,11 @@ def test_a_ready_map_reads_its_form(cpi: Cpi, tmp_path: Path, name: str) -> None
     assert quotes(cpi, tmp_path / "records", tmp_path / "office.db") == READY[name].quotes
 
 
-def test_the_ready_map_of_weights_is_the_one_that_is_tried() -> None:
+def test_the_ready_map_of_weights_is_the_one_that_is_tried(tmp_path: Path) -> None:
+    tried = tmp_path / "tried.toml"
+    tried.write_text(HICP_MAP, encoding="utf-8")
     ready = toml_of(ROOT / "examples" / "maps" / "hicp-weights.toml", 1 << 20)
-    assert ready.words == tomllib.loads(HICP_MAP)
+    assert ready.words == toml_of(tried, 1 << 20).words != {}
 
 
 # ---- several prices of a month, exactly

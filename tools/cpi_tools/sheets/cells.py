@@ -71,7 +71,7 @@ class Columns(NamedTuple):
 NO_NAMES: Mapping[str, str] = MappingProxyType({})
 
 
-@dataclass(frozen=True)
+@dataclass
 class Row:
     """A row's texts by the names of their columns; a column that isn't there has empty ones. `names` are those that the
     office's file has for columns, if they are others."""

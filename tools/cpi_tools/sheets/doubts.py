@@ -13,6 +13,7 @@ Nothing of it is taken in until a person says of the value what it is.
 
 from __future__ import annotations
 
+import itertools
 import re
 from bisect import bisect_left, bisect_right
 from collections.abc import Collection, Iterator, Mapping, Sequence
@@ -98,6 +99,33 @@ def is_far(value: int, other: int) -> bool:
     return value > FAR * other or other > FAR * value
 
 
+class Counted:
+    """Values in their order, each with how often it is there."""
+
+    def __init__(self, values: Sequence[tuple[int, int]]):
+        self._values = [value for value, _ in values]
+        self._ends = [*itertools.accumulate(times for _, times in values)]
+
+    def __iter__(self) -> Iterator[int]:
+        return iter(self._values)
+
+    def _at(self, place: int) -> int:
+        """The value at a place, as if each were there as often as it is."""
+        return self._values[bisect_right(self._ends, place)]
+
+    def median(self) -> int:
+        """The lower one of the two in the middle."""
+        return self._at((self._ends[-1] - 1) // 2)
+
+    def median_without(self, value: int) -> Optional[int]:
+        """The same of those that aren't a value that is there; None if there are none."""
+        own = bisect_left(self._values, value)
+        first, after = self._ends[own - 1] if own else 0, self._ends[own]
+        left = self._ends[-1] - (after - first)
+        place = (left - 1) // 2
+        return None if not left else self._at(place if place < first else place + after - first)
+
+
 class _Medians:
     """The medians of items, and which odd values are far from the other prices of their item, or of their aggregate."""
 
@@ -106,11 +134,11 @@ class _Medians:
         self.far: set[tuple[str, int]] = set()
         """Items with such a value."""
         alone: list[tuple[str, str, int]] = []
-        for (item, aggregate), found in groupby(store.figures(), key=lambda it: (it.item, it.aggregate)):
-            values = sorted(it.minor for it in found)
-            self._by_aggregate.setdefault(aggregate, {})[item] = median(values)
-            for value in {*values}.intersection(odd):
-                other = median_without(values, value)
+        for (item, aggregate), own in groupby(store.counted(), key=lambda it: (it.item, it.aggregate)):
+            values = Counted([(it.minor, it.times) for it in own])
+            self._by_aggregate.setdefault(aggregate, {})[item] = values.median()
+            for value in (it for it in values if it in odd):
+                other = values.median_without(value)
                 if other is None:
                     alone.append((item, aggregate, value))
                 elif is_far(value, other):
@@ -122,22 +150,14 @@ class _Medians:
 
     def of_others(self, item: str, aggregate: str) -> Optional[int]:
         """The median of the medians of the other items of an aggregate; None if there are none."""
-        found = self._by_aggregate.get(aggregate, {}) if aggregate else {}
-        others = sorted(value for name, value in found.items() if name != item)
+        medians = self._by_aggregate.get(aggregate, {}) if aggregate else {}
+        others = sorted(value for name, value in medians.items() if name != item)
         return median(others) if others else None
 
 
 def median(values: Sequence[int]) -> int:
     """The lower one of the two in the middle, of values in their order."""
     return values[(len(values) - 1) // 2]
-
-
-def median_without(values: Sequence[int], value: int) -> Optional[int]:
-    """The median of some values in their order that aren't this one; None if there are none."""
-    first, after = bisect_left(values, value), bisect_right(values, value)
-    left = len(values) - (after - first)
-    at = (left - 1) // 2
-    return None if not left else values[at] if at < first else values[at + after - first]
 
 
 def _far_odd(store: PriceStore, odd: Mapping[int, Message], medians: _Medians) -> Iterator[Doubted]:
@@ -153,8 +173,9 @@ def _far_firsts(store: PriceStore, medians: _Medians) -> Iterator[Doubted]:
         firsts = [*found]
         values = sorted(it.minor for it in firsts)
         for it in firsts:
-            others = [*values]
+            others = values
             if len(values) < 3:
+                others = [*values]
                 others.remove(it.minor)
             other = median(others) if others else medians.of_others(item, aggregate)
             if it.is_new and other is not None and is_far(it.minor, other):

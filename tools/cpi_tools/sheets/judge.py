@@ -19,6 +19,7 @@ from ..text.terminal import month_text
 from .cells import MOST_TOLD, Origin, more_of
 from .fault_cells import faulty_cells, has_too_many_rows, odd_columns, unreadable
 from .office_files import Taken
+from .quote_rows import QuoteRows
 from .record_rows import DESK, MOST_RECORDS, MOST_ROWS, Bundle, Problem, Sent, bundled
 from .row_refusals import said_words, words_of
 
@@ -121,7 +122,7 @@ class Judge:
 
     def _send(self, session: Session, bundle: Bundle) -> None:
         outside = []
-        for row, reply in bundle.answered(session.ask(bundle.line())):
+        for row, reply in self._to_look_at(bundle, session.ask(bundle.line())):
             if reply.get("refused") == 26 and (row.collector, row.fields[1]) in self._doubted:
                 # (whether it is outside depends on what is in doubt)
                 self._judged.months[row.fields[2]].refused += 1
@@ -139,6 +140,19 @@ class Judge:
             self._send(session, again)
         if bundle.is_single and bundle.rows[0].word == "freeze":
             self._look_at_table(session, bundle.rows[0].fields[1])
+
+    def _to_look_at(self, bundle: Bundle, reply: Reply) -> Iterator[tuple[Sent, Reply]]:
+        """Each row with its reply, but for quotes that are taken: these are only counted."""
+        rows, replies = bundle.rows, reply.get("rows")
+        if replies is None or not isinstance(rows, QuoteRows):
+            yield from bundle.answered(reply)
+            return
+        refused = [(at, its) for at, its in enumerate(replies) if "refused" in its]
+        quotes = rows.marks()
+        quotes.subtract(rows.mark(at) for at, _ in refused)
+        self._judged.months[rows.month].quotes.update(quotes)
+        self._judged.taken["quote"] += len(rows) - len(refused)
+        yield from ((rows[at], its) for at, its in refused)
 
     def _note(self, bundle: Bundle, row: Sent, reply: Reply) -> None:
         """Counts a row by its reply, or keeps its refusal."""

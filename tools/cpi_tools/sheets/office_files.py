@@ -421,17 +421,17 @@ class OfficeFiles:
 
     def _warn_of_late(self, month: str, first: int, last: int) -> None:
         """Warns of prices that differ from those with which the office froze these revisions of a month."""
-        late = self._store.of_month(month, first, last)
-        if not late:
+        late = self._store.late(month, first, last)
+        if late is None:
             return
         because = message_of(
             "{month} is frozen: {count} price of it, from here on, changes no table by itself",
             "{month} is frozen: {count} prices of it, from here on, changes no table by itself",
-            len(late),
+            late.number,
             month=of_others(month),
         )
         do = message("reopen the month and freeze it again, with a row of releases, or take the price out")
-        self.taken.warnings.append(SheetFault(late[0][1].origin, because, do))
+        self.taken.warnings.append(SheetFault(late.first.origin, because, do))
 
     def _window(self, month: str, row: Row) -> Window:
         """The window that a row tells; what a release doesn't tell is the calendar's, or the office's."""
@@ -457,13 +457,7 @@ class OfficeFiles:
         """Quotes of some revisions as imports of their collectors, as the window opens. No import has a slot twice."""
         at = self._moment(window[0]) if window else 0
         nobody = secrets.token_hex(16)
-        by_import: dict[tuple[int, str], list[Sent]] = defaultdict(list)
-        seen: Counter[tuple[str, str]] = Counter()
-        for collector, sent in self._store.of_month(month, first, last):
-            slot = (collector, sent.fields[1])
-            by_import[seen[slot], self._keys.get(collector, nobody)].append(sent)
-            seen[slot] += 1
-        for (_, key), rows in by_import.items():
+        for key, rows in self._store.imports(month, first, last, lambda collector: self._keys.get(collector, nobody)):
             yield from bundled(at if isinstance(at, int) else 0, key, rows)
 
     def _moment(self, text: str) -> Union[int, str]:

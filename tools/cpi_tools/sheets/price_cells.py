@@ -72,6 +72,20 @@ class Cell(NamedTuple):
     text_column: str
 
 
+class Quoted(NamedTuple):
+    """What a cell is sent as: its mark and value, what is known of a value that is no price, and whether it is the code of a
+    reason."""
+
+    mark: str
+    value: str
+    hint: Union[Message, str]
+    is_code: bool = False
+
+
+MOST_KNOWN = 50_000
+"""Different cells whose mark and value are kept."""
+
+
 class Codes:
     """The values that stand for a reason why there is no price."""
 
@@ -110,6 +124,9 @@ class PriceCells:
         self._of_slots: dict[tuple[str, str], Place] = {}
         self._read: dict[str, str] = {}
         self._currency: Optional[tuple[str, Cell]] = None
+        self._quoted: dict[tuple[str, str], Quoted] = {}
+        self._forms: dict[tuple[int, str, str, bool, str], tuple[Mapping[str, str], Form]] = {}
+        self._has_items = "item" in sheet.columns
         self.faults = Capped()
         self.count = 0
         self.keeps_fractions = False
@@ -183,16 +200,18 @@ class PriceCells:
                 cells = ((month, written, row[column]) for column, written, month in self._months)
                 yield from (Cell(row, it, text, name, name) for it, name, text in cells if text.strip() not in EMPTY)
             elif month := self._month(row):
-                yield Cell(row, month, row["value"], row.name("month"), row.name("value"))
+                names = row.names
+                yield Cell(row, month, row["value"], names.get("month", "month"), names.get("value", "value"))
 
     def _month(self, row: Row) -> str:
         """The month of a row; empty, and told, if it can't be read."""
         text = row["month"]
-        if text not in self._read:
-            self._read[text] = month_of(text)
-        if not self._read[text]:
+        month = self._read.get(text)
+        if month is None:
+            month = self._read[text] = month_of(text)
+        if not month:
             self.faults.add(SheetFault(row.at("month"), told_no_month(text), LIKE))
-        return self._read[text]
+        return month
 
     # ---- whose price it is
 
@@ -217,15 +236,15 @@ class PriceCells:
 
     def _slot(self, cell: Cell) -> Optional[tuple[str, str, str]]:
         """Collector and slot of a price, as told or by its outlet and item; and the column that tells."""
-        row = cell.row
-        if row["collector"] and row["slot"] or "item" not in self._sheet.columns:
-            return None if self._is_of_another(row) else (row["collector"], row["slot"], "slot")
-        of_series = self._places.get((row["outlet"], row["item"]), [])
-        found = [it.place for it in of_series if it.is_in(cell.month)]
-        found = [it for it in found if row["collector"] in ("", it.collector)]
-        if len(found) == 1:
-            return found[0].collector, found[0].slot, "item"
-        self.faults.add(self._told_no_slot(cell, bool(of_series), bool(found)))
+        row, cells = cell.row, cell.row.cells
+        collector = cells.get("collector", "")
+        if collector and row["slot"] or not self._has_items:
+            return None if self._is_of_another(row) else (collector, row["slot"], "slot")
+        of_series = self._places.get((cells.get("outlet", ""), cells.get("item", "")), [])
+        places = [it.place for it in of_series if it.is_in(cell.month) and collector in ("", it.place.collector)]
+        if len(places) == 1:
+            return places[0].collector, places[0].slot, "item"
+        self.faults.add(self._told_no_slot(cell, bool(of_series), bool(places)))
         return None
 
     def _is_of_another(self, row: Row) -> bool:
@@ -266,18 +285,36 @@ class PriceCells:
 
     def _turn(self, row: Row) -> Optional[int]:
         revision = row["revision"]
-        if revision and not re.fullmatch("[1-9]|10", revision):
+        if not revision:
+            return 1
+        if not re.fullmatch("[1-9]|10", revision):
             because, do = message('"{text}" is no revision', text=of_others(revision)), message(
                 "give 1 to 9, or leave it empty"
             )
             self.faults.add(SheetFault(row.at("revision"), because, do))
             return None
-        return int(revision or 1)
+        return int(revision)
 
     def _price_of(self, cell: Cell, turn: int, collector: str, slot: str, column: str) -> Price:
         """The quote of a cell: a reason, or a price by itself or behind its mark; `confirm` as the row has it."""
-        mark, value = cell.row["mark"], cell.text
-        mark_column = cell.row.name("mark") if mark else cell.text_column
+        row, text = cell.row, cell.text
+        cells = row.cells
+        own = cells.get("mark", "")
+        # (a number of a workbook may have a currency, which is looked at in each cell)
+        is_plain = type(text) is str and not cells.get(SHARE)
+        quoted = self._quoted.get((own, text)) if is_plain else None
+        if quoted is None:
+            quoted = self._read_cell(cell, own)
+            if is_plain and len(self._quoted) < MOST_KNOWN:
+                self._quoted[own, text] = quoted
+        mark, value, hint, is_code = quoted
+        form, confirm = self._form(cell, bool(own), column), "" if is_code else cells.get("confirm", "")
+        sent = (cell.month, turn, collector, slot, mark, value, confirm)
+        return Price(*sent, row.origin.row, form, str(text), hint, cells.get(DAY, ""))
+
+    def _read_cell(self, cell: Cell, mark: str) -> Quoted:
+        """The mark and the value of a cell; `mark` is that of its row."""
+        value = cell.text
         if not mark:
             first, *others = value.split() or [""]
             word = first.lower()
@@ -286,16 +323,25 @@ class PriceCells:
             else:
                 mark = word if others and word in MARKS else PRICE
                 value = value.strip()[len(first) :].strip() if others and word in MARKS else value
-        hint, confirm = "", cell.row["confirm"]
         if mark != MISSING and (reason := self._codes.reason(value)):
-            mark, value, confirm = MISSING, reason, ""
-        if mark != MISSING:
-            value, hint = self._minor_units(cell, value)
-        row, own = cell.row, cell.row.name("collector" if column == "slot" else "item")
-        columns = (row.name(column), cell.month_column, mark_column, cell.text_column, row.name("confirm"), own)
-        form, given = Form(row.origin.file, columns), str(cell.text)
-        sent = (mark, value.strip(), confirm)
-        return Price(cell.month, turn, collector, slot, *sent, row.origin.row, form, given, hint, row[DAY])
+            return Quoted(MISSING, reason, "", is_code=True)
+        if mark == MISSING:
+            return Quoted(mark, value.strip(), "")
+        minor, hint = self._minor_units(cell, value)
+        return Quoted(mark, minor.strip(), hint)
+
+    def _form(self, cell: Cell, has_mark: bool, column: str) -> Form:
+        """Where the fields of a cell come from; few cells differ in it."""
+        row, file = cell.row, cell.row.origin.file
+        key = (id(row.names), file, cell.text_column, has_mark, column)
+        known = self._forms.get(key)
+        if known is None:
+            mark_column = row.name("mark") if has_mark else cell.text_column
+            own = row.name("collector" if column == "slot" else "item")
+            columns = (row.name(column), cell.month_column, mark_column, cell.text_column, row.name("confirm"), own)
+            # (the names are kept, so that no others get their identity)
+            known = self._forms[key] = row.names, Form(file, columns)
+        return known[1]
 
     def _look_at_currency(self, cell: Cell, currency: str) -> None:
         """Tells a price that its cell shows in another currency than the first price that has one."""

@@ -2,9 +2,9 @@
 
 from __future__ import annotations
 
-from collections.abc import Iterable, Iterator
+from collections.abc import Iterable, Iterator, Sequence
 from dataclasses import dataclass, field
-from typing import NamedTuple, Union
+from typing import NamedTuple, Protocol, Union, runtime_checkable
 
 from ..office.program import Reply, record
 from ..text.others import Worded, of_others
@@ -138,6 +138,14 @@ class Sent:
         return self.origin.at(self.named(name))
 
 
+@runtime_checkable
+class WithBody(Protocol):
+    """Rows of which the body of an import is known."""
+
+    def body(self) -> str:
+        """The body."""
+
+
 @dataclass
 class Bundle:
     """What goes to the program as one record: an import of rows, or one row by itself, or a plan of rows.
@@ -148,7 +156,7 @@ class Bundle:
 
     at: Union[int, str]
     caller: str
-    rows: list[Sent]
+    rows: Sequence[Sent]
     year: str = ""
     is_single: bool = field(default=False)
 
@@ -169,11 +177,13 @@ class Bundle:
 
 
 def body_of(rows: Iterable[Sent]) -> str:
-    """The body of an import or a plan."""
+    """The body of an import or a plan; rows that have it themselves put it together."""
+    if isinstance(rows, WithBody):
+        return rows.body()
     return "".join(f"{record(*row.fields)}\n" for row in rows)
 
 
 def bundled(at: int, caller: str, rows: Iterable[Sent]) -> list[Bundle]:
     """Imports of at most 20,000 rows each."""
-    all_rows = list(rows)
+    all_rows = rows if isinstance(rows, Sequence) else [*rows]
     return [Bundle(at, caller, all_rows[start : start + MOST_ROWS]) for start in range(0, len(all_rows), MOST_ROWS)]

@@ -260,29 +260,51 @@ def take_above(last: int) -> Message:
 
 def rows_of(sheet: Sheet, lines: Iterator[Sequence[str]], columns: Columns, first: int = 2) -> Iterator[Row]:
     """The rows that aren't empty, but for those that are the heading again; `first` is the number of the first line."""
-    heads, kept = sheet.columns, {*columns.texts}
+    file, heads = sheet.file, sheet.columns
+    has_gaps = not all(heads)
+    for number, cells in cells_of(sheet, lines, columns, first):
+        row = {head: cell for head, cell in zip(heads, cells) if head} if has_gaps else dict(zip(heads, cells))
+        yield Row(Origin(file, number), row)
+
+
+def cells_of(
+    sheet: Sheet, lines: Iterator[Sequence[str]], columns: Columns, first: int = 2
+) -> Iterator[tuple[int, list[str]]]:
+    """The same as the cells of the sheet's columns, as far as the row has them, each row behind its number."""
+    heads, width = sheet.columns, len(sheet.columns)
+    kept = [at for at, head in enumerate(heads) if head in columns.texts]
     named = next(at for at, head in enumerate(heads) if head)
     gaps = [at for at, head in enumerate(heads) if not head]
-    unnamed, marked, written = Alike(sheet.faults), Alike(sheet.warnings), dict(zip(heads, sheet.written))
+    unnamed, marked = Alike(sheet.faults), Alike(sheet.warnings)
     for number, line in enumerate(lines, first):
-        if not any(line) or not any(cell.strip() for cell in line):
+        cells = [cell.strip() if type(cell) is str else cell for cell in line]
+        if not any(cells):
             continue
-        origin = Origin(sheet.file, number)
-        if len(line) > named and line[named].strip().lower() == heads[named] and is_heading(sheet, origin, line):
-            continue
-        others = itertools.chain((line[at] for at in gaps if at < len(line)), line[len(heads) :])
-        odd = next((cell for cell in others if cell.strip()), "")
-        if odd:
-            unnamed.add(SheetFault(origin, message('a cell is in no named column: "{text}"', text=cut(odd)), UNNAMED))
-        cells = {head: cell if head in kept else trimmed(cell) for head, cell in zip(heads, line) if head}
-        for head, cell in cells.items():
-            if cell[:1] == MARK_OF_TEXT and (text := unmarked(cell)) != cell:
-                cells[head] = text
-                at = origin.at(written[head])
-                marked.add(SheetFault(at, told_marked(cell), message("nothing, if the text is right so")))
-        yield Row(origin, cells)
+        if len(cells) > named and cells[named].lower() == heads[named]:
+            if is_heading(sheet, Origin(sheet.file, number), line):
+                continue
+        if gaps or len(cells) > width:
+            odd = next((line[at] for at in (*gaps, *range(width, len(cells))) if at < len(cells) and cells[at]), "")
+            if odd:
+                because = message('a cell is in no named column: "{text}"', text=cut(odd))
+                unnamed.add(SheetFault(Origin(sheet.file, number), because, UNNAMED))
+            del cells[width:]
+        for at in kept:
+            cells[at : at + 1] = line[at : at + 1]
+        if MARK_OF_TEXT in "".join(cells):
+            _unmark(sheet, number, cells, marked)
+        yield number, cells
     unnamed.end()
     marked.end()
+
+
+def _unmark(sheet: Sheet, number: int, cells: list[str], marked: Alike) -> None:
+    """Takes the marks of texts away from the cells of a row, each a warning."""
+    for at, (head, cell) in enumerate(zip(sheet.columns, cells)):
+        if head and cell[:1] == MARK_OF_TEXT and (text := unmarked(cell)) != cell:
+            cells[at] = text
+            origin = Origin(sheet.file, number, sheet.written[at])
+            marked.add(SheetFault(origin, told_marked(cell), message("nothing, if the text is right so")))
 
 
 MARK_OF_TEXT = "'"
@@ -299,11 +321,6 @@ def unmarked(cell: str) -> str:
 def told_marked(cell: str) -> Message:
     """That a mark was taken away."""
     return message("\"{text}\" is read without its first ', a spreadsheet's mark of a text", text=cut(cell))
-
-
-def trimmed(cell: str) -> str:
-    """A text without the blanks before and after it; what a workbook has as a number or a date is as it is."""
-    return cell.strip() if type(cell) is str else cell
 
 
 def is_heading(sheet: Sheet, origin: Origin, line: Sequence[str]) -> bool:

@@ -4,7 +4,6 @@ from __future__ import annotations
 
 import itertools
 from collections.abc import Iterator, Mapping, Sequence
-from dataclasses import dataclass, field
 from typing import NamedTuple, Optional
 
 from ...text.message import both, message, row as row_of
@@ -13,10 +12,11 @@ from ..cells import BadSheet, Columns, Origin, Row, Sheet, Texts
 from ..months_of_texts import told_no_month
 from ..office_sheets import SHEETS
 from ..price_cells import DAY, SHARE, MISSING
-from ..sheet_files import rows_of, unmarked
+from ..sheet_files import cells_of, unmarked
 from .mapped_texts import Marks, Measures, Months, OurCodes
 from .office_map import CODED, NONE, Files, Table
 from .findings import Findings
+from .plain_rows import Head, Joined, PlaceForm, PlainRows
 
 ALL_OTHERS = "*"
 """Names all columns that a table doesn't name."""
@@ -28,25 +28,6 @@ class Place(NamedTuple):
     label: str
     values: Mapping[str, str]
     texts: Texts
-
-
-@dataclass
-class Head:
-    """A heading: the office's names in small letters and as they are written. `wide` has the columns that are months or
-    years, with the month or year, and the column of a flag after it."""
-
-    row: int
-    heads: tuple[str, ...]
-    written: Mapping[str, str]
-    wide: list[tuple[str, str, str]] = field(default_factory=list)
-
-
-class Joined(NamedTuple):
-    """The rows of a joined table by their keys, and what they are called."""
-
-    label: str
-    rows: Mapping[tuple[str, ...], Row]
-    written: Mapping[str, str]
 
 
 def heading_of(place: Place, form: Files, needed: Sequence[str], others: Sequence[str], flag: str = "") -> Head:
@@ -80,10 +61,24 @@ def heading_of(place: Place, form: Files, needed: Sequence[str], others: Sequenc
 
 def raw_rows(place: Place, head: Head, texts: Sequence[str], told: Findings) -> Iterator[Row]:
     """The rows below a heading by the office's names; `texts` are those whose blanks count."""
+    for number, cells in raw_cells(place, head, texts, told):
+        yield raw_row(place, head, number, cells)
+
+
+def raw_row(place: Place, head: Head, number: int, cells: Sequence[str]) -> Row:
+    """A row by the office's names."""
+    return Row(Origin(place.label, number), {name: cell for name, cell in zip(head.heads, cells) if name})
+
+
+def raw_cells(place: Place, head: Head, texts: Sequence[str], told: Findings) -> Iterator[tuple[int, list[str]]]:
+    """The rows below a heading as cells, one for each column, each behind its number."""
     sheet = Sheet(place.label, head.heads, tuple(head.written.get(it, it) for it in head.heads), (), [], told.warnings)
     if not any(head.heads):
         return
-    yield from rows_of(sheet, iter(place.texts.rows), Columns((), texts=tuple(texts)), head.row + 1)
+    width = len(head.heads)
+    for number, cells in cells_of(sheet, iter(place.texts.rows), Columns((), texts=tuple(texts)), head.row + 1):
+        cells += [""] * (width - len(cells))
+        yield number, cells
     for fault in (*sheet.faults, *place.texts.faults):
         told.faults.add(fault)
     told.warnings += place.texts.warnings
@@ -158,19 +153,28 @@ class TableRows:
         names = {ours: head.written[theirs[0]] for ours, theirs in table.form.columns.items()}
         if self._joined:
             names.update({it: f"{text} ({self._joined.label})" for it, text in self._joined.written.items()})
-        fixed = {**table.values, **place.values}
-        for raw in raw_rows(place, head, kept, self._told):
-            if not self._is_wanted(raw, head):
-                continue
-            joined = self._joined_to(raw, head) if self._joined else None
-            if self._joined and joined is None:
-                continue
-            cells = {ours: _text(raw, theirs) for ours, theirs in table.form.columns.items()}
-            row = Row(raw.origin, {**fixed, **(joined.cells if joined else {}), **cells}, names)
-            if self._is_coded(row):
-                yield from self._of_prices(row, raw, head) if table.sheet == "prices" else self._of_others(
-                    row, raw, head
-                )
+        form = PlaceForm(place.label, head, names, {**table.values, **place.values})
+        plain = PlainRows(table, form, self._beside, self._codes.known, self._marks, self._joined)
+        for number, cells in raw_cells(place, head, kept, self._told):
+            rows = plain.rows(number, cells)
+            if rows is None:
+                rows = [*self._looked_at(raw_row(place, head, number, cells), form)]
+                if rows:
+                    plain.see(cells, self._months)
+            yield from rows
+
+    def _looked_at(self, raw: Row, form: PlaceForm) -> Iterator[Row]:
+        """The rows of ours that a row of the office is; what is wrong with it is told."""
+        table, head = self._table, form.head
+        if not self._is_wanted(raw, head):
+            return
+        joined = self._joined_to(raw, head) if self._joined else None
+        if self._joined and joined is None:
+            return
+        cells = {ours: _text(raw, theirs) for ours, theirs in table.form.columns.items()}
+        row = Row(raw.origin, {**form.fixed, **(joined.cells if joined else {}), **cells}, form.names)
+        if self._is_coded(row):
+            yield from self._of_prices(row, raw, form) if table.sheet == "prices" else self._of_others(row, raw, head)
 
     def _is_wanted(self, raw: Row, head: Head) -> bool:
         """Whether a row has the texts that count."""
@@ -207,7 +211,8 @@ class TableRows:
 
     # ---- prices
 
-    def _of_prices(self, row: Row, raw: Row, head: Head) -> Iterator[Row]:
+    def _of_prices(self, row: Row, raw: Row, form: PlaceForm) -> Iterator[Row]:
+        head = form.head
         beside = [(name, raw[name].strip(), raw.origin.at(head.written[name])) for name in self._beside]
         if not self._table.heads:
             text = row["month"]
@@ -215,16 +220,11 @@ class TableRows:
             if month:
                 yield from self._priced(row, row["value"], month, day, row.names, beside)
             return
-        for name, month, flag in head.wide:
-            written = head.written[name]
-            names = {**row.names, "month": written, "value": written}
+        for (name, month, flag), names in zip(head.wide, form.wide_names):
             own = beside
             if flag:
-                names["mark"] = head.written[flag]
-                own = [
-                    *beside,
-                    (self._table.flag, raw[flag].strip(), raw.origin.at(f"{head.written[flag]} ({written})")),
-                ]
+                at = raw.origin.at(f"{head.written[flag]} ({head.written[name]})")
+                own = [*beside, (self._table.flag, raw[flag].strip(), at)]
             yield from self._priced(row, raw[name], month, "", names, own)
 
     def _priced(

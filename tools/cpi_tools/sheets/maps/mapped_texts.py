@@ -58,12 +58,31 @@ class Months:
         return month, day
 
 
+class KnownCodes(dict[str, Optional[str]]):
+    """Our codes by those of the office that a column has; None if a text has none, or is left out."""
+
+    def __init__(self, codes: Texts, used: set[str]):
+        super().__init__()
+        self._codes, self._used = codes, used
+
+    def __missing__(self, text: str) -> Optional[str]:
+        code = self._codes.get(text) if text else text
+        if code is None or code == NONE:
+            return None
+        if text:
+            self._used.add(text)
+        self[text] = code
+        return code
+
+
 class OurCodes:
     """Codes of ours by those of the office."""
 
     def __init__(self, codes: Mapping[str, Texts], told: Findings):
         self._codes, self._told = codes, told
         self.used: dict[str, set[str]] = {column: set() for column in codes}
+        self.known = {column: KnownCodes(own, self.used[column]) for column, own in codes.items()}
+        """Those of each column that has codes, where nothing is to be told."""
 
     def of(self, column: str, origin: Origin, text: str) -> Optional[str]:
         """Our code for a text of a column; None if the map leaves it out, or has none, which is a problem."""
@@ -88,6 +107,13 @@ class Meaning(NamedTuple):
 
     mark: str
     text: str
+
+
+NO_QUOTE = Meaning("", "")
+"""What a cell is that has no quote, as the empty ones below a month."""
+
+MOST_KNOWN = 50_000
+"""Different texts of prices whose meaning is kept."""
 
 
 class CellTexts:
@@ -119,6 +145,32 @@ class Marks:
     def __init__(self, table: Table, numbers: Numbers, told: Findings):
         self._table, self._told = table, told
         self._cells = CellTexts(table.cells, numbers)
+        self._prices: dict[str, tuple[str, str]] = {}
+        self._kinds: dict[tuple[str, ...], Optional[Meaning]] = {}
+
+    def plain(self, text: str, marks: tuple[str, ...], columns: Sequence[str]) -> Optional[Meaning]:
+        """What a cell is by the texts of the columns beside it; None if there is something to tell of it."""
+        known = self._prices.get(text) if type(text) is str else None
+        if known is None:
+            meant, price = self._cells.of(text)
+            word = text.strip().lower()
+            known = meant or (word if word in REASONS else ""), price
+            if type(text) is str and len(self._prices) < MOST_KNOWN:
+                self._prices[text] = known
+        key = (known[0], *marks)
+        if key not in self._kinds:
+            self._kinds[key] = self._kind(known[0], marks, columns)
+        kind = self._kinds[key]
+        if kind is None or kind.mark == MISSING:
+            return kind
+        return NO_QUOTE if self._table.heads and text.strip() in EMPTY else Meaning(kind.mark, known[1])
+
+    def _kind(self, meant: str, marks: tuple[str, ...], columns: Sequence[str]) -> Optional[Meaning]:
+        """The mark of a cell by what its text means and by the marks beside it, or the reason; None if there is something to
+        tell."""
+        of_marks = [self._table.marks[column].get(mark) for column, mark in zip(columns, marks)]
+        meanings = [*([meant] if meant else []), *(it for it in of_marks if it is not None)]
+        return None if None in of_marks or NONE in meanings else marked(meanings, meant)
 
     def meaning(self, text: str, origin: Origin, beside: Sequence[tuple[str, str, Origin]]) -> Optional[Meaning]:
         """What a cell is; None if it is no quote, or a mark beside it, with its column and cell, isn't in the map."""
@@ -137,18 +189,24 @@ class Marks:
         if NONE in meanings:
             self._told.leave_out(*places[meanings.index(NONE)])
             return None
-        reason = next((it for it in meanings if it in REASONS), "")
-        if reason:
-            return Meaning(MISSING, reason)
-        if self._table.heads and text.strip() in EMPTY:
+        kind = marked(meanings, meant)
+        if kind.mark != MISSING and self._table.heads and text.strip() in EMPTY:
             return None
-        mark = next((it for it in meanings if it in (OTHER, COMPARABLE)), "")
-        return Meaning(mark or (PRICE if meant == PRICE else ""), price)
+        return kind if kind.mark == MISSING else Meaning(kind.mark, price)
 
     def _refuse(self, column: str, mark: str, origin: Origin) -> None:
         table = of_others(f"{'.'.join(self._table.key)}.marks.{column}")
         because = message('the map has no line for the mark "{text}" in {table}', text=cut(mark), table=table)
         self._told.refuse(origin, because, message("add a line for it to {table}", table=table))
+
+
+def marked(meanings: Sequence[str], meant: str) -> Meaning:
+    """Our mark by some meanings, one of which, if it isn't empty, is that of the price; or the reason why there is none."""
+    reason = next((it for it in meanings if it in REASONS), "")
+    if reason:
+        return Meaning(MISSING, reason)
+    mark = next((it for it in meanings if it in (OTHER, COMPARABLE)), "")
+    return Meaning(mark or (PRICE if meant == PRICE else ""), "")
 
 
 class Measures:
