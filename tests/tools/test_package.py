@@ -166,7 +166,7 @@ def test_nothing_is_started_by_it(package: Path, members: dict[str, tarfile.TarI
     assert needs == [
         "libc6 (>= 2.34), python3 (>= 3.9)",
         "python3-jinja2, python3-segno, python3-babel, python3-markdown-it, python3-flask, python3-waitress, python3-pil, borgbackup",
-        "python3-openpyxl, libreoffice-calc-nogui, openssh-client, rsync, rclone, librsvg2-bin, fonts-dejavu-core",
+        "python3-openpyxl, python3-tomli, libreoffice-calc-nogui, openssh-client, rsync, rclone, librsvg2-bin, fonts-dejavu-core",
     ]
 
 
