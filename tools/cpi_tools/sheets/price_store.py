@@ -231,9 +231,9 @@ class PriceStore:
         link.execute("CREATE TEMP TABLE kept (id INTEGER PRIMARY KEY, value TEXT, confirm TEXT, hint TEXT)")
         odd: list[tuple[tuple[object, ...], Differ]] = []
         link.executemany("INSERT INTO kept VALUES (?, ?, ?, ?)", self._settled(rule, odd))
-        for _, it in sorted(odd):
-            form, row = link.execute("SELECT form, row FROM price WHERE id = ?", (it.number,)).fetchone()
-            yield self._place(form, row), it
+        for _, differ in sorted(odd):
+            form, row = link.execute("SELECT form, row FROM price WHERE id = ?", (differ.number,)).fetchone()
+            yield self._place(form, row), differ
         if rule.several:
             link.execute("DELETE FROM price WHERE id NOT IN (SELECT id FROM kept)")
         link.execute(
@@ -281,7 +281,8 @@ class PriceStore:
     def take_stored(self, stored: Iterable[StoredPrice]) -> int:
         """Takes out each price that an office has exactly so; how many these are."""
         rows = (
-            (self._months[it.month], self._collectors[it.collector], self._slots[it.slot], *it[3:]) for it in stored
+            (self._months[quote.month], self._collectors[quote.collector], self._slots[quote.slot], *quote[3:])
+            for quote in stored
         )
         self._link.executemany("INSERT INTO stored VALUES (?, ?, ?, ?, ?, ?)", rows)
         months = "SELECT DISTINCT month FROM stored"
@@ -297,7 +298,7 @@ class PriceStore:
 
     def name_series(self, series: Iterable[Series]) -> None:
         """Says what each slot prices, and counts the prices of each item."""
-        rows = ((self._collectors[it.collector], self._slots[it.slot], *it[2:]) for it in series)
+        rows = ((self._collectors[each.collector], self._slots[each.slot], *each[2:]) for each in series)
         self._link.executemany("INSERT OR REPLACE INTO series VALUES (?, ?, ?, ?, ?)", rows)
         self._link.execute(
             "INSERT INTO counted SELECT item, aggregate, CAST(value AS INT) AS minor, count(*) FROM price JOIN series"
@@ -353,12 +354,12 @@ class PriceStore:
 
     def months(self) -> list[str]:
         """The months of which there is a price."""
-        found: list[str] = []
+        months: list[str] = []
         above = 0
         while month := self._link.execute("SELECT min(month) FROM price WHERE month > ?", (above,)).fetchone()[0]:
-            found.append(month_text(month))
+            months.append(month_text(month))
             above = month
-        return found
+        return months
 
     def most_bundles(self) -> int:
         """At least as many as the imports that the prices are sent by: one for a collector, a month and a revision."""
@@ -392,9 +393,9 @@ class PriceStore:
                 own.append(collector)
             imports.setdefault((again, key))
         for again, key in imports:
-            quotes = [it for collector in of_keys[key] for it in self._quotes(month, collector, turns, again)]
+            quotes = [quote for collector in of_keys[key] for quote in self._quotes(month, collector, turns, again)]
             if len(of_keys[key]) > 1:
-                quotes.sort(key=lambda it: (it.turn, it.number))
+                quotes.sort(key=lambda quote: (quote.turn, quote.number))
             yield key, QuoteRows(month, quotes, self._slots.texts, self._sent)
 
     def _turns(self, month: str, first: int, last: int) -> tuple[int, ...]:

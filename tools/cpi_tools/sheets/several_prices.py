@@ -57,20 +57,20 @@ class Differ(NamedTuple):
 
 def one_of(given: Sequence[Given], rule: Rule) -> Union[Given, Differ]:
     """The one price of a month; `given` has at least one, in the order of days, and of rows within a day."""
-    odd = [it for it in given if it.mark != MISSING and not MINOR_UNITS.fullmatch(it.value)]
+    odd = [price for price in given if price.mark != MISSING and not MINOR_UNITS.fullmatch(price.value)]
     if odd:
         # (the program refuses it, at its cell)
         return odd[0]
-    prices = [it for it in given if it.mark != MISSING]
+    prices = [price for price in given if price.mark != MISSING]
     if not prices:
         return given[0] if rule.several == FIRST else given[-1]
     if rule.several in (FIRST, LAST):
         return settled(prices[0] if rule.several == FIRST else prices[-1], rule)
-    other = next((it for it in prices if it.mark != prices[0].mark), None)
+    other = next((price for price in prices if price.mark != prices[0].mark), None)
     if other:
         return Differ(other.number, prices[0].mark, other.mark)
     mean = sum(map(minor_units, prices), Fraction(0)) / len(prices)
-    confirm = next((it.confirm for it in prices if it.confirm), "")
+    confirm = next((price.confirm for price in prices if price.confirm), "")
     hint = prices[0].hint if len(prices) == 1 else told_mean(mean)
     return settled(prices[0]._replace(value=str(mean), confirm=confirm, hint=hint), rule)
 

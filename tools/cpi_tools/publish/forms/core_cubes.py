@@ -55,14 +55,16 @@ def write_core_cubes(known: Known, config: Config, folder: Path) -> None:
 
 def cells_of(series: Series) -> Iterator[tuple[str, str, list[str]]]:
     """By measure and change, the figures of all months; empty texts if there is none."""
-    for name, it in series.core.items():
+    for name, measure in series.core.items():
         for at, change in enumerate(CHANGES):
-            yield name, change, [it.rows[month].texts[at] if month in it.rows else "" for month in series.months]
+            yield name, change, [
+                measure.rows[month].texts[at] if month in measure.rows else "" for month in series.months
+            ]
 
 
-def title_of(tongue: Tongue, name: str, it: CoreMeasure) -> str:
+def title_of(tongue: Tongue, name: str, measure: CoreMeasure) -> str:
     """The title of a measure in a language; that of the office's file, if it has none there."""
-    return tongue.titles.get(name, it.title)
+    return tongue.titles.get(name, measure.title)
 
 
 # ---- JSON-stat
@@ -71,7 +73,7 @@ def title_of(tongue: Tongue, name: str, it: CoreMeasure) -> str:
 def _json_stat(known: Known, config: Config) -> dict[str, Any]:
     series, first = known.series, first_of(config)
     cells = [*cells_of(series)]
-    others = {it.tag: _spoken(known, it) for it in others_of(config)}
+    others = {tongue.tag: _spoken(known, tongue) for tongue in others_of(config)}
     return {
         "version": "2.0",
         "class": "dataset",
@@ -91,20 +93,20 @@ def _json_stat(known: Known, config: Config) -> dict[str, Any]:
 
 def _statuses(known: Known, cells: list[tuple[str, str, list[str]]]) -> dict[str, str]:
     """The statuses by the places of figures, counted from 0."""
-    series, found = known.series, dict[str, str]()
+    series, statuses = known.series, dict[str, str]()
     for at, (name, _, texts) in enumerate(cells):
         for place, (month, text) in enumerate(zip(series.months, texts), at * len(series.months)):
             status = BREAK if month in series.core[name].changes else ""
             status += PROVISIONAL if month in known.shown.provisional else ""
             if text and status:
-                found[str(place)] = status
-    return found
+                statuses[str(place)] = status
+    return statuses
 
 
 def _spoken(known: Known, tongue: Tongue) -> dict[str, Any]:
     """What the dataset says in a language."""
     series, t = known.series, tongue.speech.t
-    titles = {name: title_of(tongue, name, it) for name, it in series.core.items()}
+    titles = {name: title_of(tongue, name, measure) for name, measure in series.core.items()}
     unit = {"label": t(PERCENT), "decimals": 1}
     measure = {"index": [*titles], "label": titles, "unit": {name: unit for name in titles}}
     change = {"index": [*CHANGES], "label": {name: t(text) for name, text in CHANGES.items()}}
@@ -132,7 +134,7 @@ def _keywords(known: Known, config: Config) -> Iterator[tuple[str, str]]:
     yield "CODEPAGE", '"utf-8"'
     yield "LANGUAGE", quoted(first.tag)
     if others:
-        yield "LANGUAGES", ",".join(quoted(it.tag) for it in (first, *others))
+        yield "LANGUAGES", ",".join(quoted(tongue.tag) for tongue in (first, *others))
     yield "CREATION-DATE", f'"{moment}"'
     yield "DECIMALS", "1"
     yield "SHOWDECIMALS", "1"
@@ -146,7 +148,7 @@ def _in_language(known: Known, tongue: Tongue, moment: str) -> Iterator[tuple[st
     """The keywords with texts, or with the names of variables, in a language."""
     series, t, speech = known.series, tongue.speech.t, tongue.speech
     measure, change, month = (quoted(t(name)) for name in ("Measure", "Change", "Month"))
-    titles = {name: f"{name} {title_of(tongue, name, it)}" for name, it in series.core.items()}
+    titles = {name: f"{name} {title_of(tongue, name, measure)}" for name, measure in series.core.items()}
     yield "SUBJECT-AREA", quoted(tongue.config.title)
     yield "TITLE", quoted(t("{title}: analytical core inflation", title=tongue.config.title))
     yield "CONTENTS", quoted(t(NAME))
@@ -173,8 +175,8 @@ def _notes(known: Known, speech: Speech, titles: dict[str, str], measure: str, m
     for each in known.series.months:
         if each in known.shown.provisional:
             yield f"VALUENOTE({month},{quoted(speech.month(each))})", quoted(speech.t(REVISABLE))
-    for name, it in known.series.core.items():
-        if it.changes:
-            months = speech.row([speech.month(each) for each in it.changes])
+    for name, own in known.series.core.items():
+        if own.changes:
+            months = speech.row([speech.month(each) for each in own.changes])
             says = speech.t("Break: the measure is another one from here on: {months}", months=months)
             yield f"VALUENOTE({measure},{quoted(titles[name])})", quoted(says)

@@ -106,26 +106,26 @@ def _test_codes(profile: Profile, kind: str, source: Source, lists: Mapping[str,
 
 def _some(lists: Iterable[object]) -> str:
     """The codes of a short list, behind a comma."""
-    found = [sorted(own) for own in lists if isinstance(own, frozenset)]
-    return f", such as {'.'.join(own[0] for own in found)}" if found else ""
+    codes = [sorted(own) for own in lists if isinstance(own, frozenset)]
+    return f", such as {'.'.join(own[0] for own in codes)}" if codes else ""
 
 
 def _lists(series: Series, config: Config) -> dict[str, frozenset[str]]:
     """Our codes by dimension or attribute; of those without a list nothing is known."""
-    found = {name: frozenset(codes) for name, (_, codes) in lists_of(config).items()}
-    found["COICOP18"] = frozenset(map(item_id, (*series.every_title, *series.specials, *series.core)))
+    lists = {name: frozenset(codes) for name, (_, codes) in lists_of(config).items()}
+    lists["COICOP18"] = frozenset(map(item_id, (*series.every_title, *series.specials, *series.core)))
     frequencies, statuses = CODES[-2:]
-    return {**found, "FREQ": frequencies, "OBS_STATUS": statuses, "REF_AREA": frozenset({config.area})}
+    return {**lists, "FREQ": frequencies, "OBS_STATUS": statuses, "REF_AREA": frozenset({config.area})}
 
 
 # ---- series
 
 
-def _named(profile: Profile, found: Iterable[Observed]) -> Iterator[Named]:
+def _named(profile: Profile, series: Iterable[Observed]) -> Iterator[Named]:
     """The series of a profile, of those that are wanted. Raises BadProfile if two have one key."""
     before: dict[tuple[str, ...], str] = {}
     said = _Said(profile)
-    for each in (_in_reference(profile, one) for one in found):
+    for each in (_in_reference(profile, one) for one in series):
         ours = dict(zip(DIMENSIONS, each.key))
         key = tuple(source.value(ours) or "" for source in profile.dimensions)
         if each.observations:
@@ -139,12 +139,12 @@ def _named(profile: Profile, found: Iterable[Observed]) -> Iterator[Named]:
             yield Named(key, _of_series(profile, ours, each), observations)
 
 
-def _in_reference(profile: Profile, found: Observed) -> Observed:
+def _in_reference(profile: Profile, series: Observed) -> Observed:
     """A series without the levels that are 100 in another period than the profile says."""
     if not profile.reference:
-        return found
-    own = [one for one in found.observations if one[2][0] in ("", profile.reference)]
-    return found._replace(observations=own)
+        return series
+    own = [one for one in series.observations if one[2][0] in ("", profile.reference)]
+    return series._replace(observations=own)
 
 
 def _is_wanted(profile: Profile, series: Series, key: Sequence[str], code: str) -> bool:
@@ -167,14 +167,14 @@ def _at(profile: Profile, at: str) -> list[Source]:
     return [source for source in profile.attributes if source.at == at]
 
 
-def _of_series(profile: Profile, ours: Values, found: Observed) -> tuple[str, ...]:
+def _of_series(profile: Profile, ours: Values, series: Observed) -> tuple[str, ...]:
     """The attributes of a series. Raises BadProfile if its observations have different ones."""
     values = list[str]()
     for source in _at(profile, AT_SERIES):
         is_one = OBSERVED.isdisjoint(source.of)
-        own = {source.value({**ours, **_said(one)}) or "" for one in found.observations[: 1 if is_one else None]}
+        own = {source.value({**ours, **_said(one)}) or "" for one in series.observations[: 1 if is_one else None]}
         if len(own) > 1:
-            says = f"attribute {source.name} has several values in {'.'.join(found.key)}: wanted at = \"observation\""
+            says = f"attribute {source.name} has several values in {'.'.join(series.key)}: wanted at = \"observation\""
             profile.refuse(source.line, says)
         values += own
     return tuple(values)
@@ -191,11 +191,11 @@ class _Said:
     def of(self, ours: Values, attributes: Attributes) -> tuple[str, ...]:
         """Those of an observation by its own, and by what its series has."""
         key = attributes, tuple(ours[name] for name in self._own)
-        found = self._known.get(key)
-        if found is None:
+        values = self._known.get(key)
+        if values is None:
             said = {**ours, **dict(zip(OBS_ATTRIBUTES, attributes))}
-            found = self._known[key] = tuple(source.value(said) or "" for source in self._sources)
-        return found
+            values = self._known[key] = tuple(source.value(said) or "" for source in self._sources)
+        return values
 
 
 OBSERVED = frozenset(OBS_ATTRIBUTES)

@@ -67,17 +67,17 @@ def kept_core(pack: Path) -> KeptCore:
 
 def _by_id(path: Path, column: str, head: Sequence[str]) -> dict[str, dict[str, list[Cells]]]:
     """The rows of a file with some columns that have an id in one of them, by that and by month."""
-    found: dict[str, dict[str, list[Cells]]] = {}
+    rows: dict[str, dict[str, list[Cells]]] = {}
     try:
         with path.open(encoding="utf-8", newline="") as file:
             for row in csv.DictReader(file, strict=True):
                 if [*row] != [*head]:
                     raise ValueError(f"its columns are {', '.join(map(str, row))}")
                 if ID.fullmatch(row[column]) and MONTH.fullmatch(row["month"]):
-                    found.setdefault(row[column], {}).setdefault(row["month"], []).append(row)
+                    rows.setdefault(row[column], {}).setdefault(row["month"], []).append(row)
     except (OSError, KeyError, ValueError, TypeError, csv.Error) as fault:
         raise NoCoreFile(f"{path} can't be read: {' '.join(str(fault).split())}") from fault
-    return found
+    return rows
 
 
 # ---- whether figures stay
@@ -103,11 +103,11 @@ def refuse_changed_core(
 def _rows_by(definitions: Sequence[CoreDefinition], tables: Mapping[str, Table]) -> dict[str, dict[str, CoreRow]]:
     """The figures of all measures by some tables, by id and month."""
     measures, computed = measures_of(definitions), CoreComputed(tables)
-    found: dict[str, dict[str, CoreRow]] = {}
+    rows: dict[str, dict[str, CoreRow]] = {}
     for month in sorted(tables):
         for name, row in computed.rows(measures, month).items() if tables[month].rows else ():
-            found.setdefault(name, {})[month] = row
-    return found
+            rows.setdefault(name, {})[month] = row
+    return rows
 
 
 def _changed(
@@ -121,7 +121,7 @@ def _changed(
         now = ("", "") if row is None else row.texts
         for of, then, figure in zip(("monthly", "annual"), (cells["monthly"], cells["annual"]), now):
             if then != figure:
-                was, is_now = (f"{of} {it}" if it else f"no {of} figure" for it in (then, figure))
+                was, is_now = (f"{of} {text}" if text else f"no {of} figure" for text in (then, figure))
                 return f"{name}, {month}: {was} was published, and {is_now} is computed now"
     return f"{name}, {known.first} to {known.last}: its figures aren't those that were published" if known else ""
 
@@ -138,27 +138,27 @@ def write_core(series: Series, folder: Path) -> None:
 def _rows(series: Series) -> Iterator[Sequence[object]]:
     for month in series.every:
         table = series.latest[month]
-        for name, it in series.core.items():
-            if month in it.rows:
-                named = month, table.revision, iso(table.moment), name, it.title, it.measures[month]
-                yield (*named, *it.rows[month].texts, int(month in it.changes))
+        for name, measure in series.core.items():
+            if month in measure.rows:
+                named = month, table.revision, iso(table.moment), name, measure.title, measure.measures[month]
+                yield (*named, *measure.rows[month].texts, int(month in measure.changes))
 
 
 def core_lines(
     series: Series, definitions: Sequence[CoreDefinition], given: Reasons, kept: KeptCore
 ) -> dict[str, list[str]]:
     """By month the lines of measures in `vintages.csv`, in the order of ids and of publications."""
-    found: dict[str, list[str]] = {}
+    by_month: dict[str, list[str]] = {}
     computed = _vintages(series, definitions) if series.core else {}
     for name in sorted(series.core):
-        moments = [it.moment for of, reasons in given.items() if of[0] == name for it in reasons]
+        moments = [reason.moment for of, reasons in given.items() if of[0] == name for reason in reasons]
         if definition_of(name, given) > 1:
             rows = _of_redefined(series, name, max(moments), kept)
         else:
             rows = (each for each in computed.get(name, {}).values())
         for cells in (line for lines in rows for line in lines):
-            found.setdefault(str(cells[0]), []).append(line_with(cells))
-    return found
+            by_month.setdefault(str(cells[0]), []).append(line_with(cells))
+    return by_month
 
 
 def _cells(series: Series, name: str, table: Table, moment: int, row: Optional[CoreRow]) -> Sequence[object]:
@@ -180,14 +180,14 @@ def _vintages(series: Series, definitions: Sequence[CoreDefinition]) -> dict[str
             if table.month not in latest or latest[table.month].revision < table.revision:
                 latest[table.month] = table
         computed = CoreComputed(latest)
-        for month in (it for it in again if first <= it and it in latest and latest[it].rows):
+        for month in (revised for revised in again if first <= revised and revised in latest and latest[revised].rows):
             for name, row in computed.rows(measures, month).items():
                 rows = known.setdefault((name, month), [])
                 if name in series.core and (not rows or rows[-1] != row):
                     rows.append(row)
                     cells = _cells(series, name, latest[month], moment, row)
                     lines.setdefault(name, {}).setdefault(month, []).append(cells)
-    return {name: {month: it for month, it in months.items() if len(it) > 1} for name, months in lines.items()}
+    return {name: {month: own for month, own in months.items() if len(own) > 1} for name, months in lines.items()}
 
 
 def _of_redefined(series: Series, name: str, moment: int, kept: KeptCore) -> Iterator[list[Sequence[object]]]:
@@ -196,12 +196,12 @@ def _of_redefined(series: Series, name: str, moment: int, kept: KeptCore) -> Ite
     earlier, rows = kept.vintages.get(name, {}), kept.rows.get(name, {})
     for month in sorted({*earlier, *rows}):
         lines, cells, table = earlier.get(month, []), rows.get(month), series.latest[month]
-        found: list[Sequence[object]] = [[it[column] for column in HEAD] for it in lines]
+        superseded: list[Sequence[object]] = [[line[column] for column in HEAD] for line in lines]
         now = series.core[name].rows.get(month)
         if cells and (now is None or now.texts != (cells["monthly"], cells["annual"])):
-            then = [cells[it] for it in ("month", "revision", "published", "id")]
+            then = [cells[column] for column in ("month", "revision", "published", "id")]
             then += ["", cells["title"], "", "", "", cells["monthly"], cells["annual"], *[""] * (len(HEAD) - 11)]
-            if not found or [*found[-1]][9:11] != then[9:11]:
-                found.append(then)
-            found.append(_cells(series, name, table, max(table.moment, moment), now))
-        yield found
+            if not superseded or [*superseded[-1]][9:11] != then[9:11]:
+                superseded.append(then)
+            superseded.append(_cells(series, name, table, max(table.moment, moment), now))
+        yield superseded

@@ -85,71 +85,75 @@ def guess_of(rows: Iterator[Sequence[str]]) -> Optional[Guess]:
     scores = [sum(folded(cell.strip()) in MEANT or is_month(cell) for cell in row) for row in first]
     at = scores.index(max(scores)) if max(scores) > 1 else next(at for at, row in enumerate(first) if any(row))
     heads = [cell.strip() for cell in first[at]]
-    found = Guess(at + 1)
-    roles = _roles(heads, found)
+    guess = Guess(at + 1)
+    roles = _roles(heads, guess)
     seen: set[tuple[str, ...]] = set()
     for number, row in enumerate(itertools.chain(first[at + 1 :], rows), at + 2):
-        _look_at(row, number, roles, found, seen)
-    return found
+        _look_at(row, number, roles, guess, seen)
+    return guess
 
 
-def _roles(heads: Sequence[str], found: Guess) -> list[str]:
+def _roles(heads: Sequence[str], guess: Guess) -> list[str]:
     """What each column seems to be: one of ours, `wide`, `flag`, or nothing."""
-    repeated = {head.lower() for head, count in Counter(it.lower() for it in heads).items() if count > 1 and head}
+    repeated = {head.lower() for head, count in Counter(name.lower() for name in heads).items() if count > 1 and head}
     roles = []
     for head in heads:
         ours = MEANT.get(folded(head), "")
         if is_month(head):
-            found.wide.append(head)
+            guess.wide.append(head)
             roles.append("wide")
         elif head.lower() in repeated:
-            found.flag = head
+            guess.flag = head
             roles.append("flag")
-        elif ours and ours not in found.columns:
-            found.columns[ours] = head
+        elif ours and ours not in guess.columns:
+            guess.columns[ours] = head
             roles.append(ours)
         else:
-            found.others += [head] if head else []
+            guess.others += [head] if head else []
             roles.append("")
     return roles
 
 
-def _look_at(row: Sequence[str], number: int, roles: Sequence[str], found: Guess, seen: set[tuple[str, ...]]) -> None:
+def _look_at(row: Sequence[str], number: int, roles: Sequence[str], guess: Guess, seen: set[tuple[str, ...]]) -> None:
     """Notes what a row has."""
     key = []
     for text, role in zip(row, roles):
         if role in ("outlet", "item", "month"):
-            texts = found.texts.setdefault(role, {})
+            texts = guess.texts.setdefault(role, {})
             if len(texts) < MOST_TEXTS and text.strip():
                 texts.setdefault(text.strip(), number)
             key.append(month_in(text) or text if role == "month" else text)
         elif role == "flag":
-            found.flags[text.strip()] += 1
+            guess.flags[text.strip()] += 1
         elif role in ("wide", "value"):
-            _look_at_price(text, role == "wide", found)
+            _look_at_price(text, role == "wide", guess)
     if "value" in roles and key and len(seen) < 100 * MOST_TEXTS:
-        found.again += tuple(key) in seen
+        guess.again += tuple(key) in seen
         seen.add(tuple(key))
 
 
-def _look_at_price(text: str, is_wide: bool, found: Guess) -> None:
+def _look_at_price(text: str, is_wide: bool, guess: Guess) -> None:
     plain = text.strip()
     if NUMBER.fullmatch(plain) and not NINES.fullmatch(plain):
-        found.has_comma |= "," in plain and not isinstance(text, Numeral)
-        found.digits = max(found.digits, len(re.split("[.,]", plain)[1]) if re.search("[.,]", plain) else 0)
+        guess.has_comma |= "," in plain and not isinstance(text, Numeral)
+        guess.digits = max(guess.digits, len(re.split("[.,]", plain)[1]) if re.search("[.,]", plain) else 0)
     elif not (is_wide and plain in EMPTY) and plain.lower().split(" ")[0] not in (*REASONS, *MARKS):
-        found.odd[plain] += 1
+        guess.odd[plain] += 1
 
 
 def languages_of(texts: Sequence[str]) -> list[str]:
     """The languages in which each of some months can be read; none if English is one of them."""
     if all(month_of(text) for text in texts):
         return []
-    return [it for it in NAMES if it != "en" and all(month_of(in_english(text, [it])) for text in texts)]
+    return [
+        language
+        for language in NAMES
+        if language != "en" and all(month_of(in_english(text, [language])) for text in texts)
+    ]
 
 
 def patterns_of(texts: Sequence[str]) -> list[str]:
     """The patterns by which each of some months can be read, if they can't be without."""
     if not texts or all(is_month(text) for text in texts):
         return []
-    return [it for it in PATTERNS if all(Pattern(it, (), ()).values(text) for text in texts)]
+    return [pattern for pattern in PATTERNS if all(Pattern(pattern, (), ()).values(text) for text in texts)]

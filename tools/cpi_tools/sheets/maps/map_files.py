@@ -86,14 +86,16 @@ class _Reader:
         """The map of all words."""
         words = self._toml.words
         of_sheets = [word for word in words if word in SHEETS]
-        self._look_at((), {word: it for word, it in words.items() if word not in SHEETS}, WORDS, [*WORDS, *SHEETS])
+        self._look_at(
+            (), {word: value for word, value in words.items() if word not in SHEETS}, WORDS, [*WORDS, *SHEETS]
+        )
         self._languages = tuple(
             self._one_of((), words, "languages", each, NAMES) for each in words.get("languages", [])
         )
-        codes = {column: self._codes(column, it) for column, it in words.get("codes", {}).items()}
+        codes = {column: self._codes(column, table) for column, table in words.get("codes", {}).items()}
         tables = [table for word in of_sheets for table in self._tables(word, words[word])]
         if not tables:
-            self._refuse((), f"it has no table of a sheet: wanted one of {', '.join(f'[{it}]' for it in SHEETS)}")
+            self._refuse((), f"it has no table of a sheet: wanted one of {', '.join(f'[{name}]' for name in SHEETS)}")
         several = self._choice(words, "several", RULES)
         rule = Rule(several, self._choice(words, "round", (NEAREST,)) == NEAREST)
         minor = words.get("minor", 0)
@@ -212,7 +214,7 @@ class _Reader:
                 (*key, "month"), f'month is "{month.text}": wanted the places of a month, as {{year}}-{{month}}'
             )
         table = Table(
-            sheet, key, form, self._values(sheet, key, words), frozenset(it.lower() for it in words.get("unread", [])),
+            sheet, key, form, self._values(sheet, key, words), frozenset(column.lower() for column in words.get("unread", [])),
             heads, month, words.get("flag", "").lower(), self._marks(key, words),
             self._texts((*key, "cells"), words.get("cells", {}), MEANINGS), self._units(key, words),
             self._only(key, words), "sums" in words, join,
@@ -244,7 +246,11 @@ class _Reader:
             at, several = (*key, "columns", ours), [value] if isinstance(value, str) else value
             if ours not in columns_of(sheet):
                 self._refuse(at, f"{ours} is no column of {sheet}: wanted one of {', '.join(columns_of(sheet))}")
-            if not isinstance(several, list) or not several or not all(isinstance(it, str) and it for it in several):
+            if (
+                not isinstance(several, list)
+                or not several
+                or not all(isinstance(name, str) and name for name in several)
+            ):
                 self._refuse(at, f"{ours} is {value!r}: wanted the name of a column, or a list of names")
             if len(several) > 1 and ours not in CODED:
                 self._refuse(at, f"{ours} has {len(several)} columns: wanted one")
@@ -254,7 +260,7 @@ class _Reader:
                 if theirs.lower() in named:
                     self._refuse(at, f'the column "{theirs}" is named twice, as {named[theirs.lower()]} and {ours}')
                 named[theirs.lower()] = ours
-            columns[ours] = tuple(it.strip().lower() for it in several)
+            columns[ours] = tuple(name.strip().lower() for name in several)
         return columns
 
     def _join(self, sheet: str, key: tuple[str, ...], words: Mapping[str, Any]) -> Optional[Join]:
@@ -292,7 +298,7 @@ class _Reader:
     def _only(self, key: tuple[str, ...], words: Mapping[str, Any]) -> dict[str, frozenset[str]]:
         only: dict[str, frozenset[str]] = {}
         for name, texts in words.get("only", {}).items():
-            if not isinstance(texts, list) or not texts or not all(isinstance(it, str) for it in texts):
+            if not isinstance(texts, list) or not texts or not all(isinstance(text, str) for text in texts):
                 self._refuse((*key, "only", name), f'"{name}" is {texts!r}: wanted a list of the texts that count')
             only[name.lower()] = frozenset(texts)
         return only
@@ -318,6 +324,9 @@ class _Reader:
         """Our columns that the names of files and sheets have."""
         patterns = [form.files, *([form.sheets] if form.sheets else [])]
         places = [
-            place for it in patterns for place in it.places if place not in ("year", "year2", "month", "name", "day")
+            place
+            for pattern in patterns
+            for place in pattern.places
+            if place not in ("year", "year2", "month", "name", "day")
         ]
-        return [*places, *("month" for it in patterns if it.has_month)]
+        return [*places, *("month" for pattern in patterns if pattern.has_month)]

@@ -59,9 +59,9 @@ def heading_of(place: Place, form: Files, needed: Sequence[str], others: Sequenc
     return Head(form.heading, tuple(heads), written)
 
 
-def raw_rows(place: Place, head: Head, texts: Sequence[str], told: Findings) -> Iterator[Row]:
+def raw_rows(place: Place, head: Head, texts: Sequence[str], findings: Findings) -> Iterator[Row]:
     """The rows below a heading by the office's names; `texts` are those whose blanks count."""
-    for number, cells in raw_cells(place, head, texts, told):
+    for number, cells in raw_cells(place, head, texts, findings):
         yield raw_row(place, head, number, cells)
 
 
@@ -70,9 +70,11 @@ def raw_row(place: Place, head: Head, number: int, cells: Sequence[str]) -> Row:
     return Row(Origin(place.label, number), {name: cell for name, cell in zip(head.heads, cells) if name})
 
 
-def raw_cells(place: Place, head: Head, texts: Sequence[str], told: Findings) -> Iterator[tuple[int, list[str]]]:
+def raw_cells(place: Place, head: Head, texts: Sequence[str], findings: Findings) -> Iterator[tuple[int, list[str]]]:
     """The rows below a heading as cells, one for each column, each behind its number."""
-    sheet = Sheet(place.label, head.heads, tuple(head.written.get(it, it) for it in head.heads), (), [], told.warnings)
+    sheet = Sheet(
+        place.label, head.heads, tuple(head.written.get(name, name) for name in head.heads), (), [], findings.warnings
+    )
     if not any(head.heads):
         return
     width = len(head.heads)
@@ -80,15 +82,17 @@ def raw_cells(place: Place, head: Head, texts: Sequence[str], told: Findings) ->
         cells += [""] * (width - len(cells))
         yield number, cells
     for fault in (*sheet.faults, *place.texts.faults):
-        told.faults.add(fault)
-    told.warnings += place.texts.warnings
+        findings.faults.add(fault)
+    findings.warnings += place.texts.warnings
 
 
 class TableRows:
     """Reads the places of a table."""
 
-    def __init__(self, table: Table, months: Months, codes: OurCodes, marks: Marks, measures: Measures, told: Findings):
-        self._table, self._months, self._codes, self._told = table, months, codes, told
+    def __init__(
+        self, table: Table, months: Months, codes: OurCodes, marks: Marks, measures: Measures, findings: Findings
+    ):
+        self._table, self._months, self._codes, self._findings = table, months, codes, findings
         self._marks, self._measures = marks, measures
         self._joined: Optional[Joined] = None
         form = table.form
@@ -122,11 +126,11 @@ class TableRows:
                     other=of_others(text),
                     month=of_others(meant),
                 )
-                self._told.refuse(origin, because, message("leave one of the two columns"))
+                self._findings.refuse(origin, because, message("leave one of the two columns"))
             elif meant:
                 seen[meant] = text
                 if meant != text and table.heads == "month":
-                    self._told.read(origin, text, meant)
+                    self._findings.read(origin, text, meant)
                 after = head.heads[at + 1] if at + 1 < len(head.heads) else ""
                 head.wide.append((name, meant, after if table.flag and after.startswith(f"{table.flag} (") else ""))
             elif ALL_OTHERS not in table.unread:
@@ -134,7 +138,7 @@ class TableRows:
                 if table.heads == "month":
                     because = message("{because}, and {fault}", because=because, fault=told_no_month(text))
                 do = message("name it in the map: in columns, or in unread if it isn't to be read")
-                self._told.refuse(origin, because, do)
+                self._findings.refuse(origin, because, do)
         return head
 
     def _meant_by_head(self, text: str) -> str:
@@ -152,10 +156,10 @@ class TableRows:
         kept = [name for ours in SHEETS[table.sheet].texts for name in table.form.columns.get(ours, ())]
         names = {ours: head.written[theirs[0]] for ours, theirs in table.form.columns.items()}
         if self._joined:
-            names.update({it: f"{text} ({self._joined.label})" for it, text in self._joined.written.items()})
+            names.update({ours: f"{text} ({self._joined.label})" for ours, text in self._joined.written.items()})
         form = PlaceForm(place.label, head, names, {**table.values, **place.values})
         plain = PlainRows(table, form, self._beside, self._codes.known, self._marks, self._joined)
-        for number, cells in raw_cells(place, head, kept, self._told):
+        for number, cells in raw_cells(place, head, kept, self._findings):
             rows = plain.rows(number, cells)
             if rows is None:
                 rows = [*self._looked_at(raw_row(place, head, number, cells), form)]
@@ -180,7 +184,7 @@ class TableRows:
         """Whether a row has the texts that count."""
         for name, texts in self._table.only.items():
             if raw[name] not in texts:
-                self._told.leave_out(raw.origin.at(head.written[name]), raw[name])
+                self._findings.leave_out(raw.origin.at(head.written[name]), raw[name])
                 return False
         return True
 
@@ -189,15 +193,15 @@ class TableRows:
         assert self._joined and self._table.join
         here = tuple(self._table.join.on)
         key = tuple(str(raw[name]) for name in here)
-        found = self._joined.rows.get(key)
-        if found is None:
+        joined = self._joined.rows.get(key)
+        if joined is None:
             because = message(
                 'no row of {file} has "{text}"', file=of_others(self._joined.label), text=of_others(" ".join(key))
             )
-            self._told.refuse(
+            self._findings.refuse(
                 raw.origin.at(head.written[here[0]]), because, message("add its row, or take this one out")
             )
-        return found
+        return joined
 
     def _is_coded(self, row: Row) -> bool:
         """Puts our codes into a row; whether it has them all."""
@@ -260,7 +264,7 @@ class TableRows:
         for name, year, _ in head.wide:
             text, origin = raw[name].strip(), raw.origin.at(head.written[name])
             if self._table.cells.get(text) == NONE:
-                self._told.leave_out(origin, text)
+                self._findings.leave_out(origin, text)
             elif text:
                 made = Row(row.origin, {**row.cells, "year": year}, {**row.names, "year": year, "weight": year})
                 yield self._without_sum(made, raw[name], made.names)
@@ -278,7 +282,7 @@ def _text(raw: Row, theirs: Sequence[str]) -> str:
     return raw[theirs[0]] if len(theirs) == 1 else "/".join(raw[name] for name in theirs)
 
 
-def joined_rows(places: Sequence[Place], form: Files, on: Sequence[str], told: Findings) -> Joined:
+def joined_rows(places: Sequence[Place], form: Files, on: Sequence[str], findings: Findings) -> Joined:
     """The rows of a joined table by the texts of some columns. Raises BadSheet."""
     needed = [*on, *(name for names in form.columns.values() for name in names)]
     rows: dict[tuple[str, ...], Row] = {}
@@ -288,12 +292,12 @@ def joined_rows(places: Sequence[Place], form: Files, on: Sequence[str], told: F
         head = heading_of(place, form, needed, ())
         labels.append(place.label)
         written = {ours: head.written[theirs[0]] for ours, theirs in form.columns.items()}
-        for raw in raw_rows(place, head, (), told):
+        for raw in raw_rows(place, head, (), findings):
             key = tuple(str(raw[name]) for name in on)
             cells = {ours: _text(raw, theirs) for ours, theirs in form.columns.items()}
             above = rows.setdefault(key, Row(raw.origin, {**place.values, **cells}, written))
             if above.origin != raw.origin:
                 because = message('row {row} has "{text}" too', row=above.origin.row, text=of_others(" ".join(key)))
-                told.refuse(raw.origin.at(head.written[on[0]]), because, message("take one of the two rows out"))
+                findings.refuse(raw.origin.at(head.written[on[0]]), because, message("take one of the two rows out"))
     names = both([*map(of_others, labels)])
     return Joined(str(names), rows, written)

@@ -59,7 +59,7 @@ class MappedSource:
             self._name(table.key, table.form)
             if table.join:
                 self._name((*table.key, "join"), table.join.form)
-        others = [it.place for named in self._named.values() for it in named]
+        others = [each.place for named in self._named.values() for each in named]
         others += [(part, "") for part in office_map.parts]
         self._plain = Source(path, SHEETS, (*ignored, *office_map.ignored), own, workbooks, others)
         self._stack.callback(self._plain.close)
@@ -90,7 +90,7 @@ class MappedSource:
     def _sheets_of(self, file: Path, values: Mapping[str, str], form: Files) -> Iterator[Named]:
         """The file, if it is one of text; or its sheets that are named."""
         book = file if file.suffix.lower() in WORKBOOKS else self._workbooks.get(file)
-        columns = {*(it for names in form.columns.values() for it in names)}
+        columns = {*(name for names in form.columns.values() for name in names)}
         if book is None:
             read = functools.partial(texts_of_csv, file, form.encoding, columns)
             yield Named((file, ""), label_of(file), values, read)
@@ -133,7 +133,9 @@ class MappedSource:
         for table in tables:
             self._look_at_columns(table)
         first = self._named[tables[0].key][0].label
-        columns = tuple(dict.fromkeys(it for table in tables for it in columns_of(table) if it not in MEASURES))
+        columns = tuple(
+            dict.fromkeys(column for table in tables for column in columns_of(table) if column not in MEASURES)
+        )
         sheet = Sheet(first, columns, columns, (), [], [])
         sheet.rows = self._rows(tables, sheet)
         return sheet
@@ -155,34 +157,34 @@ class MappedSource:
 
     def _rows(self, tables: Sequence[Table], sheet: Sheet) -> Iterator[Row]:
         """The rows of some tables; what is wrong with them is told in the sheet."""
-        told = Findings()
-        codes = OurCodes(self._map.codes, told)
+        findings = Findings()
+        codes = OurCodes(self._map.codes, findings)
         units = self._units() if any(table.units for table in tables) else {}
         try:
             for table in tables:
-                yield from self._rows_of(table, codes, units, told)
+                yield from self._rows_of(table, codes, units, findings)
         finally:
-            told.end()
-            sheet.faults += told.faults.all()
-            sheet.warnings += told.warnings
-            self.readings += told.readings
+            findings.end()
+            sheet.faults += findings.faults.all()
+            sheet.warnings += findings.warnings
+            self.readings += findings.readings
             for column, used in codes.used.items():
                 self.codes[column] |= used
 
-    def _rows_of(self, table: Table, codes: OurCodes, units: Mapping[str, str], told: Findings) -> Iterator[Row]:
-        months = Months(table.month, self._map.languages, told)
-        marks, measures = Marks(table, self._numbers, told), Measures(table, self._numbers, units, told)
-        rows = TableRows(table, months, codes, marks, measures, told)
+    def _rows_of(self, table: Table, codes: OurCodes, units: Mapping[str, str], findings: Findings) -> Iterator[Row]:
+        months = Months(table.month, self._map.languages, findings)
+        marks, measures = Marks(table, self._numbers, findings), Measures(table, self._numbers, units, findings)
+        rows = TableRows(table, months, codes, marks, measures, findings)
         if table.join:
             key = (*table.key, "join")
-            places = [Place(it.label, it.values, it.read()) for it in self._named[key]]
-            rows.join(joined_rows(places, table.join.form, tuple(table.join.on.values()), told))
-        for it in self._named[table.key]:
+            places = [Place(named.label, named.values, named.read()) for named in self._named[key]]
+            rows.join(joined_rows(places, table.join.form, tuple(table.join.on.values()), findings))
+        for named in self._named[table.key]:
             try:
-                yield from rows.rows(Place(it.label, it.values, it.read()))
+                yield from rows.rows(Place(named.label, named.values, named.read()))
             except BadSheet as bad:
                 # (the other files are read all the same)
-                told.faults.add(bad.fault)
+                findings.faults.add(bad.fault)
 
     def _units(self) -> Mapping[str, str]:
         """The unit of each item: of the office that there is, and of the sheet."""
@@ -197,7 +199,7 @@ def columns_of(table: Table) -> Iterator[str]:
     yield from table.values
     yield from table.join.form.columns if table.join else ()
     forms = [table.form, *([table.join.form] if table.join else [])]
-    for pattern in (it for form in forms for it in (form.files, form.sheets) if it):
+    for pattern in (pattern for form in forms for pattern in (form.files, form.sheets) if pattern):
         yield from (
             place for place in pattern.places if place in SHEETS[table.sheet].needed + SHEETS[table.sheet].others
         )

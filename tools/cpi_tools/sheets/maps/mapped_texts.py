@@ -28,8 +28,8 @@ MEASURE = re.compile(r"([0-9][0-9 .,]*?) *([^\W\d_]+)\.?")
 class Months:
     """Reads months, by a pattern if there is one."""
 
-    def __init__(self, pattern: Optional[Pattern], languages: Sequence[str], told: Findings):
-        self._pattern, self._languages, self._told = pattern, tuple(languages), told
+    def __init__(self, pattern: Optional[Pattern], languages: Sequence[str], findings: Findings):
+        self._pattern, self._languages, self._findings = pattern, tuple(languages), findings
         self._read: dict[str, tuple[str, str]] = {}
 
     def of(self, text: str) -> tuple[str, str]:
@@ -49,12 +49,12 @@ class Months:
         """The same; a text that is no month is a problem, and another spelling is told."""
         month, day = self.of(text)
         if month:
-            self._told.read(origin, text, month)
+            self._findings.read(origin, text, month)
         elif self._pattern and text:
             because = message('"{text}" isn\'t like {pattern}', text=cut(text), pattern=of_others(self._pattern.text))
-            self._told.refuse(origin, because, message("mend the cell, or the month of the map"))
+            self._findings.refuse(origin, because, message("mend the cell, or the month of the map"))
         else:
-            self._told.refuse(origin, told_no_month(text), LIKE)
+            self._findings.refuse(origin, told_no_month(text), LIKE)
         return month, day
 
 
@@ -78,8 +78,8 @@ class KnownCodes(dict[str, Optional[str]]):
 class OurCodes:
     """Codes of ours by those of the office."""
 
-    def __init__(self, codes: Mapping[str, Texts], told: Findings):
-        self._codes, self._told = codes, told
+    def __init__(self, codes: Mapping[str, Texts], findings: Findings):
+        self._codes, self._findings = codes, findings
         self.used: dict[str, set[str]] = {column: set() for column in codes}
         self.known = {column: KnownCodes(own, self.used[column]) for column, own in codes.items()}
         """Those of each column that has codes, where nothing is to be told."""
@@ -93,11 +93,11 @@ class OurCodes:
         if code is None:
             table = of_others(f"codes.{column}")
             because = message('the map has no code for "{text}" in {table}', text=cut(text), table=table)
-            self._told.refuse(origin, because, message("add a line for it to {table}", table=table))
+            self._findings.refuse(origin, because, message("add a line for it to {table}", table=table))
             return None
         self.used[column].add(text)
         if code == NONE:
-            self._told.leave_out(origin, text)
+            self._findings.leave_out(origin, text)
             return None
         return code
 
@@ -120,17 +120,17 @@ class CellTexts:
     """What texts in place of a price mean, by the map."""
 
     def __init__(self, cells: Texts, numbers: Numbers):
-        plain = {text: it for text, it in cells.items() if PRICE_IN_TEXT not in text}
+        plain = {text: meaning for text, meaning in cells.items() if PRICE_IN_TEXT not in text}
         self._codes = Codes(plain, numbers)
-        self._forms = [(_form_of(text), it) for text, it in cells.items() if PRICE_IN_TEXT in text]
+        self._forms = [(_form_of(text), meaning) for text, meaning in cells.items() if PRICE_IN_TEXT in text]
 
     def of(self, text: str) -> tuple[str, str]:
         """The meaning of a text, empty if the map has none, and the price in it."""
         if meaning := self._codes.reason(text):
             return meaning, text
         for form, meaning in self._forms if not isinstance(text, Numeral) else ():
-            if found := form.fullmatch(text.strip()):
-                return meaning, found[1]
+            if match := form.fullmatch(text.strip()):
+                return meaning, match[1]
         return "", text
 
 
@@ -142,8 +142,8 @@ def _form_of(text: str) -> re.Pattern[str]:
 class Marks:
     """Makes our marks of the marks of an office beside a price, and of what is in place of it."""
 
-    def __init__(self, table: Table, numbers: Numbers, told: Findings):
-        self._table, self._told = table, told
+    def __init__(self, table: Table, numbers: Numbers, findings: Findings):
+        self._table, self._findings = table, findings
         self._cells = CellTexts(table.cells, numbers)
         self._prices: dict[str, tuple[str, str]] = {}
         self._kinds: dict[tuple[str, ...], Optional[Meaning]] = {}
@@ -169,7 +169,7 @@ class Marks:
         """The mark of a cell by what its text means and by the marks beside it, or the reason; None if there is something to
         tell."""
         of_marks = [self._table.marks[column].get(mark) for column, mark in zip(columns, marks)]
-        meanings = [*([meant] if meant else []), *(it for it in of_marks if it is not None)]
+        meanings = [*([meant] if meant else []), *(meaning for meaning in of_marks if meaning is not None)]
         return None if None in of_marks or NONE in meanings else marked(meanings, meant)
 
     def meaning(self, text: str, origin: Origin, beside: Sequence[tuple[str, str, Origin]]) -> Optional[Meaning]:
@@ -187,7 +187,7 @@ class Marks:
             meanings.append(meaning)
             places.append((at, mark))
         if NONE in meanings:
-            self._told.leave_out(*places[meanings.index(NONE)])
+            self._findings.leave_out(*places[meanings.index(NONE)])
             return None
         kind = marked(meanings, meant)
         if kind.mark != MISSING and self._table.heads and text.strip() in EMPTY:
@@ -197,24 +197,24 @@ class Marks:
     def _refuse(self, column: str, mark: str, origin: Origin) -> None:
         table = of_others(f"{'.'.join(self._table.key)}.marks.{column}")
         because = message('the map has no line for the mark "{text}" in {table}', text=cut(mark), table=table)
-        self._told.refuse(origin, because, message("add a line for it to {table}", table=table))
+        self._findings.refuse(origin, because, message("add a line for it to {table}", table=table))
 
 
 def marked(meanings: Sequence[str], meant: str) -> Meaning:
     """Our mark by some meanings, one of which, if it isn't empty, is that of the price; or the reason why there is none."""
-    reason = next((it for it in meanings if it in REASONS), "")
+    reason = next((meaning for meaning in meanings if meaning in REASONS), "")
     if reason:
         return Meaning(MISSING, reason)
-    mark = next((it for it in meanings if it in (OTHER, COMPARABLE)), "")
+    mark = next((meaning for meaning in meanings if meaning in (OTHER, COMPARABLE)), "")
     return Meaning(mark or (PRICE if meant == PRICE else ""), "")
 
 
 class Measures:
     """Prices of another quantity than the item's unit."""
 
-    def __init__(self, table: Table, numbers: Numbers, unit_of: Mapping[str, str], told: Findings):
+    def __init__(self, table: Table, numbers: Numbers, unit_of: Mapping[str, str], findings: Findings):
         """`unit_of` has the unit of each item."""
-        self._units, self._numbers, self._unit_of, self._told = table.units, numbers, unit_of, told
+        self._units, self._numbers, self._unit_of, self._findings = table.units, numbers, unit_of, findings
 
     def share(self, item: str, quantity: tuple[str, Origin], unit: tuple[str, Origin]) -> str:
         """By what a price is multiplied, so that it is one of the item's unit; empty if that isn't known, a problem."""
@@ -222,7 +222,7 @@ class Measures:
         number = self._numbers.of(quantity[0])
         if number is None or number <= 0:
             because = message('"{text}" is no quantity above 0', text=cut(quantity[0]))
-            self._told.refuse(quantity[1], because, message("mend the cell"))
+            self._findings.refuse(quantity[1], because, message("mend the cell"))
         size = self._size(item, quantity[1])
         if factor is None or size is None or number is None or number <= 0:
             return ""
@@ -235,15 +235,15 @@ class Measures:
         factor = self._units.get(text.strip().lower())
         if factor is None:
             because = message('the map has no unit "{text}"', text=cut(text))
-            self._told.refuse(origin, because, message("add a line for it to {table}", table=of_others("units")))
+            self._findings.refuse(origin, because, message("add a line for it to {table}", table=of_others("units")))
         return factor
 
     def _size(self, item: str, origin: Origin) -> Optional[Fraction]:
         """The unit of an item in the smallest unit of the map."""
         text = self._unit_of.get(item, "")
-        found = MEASURE.fullmatch(text.strip())
-        number = self._numbers.of(found[1]) if found else None
-        factor = self._units.get(found[2].lower()) if found else None
+        match = MEASURE.fullmatch(text.strip())
+        number = self._numbers.of(match[1]) if match else None
+        factor = self._units.get(match[2].lower()) if match else None
         if number is None or number <= 0 or factor is None:
             because = message(
                 'the item {item} has the unit "{text}", which is no quantity in units of the map',
@@ -251,6 +251,6 @@ class Measures:
                 text=cut(text),
             )
             do = message("add its unit to {table}, or read this item without a quantity", table=of_others("units"))
-            self._told.refuse(origin, because, do)
+            self._findings.refuse(origin, because, do)
             return None
         return number * factor

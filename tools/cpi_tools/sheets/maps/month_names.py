@@ -44,7 +44,7 @@ def folded(text: str) -> str:
 @functools.lru_cache(maxsize=None)
 def numbers(languages: tuple[str, ...]) -> dict[str, int]:
     """The number of each name in some languages, by its folded form."""
-    pairs = ((names, at) for it in languages for at, names in enumerate(NAMES[it], 1))
+    pairs = ((names, at) for language in languages for at, names in enumerate(NAMES[language], 1))
     return {folded(name): at for names, at in pairs for name in names.split(",")}
 
 
@@ -59,13 +59,13 @@ def in_english(text: str, languages: Sequence[str]) -> str:
     `de` around it is left out. Without such a name the text is as it was."""
     own = tuple(languages)
     plain = folded(text) if own else text
-    found = _pattern(own).search(plain) if own else None
-    if not found:
+    match = _pattern(own).search(plain) if own else None
+    if not match:
         return text
-    before, after = plain[: found.start()], plain[found.end() :]
+    before, after = plain[: match.start()], plain[match.end() :]
     if "es" in own:
         before, after = re.sub(r"\bde\s*$", " ", before), re.sub(r"^\s*(de|del)\b", " ", after)
-    return f"{before}{ENGLISH[numbers(own)[found[1]] - 1]}{after}"
+    return f"{before}{ENGLISH[numbers(own)[match[1]] - 1]}{after}"
 
 
 def month_of_name(text: str, languages: Sequence[str]) -> int:

@@ -32,7 +32,7 @@ class Pattern:
         """`columns` are the names that may be in braces besides those of months. Raises ValueError with what is wrong."""
         self.text, self._languages = text, tuple(languages)
         self.places: list[str] = []
-        parts = (self._part(found, columns) for found in PLACE.finditer(text))
+        parts = (self._part(match, columns) for match in PLACE.finditer(text))
         self._form = re.compile("".join(parts), re.I | re.S)
         own = {*self.places} & {*OF_MONTHS}
         if own and ("year" in own) + ("year2" in own) != 1:
@@ -40,15 +40,15 @@ class Pattern:
         if own and ("month" in own) + ("name" in own) != 1:
             raise ValueError("a month needs {month} or {name}, and not both")
 
-    def _part(self, found: re.Match[str], columns: Collection[str]) -> str:
+    def _part(self, match: re.Match[str], columns: Collection[str]) -> str:
         """The regular expression of a part."""
-        name, star, plain, odd = found.groups()
+        name, star, plain, odd = match.groups()
         if odd:
             raise ValueError(f"{odd} has no other brace")
         if name is None:
             return ".*" if star else re.escape(plain)
         if name not in OF_MONTHS and name not in columns:
-            raise ValueError(f"{{{name}}} is none of {', '.join(f'{{{it}}}' for it in (*OF_MONTHS, *columns))}")
+            raise ValueError(f"{{{name}}} is none of {', '.join(f'{{{place}}}' for place in (*OF_MONTHS, *columns))}")
         if name in self.places:
             raise ValueError(f"{{{name}}} is there twice")
         self.places.append(name)
@@ -62,10 +62,10 @@ class Pattern:
     def values(self, text: str) -> Optional[Mapping[str, str]]:
         """What a text has for the places, None if it isn't of this form: columns, `month` as `2025-12`, and `day` as
         `2025-12-31`, empty if the pattern has no day."""
-        found = self._form.fullmatch(text.strip())
-        if not found:
+        match = self._form.fullmatch(text.strip())
+        if not match:
             return None
-        given = found.groupdict()
+        given = match.groupdict()
         values = {name: text for name, text in given.items() if name not in OF_MONTHS}
         if not self.has_month:
             return values

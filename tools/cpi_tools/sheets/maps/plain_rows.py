@@ -67,10 +67,10 @@ class PlainRows:
         places = {name: at for at, name in enumerate(form.head.heads)}
         self._form, self._marks, self._joined = form, marks, joined
         self._is_plain = table.sheet == "prices" and not table.units
-        self._columns = [(ours, [places[it] for it in theirs]) for ours, theirs in table.form.columns.items()]
+        self._columns = [(ours, [places[name] for name in theirs]) for ours, theirs in table.form.columns.items()]
         self._only = [(places[name], texts) for name, texts in table.only.items()]
         self._on = [places[name] for name in table.join.on] if table.join else []
-        self._beside, self._places = tuple(beside), [places[it] for it in beside]
+        self._beside, self._places = tuple(beside), [places[name] for name in beside]
         self._codes = [(column, codes[column]) for column in CODED if column in codes]
         self._wide = [(places[name], month, places.get(flag, -1)) for name, month, flag in form.head.wide]
         self._flagged = (*beside, table.flag)

@@ -95,7 +95,7 @@ def tables_of(folder: Path, books: Mapping[Path, Path]) -> Iterator[tuple[Path, 
             continue
         workbook = Workbook(book, label_of(file))
         try:
-            titles = [it.text for it in workbook.titles()]
+            titles = [title.text for title in workbook.titles()]
             for title in titles:
                 if title.lower() not in own:
                     yield file, title if len(titles) > 1 else "", "", workbook.texts(title, label_of(file))
@@ -117,7 +117,7 @@ def encoding_of(file: Path) -> str:
 
 def names_of(folder: Path, books: Mapping[Path, Path]) -> dict[str, dict[str, str]]:
     """Our codes by the names of outlets and items, of the sheets that are there."""
-    found: dict[str, dict[str, str]] = {}
+    codes: dict[str, dict[str, str]] = {}
     source = Source(folder, SHEETS, workbooks=books)
     try:
         for ours, (sheet, name) in NAMED.items():
@@ -125,10 +125,10 @@ def names_of(folder: Path, books: Mapping[Path, Path]) -> dict[str, dict[str, st
                 rows = source.sheet(sheet)
             except BadSheet:
                 rows = None
-            found[ours] = {row[name].strip().lower(): row[ours] for row in rows.rows} if rows else {}
+            codes[ours] = {row[name].strip().lower(): row[ours] for row in rows.rows} if rows else {}
     finally:
         source.close()
-    return found
+    return codes
 
 
 # ---- lines

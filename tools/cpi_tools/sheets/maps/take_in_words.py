@@ -250,24 +250,27 @@ def options_of(chosen: argparse.Namespace, office_map: Optional[OfficeMap] = Non
 
 def show_readings(readings: Sequence[MonthRead]) -> None:
     """Prints the first months that were read of other spellings on standard error."""
-    for it in readings[:MOST_SHOWN]:
-        column = "" if it.column == it.text else f", {it.column}"
-        print(f"cpi-tools take-in: {it.file}{column}: {shown(it.text)} is read as {it.month}", file=sys.stderr)
+    for reading in readings[:MOST_SHOWN]:
+        column = "" if reading.column == reading.text else f", {reading.column}"
+        print(
+            f"cpi-tools take-in: {reading.file}{column}: {shown(reading.text)} is read as {reading.month}",
+            file=sys.stderr,
+        )
     if len(readings) > MOST_SHOWN:
         print(f"cpi-tools take-in: {counted(len(readings) - MOST_SHOWN, 'more month')} read so", file=sys.stderr)
 
 
 def show_doubts(doubts: Sequence[SheetFault], problems: Path) -> None:
     """Prints the first prices that are in doubt on standard error, and that nothing is taken in."""
-    for it in doubts[:MOST_SHOWN]:
-        print(f"cpi-tools take-in: {place(it.origin)}: {it.because}; {it.do}", file=sys.stderr)
+    for doubt in doubts[:MOST_SHOWN]:
+        print(f"cpi-tools take-in: {place(doubt.origin)}: {doubt.because}; {doubt.do}", file=sys.stderr)
     count = counted(len(doubts), "price")
     print(f"cpi-tools take-in: {count} in doubt, and nothing is taken in: {problems}", file=sys.stderr)
 
 
 def show_warnings(warnings: Sequence[SheetFault]) -> None:
     """Prints the first warnings on standard error."""
-    for it in warnings[:MOST_SHOWN]:
-        print(f"cpi-tools take-in: warning: {place(it.origin)}: {it.because}", file=sys.stderr)
+    for warning in warnings[:MOST_SHOWN]:
+        print(f"cpi-tools take-in: warning: {place(warning.origin)}: {warning.because}", file=sys.stderr)
     if len(warnings) > MOST_SHOWN:
         print(f"cpi-tools take-in: {counted(len(warnings) - MOST_SHOWN, 'more warning')}", file=sys.stderr)
