@@ -144,12 +144,12 @@ DESCRIPTION = """\
 Shows where a figure comes from. First come three to five sentences: how prices changed, which
 changed most and where, which are imputed and why, and how they give the level. Then each step is a
 line `name = expression = value` in whole numbers, from the chained level down to the quotes, with
-who sent them and their receipts. The tool evaluates each expression, and compares it with the row
-of the file that contains its value. If a line isn't true, it begins with `!`, standard error names
-the row, and no sentence explains the figure. CODE `all` checks each line of each node. --series
-shows the life of a series instead: who priced it, handovers, replacements, and when it was
-imputed. The tool reads a copy of the office's file and its log, so cpi may be running; the month
-must be frozen. The output contains shops' prices.
+their senders and receipts. The tool evaluates each expression, and compares it with the row of the
+file that contains its value. If a line isn't true, it begins with `!`, standard error names the
+row, and no sentence explains the figure. CODE `all` checks each line of each node. --series shows
+the life of a series instead: who priced it, handovers, replacements, and when it was imputed. The
+tool reads a copy of the office's file and its log, so cpi may be running; the month must be
+frozen. The output contains shops' prices.
 
 In the lines, prices are in minor units of money, carried prices and bases in ticks (10,000 to a
 minor unit), indices and levels in millionths of a point, and changes in tenths of a percent.
@@ -180,16 +180,16 @@ def add_words(tools: argparse._SubParsersAction[ToolWords]) -> None:
         type=at_least(1),
         default=100,
         metavar="N",
-        help="minor units in a unit of money, in sentences (%(default)s)",
+        help="minor units in a unit of money, for the amounts in sentences (%(default)s)",
     )
-    add("--currency", default="", metavar="TEXT", help="what sentences put after an amount, such as EUR")
+    add("--currency", default="", metavar="TEXT", help="the text after an amount in sentences, such as EUR")
     add("--series", type=a_slot, metavar="COLLECTOR/SLOT", help="a slot, to show the life of its series up to MONTH")
     add(
         "--html",
         type=Path,
         metavar="OUT",
-        help="write a page OUT: of an aggregate's subclass, or of the life of a series; for all nodes, a folder OUT"
-        " with a page for each subclass",
+        help="write a page to OUT, about an aggregate's subclass or the life of a series; for all nodes, write a"
+        " folder OUT with a page for each subclass",
     )
     add_language(words, "the page")
     words.set_defaults(run=run, tool="explain", words=words)

@@ -155,29 +155,30 @@ def _because(row: Sent, there: Optional[Entry]) -> str:
 # ---- words
 
 DESCRIPTION = """\
-Compares prices for which somebody has receipts with an office's file, and writes a CSV row for
-each price that the office doesn't have. After a second copy was promoted, or a backup was
-restored, these have to be sent again. The tool only reads FILE, and cpi may be serving it.
+Compares a list of prices that have receipts with an office's file, and writes a CSV row for each
+price that the office doesn't have. After a second copy has been promoted, or a backup restored,
+these prices have to be sent again. The tool only reads FILE, and cpi may be serving it.
 
 LIST is a CSV file with a header row: collector, slot, month, mark, value, receipt. The mark is
 price, comparable or other, with a price in minor units as its value, or missing, with its reason.
 If a slot and month have several rows, the one with the greatest receipt counts.
 
 After a promotion, receipt numbers are given out again. So a row counts as present if the office
-has the same mark and value for its slot and month, or a later receipt, with which the price was
-corrected meanwhile. Sending the same price again is safe: a stored one keeps its receipt.
+has the same mark and value for its slot and month, or a later receipt because the price has been
+corrected since. Sending the same price again is safe: a stored one keeps its receipt.
 
 With --records, LIST contains what the desk sent: records without time and caller, as in the rows
 of an import. Records that the office doesn't have are written as they were sent, so the desk can
 send the output. For an item, an outlet, a key, a calendar row or a plan, only the last record in
 LIST counts.
 
-With --office, OLD is a file of the same office, with its log: from a machine that was cut off, or
-one that was put aside. Both files are only read. Each row that only OLD contains is written as it
-has to be sent, grouped by sender: the desk's records, the prices by collector, and the freezes
-last. With --to FOLDER, each sender gets a file. If both contain a row, but it differs, a line says
-so. A price's receipt shows whether OLD or FILE contains the later price. If it doesn't, or if
-nothing can be sent for the row, a person has to decide, and the row is in different.csv.
+With --office, OLD is a file of the same office, with its log: the file of a machine that was cut
+off, or a file that was put aside. Both files are only read. Each row that only OLD contains is
+written as it has to be sent, grouped by sender: the desk's records, the prices by collector, and
+the freezes last. With --to FOLDER, each sender gets a file. If both contain a row, but it differs,
+a line says so. A price's receipt shows whether OLD or FILE contains the later price. If it
+doesn't, or if nothing can be sent for the row, a person has to decide, and the row is in
+different.csv.
 """
 
 EPILOG = """\

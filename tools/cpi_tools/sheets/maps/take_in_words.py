@@ -44,18 +44,18 @@ IN_DOUBT = 3
 DESCRIPTION = """\
 Reads an office's spreadsheets: text files (.csv, .tsv, .txt) or workbooks (.xlsx, .xlsm; .ods,
 .xls and .xlsb if LibreOffice is installed) in FOLDER, or one workbook. The sheets are items,
-outlets, collectors, series, classification, places, plans, handovers, calendar, prices, releases;
-docs/decide/MIGRATING-AN-OFFICE.md lists their columns. Rows become records in the order in which
-an office needs them, and cpi itself says what it would refuse: in an office in memory, or on a
-copy of the office that --onto names, which isn't changed. Rows that this office already has,
-exactly the same, are skipped.
+outlets, collectors, series, classification, places, plans, handovers, calendar, prices and
+releases; docs/decide/MIGRATING-AN-OFFICE.md lists their columns. Rows become records in the order
+in which an office needs them. cpi itself says what it would refuse, in an office in memory or on a
+copy of the office that --onto names; that office isn't changed. Rows that it already has, exactly
+the same, are skipped.
 
 --check writes problems.csv (kind, file, row as a spreadsheet counts it, column, number of the
 refusal, because, do) and report.html. A column of prices that isn't a month, a file that isn't
-read, and anything that can be read in two ways are problems. A price is in doubt if it may be a
-code for a missing one: a first price over ten times the median of its item or aggregate, or under
-a tenth of it; nines, or one value for many items, as far away. Say what it is with --missing or
---price.
+read, and anything that can be read in two ways are problems. A price may be a code for a missing
+one. These are in doubt: a first price over ten times the median of its item or aggregate, or under
+a tenth of it; and nines, or one value for many items, if they are as far away. Say what each is
+with --missing or --price.
 
 --map reads sheets in other forms with a TOML file: other names of files, sheets and columns,
 months in four languages, an office's codes and marks, several prices for a month, quantities, and
@@ -68,7 +68,8 @@ person has to answer each "?" before the map is accepted.
 
 If there is no problem, --write creates the folder OUT with records-01.csv and so on, and prints
 the commands that send them. Missing keys are drawn, and listed in OUT/keys.csv. The records
-contain the collectors' keys: files here have mode 0600. A workbook unpacks to at most 256 MiB.
+contain the collectors' keys, so the files in OUT have mode 0600. A workbook may unpack to at most
+256 MiB.
 """
 
 EPILOG = """\
@@ -90,7 +91,9 @@ def add_words(tools: argparse._SubParsersAction[ToolWords]) -> None:
     do.add_argument("--check", action="store_true", help="show what is refused, and what would be done")
     do.add_argument("--write", type=Path, metavar="OUT", help="write the records to a folder that doesn't exist yet")
     do.add_argument("--propose", type=Path, metavar="FILE", help="write a first map, with each guess and its reason")
-    words.add_argument("--onto", type=Path, metavar="FILE", help="the office to which they are added; it is only read")
+    words.add_argument(
+        "--onto", type=Path, metavar="FILE", help="the office to which the rows are added; it is only read"
+    )
     words.add_argument(
         "--out", type=Path, metavar="FOLDER", help="where to write problems.csv and report.html (check, in FOLDER)"
     )
@@ -131,7 +134,7 @@ def add_words(tools: argparse._SubParsersAction[ToolWords]) -> None:
     words.add_argument(
         "--confirm-history",
         action="store_true",
-        help="confirm prices outside the tolerance, and list them; none of a series that has one in doubt",
+        help="confirm prices outside the tolerance, and list them, except in series that have one in doubt",
     )
     add_speech(words, "report.html")
     csv_files.add_safe_csv(words)
