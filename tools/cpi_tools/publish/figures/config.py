@@ -18,6 +18,7 @@ from ...text.languages import SOURCE
 from ...text.speech import LATIN
 from ...text.terminal import Fault, because_of
 from .announced import Announced
+from .colours import BadColour, Colours, colours_of
 from .core_definitions import CoreDefinition, read_core
 from .office_languages import BadLanguages, OfficeLanguages, Own, read_languages
 from .own_words import OwnWords, read_own_words
@@ -42,7 +43,7 @@ ADDRESS = re.compile(r"https?://[A-Za-z0-9.-]+(:[0-9]{1,5})?(/[A-Za-z0-9._~-]+)*
 NAMES = ("agency", "area", "office", "title", "country", "contact", "licence", "reference", "currency", "minor_digits",
          "without", "aggregates", "rates", "language", "provisional", "address", "zone",
          "calendar", "years", "revisions", "languages", "digits", "about", "doi", "quality",
-         "least_outlets", "profiles", "core", "press")  # fmt: skip
+         "least_outlets", "profiles", "core", "press", "colour", "colour_dark")  # fmt: skip
 NEEDED = ("agency", "area", "office")
 
 
@@ -96,7 +97,8 @@ class Config(NamedTuple):
     releases begin. With `has_quality` quality is told in figures, with the `counts` of the survey, in which a division has
     `least_outlets`. `profiles` are the structures of other agencies in which the series are written too, and `core` the
     office's measures of analytical core inflation. `press` are the ids of special aggregates and of such measures that the
-    sentences of releases name, those of months from `press_since` on.
+    sentences of releases name, those of months from `press_since` on, and
+    `colours` the office's own colour on its pages.
     """
 
     agency: str
@@ -134,6 +136,7 @@ class Config(NamedTuple):
     core: tuple[CoreDefinition, ...] = ()
     press: tuple[str, ...] = ()
     press_since: str = ""
+    colours: Optional[Colours] = None
 
     def reference_in(self, month: str) -> str:
         """The reference period of the release of a month."""
@@ -169,7 +172,7 @@ def read_config(path: Path, known: KnownIds = KnownIds()) -> Config:
     """
     parser = _read_sections(path)
     found = _office_words(parser)
-    press = found.pop("press", "")
+    press, own_colours = found.pop("press", ""), [found.pop(name, "") for name in ("colour", "colour_dark")]
     quality, least_outlets = found.pop("quality", ""), _least_outlets(path, found.pop("least_outlets", ""))
     profiles = found.pop("profiles", "").replace(",", " ").split()
     ids = dict(parser["sdmx"]) if "sdmx" in parser else {}
@@ -185,12 +188,17 @@ def read_config(path: Path, known: KnownIds = KnownIds()) -> Config:
         raise BadConfig(f"{path}: {fault}") from None
     except BadLanguages as fault:
         raise BadConfig(str(fault)) from None
+    try:
+        colours = colours_of(*own_colours) if any(own_colours) else None
+    except BadColour as fault:
+        raise BadConfig(f"{path}: {fault}") from None
     measures = _core(path, core, config.specials) if core else ()
     named, since = _press(path, press, {it.id for it in config.specials} | {it.id for it in measures})
     return config._replace(
         core=measures,
         press=named,
         press_since=since,
+        colours=colours,
         speaks=speaks,
         planned=read_planned(path.parent / calendar, config.clock) if calendar else (),
         reasons=read_reasons(path.parent / reasons, config.clock) if reasons else (),

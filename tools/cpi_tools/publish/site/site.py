@@ -204,7 +204,9 @@ class Site:
         """The folders of the pages, and what all of them share."""
         if self.is_first:
             shutil.copytree(HERE / "assets", self.folder / "assets")
-            shutil.copyfile(TEMPLATES / "style.css", self.folder / "assets" / "style.css")
+            own = self.config.colours.style if self.config.colours else ""
+            style = (TEMPLATES / "style.css").read_text(encoding="utf-8") + own
+            (self.folder / "assets" / "style.css").write_text(style, encoding="utf-8")
         else:
             (self.folder / "assets").mkdir(parents=True)
         for name in ("node", *(("picture", "embed") if self.config.has(PICTURES) else ())):
