@@ -48,11 +48,12 @@ from lib.cases import content
 from lib.nation import CALENDAR, EXAMPLE, ZONE, Survey, revisions
 from lib.pack_drawn import drawn_faults, keeping
 from lib.pack_faults import CHANGES, csv_faults, cube_faults, differing, printed_rows, sdmx_faults, table_name
-from lib.pack_faults import workbook_faults
+from lib.pack_faults import wanted_rows, workbook_faults
 from lib.pack_figures import ALL, Figures, sets_of_the_nation
 from lib.pack_forms import rows_of_csv
 from lib.pack_releases import first_page_faults, release_faults
 from lib.pack_slices import slice_faults
+from lib.pack_sqlite import sqlite_faults
 from lib.pack_then import Then, releases
 from lib.pack_vintages import changed, reasons, revised
 from lib.program import Program
@@ -279,6 +280,11 @@ def pack(ran: Ran) -> Pack:
 
 def test_the_csv_files_of_the_pack(ran: Ran, pack: Pack) -> None:
     assert first_of(csv_faults(pack.site, pack.known, ran.tables, pack.out / "tables")) is None
+
+
+def test_the_sqlite_of_the_pack(ran: Ran, pack: Pack) -> None:
+    wanted = wanted_rows(pack.known, ran.tables, pack.out / "tables")
+    assert first_of(sqlite_faults(pack.site / "data/cpi.sqlite", wanted)) is None
 
 
 def test_the_sdmx_of_the_pack(pack: Pack) -> None:

@@ -245,12 +245,17 @@ def table_name(month: str, revision: int) -> str:
     return f"{month}.csv" if revision == 1 else f"{month}-r{revision}.csv"
 
 
-def csv_faults(site: Path, known: Figures, tables: Mapping[Id, Month], folder: Path) -> Iterator[str]:
-    """All CSV files but those of SDMX; the folder has the tables as the program printed them."""
-    reopened = {of: rows_by_code(table) for of, table in tables.items() if latest_of(of[0]) > 1}
-    wanted = {
+def reopened_of(tables: Mapping[Id, Month]) -> Reopened:
+    """The tables of the months that were revised."""
+    return {of: rows_by_code(table) for of, table in tables.items() if latest_of(of[0]) > 1}
+
+
+def wanted_rows(known: Figures, tables: Mapping[Id, Month], folder: Path) -> dict[str, Iterator[Row]]:
+    """The rows of all CSV files of the folder `data` but those of SDMX, by their names; the folder has the tables as the
+    program printed them."""
+    return {
         "cpi": table_rows(known, known.nodes),
-        "vintages": vintage_rows(known, reopened, tables),
+        "vintages": vintage_rows(known, reopened_of(tables), tables),
         "revision-reasons": reason_rows(),
         "aggregates": table_rows(known, known.sets),
         "contributions": given_rows(known, lambda _: known.pairs()),
@@ -262,6 +267,11 @@ def csv_faults(site: Path, known: Figures, tables: Mapping[Id, Month], folder: P
         "printed": printed_rows(known),
         "releases": release_rows(known, folder),
     }
+
+
+def csv_faults(site: Path, known: Figures, tables: Mapping[Id, Month], folder: Path) -> Iterator[str]:
+    """All CSV files but those of SDMX."""
+    reopened, wanted = reopened_of(tables), wanted_rows(known, tables, folder)
     wrote = {path.stem for path in (site / "data").glob("*.csv")}
     if wrote != {*wanted, "cpi.sdmx"}:
         yield f"the pack has {sorted(wrote)}"

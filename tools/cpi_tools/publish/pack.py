@@ -128,6 +128,7 @@ def write_pack(pack: Pack, folder: Path, now: Now, before: Before) -> None:
     # (here, since the packages of its pages needn't be there for the other tools)
     from .releases.quality_files import write_quality
     from .site.sites import Shared, write_sites
+    from .site.sqlite_file import write_sqlite
 
     series = pack.series
     announced = announced_after(pack.moments, pack.config.planned, series)
@@ -160,6 +161,7 @@ def write_pack(pack: Pack, folder: Path, now: Now, before: Before) -> None:
         write_part(recent, structure, config, data, now, kept, also)
     write_slices(recent, structure, config, files, now)
     write_profiles(recent, structure, config, data)
+    write_sqlite(config, data)
     now("what has changed")
     made = Made(series, structure, config, Before(pack.changes.pack) if pack.changes.pack else None, before.taken)
     signature = _write_manifest(pack, made, files)

@@ -43,7 +43,7 @@ ADDRESS = re.compile(r"https?://[A-Za-z0-9.-]+(:[0-9]{1,5})?(/[A-Za-z0-9._~-]+)*
 NAMES = ("agency", "area", "office", "title", "country", "contact", "licence", "reference", "currency", "minor_digits",
          "without", "aggregates", "rates", "language", "provisional", "address", "zone",
          "calendar", "years", "revisions", "languages", "digits", "about", "doi", "quality",
-         "least_outlets", "profiles", "core", "press", "colour", "colour_dark")  # fmt: skip
+         "least_outlets", "profiles", "core", "press", "colour", "colour_dark", "with")  # fmt: skip
 NEEDED = ("agency", "area", "office")
 
 
@@ -54,6 +54,11 @@ FORMS = (*SDMX_FORMS, JSON_STAT, PX, PICTURES, SLICES)
 """The forms of the observations that a pack may be without; in a national one they are most of all bytes. Without
 pictures there are no files of them, and no pages to embed; those in the pages stay. Slices are files of parts of the
 observations (`slices`)."""
+
+
+SQLITE = "sqlite"
+MORE_FORMS = (SQLITE,)
+"""The forms that a pack has only if the office wants them."""
 
 
 TABLES = "tables"
@@ -95,9 +100,9 @@ class Config(NamedTuple):
     (without one they are English), `announced` are the releases that the pack before announced, and these do, `about`
     is what the office says of the index in its own words, and `doi` is the DOI of the index, with which those of its
     releases begin. With `has_quality` quality is told in figures, with the `counts` of the survey, in which a division has
-    `least_outlets`. `profiles` are the structures of other agencies in which the series are written too, and `core` the
-    office's measures of analytical core inflation. `press` are the ids of special aggregates and of such measures that the
-    sentences of releases name, those of months from `press_since` on, and
+    `least_outlets`. `profiles` are the structures of other agencies in which the series are written too, `core` the
+    office's measures of analytical core inflation, and `also` the forms of MORE_FORMS that it wants. `press` are the ids of
+    special aggregates and of such measures that the sentences of releases name, those of months from `press_since` on, and
     `colours` the office's own colour on its pages.
     """
 
@@ -137,6 +142,7 @@ class Config(NamedTuple):
     press: tuple[str, ...] = ()
     press_since: str = ""
     colours: Optional[Colours] = None
+    also: frozenset[str] = frozenset()
 
     def reference_in(self, month: str) -> str:
         """The reference period of the release of a month."""
@@ -285,12 +291,12 @@ def _config(found: dict[str, str], ids: dict[str, str], known: KnownIds, special
     _test_words(found)
     references, all_rates, provisional = (_dated(found, name) for name in ("reference", "rates", "provisional"))
     _test_dated(references, all_rates, provisional)
-    numbers, without = _numbers(found), _without(found)
+    numbers, without, also = _numbers(found), _forms(found, "without", FORMS), _forms(found, "with", MORE_FORMS)
     _test_ids(ids, known)
     found["address"] = _address(found)
     named = {"ids": ids, "specials": specials, "clock": _clock(found)}
     dated = {"references": references, "all_rates": all_rates, "all_provisional": provisional}
-    return Config(**found, without=without, **numbers, **named, **dated)  # type: ignore[arg-type]
+    return Config(**found, without=without, also=also, **numbers, **named, **dated)  # type: ignore[arg-type]
 
 
 def _test_words(found: dict[str, str]) -> None:
@@ -336,12 +342,12 @@ def _numbers(found: dict[str, str]) -> dict[str, Optional[int]]:
     return {"minor_digits": int(digits), "provisional": int(provisional), "years": int(years) if years else None}
 
 
-def _without(found: dict[str, str]) -> frozenset[str]:
-    """Takes the forms that aren't written."""
-    without = frozenset(found.pop("without", "").replace(",", " ").split())
-    for form in sorted(without - {*FORMS}):
-        raise BadConfig(f"without: {form} is none of {', '.join(FORMS)}")
-    return without
+def _forms(found: dict[str, str], word: str, known: Sequence[str]) -> frozenset[str]:
+    """Takes the forms of a word: those that aren't written, or those that are written too."""
+    forms = frozenset(found.pop(word, "").replace(",", " ").split())
+    for form in sorted(forms - {*known}):
+        raise BadConfig(f"{word}: {form} is none of {', '.join(known)}")
+    return forms
 
 
 def _address(found: dict[str, str]) -> str:

@@ -58,6 +58,7 @@ FILES: Mapping[str, str] = {
     "cpi.sdmx.xml": "SDMX-ML 2.1, StructureSpecificData",
     "structure.sdmx.xml": marked("SDMX-ML 2.1: the code lists and the definition of the data structure"),
     "artefacts.json": marked("The versions of these structures, now and in earlier packs"),
+    "cpi.sqlite": marked("SQLite: the figures of the CSV files of all years, to be queried"),
     "cpi.jsonstat.json": marked("JSON-stat 2.0: a cube of items, figures and months"),
     "cpi.px": marked("PX (PC-Axis, PxWeb): the same cube"),
     "core.jsonstat.json": marked("JSON-stat 2.0: analytical core inflation"),

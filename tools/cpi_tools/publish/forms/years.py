@@ -150,6 +150,7 @@ class Archives:
         config = own._replace(
             without=frozenset(), years=None, address="", clock=UTC, planned=(), announced=(), reasons=(), references=(), all_rates=(),
             all_provisional=(), about=OwnWords(), doi="", has_quality=False, counts=(), least_outlets=0, profiles=(),
+            also=frozenset(),
         )  # fmt: skip
         content = (
             tool(),

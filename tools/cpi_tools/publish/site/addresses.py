@@ -39,6 +39,7 @@ TYPES = {
     "jsonstat.json": "application/json",
     "px": "text/plain",
     "jsonld": "application/ld+json",
+    "sqlite": "application/vnd.sqlite3",
 }
 """The media types of the data files, by the ends of their names."""
 
