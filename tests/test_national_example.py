@@ -48,7 +48,7 @@ from lib.cases import content
 from lib.nation import CALENDAR, EXAMPLE, ZONE, Survey, revisions
 from lib.pack_drawn import drawn_faults, keeping
 from lib.pack_faults import CHANGES, csv_faults, cube_faults, differing, printed_rows, sdmx_faults, table_name
-from lib.pack_faults import wanted_rows, workbook_faults
+from lib.pack_faults import rows_of_files, workbook_faults
 from lib.pack_figures import ALL, Figures, sets_of_the_nation
 from lib.pack_forms import rows_of_csv
 from lib.pack_releases import first_page_faults, release_faults
@@ -283,7 +283,7 @@ def test_the_csv_files_of_the_pack(ran: Ran, pack: Pack) -> None:
 
 
 def test_the_sqlite_of_the_pack(ran: Ran, pack: Pack) -> None:
-    wanted = wanted_rows(pack.known, ran.tables, pack.out / "tables")
+    wanted = rows_of_files(pack.known, ran.tables, pack.out / "tables")
     assert first_of(sqlite_faults(pack.site / "data/cpi.sqlite", wanted)) is None
 
 

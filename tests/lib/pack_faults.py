@@ -250,7 +250,7 @@ def reopened_of(tables: Mapping[Id, Month]) -> Reopened:
     return {of: rows_by_code(table) for of, table in tables.items() if latest_of(of[0]) > 1}
 
 
-def wanted_rows(known: Figures, tables: Mapping[Id, Month], folder: Path) -> dict[str, Iterator[Row]]:
+def rows_of_files(known: Figures, tables: Mapping[Id, Month], folder: Path) -> dict[str, Iterator[Row]]:
     """The rows of all CSV files of the folder `data` but those of SDMX, by their names; the folder has the tables as the
     program printed them."""
     return {
@@ -271,7 +271,7 @@ def wanted_rows(known: Figures, tables: Mapping[Id, Month], folder: Path) -> dic
 
 def csv_faults(site: Path, known: Figures, tables: Mapping[Id, Month], folder: Path) -> Iterator[str]:
     """All CSV files but those of SDMX."""
-    reopened, wanted = reopened_of(tables), wanted_rows(known, tables, folder)
+    reopened, wanted = reopened_of(tables), rows_of_files(known, tables, folder)
     wrote = {path.stem for path in (site / "data").glob("*.csv")}
     if wrote != {*wanted, "cpi.sdmx"}:
         yield f"the pack has {sorted(wrote)}"
