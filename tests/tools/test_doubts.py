@@ -3,12 +3,13 @@
 from __future__ import annotations
 
 import re
+from collections import Counter
 from pathlib import Path
 
 import pytest
 
 from cpi_tools.command_line import main
-from cpi_tools.sheets.doubts import is_far, is_nines, median_without
+from cpi_tools.sheets.doubts import Counted, is_far, is_nines
 from cpi_tools.office.program import Cpi
 from cpi_tools.sheets.sheet_files import unmarked
 from .ran import Ran, rows_of, run
@@ -228,7 +229,17 @@ def test_far_is_more_than_ten_times() -> None:
     assert not is_far(100, 10) and not is_far(10, 100) and is_far(101, 10) and is_far(10, 101)
 
 
+def counted(*values: int) -> Counted:
+    """These values, each with how often it is there."""
+    return Counted(sorted(Counter(values).items()))
+
+
+def test_a_median_is_the_lower_one_of_two() -> None:
+    assert counted(1, 2, 9).median() == 2 and counted(1, 7, 7, 8).median() == 7 and counted(3, 5).median() == 3
+    assert [*counted(7, 1, 7)] == [1, 7]
+
+
 def test_a_median_without_one() -> None:
-    assert median_without([1, 2, 9], 9) == 1 and median_without([1, 2, 9], 5) == 2
-    assert median_without([1, 1, 1, 7], 1) == 7 and median_without([1, 7, 7, 8], 7) == 1
-    assert median_without([4, 4], 4) is None and median_without([], 4) is None
+    assert counted(1, 2, 9).median_without(9) == 1 and counted(1, 2, 9).median_without(2) == 1
+    assert counted(1, 1, 1, 7).median_without(1) == 7 and counted(1, 7, 7, 8).median_without(7) == 1
+    assert counted(4, 4).median_without(4) is None

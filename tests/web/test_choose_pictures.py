@@ -70,7 +70,10 @@ def test_a_picture_is_taken_as_svg(browser: Browser, stage: Stage, later: Path, 
     opened(browser, f"?items=00+{RICE}&from=2011-01")
     svg = ET.fromstring(taken(browser, "SVG", "cpi-index-2011-01-2013-02.svg", tmp_path))
     texts = ["".join(it.itertext()).strip("\u2068\u2069") for it in svg.iter(f"{SVG}text")]
-    assert texts[:2] == ["Index", "December 2010 = 100; the axis doesn't begin at zero"] and texts[-3:-1] == ["All items", "Rice"]
+    assert texts[:2] == ["Index", "December 2010 = 100; the axis doesn't begin at zero"] and texts[-3:-1] == [
+        "All items",
+        "Rice",
+    ]
     assert texts[-1].startswith("Source: Office of prices, Consumer price index, up to February")
     lines = [it.get("d", "") for it in svg.iter(f"{SVG}path") if "L" in it.get("d", "")]
     by_colour = {
