@@ -1,8 +1,8 @@
-"""`cpi-tools drill COPY`: shows that a copy of an office's file is a whole office, and reports its faults.
+"""`cpi-tools drill COPY`: checks whether a copy of an office's file is a whole office, and reports its faults.
 
-It checks a copy of the copy, so it never changes the copy itself: with the note's SHA-256, with `cpi`, which opens it
-and tests each row, with SQLite's C library, and with a computation of every table of every revision from the frozen
-quotes, compared with the stored tables and with those that `cpi` prints.
+It works on a copy of the copy, so it never changes the copy itself. It compares the bytes with the note's SHA-256.
+`cpi` and SQLite's C library open the file, and `cpi` tests each row. The tool then computes every table of every
+revision from the frozen quotes, and compares it with the stored table and with the one that `cpi` prints.
 """
 
 from __future__ import annotations
@@ -27,7 +27,7 @@ from .backup import BackupFailed, Note, hash_of, note_beside, read_note, remove_
 from .copies.desk_backup import desk_beside, read_desk
 
 MOST_TOLD = 20
-"""So many faults have a line; the others are counted."""
+"""The most faults that are printed, each on a line; the others are only counted."""
 
 Printed = dict[tuple[int, int], str]
 """The CSV that the program prints, by month and revision."""
@@ -59,7 +59,7 @@ class Counts:
 def drill(cpi: Cpi, path: Path, progress: Optional[Progress] = None) -> Drilled:
     """Checks a copy of an office's file, with its log if there is one next to it.
 
-    Raises CopyFailed or another Fault if it can't be checked; the result contains the faults.
+    Raises CopyFailed or another Fault if the copy can't be checked; the faults of the copy are in the result.
     """
     now = progress.now if progress else lambda _: None
     counts, faults = Counts(), list[str]()
@@ -86,7 +86,7 @@ def drill(cpi: Cpi, path: Path, progress: Optional[Progress] = None) -> Drilled:
 
 def warnings_of(path: Path, counts: Counts) -> Iterator[str]:
     """Why a file without a fault may still lack what its office had. A note says that file and log were copied as one,
-    so a copy that has one is all of its office, be it an office before its survey."""
+    so a copy with a note is complete, even if its office has no survey yet."""
     note, log = note_beside(path), log_beside(path)
     if os.path.lexists(note):
         return
@@ -100,8 +100,8 @@ def warnings_of(path: Path, counts: Counts) -> Iterator[str]:
 
 
 def note_of(path: Path, faults: list[str]) -> Optional[Note]:
-    """The note next to a copy; a fault if it isn't for these bytes, or isn't a note. A backup is one file, so a log
-    with data makes it another state than its note's."""
+    """The note next to a copy; adds a fault if it isn't for these bytes, or isn't a note. A backup is one file, so if a
+    log next to it contains data, the note describes another state."""
     try:
         note = read_note(path)
         if note and note.sha256 != hash_of(path):
@@ -117,7 +117,7 @@ def note_of(path: Path, faults: list[str]) -> Optional[Note]:
 
 
 def desk_faults_of(path: Path, wanted: str) -> list[str]:
-    """The faults of the desk's folder next to a backup, whose note says that it has this sum."""
+    """The faults of the desk's folder next to a backup; `wanted` is the folder's checksum in the note."""
     archive = desk_beside(path)
     try:
         if hash_of(archive) != wanted:
@@ -135,9 +135,10 @@ def desk_faults_of(path: Path, wanted: str) -> list[str]:
 
 
 def _printed(cpi: Cpi, copy: Path, faults: list[str]) -> Optional[Printed]:
-    """Each table that the program lists, as it prints it; None, and a fault, if it doesn't open the file.
+    """Each listed table as the program prints it; None, and a fault, if the program doesn't open the file.
 
-    They are read at the last possible moment, and so are tables under embargo: they are compared, and never shown.
+    The tables are read as of the last possible moment, which includes those under embargo. They are compared, never
+    shown.
     """
     try:
         with cpi.session(copy) as session:
@@ -163,7 +164,7 @@ def _tables_of(reply: Reply) -> list[tuple[str, int, int]]:
 def figures_of(text: str) -> tuple[dict[str, Level], dict[str, str]]:
     """The figures and the titles of a table that the program printed as CSV, by code.
 
-    Raises ValueError if it isn't one.
+    Raises ValueError if the text isn't such a table.
     """
     levels, titles = {}, {}
     for code, weight, within, chained, on_month, on_year, imputed, title in csv.reader(io.StringIO(text, newline="")):
@@ -175,7 +176,7 @@ def figures_of(text: str) -> tuple[dict[str, Level], dict[str, str]]:
 
 
 def _digits(text: str, decimals: int) -> int:
-    """`-0.3` with one decimal is -3. Raises ValueError if it has another number of decimals."""
+    """`-0.3` with one decimal is -3. Raises ValueError if the text has another number of decimals."""
     whole, _, part = text.partition(".")
     if len(part) != decimals:
         raise ValueError(f"{text} hasn't {decimals} decimals")
@@ -199,7 +200,7 @@ def _stored_faults(office: StoredOffice, counts: Counts) -> Iterator[str]:
 
 
 def computed_faults(office: StoredOffice, printed: Optional[Printed], counts: Counts) -> Iterator[list[str]]:
-    """Recomputes each release and compares it; the faults of each in turn."""
+    """Recomputes each release, compares it, and yields its faults."""
     releases, months = office.releases(), Months(office)
     if printed is not None and [*printed] != [release[:2] for release in releases]:
         yield [f"{counted(len(releases), 'release')} stored, {counted(len(printed), 'table')} listed by cpi"]
@@ -287,7 +288,7 @@ def add_words(tools: argparse._SubParsersAction[ToolWords]) -> None:
 
 
 def told_line(path: Path, found: Drilled) -> str:
-    """The one line on a drill."""
+    """The line that reports a drill."""
     counts = [counted(len(each), one) for each, one in ((found.faults, "fault"), (found.warnings, "warning")) if each]
     state = " and ".join(counts) or "nothing is wrong"
     of_note = f"copied {time_text(found.note.copied)}" if found.note else "no note of its SHA-256"
@@ -303,7 +304,7 @@ def told_line(path: Path, found: Drilled) -> str:
 
 
 def run(chosen: argparse.Namespace) -> int:
-    """Runs the tool by its words; its exit status."""
+    """Runs the tool with its arguments; returns its exit status."""
     with Progress("cpi-tools drill") as progress:
         found = drill(Cpi(chosen.program), chosen.copy, progress)
     for fault in found.faults[:MOST_TOLD]:

@@ -1,8 +1,8 @@
 """The office's website, which `cpi-tools publish` writes in a separate process: now, or when a table is released. No
 table under embargo can be in it, since `publish` reads as the public does.
 
-Which tables somebody wants to be published at their moment is a file. If the application isn't running at that moment, it
-publishes as soon as it is.
+A file lists the tables that somebody wants to be published at their moments. If the application isn't running at a
+moment, it publishes the table as soon as it runs again.
 """
 
 from __future__ import annotations
@@ -34,18 +34,18 @@ from ..serve.faults import met, not_as_written, of_system, says
 from .freezes import sum_of
 
 LOOKS_EVERY = 20.0
-"""The most seconds between two checks of the plan."""
+"""The maximum number of seconds between two checks of the plan."""
 
 AGAIN_AFTER = 300
-"""Seconds after which a failed step is tried again."""
+"""The number of seconds after which a failed step is tried again."""
 
 BEGINS = f"cpi-tools {'publish'}: "
-"""The beginning of the tool's lines."""
+"""The beginning of each line that the tool writes."""
 
 WRITING = "writing"
 
 READABLE = 0o022
-"""The mask of a process whose files everybody may read."""
+"""The mask of a process whose files everybody can read."""
 
 TOOLS = Path(__file__).resolve().parents[3]
 
@@ -78,7 +78,7 @@ class Running(NamedTuple):
 
 class Release(NamedTuple):
     """A frozen month as the page shows it: month like `2026-01` and revision, the moment at which its table is out,
-    whether it is in the website, who planned it, and the address of its page or nothing."""
+    whether it is on the website, who planned it, and the address of its page, or nothing."""
 
     month: str
     revision: int
@@ -94,7 +94,7 @@ class Release(NamedTuple):
 
 
 class NotWritten(Fault):
-    """`cpi-tools publish` ended without a website; `line` is what it said."""
+    """`cpi-tools publish` ended without a website; `line` is its last line."""
 
     def __init__(self, says: Message, line: str):
         super().__init__(says)
@@ -102,7 +102,7 @@ class NotWritten(Fault):
 
 
 class Publisher:
-    """Writes the website of an office's file; `program` is cpi."""
+    """Writes the website from an office's file; `program` is the path of `cpi`."""
 
     def __init__(self, site: Site, file: Path, program: Path, plan: Path, log: DeskLog):
         self.site, self._file, self._program, self._plan, self._log = site, file, program, plan, log
@@ -111,7 +111,7 @@ class Publisher:
         self._thread = threading.Thread(target=self._follow, daemon=True, name="publisher")
         self.running: Optional[Running] = None
         self.before: Callable[[], object] = lambda: None
-        """The step before the website is written; if it fails, the website is written all the same."""
+        """The step before the website is written; if this step fails, the website is still written."""
         self.fault, self.output, self.left = Worded(""), Worded(""), Worded("")
         self._durations = Durations()
         self._failed_at, self._logged = 0.0, Worded("")
@@ -186,7 +186,7 @@ class Publisher:
     # ---- writing
 
     def begin(self, by: str) -> bool:
-        """Begins to write the website with all that is out; whether it did: one process at a time does."""
+        """Begins to write the website with all released tables; returns False if it is already being written."""
         with self._lock:
             if self.running:
                 return False
@@ -232,8 +232,7 @@ class Publisher:
                 self._logged = why
 
     def _keep_written(self, by: str, at: int, text: str) -> None:
-        """Keeps that the website was written; if that fails, the website was written all the same, and the page says
-        both."""
+        """Records that the website was written; if that fails, the page says both."""
         for step in (lambda: self._log_written(by, at, text), self._done):
             try:
                 step()
@@ -244,14 +243,14 @@ class Publisher:
         self._log.append(by, SAID, text=f"the website was written, with what is out at {time_text(at)}: {text}")
 
     def _says_kept(self, fault: Fault) -> Worded:
-        """Why it isn't kept that the website was written. (The log says of itself that nothing was done.)"""
+        """Why the record that the website was written failed. (The log's own message says that nothing was done.)"""
         cause = fault.__cause__
         if not isinstance(cause, OSError):
             return says(fault)
         return of_system(cause, "" if cause.filename else f"{self._log.path}: {cause.strerror}")
 
     def _written(self, at: int) -> tuple[str, str]:
-        """Writes the website as it is at a moment; what `publish` prints, and what it warns of. Raises Fault."""
+        """Writes the website as of a moment; returns what `publish` prints and what it warns of. Raises Fault."""
         words = [sys.executable, "-m", "cpi_tools", "publish", "--db", self._file, "--at", at]
         words += ["--program", self._program, "--config", self.site.config, "--out", self.site.folder]
         words += ["--sign", self.site.key] if self.site.key else []
@@ -267,7 +266,7 @@ class Publisher:
         return text.strip(), errors.strip()
 
     def _done(self) -> None:
-        """Forgets planned publications that the website contains now."""
+        """Removes the planned publications that are now on the website."""
         with self._lock:
             there, planned = self.published(), self.planned()
             rest = [it for it in planned if (it.month, it.revision) not in there]
@@ -281,7 +280,7 @@ class Publisher:
         self._thread.start()
 
     def stop(self) -> None:
-        """Ends it, and a process that writes: the website that is there stays as it is."""
+        """Ends the thread, and a process that is writing; the present website stays as it is."""
         self._is_over = True
         self._wake.set()
         if self._thread.is_alive():
@@ -296,7 +295,7 @@ class Publisher:
             self._wake.clear()
 
     def _look(self) -> float:
-        """Publishes all due tables; the seconds until the next check."""
+        """Publishes all due tables; returns the seconds until the next check."""
         try:
             planned = self.planned()
         except Fault as fault:
@@ -310,7 +309,7 @@ class Publisher:
 
 
 def _ended(status: int, errors: str) -> NotWritten:
-    """Why `cpi-tools publish` ended with a status, by what it wrote."""
+    """Why `cpi-tools publish` ended with a status, read from what it wrote."""
     lines = errors.strip().splitlines()
     if not lines:
         ended = _("cpi-tools publish ended with the status {status}.", status=status)
