@@ -53,9 +53,9 @@ the same, are skipped.
 --check writes problems.csv (kind, file, row as a spreadsheet counts it, column, number of the
 refusal, because, do) and report.html. A column of prices that isn't a month, a file that isn't
 read, and anything that can be read in two ways are problems. A price may be a code for a missing
-one. These are in doubt: a first price over ten times the median of its item or aggregate, or under
-a tenth of it; and nines, or one value for many items, if they are as far away. Say what each is
-with --missing or --price.
+one. A first price over ten times the median of its item or aggregate, or under a tenth of it, is
+in doubt. So are nines, or one value for many items, if equally far from that median. Say what each
+is with --missing or --price.
 
 --map reads sheets in other forms with a TOML file: other names of files, sheets and columns,
 months in four languages, an office's codes and marks, several prices for a month, quantities, and
@@ -67,9 +67,9 @@ OUT/map contains a copy of the map, and codes.csv its codes.
 person has to answer each "?" before the map is accepted.
 
 If there is no problem, --write creates the folder OUT with records-01.csv and so on, and prints
-the commands that send them. Missing keys are drawn, and listed in OUT/keys.csv. The records
-contain the collectors' keys, so the files in OUT have mode 0600. A workbook may unpack to at most
-256 MiB.
+the commands that send them. Missing keys are generated, and listed in OUT/keys.csv. The
+records contain the collectors' keys, so the files in OUT have mode 0600. A workbook may unpack to
+at most 256 MiB.
 """
 
 EPILOG = """\
@@ -95,12 +95,12 @@ def add_words(tools: argparse._SubParsersAction[ToolWords]) -> None:
         "--onto", type=Path, metavar="FILE", help="the office to which the rows are added; it is only read"
     )
     words.add_argument(
-        "--out", type=Path, metavar="FOLDER", help="where to write problems.csv and report.html (check, in FOLDER)"
+        "--out", type=Path, metavar="FOLDER", help="where to write problems.csv and report.html (FOLDER/check)"
     )
     words.add_argument(
         "--map", type=Path, metavar="FILE", help="how to read sheets of other forms (TOML): examples/maps/README.md"
     )
-    words.add_argument("--zone", default="UTC0", metavar="Z", help="the clock for civil times, as for cpi (UTC0)")
+    words.add_argument("--zone", default="UTC0", metavar="Z", help="the time zone of civil times, as for cpi (UTC0)")
     words.add_argument(
         "--minor", type=at_least(1), metavar="N", help="minor units in a unit of the prices (1, or from the map)"
     )
