@@ -60,7 +60,7 @@ def test_each_release_is_there_in_each_form_and_language(site: Path) -> None:
     releases = {it.stem for it in (site / "release").glob("*.html")}
     assert f"{REVISED}-r2" in releases and len(releases) == 16
     for folder, ends in (("", (".bib", ".ris", ".datacite.xml")), ("fr/", (".bib", ".ris"))):
-        names = {it.name for it in (site / folder / "release").iterdir() if it.suffix != ".html"}
+        names = {it.name for it in (site / folder / "release").iterdir() if it.suffix not in (".html", ".txt")}
         assert names == {f"{it}{end}" for it in releases for end in ends}
 
 

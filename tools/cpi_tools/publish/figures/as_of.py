@@ -88,16 +88,23 @@ def given_then(as_of: AsOf, now: Contributions) -> Contributions:
     return Contributions(as_of, _unexplained(as_of, now))
 
 
-def _unexplained(as_of: AsOf, now: Contributions) -> Iterator[tuple[str, bool]]:
-    """Whether the changes of the release are those of the levels that were published: what is known of them now, if
-    none of the tables that they are computed from was revised since."""
-    month = as_of.of.month
+def is_shown_then(as_of: AsOf, now: Contributions, month: str, is_annual: bool) -> bool:
+    """Whether the changes of a month come from the levels that were published by the day of a release.
+
+    `now` are the contributions by all tables: what is known there counts, if none of the tables from which the changes are
+    computed was revised since.
+    """
     bases: Sequence[str] = (month, before(month), link_of(month), before(month, 12))
-    is_same = all(as_of.latest.get(it) is as_of.whole.latest.get(it) for it in bases)
+    if all(as_of.latest.get(base) is as_of.whole.latest.get(base) for base in bases):
+        return (month, is_annual) not in now.unexplained
+    return as_of.is_shown(month, is_annual)
+
+
+def _unexplained(as_of: AsOf, now: Contributions) -> Iterator[tuple[str, bool]]:
+    """The changes of the release that don't come from the levels that were published by its day."""
     for is_annual in (False, True):
-        known = (month, is_annual) in now.unexplained if is_same else not as_of.is_shown(month, is_annual)
-        if known:
-            yield month, is_annual
+        if not is_shown_then(as_of, now, as_of.of.month, is_annual):
+            yield as_of.of.month, is_annual
 
 
 def each_as_of(series: Series) -> Iterator[AsOf]:

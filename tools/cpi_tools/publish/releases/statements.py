@@ -16,6 +16,7 @@ from ...text.exact import ALL_ITEMS, Ratio, scaled, tenths, with_sign
 from ...text.others import Worded, of_others, worded
 from ...text.speech import Speech
 from ..figures.aggregated import Vintages, vintages_of
+from ..figures.as_of import is_shown_then
 from ..figures.config import Config
 from ..figures.contributions import Given
 from ..figures.core_measures import CoreComputed, measures_of
@@ -43,8 +44,8 @@ class Named(NamedTuple):
 class Statements:
     """The sentences of all releases of a site, in its language."""
 
-    def __init__(self, series: Series, config: Config, speech: Speech):
-        self._series, self._config, self._speech = series, config, speech
+    def __init__(self, series: Series, contributions: Contributions, config: Config, speech: Speech):
+        self._series, self._now, self._config, self._speech = series, contributions, config, speech
         self._reasons: Reasons = given_reasons(config.reasons, series, config.planned)
         named = [name for name in config.press if name in series.specials]
         self._vintages: Vintages = vintages_of(series) if named else {}
@@ -139,7 +140,7 @@ class Statements:
         """By how much the contribution of each division to the change on the year before differs from that of the month
         before, the greatest first; none if one of both isn't known."""
         as_of, now = release.as_of, release.table.month
-        if not (as_of.is_shown(month, True) and as_of.is_shown(now, True)):
+        if not all(is_shown_then(as_of, self._now, each, True) for each in (month, now)):
             return []
         contributions = Contributions(as_of, [])
         earlier, later = (

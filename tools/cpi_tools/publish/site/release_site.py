@@ -37,7 +37,7 @@ class ReleaseSite:
         self.series, self.config, self.speech = known.series, config, known.shown.speech
         self.cards = cards if config.address else NO_CARDS
         self.releases = ReleasePages(known, config)
-        self.statements = Statements(known.series, config, self.speech)
+        self.statements = Statements(known.series, known.contributions, config, self.speech)
         self.calendar = CalendarOf(known.series, config)
 
     def prepare(self, pages: jinja2.Environment) -> None:
