@@ -341,7 +341,7 @@ def record_faults(text: str) -> Iterator[str]:
     for part in (it for _, it in paragraphs(text) if RECORD.match(it)):
         if not DATED.match(part):
             yield f"a record without a date: {part[:60]}.."
-        if "n place of" not in part:
+        if "nstead of" not in part:
             yield f"a record that doesn't say what it replaced: {part[:60]}.."
     every = [*numbers_in(text), *all_numbers()]
     yield from (f"two decisions have the number {it}" for it in sorted({it for it in every if every.count(it) > 1}))
