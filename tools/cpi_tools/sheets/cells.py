@@ -1,4 +1,4 @@
-"""Cells of spreadsheets as texts that know their file, row and column, and what is wrong with them."""
+"""Cells of spreadsheets as texts that know their file, row and column, and the faults in them."""
 
 from __future__ import annotations
 
@@ -17,7 +17,7 @@ ROWS_LOOKED_AT = 20
 
 
 class Origin(NamedTuple):
-    """Where a text is: the file, the row as a spreadsheet counts it (the heading is 1), the column's name.
+    """The place of a text: its file, its row as a spreadsheet counts it (the heading is 1), and the column's name.
 
     Row 0 is the file as a whole.
     """
@@ -32,7 +32,7 @@ class Origin(NamedTuple):
 
 
 class SheetFault(NamedTuple):
-    """What is wrong with a sheet before anybody asks what its rows say; or what a reader should know of it."""
+    """A fault of a sheet that shows before its rows are read, or a remark on the sheet for its reader."""
 
     origin: Origin
     because: str
@@ -98,8 +98,8 @@ class Row:
 
 @dataclass
 class Texts:
-    """The cells of a sheet row by row, read once; a row may be shorter than others. What is wrong with single cells and
-    what else there is to tell is found while the rows are read. An error in reading is a BadSheet."""
+    """The cells of a sheet row by row, read once; a row may be shorter than others. Faults of single cells
+    and warnings are added while the rows are read. An error in reading is a BadSheet."""
 
     rows: Iterator[Sequence[str]]
     faults: list[SheetFault] = field(default_factory=list)
@@ -167,7 +167,7 @@ MOST_TOLD = 10_000
 
 
 class Capped:
-    """Faults in their order, the first of them; what comes after `MOST_TOLD` is counted."""
+    """The first faults, in their order; those after `MOST_TOLD` are counted."""
 
     def __init__(self) -> None:
         self._faults: list[SheetFault] = []
