@@ -116,7 +116,7 @@ def test_a_picture_is_read_out_by_the_keys(shown: Browser) -> None:
     assert pressed(shown) == "January 2011: All items 102.4, Rice, packed 105.0, Flour, wheat 98.5"
     assert pressed(shown, "End") == last
     assert len(shown.all("#parts .picture svg")) == 2 and len(shown.all("#parts svg .curve-2")) == 4
-    assert shown.run(UNITS) == ["December 2010 = 100", "Percent"]
+    assert shown.run(UNITS) == ["December 2010 = 100; the axis doesn't begin at zero", "Percent"]
 
 
 def test_a_revision_and_its_marks(shown: Browser, website: Path) -> None:
