@@ -109,8 +109,8 @@ def mapped(run: Run) -> set[str]:
 
 
 def test_a_release_stays_as_it_is(runs: list[Run]) -> None:
-    """Pages, cards, citations, pictures, pages to embed and tables of all releases; only the page of a month that is revised gets a
-    line, which leads to the revision."""
+    """Pages, texts for the press, cards, citations, pictures, pages to embed and tables of all releases; only the page of a month
+    that is revised gets a line, which leads to the revision."""
     folders = "release", "picture", "embed", "data/tables"
     for before, now in pairs(runs):
         # (what describes the tables names each of them, and so the new one)
@@ -124,7 +124,7 @@ def test_a_release_stays_as_it_is(runs: list[Run]) -> None:
             assert [it for it in new if it != line] == old and f'<a href="{REVISED}-r2.html">Revision 2 of' in line
     each = {name: len([it for it in runs[-1].of(name) if "-r1" in it]) for name in folders}
     # (the first December has a table, and no page)
-    assert each == {"release": 116, "picture": 87, "embed": 29, "data/tables": 30}
+    assert each == {"release": 145, "picture": 87, "embed": 29, "data/tables": 30}
 
 
 def test_an_archive_stays_once_its_months_are_final(runs: list[Run]) -> None:
