@@ -20,6 +20,22 @@ from .spreadsheets import Sheets, sheets, written
 Rows = Sequence[Sequence[Any]]
 
 
+MEASURED = """[prices]
+files = "observed.csv"
+[prices.columns]
+month = "month"
+outlet = "outlet"
+item = "item"
+value = "price"
+quantity = "quantity"
+unit = "uom"
+[prices.units]
+g = "1"
+kg = "1000"
+"""
+"""A map of prices with their quantities in grams or kilograms."""
+
+
 class Form(NamedTuple):
     """A form: what writes its files into a folder, its map, and the quotes that they are. `told` has, for lines of the map
     that are left out, the cell that is told then: file, row and column."""
@@ -484,22 +500,10 @@ QUANTITIES = Form(
             ["2026-02", "10", "FLOUR", "1.80", "2", "kg"],
         ],
     ),
-    """
+    f"""
 minor = 100
 round = "nearest"
-[prices]
-files = "observed.csv"
-[prices.columns]
-month = "month"
-outlet = "outlet"
-item = "item"
-value = "price"
-quantity = "quantity"
-unit = "uom"
-[prices.units]
-g = "1"
-kg = "1000"
-""",
+{MEASURED}""",
     {
         'round = "nearest"': ("observed.csv", 7, "price"),
         'g = "1"': ("observed.csv", 2, "uom"),

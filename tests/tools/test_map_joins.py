@@ -10,7 +10,7 @@ import pytest
 
 from cpi_tools.office.program import Cpi
 from cpi_tools.office.stored import stored_office
-from .forms_of_offices import office, text
+from .forms_of_offices import MEASURED, office, text
 from .habits import Quotes
 from .ran import Ran, rows_of, run
 from .spreadsheets import replayed
@@ -155,21 +155,9 @@ def test_a_joined_table_without_a_file_is_refused(cpi: Cpi, tmp_path: Path) -> N
 
 HEAD = ["month", "outlet", "item", "price", "quantity", "uom"]
 
-MEASURED = """
+ONLY_MEASURED = f"""
 minor = 100
-[prices]
-files = "observed.csv"
-[prices.columns]
-month = "month"
-outlet = "outlet"
-item = "item"
-value = "price"
-quantity = "quantity"
-unit = "uom"
-[prices.units]
-g = "1"
-kg = "1000"
-"""
+{MEASURED}"""
 
 
 def observed(row: Sequence[str], *others: Sequence[str]) -> dict[str, Rows]:
@@ -197,16 +185,16 @@ def test_a_price_becomes_one_of_the_unit_of_its_item(
 ) -> None:
     # (a mark of thousands is an apostrophe or a blank where the decimal sign is a point)
     rows = observed([price, quantity.replace(",", "'"), unit])
-    assert written(cpi, tmp_path, folder_of(tmp_path, rows, MEASURED)) == {(202512, 7, 1): ("price", minor)}
+    assert written(cpi, tmp_path, folder_of(tmp_path, rows, ONLY_MEASURED)) == {(202512, 7, 1): ("price", minor)}
 
 
 def test_a_quantity_has_the_decimal_sign_of_the_map(cpi: Cpi, tmp_path: Path) -> None:
-    folder = folder_of(tmp_path, observed(["0,30", "0,15", "kg"]), 'decimal = ","' + MEASURED)
+    folder = folder_of(tmp_path, observed(["0,30", "0,15", "kg"]), 'decimal = ","' + ONLY_MEASURED)
     assert written(cpi, tmp_path, folder) == {(202512, 7, 1): ("price", 200)}
 
 
 def test_without_a_column_of_units_a_map_has_one(cpi: Cpi, tmp_path: Path) -> None:
-    words = MEASURED.replace('unit = "uom"\n', "").replace('g = "1"\n', "")
+    words = ONLY_MEASURED.replace('unit = "uom"\n', "").replace('g = "1"\n', "")
     folder = folder_of(tmp_path, {"observed": [it[:5] for it in observed(["1.00", "0.5", ""])["observed"]]}, words)
     assert written(cpi, tmp_path, folder) == {(202512, 7, 1): ("price", 200)}
 
@@ -227,14 +215,14 @@ BAD_QUANTITIES: list[tuple[tuple[str, str, str], tuple[str, str]]] = [
 def test_a_quantity_that_cant_be_read_is_a_problem_at_its_cell(
     cpi: Cpi, tmp_path: Path, row: tuple[str, str, str], problem: tuple[str, str]
 ) -> None:
-    ran, problems = refused(cpi, folder_of(tmp_path, observed(row, FLOUR), MEASURED))
+    ran, problems = refused(cpi, folder_of(tmp_path, observed(row, FLOUR), ONLY_MEASURED))
     assert ran.status == 1
     assert [(it[0], it[1], it[2]) for it in problems] == [("observed.csv", 2, problem[0])]
     assert problem[1] in problems[0][3]
 
 
 def test_a_unit_of_an_item_that_the_map_hasnt_is_a_problem(cpi: Cpi, tmp_path: Path) -> None:
-    folder = folder_of(tmp_path, observed(["1.00", "500", "g"], FLOUR), MEASURED)
+    folder = folder_of(tmp_path, observed(["1.00", "500", "g"], FLOUR), ONLY_MEASURED)
     items = folder / "items.csv"
     items.write_text(items.read_text().replace("RICE,Rice,1 kg", "RICE,Rice,a bag"))
     ran, problems = refused(cpi, folder)
@@ -243,5 +231,5 @@ def test_a_unit_of_an_item_that_the_map_hasnt_is_a_problem(cpi: Cpi, tmp_path: P
 
 
 def test_a_rounded_price_of_a_quantity_is_the_nearest(cpi: Cpi, tmp_path: Path) -> None:
-    folder = folder_of(tmp_path, observed(["1.00", "300", "g"]), 'round = "nearest"' + MEASURED)
+    folder = folder_of(tmp_path, observed(["1.00", "300", "g"]), 'round = "nearest"' + ONLY_MEASURED)
     assert written(cpi, tmp_path, folder) == {(202512, 7, 1): ("price", 333)}
