@@ -107,6 +107,12 @@ RELATIONS = "http://schemas.openxmlformats.org/officeDocument/2006/relationships
 PROLOGUE = '<?xml version="1.0" encoding="UTF-8" standalone="yes"?>\n'
 
 
+def _pane_of(columns: int) -> str:
+    """The part of a view that keeps the first row of a sheet, and so many of its columns, in view."""
+    split, corner = (f'xSplit="{columns}" ', "bottomRight") if columns else ("", "bottomLeft")
+    return f'<pane {split}ySplit="1" topLeftCell="{column_name(columns)}2" activePane="{corner}" state="frozen"/>'
+
+
 def _sheet_head(widths: Sequence[tuple[int, int, int]], pane: str = "") -> str:
     """What stands before the rows; `widths` are the first column, the last and their width in letters."""
     views = f'<sheetViews><sheetView workbookViewId="0">{pane}</sheetView></sheetViews>'
@@ -117,7 +123,6 @@ def _sheet_head(widths: Sequence[tuple[int, int, int]], pane: str = "") -> str:
 
 
 SHEET_FOOT = "</sheetData></worksheet>\n"
-FIRST_ROW_STAYS = '<pane ySplit="1" topLeftCell="A2" activePane="bottomLeft" state="frozen"/>'
 
 
 def _read_me(known: Known, config: Config) -> Iterator[str]:
@@ -163,8 +168,7 @@ def _provisional(known: Known) -> str:
 def _sheet(known: Known, of: Sheet) -> Iterator[str]:
     """A row for each node, a column for each month."""
     series = known.series
-    pane = '<pane xSplit="2" ySplit="1" topLeftCell="C2" activePane="bottomRight" state="frozen"/>'
-    yield _sheet_head([(1, 1, 13), (2, 2, 44), (3, 2 + len(series.months), 10)], pane)
+    yield _sheet_head([(1, 1, 13), (2, 2, 44), (3, 2 + len(series.months), 10)], _pane_of(2))
     yield _text_row(1, ["Code", "Title", *series.months], BOLD)
     columns, usual = [column_name(at) for at in range(2, 2 + len(series.months))], [of.style] * len(series.months)
     for number, (code, title) in enumerate(series.all_titles.items(), 2):
@@ -181,8 +185,7 @@ def _sheet(known: Known, of: Sheet) -> Iterator[str]:
 def _core(known: Known) -> Iterator[str]:
     """Two rows for each measure of analytical core inflation, a column for each month."""
     series = known.series
-    pane = '<pane xSplit="3" ySplit="1" topLeftCell="D2" activePane="bottomRight" state="frozen"/>'
-    yield _sheet_head([(1, 1, 13), (2, 2, 44), (3, 3, 10), (4, 3 + len(series.months), 10)], pane)
+    yield _sheet_head([(1, 1, 13), (2, 2, 44), (3, 3, 10), (4, 3 + len(series.months), 10)], _pane_of(3))
     yield _text_row(1, ["Id", "Title", "Changes", *series.months], BOLD)
     for number, (name, change, texts) in enumerate(cells_of(series), 2):
         it = series.core[name]
@@ -198,7 +201,7 @@ def _core(known: Known) -> Iterator[str]:
 def _reference_periods(known: Known) -> Iterator[str]:
     """A row for each run of months of a node whose levels are linked to one another."""
     series = known.series
-    yield _sheet_head([(1, 1, 13), (2, 2, 44), (3, 5, 12), (6, 6, 60)], FIRST_ROW_STAYS)
+    yield _sheet_head([(1, 1, 13), (2, 2, 44), (3, 5, 12), (6, 6, 60)], _pane_of(0))
     yield _text_row(1, ["Code", "Title", "First month", "Last month", "100 in", "Note"], BOLD)
     number = 1
     for code, title in series.all_titles.items():
