@@ -1,5 +1,5 @@
 //! Frozen quotes and carried prices by their series; carried prices put in that order.
-ghost use Rattle.std.specs.Prelude.{◌≡◌, List, true, IfOk, MatchBool};
+ghost use Rattle.std.specs.Prelude.{◌≡◌, List, true, MatchBool};
 ghost use Rattle.std.specs.List.{IsDistinct};
 ghost use Rattle.std.specs.List.Sorted.{IsPermutation};
 ghost use Rattle.std.specs.Ordering.{nat_cmp, is_eq};
@@ -11,7 +11,6 @@ use crate::carried::CarriedPrice;
 use crate::frozen::FrozenQuote;
 use crate::series::InSeries;
 use cpi_rows::{Keyed, are_in_order};
-use std::alloc::AllocError;
 
 impl Keyed for CarriedPrice {
     type Key = u32;
@@ -34,27 +33,27 @@ impl Keyed for FrozenQuote {
 }
 
 // Puts carried prices in the order of their series, and says whether no series comes twice.
-fn put_in_order(carried: &mut Vec<CarriedPrice>) -> Result<bool, AllocError>
+fn put_in_order(carried: &mut Vec<CarriedPrice>) -> bool
     ensures moved { IsPermutation carried.old.items carried.new.items }
-    ensures order { IfOk result (λ b. MatchBool b
+    ensures order { MatchBool result
         (IsInOrder nat_cmp carried_serial carried.new.items)
-        (IsDistinct (λ a b. is_eq (nat_cmp (carried_serial a) (carried_serial b))) carried.old.items → ⊥)) }
+        (IsDistinct (λ a b. is_eq (nat_cmp (carried_serial a) (carried_serial b))) carried.old.items → ⊥) }
 {
-    carried.sort_by_key(|price| price.key())?;
-    Ok(are_in_order(carried))
+    carried.sort_unstable_by_key(|price| price.key());
+    are_in_order(carried)
 }
 
 /// Puts carried prices in the order of their series, and says whether no series comes twice: false if one does. If they
-/// are the prices of a list by series in any order, the result is that list. O(n log n) for n prices.
-pub fn put_by_series(carried: &mut Vec<CarriedPrice>) -> Result<bool, AllocError>
+/// are the prices of a list by series in any order, the result is that list. O(n log n) for n prices; it takes no
+/// memory.
+pub fn put_by_series(carried: &mut Vec<CarriedPrice>) -> bool
     ensures moved { IsPermutation carried.old.items carried.new.items }
-    ensures once { IfOk result (λ b. MatchBool b
+    ensures once { MatchBool result
         (IsInOrder nat_cmp carried_serial carried.new.items)
-        (IsDistinct (λ a b. is_eq (nat_cmp (carried_serial a) (carried_serial b))) carried.old.items → ⊥)) }
-    ensures list { IfOk result (λ b. (all : List Carried) → are_by_series carried_serial all ≡ true →
+        (IsDistinct (λ a b. is_eq (nat_cmp (carried_serial a) (carried_serial b))) carried.old.items → ⊥) }
+    ensures list { (all : List Carried) → are_by_series carried_serial all ≡ true →
         IsPermutation all carried.old.items →
-        (b ≡ true) × (carried.new.items ≡ all)) }
+        (result ≡ true) × (carried.new.items ≡ all) }
 {
-    let once = put_in_order(carried)?;
-    Ok(once)
+    put_in_order(carried)
 }

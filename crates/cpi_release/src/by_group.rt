@@ -81,10 +81,7 @@ pub(crate) fn make<G: Groups>(
         Err(fault) => return Err(fault),
     };
     let mut carried = carried_of(pass);
-    let Ok(once) = put_by_series(&mut carried) else {
-        return Err(FreezeFault::Index(IndexFault::NoMemory));
-    };
-    if !once {
+    if !put_by_series(&mut carried) {
         return Err(FreezeFault::Index(IndexFault::OutOfRange(weights[0].code())));
     }
     Ok(Made { carried, levels })

@@ -50,6 +50,13 @@ impl CachedSamples {
         self.kept = None;
     }
 
+    /// Keeps the samples of a month in place of the former ones.
+    pub fn put(&mut self, month: Month, groups: Vec<Vec<GroupRow>>)
+        ensures { self.new ≡ Some (record { month = month; groups = groups.items }) }
+    {
+        self.kept = Some(MonthSamples { month, groups });
+    }
+
     /// The rows of one aggregate, if the month's samples are kept. `plan` is that of the month's year.
     pub fn rows(
         &self,
@@ -92,7 +99,7 @@ impl CachedSamples {
         ensures refused { OnErr result (self.new ≡ self.old) }
     {
         let rows = group_rows(alloc, plan, &groups, month, code)?;
-        self.kept = Some(MonthSamples { month, groups });
+        self.put(month, groups);
         Ok(rows)
     }
 }

@@ -81,6 +81,23 @@ pub(crate) fn empty_pass(alloc: Global) -> Pass
     }
 }
 
+// Counts an aggregate at its code and at all codes above it, if a price of its sample is imputed.
+fn count_imputed(
+    counts: &mut BTreeMap<Code, u128>,
+    code: Code,
+    imputed: bool,
+) -> Result<(), AllocError>
+    requires elementary { IsSome code.aggregate }
+    requires few { (q : Code) → sum_at counts.old q < 2 ^ 64 }
+    ensures { OnOk result ((q : Code) → sum_at counts.new q ≡ sum_at counts.old q
+        + (if is_code_at_or_below q code then (if imputed then 1 else 0) else 0)) }
+{
+    if imputed {
+        add_path(counts, code, 1)?;
+    }
+    Ok(())
+}
+
 // One more aggregate: its carried prices after the others, its weighted index in the sums of all codes at and above it,
 // or its lack.
 pub(crate) fn add(
@@ -105,8 +122,7 @@ pub(crate) fn add(
         Ok(group) => {
             let index = u128::from(group.index.millionths());
             add_path(&mut pass.sums, code, u128::from(weight.parts()) * index)?;
-            let imputed = u128::from(group.imputed);
-            add_path(&mut pass.imputed, code, imputed)?;
+            count_imputed(&mut pass.imputed, code, group.imputed)?;
         }
         Err(lack) => note(&mut pass.faults, lack, code),
     }

@@ -15,7 +15,7 @@ ghost use Rattle.cpi_store.specs.Holders.{rows_of_holders};
 use crate::holder::Holder;
 use crate::series_ends::SeriesEnds;
 use crate::sorting::sort_by_series;
-use crate::taken_over::{TakenOver, series_in};
+use crate::taken_slots::{TakenSlots, series_in};
 use cpi_codes::{CollectorId, Month, SeriesId, Slot};
 use cpi_index::FrozenQuote;
 use cpi_survey::{Assignment, Quote};
@@ -26,11 +26,10 @@ use std::collections::BTreeSet;
 pub fn month_rows(
     alloc: Global,
     month: Month,
-    taken: &[TakenOver],
+    taken: &TakenSlots,
     holders: &[Holder],
 ) -> Result<Vec<FrozenQuote>, AllocError>
     requires order { IsInOrder nat_cmp (λ h. h.number) holders.now }
-    requires by_slot { IsInOrder (held_cmp nat_cmp) (λ t. (t.collector, t.slot)) taken.now }
     ensures { let given = all_given taken.now holders.now in
         let rows = by_series (stored_rows month (quotes_of_holders holders.now) given) in
         IfOk result (λ found. are_by_series frozen_serial rows ≡ true → found.items ≡ rows) }
@@ -45,10 +44,9 @@ pub fn month_rows(
 // the assignment of the slot that names it, so nothing is gathered if no slot took a series over.
 fn series_ends(
     alloc: Global,
-    taken: &[TakenOver],
+    taken: &TakenSlots,
     holders: &[Holder],
 ) -> Result<SeriesEnds, AllocError>
-    requires { IsInOrder (held_cmp nat_cmp) (λ t. (t.collector, t.slot)) taken.now }
     ensures { IfOk result (λ ends. (s : SeriesId) →
         last_known ends s ≡ last_handed_over taken.now s (all_given taken.now holders.now)) }
 {
@@ -66,13 +64,13 @@ fn series_ends(
 // The series that slots took over.
 fn series_handed_over(
     alloc: Global,
-    taken: &[TakenOver],
+    taken: &TakenSlots,
 ) -> Result<BTreeSet<(CollectorId, Slot)>, AllocError>
     ensures { IfOk result (λ found. (s : SeriesId) →
         contains (held_cmp nat_cmp) found (s.collector, s.slot) ≡ is_handed_over taken.now s) }
 {
     let mut found = BTreeSet::new(alloc);
-    for over in taken {
+    for over in taken.iter() {
         found.insert((over.series.collector, over.series.slot))?;
     }
     Ok(found)
@@ -81,11 +79,10 @@ fn series_handed_over(
 // Puts the last months of those of a collector's assignments whose series were handed over.
 fn put_ends(
     ends: &mut SeriesEnds,
-    taken: &[TakenOver],
+    taken: &TakenSlots,
     handed_over: &BTreeSet<(CollectorId, Slot)>,
     holder: &Holder,
 ) -> Result<(), AllocError>
-    requires order { IsInOrder (held_cmp nat_cmp) (λ t. (t.collector, t.slot)) taken.now }
     requires handed_over { (s : SeriesId) →
         contains (held_cmp nat_cmp) handed_over.now (s.collector, s.slot) ≡ is_handed_over taken.now s }
     ensures { OnOk result ((s : SeriesId) → last_known ends.new s ≡
@@ -104,11 +101,10 @@ fn put_ends(
 fn rows_of(
     alloc: Global,
     month: Month,
-    taken: &[TakenOver],
+    taken: &TakenSlots,
     holders: &[Holder],
     ends: &SeriesEnds,
 ) -> Result<Vec<FrozenQuote>, AllocError>
-    requires { IsInOrder (held_cmp nat_cmp) (λ t. (t.collector, t.slot)) taken.now }
     ensures { IfOk result (λ found. found.items ≡ rows_of_holders month ends.now taken.now holders.now) }
 {
     let mut found = Vec::new(alloc);
@@ -122,11 +118,10 @@ fn rows_of(
 fn push_rows(
     found: &mut Vec<FrozenQuote>,
     month: Month,
-    taken: &[TakenOver],
+    taken: &TakenSlots,
     holder: &Holder,
     ends: &SeriesEnds,
 ) -> Result<(), AllocError>
-    requires { IsInOrder (held_cmp nat_cmp) (λ t. (t.collector, t.slot)) taken.now }
     ensures { OnOk result (found.new.items ≡ found.old.items ++ own_rows month ends.now taken.now holder.now) }
 {
     for assigned in holder.own.assignments() {

@@ -5,20 +5,18 @@ ghost use Rattle.std.specs.Ordering.{nat_cmp};
 ghost use Rattle.cpi_rows.specs.Keyed.{row_at, row_by_number, with_row, put_by, IsInOrder};
 ghost use Rattle.cpi_rows.specs.Held.{held_by, held_cmp, held_key};
 ghost use Rattle.cpi_survey.specs.Quote.{greatest_receipt, quote_cmp, quote_key};
-ghost use Rattle.cpi_store.specs.Office.{put_quote, hand_over};
+ghost use Rattle.cpi_store.specs.Office.{put_quote};
 ghost use Rattle.cpi_store.specs.Outlet.{with_name};
 ghost use Rattle.cpi_store.specs.declared.outlet.Outlet.{Outlet};
-ghost use Rattle.cpi_store.specs.Holders.{collectors_of, all_assignments, all_given, quotes_of_holders};
+ghost use Rattle.cpi_store.specs.Holders.{collectors_of, all_assignments, quotes_of_holders};
 ghost use Rattle.cpi_store.specs.Holders.{assignment_until};
-ghost use Rattle.cpi_store.specs.Holders.{named_by, ArePlaced, IsGiven};
-ghost use Rattle.std.specs.List.{AllByRecursion};
+ghost use Rattle.cpi_store.specs.Holders.{named_by, ArePlaced};
 
 use crate::holder::Holder;
 use crate::registration::Registration;
 use crate::series_move::SeriesMove;
-use crate::taken_over::TakenOver;
 use cpi_codes::{CollectorId, Key, Month, Slot};
-use cpi_rows::{Keyed, place_of};
+use cpi_rows::place_of;
 use cpi_survey::{Assigned, Quote};
 use std::alloc::AllocError;
 use std::collections::BTreeMap;
@@ -115,53 +113,8 @@ fn end_assignment_of(
     }
 }
 
-/// Hands a series over: puts the new assignment with the series that it takes over, and ends the former one. If memory
-/// is refused, nothing changes.
-pub fn hand_over_in(
-    holders: &mut Vec<Holder>,
-    taken: &mut Vec<TakenOver>,
-    handover: SeriesMove,
-) -> Result<(), AllocError>
-    requires order { IsInOrder nat_cmp (λ h. h.number) holders.old.items }
-    requires by_slot { IsInOrder (held_cmp nat_cmp) (λ t. (t.collector, t.slot)) taken.old.items }
-    requires given { AllByRecursion (IsGiven (all_assignments holders.old.items)) taken.old.items }
-    requires known { IsSome (row_at nat_cmp (λ h. h.number) handover.taker.number holders.old.items) }
-    requires stands { IsSome (row_by_number (λ a. a.slot) handover.ended.assignment.slot
-        (held_by handover.former.number (all_assignments holders.old.items))) }
-    requires new { row_by_number (λ a. a.slot) handover.assigned.assignment.slot
-        (held_by handover.taker.number (all_assignments holders.old.items)) ≡ None }
-    ensures ok { OnOk result (all_given taken.new.items holders.new.items ≡
-        hand_over handover (all_given taken.old.items holders.old.items)) }
-    ensures err_holders { OnErr result (holders.new.items ≡ holders.old.items) }
-    ensures err_taken { OnErr result (taken.new.items ≡ taken.old.items) }
-    ensures collectors { collectors_of holders.new.items ≡ collectors_of holders.old.items }
-    ensures quotes { quotes_of_holders holders.new.items ≡ quotes_of_holders holders.old.items }
-    ensures order { IsInOrder nat_cmp (λ h. h.number) holders.new.items }
-    ensures by_slot { IsInOrder (held_cmp nat_cmp) (λ t. (t.collector, t.slot)) taken.new.items }
-    ensures given { AllByRecursion (IsGiven (all_assignments holders.new.items)) taken.new.items }
-    ensures placed { (outlets : List Outlet) → IsSome
-        (row_by_number (λ u. u.number) handover.assigned.assignment.outlet outlets) →
-        ArePlaced outlets (map (λ h. h.own.assignments) holders.old.items) →
-        ArePlaced outlets (map (λ h. h.own.assignments) holders.new.items) }
-    ensures names { (outlets : List Outlet) → handover.assigned ≡ with_name outlets handover.assigned.assignment →
-        named_by outlets (map (λ h. h.own.assignments) holders.old.items)
-        ≡ map (λ h. h.own.assignments) holders.old.items →
-        named_by outlets (map (λ h. h.own.assignments) holders.new.items)
-        ≡ map (λ h. h.own.assignments) holders.new.items }
-{
-    let over = TakenOver::of(&handover);
-    match place_of(taken, &over.key()) {
-        Ok(_) => unreachable!(),
-        Err(at) => {
-            taken.reserve(1)?;
-            pass_on(holders, handover)?;
-            Ok(taken.insert(at, over)?)
-        }
-    }
-}
-
-// Puts the new assignment, and ends the former one. If memory is refused, nothing changes.
-fn pass_on(holders: &mut Vec<Holder>, handover: SeriesMove) -> Result<(), AllocError>
+/// Puts the new assignment of a handover, and ends the former one. If memory is refused, nothing changes.
+pub(crate) fn pass_on(holders: &mut Vec<Holder>, handover: SeriesMove) -> Result<(), AllocError>
     requires order { IsInOrder nat_cmp (λ h. h.number) holders.old.items }
     requires known { IsSome (row_at nat_cmp (λ h. h.number) handover.taker.number holders.old.items) }
     ensures ok { OnOk result (all_assignments holders.new.items ≡

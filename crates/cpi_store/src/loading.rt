@@ -16,6 +16,7 @@ use crate::registration::Registration;
 use crate::runs::{given_from, quotes_from};
 use crate::survey::Survey;
 use crate::taken_over::TakenOver;
+use crate::taken_slots::TakenSlots;
 use cpi_codes::Key;
 use cpi_rows::RowsByKey;
 use cpi_survey::{Own, Public};
@@ -51,7 +52,8 @@ impl Survey {
         }) }
     {
         let by_key = by_key(alloc, &registrations)?;
-        let taken = taken_of(alloc, given).ok()?;
+        let overs = taken_of(alloc, given).ok()?;
+        let taken = TakenSlots::of(alloc, &overs).ok()?;
         let holders = holders_of(alloc, &outlets, &registrations, given, quotes)?;
         Some(Survey {
             public,

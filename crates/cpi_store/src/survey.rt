@@ -3,11 +3,11 @@ use crate::book::Parts;
 use crate::frozen::month_rows;
 use crate::given::Given;
 use crate::holder::Holder;
-use crate::holders::{hand_over_in, put_assignment_of, put_holder, put_quote_of};
+use crate::holders::{put_assignment_of, put_holder, put_quote_of};
 use crate::outlet::Outlet;
 use crate::registration::Registration;
 use crate::series_move::SeriesMove;
-use crate::taken_over::{TakenOver, series_in};
+use crate::taken_slots::{TakenSlots, series_in};
 use cpi_codes::{CollectorId, Key, Month, OutletId, Slot};
 use cpi_index::FrozenQuote;
 use cpi_plan::{CalendarRow, Item, YearPlan};
@@ -29,8 +29,7 @@ pub struct Survey {
     pub(crate) public: Public,
     // by number
     pub(crate) holders: Vec<Holder>,
-    // by collector and slot
-    pub(crate) taken: Vec<TakenOver>,
+    pub(crate) taken: TakenSlots,
     pub(crate) outlets: RowsByKey<Outlet>,
     // the registrations of the holders, by key
     pub(crate) registrations: BTreeMap<Key, Registration>,
@@ -45,21 +44,19 @@ impl Model for Survey {
     ghost use Rattle.std.specs.BTreeMap.{get};
     ghost use Rattle.std.specs.List.{AllByRecursion};
     ghost use Rattle.cpi_rows.specs.Keyed.{IsInOrder};
-    ghost use Rattle.cpi_rows.specs.Held.{held_cmp};
     ghost use Rattle.cpi_store.specs.Registration.{registration_of};
     ghost use Rattle.cpi_store.specs.Office.{Office};
     ghost use Rattle.cpi_store.specs.Holders.{ArePlaced, IsGiven, all_assignments, collectors_of, named_by, office_of};
 
     ghost Value = { Office };
 
-    ghost view = { λ s. office_of s.public s.outlets [] s.taken.items s.holders.items };
+    ghost view = { λ s. office_of s.public s.outlets [] s.taken s.holders.items };
 
     ghost invariant = { λ s. record {
       holders : IsInOrder nat_cmp (λ h. h.number) s.holders.items;
       registrations : (key : ℕ) → get nat_cmp s.registrations key ≡ registration_of key (collectors_of s.holders.items);
       outlets : IsInOrder nat_cmp (λ u. u.number) s.outlets;
-      taken : IsInOrder (held_cmp nat_cmp) (λ t. (t.collector, t.slot)) s.taken.items;
-      given : AllByRecursion (IsGiven (all_assignments s.holders.items)) s.taken.items;
+      given : AllByRecursion (IsGiven (all_assignments s.holders.items)) s.taken;
       placed : ArePlaced s.outlets (map (λ h. h.own.assignments) s.holders.items);
       nobody : s.nobody ≡ record { assignments = []; quotes = [] };
       names : named_by s.outlets (map (λ h. h.own.assignments) s.holders.items)
@@ -84,7 +81,7 @@ impl Survey {
         Survey {
             public: Public::new(alloc),
             holders: Vec::new(alloc),
-            taken: Vec::new(alloc),
+            taken: TakenSlots::new(alloc),
             outlets: RowsByKey::new(alloc),
             registrations: BTreeMap::new(alloc),
             nobody: Own::new(alloc),
@@ -276,7 +273,7 @@ impl Survey {
         ensures ok { OnOk result (self.new ≡ office_with (HandsOver handover) self.old) }
         ensures err { OnErr result (self.new ≡ self.old) }
     {
-        hand_over_in(&mut self.holders, &mut self.taken, handover)?;
+        self.taken.hand_over(&mut self.holders, handover)?;
         Ok(())
     }
 

@@ -1,13 +1,9 @@
-//! The slots that took a series over.
+//! A slot that took a series over.
 ghost use Rattle.std.specs.Prelude.{◌≡◌};
-ghost use Rattle.std.specs.Ordering.{nat_cmp};
-ghost use Rattle.cpi_rows.specs.Keyed.{IsInOrder};
-ghost use Rattle.cpi_rows.specs.Held.{held_cmp};
-ghost use Rattle.cpi_store.specs.Series.{series_named_in};
 
 use crate::series_move::SeriesMove;
 use cpi_codes::{CollectorId, SeriesId, Slot};
-use cpi_rows::{Keyed, find_row};
+use cpi_rows::Keyed;
 
 /// A slot that took a series over, with that series.
 #[derive(Clone, Copy)]
@@ -41,16 +37,5 @@ impl Keyed for TakenOver {
 
     fn key(&self) -> (CollectorId, Slot) {
         (self.collector, self.slot)
-    }
-}
-
-/// The series of a slot: the one that it took over, or else the one that is named by this collector and slot.
-pub fn series_in(taken: &[TakenOver], collector: CollectorId, slot: Slot) -> SeriesId
-    requires { IsInOrder (held_cmp nat_cmp) (λ t. (t.collector, t.slot)) taken.now }
-    ensures { result ≡ series_named_in taken.now collector slot }
-{
-    match find_row(taken, &(collector, slot)) {
-        Some(found) => found.series,
-        None => SeriesId { collector, slot },
     }
 }

@@ -69,9 +69,11 @@ impl VecBook {
 }
 
 impl VecBook {
-    ghost use Rattle.std.specs.Prelude.{◌≡◌, ◌≤◌, IfOk};
+    ghost use Rattle.std.specs.Prelude.{◌≡◌, ◌≤◌, true, IfOk};
+    ghost use Rattle.cpi_index.specs.Series.{are_by_series, frozen_serial};
     ghost use Rattle.cpi_release.specs.CachedSamples.{IsFit};
     ghost use Rattle.cpi_release.specs.GroupCalls.{group_of};
+    ghost use Rattle.cpi_store.specs.Office.{quotes_of_month};
     ghost use Rattle.cpi_store.specs.Sources.{office_sources};
 
     // The rows of one aggregate; the month's samples are cached from then on.
@@ -88,6 +90,23 @@ impl VecBook {
         let groups = month_groups(self.alloc, plan, &self.releases, month, &frozen)?;
         let rows = self.samples.keep(self.alloc, plan, month, groups, code)?;
         Ok(rows)
+    }
+
+    // The stored quotes of a month. Its samples are made of them, since a freeze reads both; if memory is refused for
+    // the samples, they are made when they are read.
+    fn read_month(&mut self, month: Month) -> Result<Vec<FrozenQuote>, AllocError>
+        ensures same { self.new ≡ self.old }
+        ensures shown { IfOk result (λ found.
+            are_by_series frozen_serial (quotes_of_month month self.old.office) ≡ true →
+            found.items ≡ quotes_of_month month self.old.office) }
+    {
+        let plan = self.survey.plan_of(month);
+        let frozen = self.survey.month_rows(month)?;
+        let Ok(groups) = month_groups(self.alloc, plan, &self.releases, month, &frozen) else {
+            return Ok(frozen);
+        };
+        self.samples.put(month, groups);
+        Ok(frozen)
     }
 }
 
@@ -202,7 +221,7 @@ impl Book for VecBook {
     }
 
     fn month_rows(&mut self, month: Month) -> Result<Vec<FrozenQuote>, StoreFault> {
-        match self.survey.month_rows(month) {
+        match self.read_month(month) {
             Ok(found) => Ok(found),
             Err(_) => Err(self.failed.counted(StoreFault)),
         }

@@ -1,8 +1,7 @@
 -- The rows of an import, carried out one after the other, and the line of their replies so far.
 use Rattle.std.proofs.Common.{◌≡◌, ◌∙◌, refl, sym, ap, ap₂, ℕ, List, [], ◌∷◌, ◌++◌, Bool, true, false, ◌||◌, codes, map}
 use Rattle.std.proofs.Common.{Option, Some, Result, Ok, Err, IfOk, OnErr, append_assoc, append-nil}
-use Rattle.serde_json.specs.View.{items_of}
-use Rattle.serde_json.specs.Written.{comma_if, compact_text, items_text}
+use Rattle.std.proofs.lemmas.List.{map-append}
 use Rattle.serde_json.proofs.OnLiterals.{serde_json_on_literals}
 use Rattle.cpi_release.specs.State.{State}
 use Rattle.cpi_store.specs.Office.{Office}
@@ -21,50 +20,18 @@ use Rattle.cpi_wire.specs.Answers.{some_fails}
 use Rattle.cpi_wire.specs.Line.{data_of, line_of_reply}
 use Rattle.cpi_wire.specs.Rows.{added_text, rows_line}
 use Rattle.cpi_wire.proofs.Answered.{in_turn_more}
+use Rattle.cpi_wire.proofs.Joined.{joined, none_yet, none_more, text_more, list_ended}
 use Rattle.cpi_wire.proofs.Causes.{any_more}
 
 -- ---- the line
 
--- the texts of some replies, with a comma before each, but for the first where nothing stands before
-abbrev pub joined : Bool → List Reply → List ℕ
-joined later [] = []
-joined later (r ∷ rs) = comma_if later ++ (compact_text (data_of r) ++ joined true rs)
-
-abbrev pub none_yet : List Reply → Bool
-none_yet [] = true
-none_yet (r ∷ rs) = false
-
-items_joined : (later : Bool) (rs : List Reply)
-    → items_text later (items_of (map data_of rs)) ≡ joined later rs ++ 93 ∷ []
-items_joined later [] = refl
-items_joined later (r ∷ rs) = rw (append_assoc, append_assoc, items_joined true rs) refl
-
-joined_behind : (rs : List Reply) (r : Reply)
-    → joined true (rs ++ r ∷ []) ≡ joined true rs ++ 44 ∷ compact_text (data_of r)
-joined_behind [] r = rw append-nil refl
-joined_behind (x ∷ rs) r =
-    ap (λ ys. 44 ∷ (compact_text (data_of x) ++ ys)) (joined_behind rs r)
-    ∙ ap (λ ys. 44 ∷ ys)
-    (sym (append_assoc (compact_text (data_of x)) (joined true rs) (44 ∷ compact_text (data_of r))))
-
-joined_more : (rs : List Reply) (r : Reply)
-    → joined false (rs ++ r ∷ []) ≡ joined false rs ++ added_text (none_yet rs) r
-joined_more [] r = rw append-nil refl
-joined_more (x ∷ rs) r =
-    ap (λ ys. compact_text (data_of x) ++ ys) (joined_behind rs r)
-    ∙ sym (append_assoc (compact_text (data_of x)) (joined true rs) (44 ∷ compact_text (data_of r)))
-
-ended : (rs : List Reply)
-    → joined false rs ++ codes "]}\n" ≡ (items_text false (items_of (map data_of rs)) ++ 125 ∷ []) ++ 10 ∷ []
-ended rs =
-    let text = joined false rs in
-    sym (ap (λ ys. (ys ++ 125 ∷ []) ++ 10 ∷ []) (items_joined false rs)
-    ∙ append_assoc (text ++ 93 ∷ []) (125 ∷ []) (10 ∷ [])
-    ∙ append_assoc text (93 ∷ []) (125 ∷ 10 ∷ []))
-
-line_joined : (rs : List Reply) → (codes "{\"rows\":[" ++ joined false rs) ++ codes "]}\n" ≡ rows_line rs
+line_joined : (rs : List Reply)
+    → (codes "{\"rows\":[" ++ joined false (map data_of rs)) ++ codes "]}\n" ≡ rows_line rs
 unfolding serde_json_on_literals
-line_joined rs = ap (λ ys. codes "{\"rows\":[" ++ ys) (ended rs)
+line_joined rs =
+    ap (λ ys. codes "{\"rows\":[" ++ ys)
+    (sym (append_assoc (joined false (map data_of rs)) (codes "]}") (10 ∷ []))
+    ∙ ap (λ ys. ys ++ 10 ∷ []) (list_ended (map data_of rs)))
 
 -- ---- the rows
 
@@ -76,9 +43,9 @@ module _ {B : Type 0} (state : B → State Office) (now : ℕ) (caller : Caller)
     pub replies : List Reply
     pub split : rows ≡ front ++ rest
     pub answers : RowsAnswer state now caller old front replies new
-    pub first : is_first ≡ none_yet replies
+    pub first : is_first ≡ none_yet (map data_of replies)
     pub fails : failed ≡ some_fails replies
-    pub written : line ≡ codes "{\"rows\":[" ++ joined false replies
+    pub written : line ≡ codes "{\"rows\":[" ++ joined false (map data_of replies)
 
   pub so_far_none : (old : B) (rows : List (Option Request)) →
       RowsSoFar old rows rows true false (codes "{\"rows\":[") old
@@ -90,9 +57,8 @@ module _ {B : Type 0} (state : B → State Office) (now : ℕ) (caller : Caller)
   split_more rows front rest more row split next =
       split ∙ ap (λ ys. front ++ ys) next ∙ sym (append_assoc front (row ∷ []) more)
 
-  none_more : (rs : List Reply) (r : Reply) → false ≡ none_yet (rs ++ r ∷ [])
-  none_more [] r = refl
-  none_more (x ∷ rs) r = refl
+  next_data : (rs : List Reply) (r : Reply) → map data_of rs ++ data_of r ∷ [] ≡ map data_of (rs ++ r ∷ [])
+  next_data rs r = sym (map-append data_of rs (r ∷ []))
 
   -- one row more was carried out
   pub first_rows : (old mid new : B) (rows rest more : List (Option Request)) (is_first failed : Bool) (line : List ℕ)
@@ -122,11 +88,13 @@ module _ {B : Type 0} (state : B → State Office) (now : ℕ) (caller : Caller)
     split = split_more rows so_far.front rest more row so_far.split next;
     answers =
         in_turn_more (RowAnswers state now caller) old mid new so_far.front so_far.replies row reply so_far.answers one;
-    first = none_more so_far.replies reply;
+    first =
+        none_more (map data_of so_far.replies) (data_of reply) ∙ ap none_yet (next_data so_far.replies reply);
     fails = ap₂ (λ a b. a || b) so_far.fails same ∙ sym (any_more is_failure_of so_far.replies reply);
     written =
-        text ∙ ap₂ (λ ys first. ys ++ added_text first reply) so_far.written so_far.first
-        ∙ ap (λ ys. codes "{\"rows\":[" ++ ys) (sym (joined_more so_far.replies reply));
+        text_more (codes "{\"rows\":[") line grown is_first (map data_of so_far.replies) (data_of reply) so_far.written
+        so_far.first text
+        ∙ ap (λ ds. codes "{\"rows\":[" ++ joined false ds) (next_data so_far.replies reply);
   }
 
   pub rows_none : (old : B) (rows : List (Option Request)) → FirstRowsAnswer state now caller old rows old

@@ -8,6 +8,7 @@ pub mod Coded
 pub mod Counted
 pub mod Floats
 pub mod Importing
+pub mod Joined
 pub mod OwnAnswers
 pub mod PlanRead
 pub mod Printed

@@ -13,6 +13,7 @@ mod input;
 mod laws;
 mod limits;
 mod line;
+mod lists;
 mod only_rows;
 mod plan_body;
 mod plan_rows;

@@ -1,14 +1,16 @@
 //! The line of a reply: JSON (RFC 8259) and a line feed.
-ghost use Rattle.std.specs.Prelude.{◌≡◌, ◌++◌, map, IfOk, OnOk};
+ghost use Rattle.std.specs.Prelude.{◌≡◌, ◌++◌, true, codes, map, IfOk, OnOk};
 ghost use Rattle.std.specs.Option.{option_copied};
 ghost use Rattle.std.specs.String.{string_bytes};
+ghost use Rattle.serde_json.specs.Data.{boolean};
 ghost use Rattle.serde_json.specs.View.{view};
 ghost use Rattle.serde_json.specs.Written.{compact_text};
+ghost use Rattle.cpi_wire.specs.Json.{int, object_of_one};
 ghost use Rattle.cpi_wire.specs.Line.{data_of, line_of_reply, reason_name, name_of_mark, value_of_mark, quote_data};
 ghost use Rattle.cpi_wire.specs.Line.{item_data, item_text, price_data, mark_data, receipt_data, outlet_fields};
-ghost use Rattle.cpi_wire.specs.Line.{item_fields, price_fields, work_row_data, quotes_data, items_data, work_data};
-ghost use Rattle.cpi_wire.specs.Line.{frozen_month_data, tables_data, table_data};
+ghost use Rattle.cpi_wire.specs.Line.{item_fields, price_fields, work_row_data, frozen_month_data, table_data};
 
+use crate::lists::{items_text, quotes_text, tables_text, work_text};
 use crate::refusals::refusal_value;
 use cpi_codes::{ItemCode, Price};
 use cpi_office::Reply;
@@ -54,8 +56,8 @@ fn mark_value(alloc: Global, mark: Mark) -> Result<Value, AllocError>
     }
 }
 
-// A quote: its slot, month, mark, value and receipt.
-fn quote_value(alloc: Global, quote: &Quote) -> Result<Value, AllocError>
+/// A quote: its slot, month, mark, value and receipt.
+pub(crate) fn quote_value(alloc: Global, quote: &Quote) -> Result<Value, AllocError>
     ensures { IfOk result (λ v. view v ≡ quote_data quote.now) }
 {
     let slot = quote.slot.number();
@@ -73,8 +75,8 @@ fn code_text(alloc: Global, code: ItemCode) -> Result<String, AllocError>
     code.text(alloc)
 }
 
-// An item: its code, text, unit and tolerances, in per mille of the last price.
-fn item_value(alloc: Global, item: &Item) -> Result<Value, AllocError>
+/// An item: its code, text, unit and tolerances, in per mille of the last price.
+pub(crate) fn item_value(alloc: Global, item: &Item) -> Result<Value, AllocError>
     ensures { IfOk result (λ v. view v ≡ item_data item.now) }
 {
     let code = code_text(alloc, item.code)?;
@@ -143,8 +145,8 @@ fn add_prices(alloc: Global, fields: &mut Vec<Value>, row: &WorkRow) -> Result<(
     Ok(())
 }
 
-// A row of the work of a month.
-fn work_row_value(alloc: Global, row: &WorkRow) -> Result<Value, AllocError>
+/// A row of the work of a month.
+pub(crate) fn work_row_value(alloc: Global, row: &WorkRow) -> Result<Value, AllocError>
     ensures { IfOk result (λ v. view v ≡ work_row_data row.now) }
 {
     let mut fields = Vec::with_capacity(alloc, 9)?;
@@ -154,57 +156,16 @@ fn work_row_value(alloc: Global, row: &WorkRow) -> Result<Value, AllocError>
     Ok(Value::Array(fields))
 }
 
-// The work of a month.
-fn work_value(alloc: Global, rows: &[WorkRow]) -> Result<Value, AllocError>
-    ensures { IfOk result (λ v. view v ≡ work_data rows.now) }
-{
-    let mut values = Vec::with_capacity(alloc, rows.len())?;
-    for row in rows {
-        values.push(work_row_value(alloc, row)?)?;
-    }
-    json!(in alloc; {"work": values})
-}
-
-// A list of quotes.
-fn quotes_value(alloc: Global, quotes: &[Quote]) -> Result<Value, AllocError>
-    ensures { IfOk result (λ v. view v ≡ quotes_data quotes.now) }
-{
-    let mut rows = Vec::with_capacity(alloc, quotes.len())?;
-    for quote in quotes {
-        rows.push(quote_value(alloc, quote)?)?;
-    }
-    json!(in alloc; {"quotes": rows})
-}
-
-// A list of items.
-fn items_value(alloc: Global, items: &[Item]) -> Result<Value, AllocError>
-    ensures { IfOk result (λ v. view v ≡ items_data items.now) }
-{
-    let mut rows = Vec::with_capacity(alloc, items.len())?;
-    for item in items {
-        rows.push(item_value(alloc, item)?)?;
-    }
-    json!(in alloc; {"items": rows})
-}
-
-// The month of a table, its revision, and the moment at which it is published, in seconds since 1970 UTC.
-fn frozen_month_value(alloc: Global, frozen_month: &FrozenMonth) -> Result<Value, AllocError>
+/// The month of a table, its revision, and the moment at which it is published, in seconds since 1970 UTC.
+pub(crate) fn frozen_month_value(
+    alloc: Global,
+    frozen_month: &FrozenMonth,
+) -> Result<Value, AllocError>
     ensures { IfOk result (λ v. view v ≡ frozen_month_data frozen_month.now) }
 {
     let month = frozen_month.month.text(alloc)?;
     let revision = frozen_month.revision.number();
     json!(in alloc; [month, revision, frozen_month.publishes.seconds()])
-}
-
-// A list of tables.
-fn tables_value(alloc: Global, frozen_months: &[FrozenMonth]) -> Result<Value, AllocError>
-    ensures { IfOk result (λ v. view v ≡ tables_data frozen_months.now) }
-{
-    let mut rows = Vec::with_capacity(alloc, frozen_months.len())?;
-    for frozen_month in frozen_months {
-        rows.push(frozen_month_value(alloc, frozen_month)?)?;
-    }
-    json!(in alloc; {"tables": rows})
 }
 
 // A printed table, as one text.
@@ -214,27 +175,34 @@ fn table_value(alloc: Global, printed: &PrintedTable) -> Result<Value, AllocErro
     json!(in alloc; {"table": printed.as_str()})
 }
 
-// The JSON value of a reply.
-fn reply_value(alloc: Global, reply: &Reply) -> Result<Value, AllocError>
-    ensures { IfOk result (λ v. view v ≡ data_of reply.now) }
+// The receipt of a quote.
+fn receipt_value(alloc: Global, receipt: u32) -> Result<Value, AllocError>
+    ensures { IfOk result (λ v. view v ≡ object_of_one (codes "receipt") (int receipt)) }
 {
-    match reply {
-        Reply::Receipt(receipt) => json!(in alloc; {"receipt": *receipt}),
-        Reply::Done => json!(in alloc; {"done": true}),
-        Reply::Work(rows) => work_value(alloc, rows.as_slice()),
-        Reply::Quotes(quotes) => quotes_value(alloc, quotes.as_slice()),
-        Reply::Items(items) => items_value(alloc, items.as_slice()),
-        Reply::Tables(frozen_months) => tables_value(alloc, frozen_months.as_slice()),
-        Reply::Table(printed) => table_value(alloc, printed),
-        Reply::Refused(refusal) => refusal_value(alloc, refusal),
-    }
+    json!(in alloc; {"receipt": receipt})
+}
+
+// What is said of a change that was made.
+fn done_value(alloc: Global) -> Result<Value, AllocError>
+    ensures { IfOk result (λ v. view v ≡ object_of_one (codes "done") (boolean true)) }
+{
+    json!(in alloc; {"done": true})
 }
 
 /// The JSON text of a reply, without spaces, its keys in byte order.
 pub(crate) fn reply_text(alloc: Global, reply: &Reply) -> Result<Vec<u8>, AllocError>
     ensures { IfOk result (λ text. text.items ≡ compact_text (data_of reply.now)) }
 {
-    reply_value(alloc, reply)?.to_vec(alloc)
+    match reply {
+        Reply::Receipt(receipt) => receipt_value(alloc, *receipt)?.to_vec(alloc),
+        Reply::Done => done_value(alloc)?.to_vec(alloc),
+        Reply::Work(rows) => work_text(alloc, rows.as_slice()),
+        Reply::Quotes(quotes) => quotes_text(alloc, quotes.as_slice()),
+        Reply::Items(items) => items_text(alloc, items.as_slice()),
+        Reply::Tables(frozen_months) => tables_text(alloc, frozen_months.as_slice()),
+        Reply::Table(printed) => table_value(alloc, printed)?.to_vec(alloc),
+        Reply::Refused(refusal) => refusal_value(alloc, refusal)?.to_vec(alloc),
+    }
 }
 
 /// The line of a reply: one JSON text without spaces, its keys in byte order, and a line feed.

@@ -11,21 +11,31 @@ use Rattle.cpi_store.proofs.Loaded.{holders_in_order, ok_found}
 use Rattle.cpi_store.proofs.TakenRows.{given_again, taken_are_given, taken_sorted}
 use Rattle.cpi_store.proofs.survey.Survey.from_rows.Goals as goal
 
+pub of-requires : goal.of-requires
+of-requires c =
+    let given = c.args.given.now in
+    let listed : c.in_ok-overs.overs.items ≡ taken_rows given =
+    ok_found (λ ts. ts.items ≡ taken_rows given) c.taken_of.result c.in_ok-overs.overs c.in_ok-overs.ensures.value
+    c.taken_of.ensures in
+    rw (c.deref-2.ensures.value, listed) (taken_sorted given c.requires.given)
+
 pub invariant_of-result : goal.invariant_of-result
 invariant_of-result c =
     let hs = c.in_ok-holders.holders.items in
     let given = c.args.given.now in
     let have : HaveRows c.args.outlets c.args.registrations.items given c.args.quotes.now hs =
-    rw c.deref-2.ensures.value at c.in_ok-holders.ensures in
-    let named : c.in_ok-taken.taken.items ≡ taken_rows given =
-    ok_found (λ ts. ts.items ≡ taken_rows given) c.taken_of.result c.in_ok-taken.taken c.in_ok-taken.ensures.value
+    rw c.deref-3.ensures.value at c.in_ok-holders.ensures in
+    let listed : c.in_ok-overs.overs.items ≡ taken_rows given =
+    ok_found (λ ts. ts.items ≡ taken_rows given) c.taken_of.result c.in_ok-overs.overs c.in_ok-overs.ensures.value
     c.taken_of.ensures in
+    let named : c.in_ok-taken.taken ≡ taken_rows given =
+    ok_found (λ ts. ts ≡ c.deref-2.result.now) c.of.result c.in_ok-taken.taken c.in_ok-taken.ensures.value c.of.ensures
+    ∙ c.deref-2.ensures.value ∙ listed in
     record {
       holders = holders_in_order hs (rw have.collectors c.requires.registrations);
       registrations = λ key. c.in_ok-by_key.ensures key ∙ ap (registration_of key)
           (c.deref.ensures.value ∙ sym have.collectors);
       outlets = rw (← c.outlets.view_is) c.outlets.invariant.order;
-      taken = rw named (taken_sorted given c.requires.given);
       given = rw (named, have.assignments) (taken_are_given given);
       placed = have.placed;
       nobody = c.new.ensures;
@@ -36,12 +46,15 @@ pub returns : goal.returns
 returns c =
     let hs = c.in_ok-holders.holders.items in
     let given = c.args.given.now in
-    let taken = c.in_ok-taken.taken.items in
+    let taken = c.in_ok-taken.taken in
     let have : HaveRows c.args.outlets c.args.registrations.items given c.args.quotes.now hs =
-    rw c.deref-2.ensures.value at c.in_ok-holders.ensures in
-    let named : taken ≡ taken_rows given =
-    ok_found (λ ts. ts.items ≡ taken_rows given) c.taken_of.result c.in_ok-taken.taken c.in_ok-taken.ensures.value
+    rw c.deref-3.ensures.value at c.in_ok-holders.ensures in
+    let listed : c.in_ok-overs.overs.items ≡ taken_rows given =
+    ok_found (λ ts. ts.items ≡ taken_rows given) c.taken_of.result c.in_ok-overs.overs c.in_ok-overs.ensures.value
     c.taken_of.ensures in
+    let named : taken ≡ taken_rows given =
+    ok_found (λ ts. ts ≡ c.deref-2.result.now) c.of.result taken c.in_ok-taken.ensures.value c.of.ensures
+    ∙ c.deref-2.ensures.value ∙ listed in
     let all : all_given taken hs ≡ given =
     ap (map (given_in taken)) have.assignments
     ∙ ap (λ ts. map (given_in ts) (map without_series given)) named

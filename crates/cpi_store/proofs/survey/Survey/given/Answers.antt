@@ -27,15 +27,14 @@ returns-in-None c =
 pub returns-in-Some : goal.returns-in-Some
 returns-in-Some c =
     let i = c.self.inside in
-    let taken = i.taken.items in
+    let taken = i.taken in
     let rows = all_assignments i.holders.items in
     let n = c.args.collector in
     let slot = c.args.slot in
     let a : Assigned = c.in-Some.assigned.now in
     let found = sym (ap option_copied c.in-Some.is) ∙ c.assigned.ensures ∙ ap (assigned_in slot) c.own.ensures
     ∙ ap (λ (o : Office). assigned_in slot (own_part n o)) (sym c.self.view_is) in
-    let series : c.series_in.result ≡ series_named_in taken n slot = c.series_in.ensures
-    ∙ ap (λ ts. series_named_in ts n slot) c.deref.ensures.value in
+    let series : c.series_in.result ≡ series_named_in taken n slot = c.series_in.ensures in
     let given : SeriesId → Given = λ s. record { assignment = a.assignment; series = s } in
     ap (λ s. Some (given s)) series ∙ given_found taken n i.outlets slot rows (Some a) found
     ∙ ap (λ (o : Office). row_by_number (λ (g : Given). g.assignment.slot) slot (held_by n o.assignments))

@@ -39,9 +39,8 @@ invariant_of-self-2 c =
       registrations = λ key. c.self.invariant.registrations key ∙ ap (registration_of key)
           (sym c.put_assignment_of.ensures.collectors);
       outlets = c.self.invariant.outlets;
-      taken = c.self.invariant.taken;
       given = given_after rows (all_assignments c.put_assignment_of.new.holders.items)
-          (λ n slot is. rw c.in_ok-put_assignment_of.ensures.ok (slot_stays n slot b a rows is)) i.taken.items
+          (λ n slot is. rw c.in_ok-put_assignment_of.ensures.ok (slot_stays n slot b a rows is)) i.taken
           c.self.invariant.given;
       placed = c.put_assignment_of.ensures.placed i.outlets there c.self.invariant.placed;
       nobody = c.self.invariant.nobody;
@@ -53,7 +52,7 @@ returns-clause-ok c =
     let i = c.self.inside in
     let hs = i.holders.items in
     let new = c.put_assignment_of.new.holders.items in
-    let taken = i.taken.items in
+    let taken = i.taken in
     let rows = all_assignments hs in
     let b = c.args.registration.number in
     let a = c.args.assigned.assignment in

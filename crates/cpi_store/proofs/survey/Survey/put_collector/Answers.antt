@@ -52,7 +52,6 @@ invariant_of-self-2 c =
           ∙ ap (registration_of key) (sym (collectors_added h hs c.self.invariant.holders none)
           ∙ ap collectors_of (sym after));
       outlets = c.self.invariant.outlets;
-      taken = c.self.invariant.taken;
       given = rw (after, assignments_added h hs c.self.invariant.holders none refl) c.self.invariant.given;
       placed = rw after (placed_added h hs c.self.invariant.holders none refl us c.self.invariant.placed);
       nobody = c.self.invariant.nobody;
@@ -76,7 +75,7 @@ returns-clause-ok c =
     c.self.view_is
     ∙ c.requires.number in
     rw (← c.self.view_is)
-    (ap (office_of i.public i.outlets [] i.taken.items) after
+    (ap (office_of i.public i.outlets [] i.taken) after
     ∙ office_added h hs c.self.invariant.holders (no_holder c.args.registration.number hs missing) refl i.public
     i.outlets
-    [] i.taken.items)
+    [] i.taken)

@@ -19,7 +19,6 @@ invariant_of-self-2 c =
       holders = c.self.invariant.holders;
       registrations = c.self.invariant.registrations;
       outlets = c.put.ensures.order;
-      taken = c.self.invariant.taken;
       given = c.self.invariant.given;
       placed = rw after (still_placed c.args.outlet us c.self.invariant.outlets new lists c.self.invariant.placed);
       nobody = c.self.invariant.nobody;
@@ -34,7 +33,6 @@ invariant_of-self c =
       holders = c.self.invariant.holders;
       registrations = c.self.invariant.registrations;
       outlets = c.put.ensures.order;
-      taken = c.self.invariant.taken;
       given = c.self.invariant.given;
       placed = rw same c.self.invariant.placed;
       nobody = c.self.invariant.nobody;
@@ -45,4 +43,4 @@ pub returns-clause-ok : goal.returns-clause-ok
 returns-clause-ok c =
     let i = c.self.inside in
     let after : c.put.new.self ≡ put_by (λ (u : Outlet). u.number) c.args.outlet i.outlets = c.in_ok-put.ensures.ok in
-    rw (← c.self.view_is) (ap (λ us. office_of i.public us [] i.taken.items i.holders.items) after)
+    rw (← c.self.view_is) (ap (λ us. office_of i.public us [] i.taken i.holders.items) after)

@@ -11,7 +11,6 @@ put_quote_of-requires-clause-known c = known_holder c.args.registration.number c
 pub invariant_of-self : goal.invariant_of-self
 invariant_of-self c = record {
   outlets = c.self.invariant.outlets;
-  taken = c.self.invariant.taken;
   given = rw c.put_quote_of.ensures.assignments c.self.invariant.given;
   placed = rw c.put_quote_of.ensures.own_assignments c.self.invariant.placed;
   nobody = c.self.invariant.nobody;
