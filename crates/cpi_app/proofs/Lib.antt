@@ -1,5 +1,6 @@
 pub mod Beginning
 pub mod Fronts
+pub mod Jobs
 pub mod Losing
 pub mod Numbers
 pub mod Served

@@ -3,7 +3,7 @@ use Rattle.std.specs.Prelude.{◌≡◌, ◌≤◌, ◌⊎◌, ℕ, List, [], Op
 use Rattle.std.specs.Prelude.{unwrap_or, option_map, codes, true, false}
 use Rattle.std.specs.Str.Parse.{ParsesUnsigned}
 use Rattle.clap.specs.Words.{App, Row, Rule, Text, first_of, one_of, new_app, new_rule, with_rule}
-use Rattle.clap.specs.Words.{with_subcommand, subcommand_of}
+use Rattle.clap.specs.Words.{takes, with_subcommand, subcommand_of}
 use Rattle.clap.specs.declared.builder.value_parser.ValueParser.TheVariants as parser
 use Rattle.cpi_codes.specs.declared.limits.TheConstants.{LAST_MOMENT}
 use Rattle.cpi_app.specs.declared.job.DeskKey.{DeskKey}
@@ -20,10 +20,6 @@ option name = record (new_rule name) { long = Some name }
 abbrev pub required_option : Text → Rule
 required_option name = record (option name) { required = true }
 
--- an option that has to be given if another one isn't, and can't be given with it
-abbrev pub either_option : Text → Rule
-either_option name = record (option name) { is_free = false }
-
 -- a number in a range
 abbrev pub optional_number : Text → ℕ → ℕ → Rule
 optional_number name low high = record (option name) { parser = Some (parser.Unsigned low high) }
@@ -38,8 +34,8 @@ replay = with_rule (with_rule (new_app (codes "replay")) (option (codes "zone"))
 
 abbrev pub serve : App
 serve = with_rule (with_rule (with_rule (with_rule (with_rule (with_rule (new_app (codes "serve"))
-    (required_option (codes "db"))) (number_option (codes "port") 1 65535)) (either_option (codes "desk-key")))
-    (either_option (codes "desk-key-file"))) (number_option (codes "limit") 1 MOST_CONNECTIONS)) (option (codes "zone"))
+    (required_option (codes "db"))) (number_option (codes "port") 1 65535)) (option (codes "desk-key")))
+    (option (codes "desk-key-file"))) (number_option (codes "limit") 1 MOST_CONNECTIONS)) (option (codes "zone"))
 
 abbrev pub table : App
 table = with_rule (with_rule (with_rule (with_rule (with_rule (new_app (codes "table"))
@@ -101,3 +97,7 @@ IsJob sub (Table db month revision form at) = (sub.0 ≡ codes "table") × HasTe
 -- the words name a subcommand, and the job is that one
 abbrev pub GivesJob : List Text → Job → Type 0
 GivesJob words job = (sub : Text × List Row) × (subcommand_of cpi words ≡ Some sub) × IsJob sub job
+
+-- the words are refused: they don't follow the rules of the command line, or they give no job
+abbrev pub AreRefused : List Text → Type 0
+AreRefused words = takes cpi words ≡ true → (job : Job) → GivesJob words job → ⊥

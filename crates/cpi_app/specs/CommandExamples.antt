@@ -1,6 +1,6 @@
 -- Command lines, and what they give, computed.
-use Rattle.std.specs.Prelude.{◌≡◌, List, [], ◌∷◌, Option, Some, None, option_map, option_and_then, codes}
-use Rattle.clap.specs.Words.{Text, first_of, subcommand_of}
+use Rattle.std.specs.Prelude.{◌≡◌, List, [], ◌∷◌, Option, Some, None, option_map, option_and_then, codes, true, false}
+use Rattle.clap.specs.Words.{Text, first_of, subcommand_of, takes}
 use Rattle.cpi_app.specs.Command.{cpi}
 
 -- the subcommand that the words name
@@ -55,3 +55,17 @@ Prints = (job printed ≡ Some (codes "table")) × (value printed (codes "db") �
 abbrev pub NamesNone : Type 0
 NamesNone = (job [] ≡ None) × (job (codes "--help" ∷ []) ≡ None) × (job (codes "--version" ∷ []) ≡ None)
     × (job (codes "play" ∷ []) ≡ None) × (job (codes "Replay" ∷ []) ≡ None)
+
+-- each of these command lines follows the rules, so only a lack of memory refuses the job that it gives
+abbrev pub FollowsRules : Type 0
+FollowsRules = (takes cpi zoned ≡ true) × (takes cpi filed ≡ true) × (takes cpi served ≡ true)
+    × (takes cpi by_key_file ≡ true) × (takes cpi printed ≡ true)
+
+-- no subcommand, help, an option without its value, an unknown one, one that is missing, and a port above the last one
+abbrev pub BreaksRules : Type 0
+BreaksRules = (takes cpi [] ≡ false) × (takes cpi (codes "--help" ∷ []) ≡ false)
+    × (takes cpi (codes "replay" ∷ codes "--zone" ∷ []) ≡ false)
+    × (takes cpi (codes "replay" ∷ codes "--clock" ∷ codes "EST5" ∷ []) ≡ false)
+    × (takes cpi (codes "table" ∷ codes "--db" ∷ codes "F" ∷ []) ≡ false)
+    × (takes cpi (codes "serve" ∷ codes "--port" ∷ codes "65536" ∷ codes "--db" ∷ codes "F" ∷ codes "--limit"
+    ∷ codes "1" ∷ codes "--desk-key" ∷ codes "K" ∷ []) ≡ false)

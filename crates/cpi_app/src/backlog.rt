@@ -1,10 +1,11 @@
 //! A listener in memory, over which tests run the loop of connections.
 
+use crate::buffer_note::BufferNote;
 use crate::listener::{Listener, NoClock};
 use crate::service::Service;
 use cpi_codes::Moment;
 use cpi_http::Ended;
-use cpi_wire::Failure;
+use cpi_wire::{Failure, WriteNote};
 
 /// A connection that waits to be accepted, or did.
 #[derive(Drop)]
@@ -48,6 +49,14 @@ impl Listener for Backlog {
             return Err(NoClock);
         };
         let mut sent = next.sent.as_slice();
-        Ok(Some(service.serve(now, &mut sent, &mut next.written)))
+        let (mut read_note, mut write_note) = (BufferNote::new(), WriteNote::new());
+        let outcome = service.serve(
+            now,
+            &mut sent,
+            &mut read_note,
+            &mut next.written,
+            &mut write_note,
+        );
+        Ok(Some(outcome))
     }
 }

@@ -1,14 +1,16 @@
 //! The arguments of the command line: the program's commands with their options, and the job that they ask for.
-ghost use Rattle.std.specs.Prelude.{◌≡◌, IfOk, IfSome, map, false, codes, Some, List};
-ghost use Rattle.clap.specs.Words.{app_of, new_app, found_of, rows_of, subcommand_rows_of, Text, Row};
+ghost use Rattle.std.specs.Prelude.{◌≡◌, ◌≢◌, IfOk, IfErr, IfSome, IfNone, map, false, codes, Some, List};
+ghost use Rattle.clap.specs.Words.{app_of, new_app, found_of, rows_of, subcommand_rows_of, kind_of, Text, Row};
+ghost use Rattle.clap.specs.declared.error.kind.ErrorKind.TheVariants.{OutOfMemory};
 ghost use Rattle.clap.specs.declared.builder.command.Command.TheViews.{out-Command};
-ghost use Rattle.cpi_app.specs.Command.{GivesJob, IsJob, cpi, replay, serve, table};
+ghost use Rattle.cpi_app.specs.Command.{AreRefused, GivesJob, IsJob, cpi, replay, serve, table};
+ghost use Rattle.cpi_app.specs.declared.job.Job.{Job};
 
 use crate::help;
 use crate::job::Job;
 use crate::limits::MOST_CONNECTIONS;
 use crate::options::{
-    desk_key_of, either, form_of, limit_of, number, option, optional_number, port_of, required,
+    desk_key_of, form_of, limit_of, number, option, optional_number, port_of, required,
     revision_of, second_of, text_of, zone_of,
 };
 use crate::version::VERSION;
@@ -17,7 +19,7 @@ use clap::{ArgMatches, Command, Error};
 use cpi_codes::LAST_MOMENT;
 use std::alloc::{AllocError, Global};
 
-const ZONE_HELP: &str = "The clock's rule, like CET-1CEST,M3.5.0,M10.5.0/3; else UTC0";
+const ZONE_HELP: &str = "A POSIX time zone, as CET-1CEST,M3.5.0,M10.5.0/3; else UTC0";
 
 const FILE_HELP: &str = "The database file of the office; it is made if it is missing";
 
@@ -50,35 +52,44 @@ fn replay_command<'a>(alloc: Global) -> Result<Command<'a>, AllocError>
     .arg(option(alloc, "db", FILE_HELP))
 }
 
+// The command `cpi serve` without its options, with its usage.
+fn bare_serve<'a>(alloc: Global) -> Command<'a>
+    ensures app { app_of result ≡ new_app (codes "serve") }
+    ensures local { (out-Command result).has_globals ≡ false }
+{
+    subcommand(
+        alloc,
+        "serve",
+        "Serves the office over HTTP on a port of this machine, one connection after another",
+        help::SERVE,
+    )
+    .override_usage(help::SERVE_USAGE)
+}
+
 // The command `cpi serve`, with its options. It fails if there is no memory.
 fn serve_command<'a>(alloc: Global) -> Result<Command<'a>, AllocError>
     ensures app { IfOk result (λ c. app_of c ≡ serve) }
     ensures local { IfOk result (λ c. (out-Command c).has_globals ≡ false) }
 {
-    subcommand(
-        alloc,
-        "serve",
-        "Serves the office over HTTP at a port of this machine, one connection after another",
-        help::SERVE,
-    )
-    .arg(required(alloc, "db", FILE_HELP))?
-    .arg(number(
-        alloc,
-        "port",
-        "The port at 127.0.0.1, 1 to 65535",
-        1,
-        65_535,
-    ))?
-    .arg(either(alloc, "desk-key", "desk-key-file", KEY_HELP)?)?
-    .arg(either(alloc, "desk-key-file", "desk-key", KEY_FILE_HELP)?)?
-    .arg(number(
-        alloc,
-        "limit",
-        "How many connections to serve, 1 to 1000000",
-        1,
-        MOST_CONNECTIONS as u64,
-    ))?
-    .arg(option(alloc, "zone", ZONE_HELP))
+    bare_serve(alloc)
+        .arg(required(alloc, "db", FILE_HELP))?
+        .arg(number(
+            alloc,
+            "port",
+            "The port on 127.0.0.1, 1 to 65535",
+            1,
+            65_535,
+        ))?
+        .arg(option(alloc, "desk-key", KEY_HELP))?
+        .arg(option(alloc, "desk-key-file", KEY_FILE_HELP))?
+        .arg(number(
+            alloc,
+            "limit",
+            "How many connections to serve, 1 to 1000000",
+            1,
+            MOST_CONNECTIONS as u64,
+        ))?
+        .arg(option(alloc, "zone", ZONE_HELP))
 }
 
 // The command `cpi table`, with its options. It fails if there is no memory.
@@ -138,9 +149,11 @@ fn replay_of<'a>(matches: &ArgMatches<'a>) -> Job<'a>
     }
 }
 
-// The job of `cpi serve`, by the values of its options. `None` doesn't occur once `clap` has checked them.
+// The job of `cpi serve`, by the values of its options. `None` if they give no key of the desk, or two. (`clap` has
+// checked the others.)
 fn serve_of<'a>(matches: &ArgMatches<'a>) -> Option<Job<'a>>
-    ensures { IfSome result (IsJob (codes "serve", rows_of (found_of matches.now))) }
+    ensures some { IfSome result (IsJob (codes "serve", rows_of (found_of matches.now))) }
+    ensures none { IfNone result ((job : Job) → IsJob (codes "serve", rows_of (found_of matches.now)) job → ⊥) }
 {
     Some(Job::Serve {
         db: text_of(matches, "db")?,
@@ -153,7 +166,8 @@ fn serve_of<'a>(matches: &ArgMatches<'a>) -> Option<Job<'a>>
 
 // The job of `cpi table`, by the values of its options. `None` if the form is neither text nor csv.
 fn table_of<'a>(matches: &ArgMatches<'a>) -> Option<Job<'a>>
-    ensures { IfSome result (IsJob (codes "table", rows_of (found_of matches.now))) }
+    ensures some { IfSome result (IsJob (codes "table", rows_of (found_of matches.now))) }
+    ensures none { IfNone result ((job : Job) → IsJob (codes "table", rows_of (found_of matches.now)) job → ⊥) }
 {
     Some(Job::Table {
         db: text_of(matches, "db")?,
@@ -164,10 +178,20 @@ fn table_of<'a>(matches: &ArgMatches<'a>) -> Option<Job<'a>>
     })
 }
 
-// The job of the command that the arguments name. `None` if a form is neither text nor csv.
+// Why the options of a command give no job.
+fn fault_of(matches: &ArgMatches) -> &'static str {
+    match matches.subcommand() {
+        Some(("serve", _)) => "give either --desk-key-file or --desk-key",
+        _ => "a form is text or csv",
+    }
+}
+
+// The job of the command that the arguments name. `None` if its options give none.
 fn job_of<'a>(matches: &ArgMatches<'a>) -> Option<Job<'a>>
-    ensures { IfSome result (λ job. (sub : Text × List Row)
+    ensures some { IfSome result (λ job. (sub : Text × List Row)
         × (subcommand_rows_of matches.now ≡ Some sub) × IsJob sub job) }
+    ensures none { IfNone result ((sub : Text × List Row) → subcommand_rows_of matches.now ≡ Some sub → (job : Job)
+        → IsJob sub job → ⊥) }
 {
     let (name, options) = matches.subcommand()?;
     match name {
@@ -179,14 +203,15 @@ fn job_of<'a>(matches: &ArgMatches<'a>) -> Option<Job<'a>>
 }
 
 /// The job that the arguments after the program's name ask for, as `clap` reads them. The error is `clap`'s and has its
-/// text; a request for help or for the version is one too.
+/// text; a request for help or for the version is one too. Only a lack of memory refuses arguments that give a job.
 pub fn job_of_words<'a>(alloc: Global, words: &'a [&'a str]) -> Result<Job<'a>, Error>
-    ensures { IfOk result (GivesJob (map (λ s. s.now) words.now)) }
+    ensures job { IfOk result (GivesJob (map (λ s. s.now) words.now)) }
+    ensures refused { IfErr result (λ e. kind_of e ≢ OutOfMemory → AreRefused (map (λ s. s.now) words.now)) }
 {
     let mut command = cpi_command(alloc)?;
     let matches = command.try_get_matches_from_mut(words)?;
     match job_of(&matches) {
         Some(job) => Ok(job),
-        None => Err(command.error(ErrorKind::InvalidValue, "a form is text or csv")?),
+        None => Err(command.error(ErrorKind::InvalidValue, fault_of(&matches))?),
     }
 }

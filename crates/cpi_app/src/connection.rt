@@ -1,16 +1,17 @@
 //! One connection: its message is read and answered by the office at a desk.
-ghost use Rattle.std.specs.Prelude.{◌≡◌, IfOk, IfErr, true};
+ghost use Rattle.std.specs.Prelude.{IfOk, IfErr};
 ghost use Rattle.cpi_http.specs.Message.{setting};
-ghost use Rattle.cpi_http.specs.Served.{messages, served_change};
+ghost use Rattle.cpi_http.specs.Served.{IsNoted, messages, served_change};
 ghost use Rattle.cpi_app.specs.Connection.{ServesFront, GivesUpFront};
 
+use crate::buffer_note::BufferNote;
 use crate::desk::Desk;
 use crate::service::Service;
 use cpi_codes::Moment;
 use cpi_http::{Ended, Routes, serve_noted};
 use cpi_office::Office;
 use cpi_store::Book;
-use cpi_wire::{Failure, ReadNote, WireFault, WriteNote};
+use cpi_wire::{Failure, ReadNote, WriteNote};
 use std::alloc::{AllocError, Global};
 use std::io::{BufReader, Read, Write};
 
@@ -19,8 +20,9 @@ fn serve_buffered<R: Read, W: Write, B: Book>(
     alloc: Global,
     routes: &Routes,
     reader: &mut R,
+    read_note: &mut ReadNote<R>,
     writer: &mut W,
-    note: &mut WriteNote<W>,
+    write_note: &mut WriteNote<W>,
     now: Moment,
     desk: &Desk,
     office: &mut Office<B>,
@@ -31,32 +33,24 @@ fn serve_buffered<R: Read, W: Write, B: Book>(
     ensures err { IfErr result (GivesUpFront B.state (messages (setting now desk.now.zone desk.now.key))
         (R.remaining reader.old)
         (served_change office.old.book office.new.book (W.contents writer.old) (W.contents writer.new))) }
-    ensures noted { IfErr result (λ e. e ≡ WireFault.Write → note.new.has_failed ≡ true) }
+    ensures noted { IfErr result (IsNoted read_note.new.has_failed write_note.new.has_failed) }
 {
-    let mut read_note = ReadNote::new();
     serve_noted(
-        alloc,
-        routes,
-        reader,
-        &mut read_note,
-        writer,
-        note,
-        now,
-        &desk.zone,
-        desk.key,
-        office,
+        alloc, routes, reader, read_note, writer, write_note, now, &desk.zone, desk.key, office,
     )
 }
 
 /// Serves one message of the reader, which it reads through a buffer: bytes after the message may have been read too,
 /// and are thrown away. Without routes it makes them for this message, which takes memory. The failures are those of
-/// `serve_noted` of `cpi_http`, and a lack of memory for the buffer. After `Write` the note says that writing failed.
+/// `serve_noted` of `cpi_http`, and a lack of memory for the buffer. After `Read` the first note says that reading
+/// failed, and after `Write` the second one that writing did.
 pub fn serve_front<R: Read, W: Write, B: Book>(
     alloc: Global,
     routes: Option<&Routes>,
     reader: &mut R,
+    read_note: &mut BufferNote<R>,
     writer: &mut W,
-    note: &mut WriteNote<W>,
+    write_note: &mut WriteNote<W>,
     now: Moment,
     desk: &Desk,
     office: &mut Office<B>,
@@ -67,18 +61,20 @@ pub fn serve_front<R: Read, W: Write, B: Book>(
     ensures err { IfErr result (GivesUpFront B.state (messages (setting now desk.now.zone desk.now.key))
         (R.remaining reader.old)
         (served_change office.old.book office.new.book (W.contents writer.old) (W.contents writer.new))) }
-    ensures noted { IfErr result (λ e. e ≡ WireFault.Write → note.new.has_failed ≡ true) }
+    ensures noted { IfErr result (IsNoted read_note.new.has_failed write_note.new.has_failed) }
 {
     let Ok(mut buffered) = BufReader::new(alloc, reader) else {
         return Err(Failure::from(AllocError));
     };
-    match routes {
+    let mut note = ReadNote::new();
+    let ended = match routes {
         Some(routes) => serve_buffered(
             alloc,
             routes,
             &mut buffered,
+            &mut note,
             writer,
-            note,
+            write_note,
             now,
             desk,
             office,
@@ -87,13 +83,16 @@ pub fn serve_front<R: Read, W: Write, B: Book>(
             alloc,
             &Routes::new(alloc)?,
             &mut buffered,
+            &mut note,
             writer,
-            note,
+            write_note,
             now,
             desk,
             office,
         ),
-    }
+    };
+    read_note.take(&note);
+    ended
 }
 
 /// The office at a desk. It serves one message of each connection, by routes that it keeps, if it had memory for them.
@@ -115,11 +114,14 @@ impl<B: Book> Service for OfficeAtDesk<'_, B> {
         &mut self,
         now: Moment,
         reader: &mut R,
+        read_note: &mut BufferNote<R>,
         writer: &mut W,
+        write_note: &mut WriteNote<W>,
     ) -> Result<Ended, Failure> {
-        let (desk, routes) = (self.desk, self.routes.as_ref());
+        let (alloc, desk, routes) = (self.alloc, self.desk, self.routes.as_ref());
         let office = &mut self.office;
-        let (alloc, mut note) = (self.alloc, WriteNote::new());
-        serve_front(alloc, routes, reader, writer, &mut note, now, desk, office)
+        serve_front(
+            alloc, routes, reader, read_note, writer, write_note, now, desk, office,
+        )
     }
 }

@@ -16,15 +16,20 @@ Exit status:
 pub const REPLAY: &str = "\
 Reads:     records from standard input, in CSV: a moment, a caller, a word and its arguments
            (docs/reference/FORMATS.md lists them); with --db also the file of the office
-Writes:    one line for each record to standard output, also for a refused one; with --db each
+Writes:    one line for each record, even if it is refused, to standard output; with --db each
            change to the file before the line of its record
 Example:   cpi replay --db office.db < records.csv > replies.txt
 Exit status:
   0        the input has ended, and each record has its line
-  1        an error: one line on standard error names it, `cpi: ` and one of: bad zone, unknown
-           schema, database failed, read failed, write failed, out of memory; everything answered
-           before it is kept
+  1        an error: one line on standard error names it. It is `cpi: ` followed by bad zone,
+           unknown schema, database failed, read failed, write failed or out of memory; everything
+           answered before it is kept
   2        the arguments are refused, and nothing was done; standard error says why";
+
+/// The usage of `cpi serve`, with both ways to give the desk's key, of which one is needed.
+pub const SERVE_USAGE: &str = "\
+cpi serve [OPTIONS] --db <db> --port <port> --limit <limit>
+                 <--desk-key-file <desk-key-file>|--desk-key <desk-key>>";
 
 /// The end of `cpi serve --help`.
 pub const SERVE: &str = "\
@@ -38,8 +43,8 @@ Key:       the text of the file that --desk-key-file names, without white space 
 Example:   cpi serve --db office.db --port 8080 --limit 100 --desk-key-file desk-key
 Exit status:
   0        it served as many connections as --limit says
-  1        an error: one line on standard error names it, `cpi: ` and one of: bad zone, bad key,
-           unknown schema, database failed, no port, no clock, write failed, out of memory;
+  1        an error: one line on standard error names it. It is `cpi: ` followed by bad zone, bad
+           key, unknown schema, database failed, no port, no clock, write failed or out of memory;
            everything answered before it is kept
   2        the arguments are refused, and nothing was done; standard error says why";
 
@@ -52,7 +57,7 @@ Example:   cpi table --db office.db --month 2026-01 --form text --at 1769590800
            (with --revision 1: the same table before it was revised)
 Exit status:
   0        the table was printed
-  1        an error: one line on standard error names it, `cpi: ` and one of: bad month, unknown
-           schema, database failed, no table (by then no table of the month was published, or not
-           in this revision), write failed, out of memory
+  1        an error: one line on standard error names it. It is `cpi: ` followed by bad month,
+           unknown schema, database failed, no table (by then no table of the month was published,
+           or not in this revision), write failed or out of memory
   2        the arguments are refused, and nothing was done; standard error says why";

@@ -3,6 +3,7 @@
 #![tactic(auto)]
 
 mod backlog;
+mod buffer_note;
 mod command;
 mod connection;
 mod desk;
@@ -29,6 +30,7 @@ mod timed;
 mod version;
 
 pub use backlog::{Backlog, Queued};
+pub use buffer_note::BufferNote;
 pub use command::job_of_words;
 pub use connection::{OfficeAtDesk, serve_front};
 pub use desk::{Desk, desk_of, read_key};

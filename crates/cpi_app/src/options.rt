@@ -1,8 +1,9 @@
 //! The options of the command line, and the values that the arguments give them.
-ghost use Rattle.std.specs.Prelude.{◌≡◌, ◌≤◌, ◌⊎◌, IfOk, IfSome, codes, false, option_map};
-ghost use Rattle.clap.specs.Words.{rule_of, found_of, rows_of, first_of};
+ghost use Rattle.std.specs.Prelude.{◌≡◌, ◌≤◌, ◌⊎◌, ℕ, Option, IfSome, IfNone, codes, false, option_map};
+ghost use Rattle.clap.specs.Words.{Text, rule_of, found_of, rows_of, first_of};
 ghost use Rattle.cpi_app.specs.Command.{HasDeskKey, HasNumber, HasRevision, HasText, HasZone};
-ghost use Rattle.cpi_app.specs.Command.{option, required_option, either_option, optional_number, number_option};
+ghost use Rattle.cpi_app.specs.Command.{option, required_option, optional_number, number_option};
+ghost use Rattle.cpi_app.specs.declared.job.DeskKey.{DeskKey};
 
 use crate::job::DeskKey;
 use crate::limits::MOST_CONNECTIONS;
@@ -10,7 +11,7 @@ use clap::builder::ValueParser;
 use clap::{Arg, ArgMatches};
 use cpi_codes::LAST_MOMENT;
 use cpi_release::Revision;
-use std::alloc::{AllocError, Global};
+use std::alloc::Global;
 
 /// An option with a value, and its line in the help.
 pub fn option<'a>(alloc: Global, name: &'a str, help: &'a str) -> Arg<'a>
@@ -26,21 +27,6 @@ pub fn required<'a>(alloc: Global, name: &'a str, help: &'a str) -> Arg<'a>
     ensures local { result.global ≡ false }
 {
     option(alloc, name, help).required(true)
-}
-
-/// An option that has to be given if the other one isn't, and can't be given with it. It fails if there is no memory.
-pub fn either<'a>(
-    alloc: Global,
-    name: &'a str,
-    other: &'a str,
-    help: &'a str,
-) -> Result<Arg<'a>, AllocError>
-    ensures rule { IfOk result (λ arg. rule_of arg ≡ either_option name.entry.now) }
-    ensures local { IfOk result (λ arg. arg.global ≡ false) }
-{
-    option(alloc, name, help)
-        .required_unless_present(other)?
-        .conflicts_with(other)
 }
 
 /// An option whose value is a number from `low` to `high`.
@@ -84,7 +70,9 @@ pub fn zone_of<'a>(matches: &ArgMatches<'a>) -> &'a str
 
 /// The number of the port, at least 1. `None` if none was given.
 pub fn port_of(matches: &ArgMatches) -> Option<u16>
-    ensures { IfSome result (λ n. HasNumber 16 (rows_of (found_of matches.now)) (codes "port") n × (1 ≤ n)) }
+    ensures some { IfSome result (λ n. HasNumber 16 (rows_of (found_of matches.now)) (codes "port") n × (1 ≤ n)) }
+    ensures none { IfNone result ((n : ℕ) → HasNumber 16 (rows_of (found_of matches.now)) (codes "port") n → 1 ≤ n
+        → ⊥) }
 {
     match matches.get_one::<u16>("port") {
         Some(port) if port >= 1 => Some(port),
@@ -94,7 +82,8 @@ pub fn port_of(matches: &ArgMatches) -> Option<u16>
 
 /// The place of the desk's key, by the one of its two options that was given. `None` if neither or both were.
 pub fn desk_key_of<'a>(matches: &ArgMatches<'a>) -> Option<DeskKey<'a>>
-    ensures { IfSome result (HasDeskKey (rows_of (found_of matches.now))) }
+    ensures some { IfSome result (HasDeskKey (rows_of (found_of matches.now))) }
+    ensures none { IfNone result ((key : DeskKey) → HasDeskKey (rows_of (found_of matches.now)) key → ⊥) }
 {
     match (
         text_of(matches, "desk-key"),
@@ -108,8 +97,10 @@ pub fn desk_key_of<'a>(matches: &ArgMatches<'a>) -> Option<DeskKey<'a>>
 
 /// How many connections to serve, from 1 to `MOST_CONNECTIONS`. `None` if no such number was given.
 pub fn limit_of(matches: &ArgMatches) -> Option<u32>
-    ensures { IfSome result (λ n.
+    ensures some { IfSome result (λ n.
         HasNumber 32 (rows_of (found_of matches.now)) (codes "limit") n × (1 ≤ n) × (n ≤ MOST_CONNECTIONS)) }
+    ensures none { IfNone result ((n : ℕ) → HasNumber 32 (rows_of (found_of matches.now)) (codes "limit") n → 1 ≤ n
+        → n ≤ MOST_CONNECTIONS → ⊥) }
 {
     match matches.get_one::<u32>("limit") {
         Some(limit) if limit >= 1 && limit <= MOST_CONNECTIONS => Some(limit),
@@ -119,8 +110,10 @@ pub fn limit_of(matches: &ArgMatches) -> Option<u32>
 
 /// The moment in seconds since 1970 UTC, at most `LAST_MOMENT`. `None` if none was given.
 pub fn second_of(matches: &ArgMatches) -> Option<u64>
-    ensures { IfSome result (λ n.
+    ensures some { IfSome result (λ n.
         HasNumber 64 (rows_of (found_of matches.now)) (codes "at") n × (n ≤ LAST_MOMENT)) }
+    ensures none { IfNone result ((n : ℕ) → HasNumber 64 (rows_of (found_of matches.now)) (codes "at") n
+        → n ≤ LAST_MOMENT → ⊥) }
 {
     match matches.get_one::<u64>("at") {
         Some(second) if second <= LAST_MOMENT => Some(second),
@@ -130,7 +123,8 @@ pub fn second_of(matches: &ArgMatches) -> Option<u64>
 
 /// The revision that was given, or `Some(None)` if none was. `None` if the value isn't a number from 1 to 9.
 pub fn revision_of(matches: &ArgMatches) -> Option<Option<Revision>>
-    ensures { IfSome result (HasRevision (rows_of (found_of matches.now))) }
+    ensures some { IfSome result (HasRevision (rows_of (found_of matches.now))) }
+    ensures none { IfNone result ((r : Option ℕ) → HasRevision (rows_of (found_of matches.now)) r → ⊥) }
 {
     if text_of(matches, "revision").is_none() {
         return Some(None);
@@ -142,8 +136,10 @@ pub fn revision_of(matches: &ArgMatches) -> Option<Option<Revision>>
 
 /// The form of a table, `text` or `csv`. `None` if the value is another one.
 pub fn form_of<'a>(matches: &ArgMatches<'a>) -> Option<&'a str>
-    ensures { IfSome result (λ t. HasText (rows_of (found_of matches.now)) (codes "form") t.now
+    ensures some { IfSome result (λ t. HasText (rows_of (found_of matches.now)) (codes "form") t.now
         × ((t.now ≡ codes "text") ⊎ (t.now ≡ codes "csv"))) }
+    ensures none { IfNone result ((t : Text) → HasText (rows_of (found_of matches.now)) (codes "form") t
+        → (t ≡ codes "text") ⊎ (t ≡ codes "csv") → ⊥) }
 {
     match text_of(matches, "form") {
         Some(form) if form == "text" || form == "csv" => Some(form),

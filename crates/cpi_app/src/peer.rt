@@ -2,6 +2,7 @@
 ghost use Rattle.std.specs.Prelude.{◌≡◌};
 ghost use Rattle.cpi_app.specs.ServedPeers.{ServesPeer};
 
+use crate::buffer_note::BufferNote;
 use crate::network::{Network, Peer};
 use crate::offer_note::OfferNote;
 use crate::offered::Offered;
@@ -9,7 +10,7 @@ use crate::service::Service;
 use crate::timed::Timed;
 use cpi_codes::Moment;
 use cpi_http::Ended;
-use cpi_wire::Failure;
+use cpi_wire::{Failure, WriteNote};
 use std::io::{Read, Write};
 use std::time::{Clock, Duration};
 
@@ -81,7 +82,14 @@ pub fn serve_peer<'a, S: Service, R: Read, W: Write, C: Clock>(
     let time = Duration::from_secs(MESSAGE_SECONDS);
     let mut reader = Timed::new(clock, reader, time);
     let mut writer = Offered::new(Timed::new(clock, writer, time));
-    let outcome = service.serve(now, &mut reader, &mut writer);
+    let (mut read_note, mut write_note) = (BufferNote::new(), WriteNote::new());
+    let outcome = service.serve(
+        now,
+        &mut reader,
+        &mut read_note,
+        &mut writer,
+        &mut write_note,
+    );
     let (writer, note) = writer.into_parts();
     let peer = Peer {
         reader: reader.into_inner(),

@@ -1,3 +1,5 @@
 pub mod Reopened
 pub mod Serving
 pub mod Answered
+pub mod Tables
+pub mod OneRun

@@ -44,7 +44,15 @@ module _ {C D T : Type 0} (cabinet : Ghosts C D) (g : disk.Ghosts D) (was is : C
           was = d.4.was;
           shown = d.4.shown;
           last = d.4.last;
-          done = record { book = over.book; last = over.last; found = over.found; done = done; held = over.held };
+          done = record {
+            book = over.book;
+            last = over.last;
+            found = over.found;
+            done = done;
+            held = over.held;
+            tables = over.tables;
+            settled = over.settled;
+          };
           left = d.4.left;
         },
         d.5,

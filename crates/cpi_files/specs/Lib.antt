@@ -1,3 +1,4 @@
+pub mod Folder
 pub mod Job
 pub mod Over
 pub mod Files
@@ -6,3 +7,6 @@ pub mod Reopened
 pub mod Replay
 pub mod Serve
 pub mod Table
+pub mod World
+pub mod Program
+pub mod OneRun

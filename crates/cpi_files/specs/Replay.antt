@@ -21,14 +21,14 @@ pub record Replays (rule : ZoneRule) (Book : Type 0) (state : Book → State Off
   pub gave_up : IfErr outcome (GaveUp rule state input book now was is)
 
 module _ {C D : Type 0} (cabinet : Ghosts C D) (g : disk.Ghosts D) (was is : C) where
-  -- that was done in the office of the cabinet's files, by the clock that the zone's text means
+  -- the same in the office of the cabinet's files, by the clock that the zone's text means
   pub record IsReplayedFrom (zone : List ℕ) (input before after : Option (List ℕ))
       (outcome : Result (Unit {0}) WireFault) (closed : Result (Unit {0}) OpenFault) : Type 0 where
     pub rule : ZoneRule
     pub clock : IsPosixZone zone rule
     pub done : IsDoneFrom cabinet g was is (Replays rule) input before after outcome closed
 
-  -- there was such a replay, and this came of its input and of the close
+  -- there was such a replay; its input and the close had these results
   abbrev pub HasReplayed : List ℕ → Option (List ℕ) → Option (List ℕ) → Option (List ℕ)
       → (Result (Unit {0}) WireFault → Result (Unit {0}) OpenFault → Type 0) → Type 0
   HasReplayed zone input before after IsSo = (outcome : Result (Unit {0}) WireFault)

@@ -25,7 +25,7 @@ IsListener Opens (Some listener) first = first ≡ listener
 
 module _ {L : Type 0} (meets : Meeting L) (Opens : L → Type 0) (desk : Desk) (listener : Option L) (limit : ℕ) where
   -- Up to so many connections were served one after another over a book; or there was no moment for one that came. Or
-  -- nobody could be listened to, and then nobody listened before and the book is as it was.
+  -- no listener could be opened: there was none before, and the book is unchanged.
   abbrev pub Serves : Deed (Result (Rest L) RunFault)
   Serves Book state book now input was is (Ok rest) = (first : L) × IsListener Opens listener first
       × ServesUpTo meets (ServesAtDesk state desk.zone desk.key) limit first rest.listener book now (Ok rest.left)
@@ -36,7 +36,7 @@ module _ {L : Type 0} (meets : Meeting L) (Opens : L → Type 0) (desk : Desk) (
   Serves Book state book now input was is (Err (Wire wire.Write)) = IsNone listener × (now ≡ book)
   Serves Book state book now input was is (Err _) = ⊥
 
--- from this listener to that one these connections came, and were served over a book
+-- between these two states of the listener, these connections came, and were served over a book
 abbrev pub ServesVisits : {L : Type 0} → Meeting L → Desk → L → Visits → L → Deed (Unit {0})
 ServesVisits meets desk first visits last Book state book now input was is told =
     AreServed meets (ServesAtDesk state desk.zone desk.key) first book visits last now × AreCalmBefore visits
@@ -54,7 +54,7 @@ abbrev pub count_of : List Visits → ℕ
 count_of books = sum_by length books
 
 module _ {C D : Type 0} (cabinet : Ghosts C D) (g : disk.Ghosts D) where
-  -- that was done in the office of the cabinet's files, and this came of their close
+  -- the same in the office of the cabinet's files; closing them had this result
   abbrev pub HasDone : C → Deed (Unit {0}) → Result (Unit {0}) OpenFault → C → Type 0
   HasDone was does closed is = IsDoneFrom cabinet g was is does None None None tt closed
 
@@ -70,7 +70,7 @@ module _ {C D : Type 0} (cabinet : Ghosts C D) (g : disk.Ghosts D) where
         × IsListener Opens listener first × HasDone was (ServesVisits meets desk first visits last) closed is
         × (length visits ≤ limit) × IsSo last visits closed
 
-    -- what serving one book came to; the database failed if it was refused, or if it couldn't be closed after the last
+    -- how serving one book ended; the database failed if it was refused, or if it couldn't be closed after the last
     -- connection
     abbrev pub EndsWithBook : Result (Rest L) RunFault → Type 0
     EndsWithBook (Ok rest) = AreSomeServed (λ last visits closed.
@@ -83,8 +83,8 @@ module _ {C D : Type 0} (cabinet : Ghosts C D) (g : disk.Ghosts D) where
     EndsWithBook (Err _) = ⊥
 
   module _ {L : Type 0} (meets : Meeting L) (Opens : L → Type 0) (desk : Desk) (limit : ℕ) (start : C) where
-    -- From the first cabinet and the listener that was opened to these, books were served one after another, the last
-    -- one first, each until a connection shook it that wasn't the last of the limit.
+    -- Between the first cabinet and listener and these, books were served one after another; the list begins with the
+    -- last. Each was served until a connection shook it that wasn't the last of the limit.
     abbrev pub WereShaken : List Visits → C → L → Type 0
     WereShaken [] now is = (now ≡ start) × Opens is
     WereShaken (visits ∷ earlier) now is = (before : C) × (was : L) × (closed : Result (Unit {0}) OpenFault)
@@ -102,7 +102,7 @@ module _ {C D : Type 0} (cabinet : Ghosts C D) (g : disk.Ghosts D) where
       pub all : count ≡ count_of (last ∷ earlier)
       pub few : count ≤ limit
 
-    -- the whole limit was served so, and this came of the last close
+    -- the whole limit was served so, and the last close had this result
     abbrev pub AreAllServed : (Result (Unit {0}) OpenFault → Type 0) → C → Type 0
     AreAllServed IsSo now = (is : L) × (closed : Result (Unit {0}) OpenFault)
         × AreServedInTurn limit closed now is × IsSo closed
@@ -113,8 +113,8 @@ module _ {C D : Type 0} (cabinet : Ghosts C D) (g : disk.Ghosts D) where
         ⊎ ((visits : Visits) × (earlier : List Visits) × (before : C) × (was : L)
         × WereShaken (visits ∷ earlier) before was × IsRefusedFrom cabinet g before now fault)
 
-    -- what serving with this desk came to: the whole limit was served; there was no clock before the limit was reached;
-    -- a book was refused, or the last one couldn't be closed; or nobody could be listened to, and nobody was served
+    -- how serving with this desk ended: the whole limit was served; there was no clock before the limit was reached; a
+    -- book was refused, or the last one couldn't be closed; or no listener could be opened, and nobody was served
     abbrev pub EndsAtDesk : C → Result (Unit {0}) RunFault → Type 0
     EndsAtDesk now (Ok done) = AreAllServed IsOk now
     EndsAtDesk now (Err NoClock) = (is : L) × (count : ℕ) × (closed : Result (Unit {0}) OpenFault)
@@ -125,8 +125,8 @@ module _ {C D : Type 0} (cabinet : Ghosts C D) (g : disk.Ghosts D) where
     EndsAtDesk now (Err (Wire wire.Write)) = HasServedNobody start now
     EndsAtDesk now (Err _) = ⊥
 
-  -- what serving came to: the zone's text is none, or the other text is no key, and no file was taken; or that with the
-  -- desk of these words
+  -- how serving ended: the zone's text is no zone, or the other text is no key, and no file was taken; or serving with
+  -- the desk of these words ended so
   abbrev pub EndsServing : {L : Type 0} → Meeting L → (L → Type 0) → List ℕ → List ℕ → ℕ → C → C
       → Result (Unit {0}) RunFault → Type 0
   EndsServing meets Opens zone key limit start now (Err BadZone) = IsNone (read_whole zone) × (now ≡ start)

@@ -10,7 +10,7 @@ use Rattle.cpi_files.specs.Job.{Deed}
 use Rattle.cpi_files.specs.declared.cabinet.Cabinet.{Ghosts}
 
 module _ {C D : Type 0} (cabinet : Ghosts C D) (g : disk.Ghosts D) (was is : C) where
-  -- the cabinet gave its files, this became of them, and it has them back
+  -- the cabinet gave its files, and got them back as these
   abbrev pub AreReturned : (Files D → Files D → Type 0) → Type 0
   AreReturned Became = (files now : Files D) × (away : C)
       × cabinet.gives was files away × Became files now × cabinet.keeps away now is
@@ -25,6 +25,6 @@ module _ {C D : Type 0} (cabinet : Ghosts C D) (g : disk.Ghosts D) (was is : C) 
   abbrev pub IsRefusedFrom : OpenFault → Type 0
   IsRefusedFrom fault = cabinet.refuses was fault is ⊎ AreReturned (IsRefusedInFiles g fault)
 
-  -- the fault is the one of a job that didn't begin
+  -- the fault is the reason why the job didn't begin
   abbrev pub IsRefusedAs : RunFault → Type 0
   IsRefusedAs fault = (why : OpenFault) × (fault ≡ Database why) × IsRefusedFrom why

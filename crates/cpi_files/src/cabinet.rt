@@ -12,16 +12,16 @@ pub trait Cabinet {
     /// The medium of the files: a disk, or memory.
     type Medium: Disk + Drop;
 
-    /// Which files it gives, and what it is while they are away.
+    /// Which files it gives, and its state while they are away.
     ghost gives: { Self → Files Self.Medium → Self → Type 0 };
 
-    /// Why it gives none, and what it is then.
+    /// Why it gives none, and its state then.
     ghost refuses: { Self → OpenFault → Self → Type 0 };
 
-    /// What it is once it has the files back.
+    /// Its state once it has the files back.
     ghost keeps: { Self → Files Self.Medium → Self → Type 0 };
 
-    /// Gives the files, and how to open them. It gives no files that can't be used any more. The error says why it
+    /// Gives the files, and how to open them. It never gives files that can no longer be used. The error says why it
     /// gives none.
     fn take(&mut self) -> Result<(Files<Self::Medium>, Options), OpenFault>
         ensures given { IfOk result (λ it. gives self.old it.0 self.new) }

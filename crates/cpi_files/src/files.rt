@@ -1,4 +1,4 @@
-//! A job in the office of files on any medium: the caller hands the files in, and gets them back.
+//! A job in the office of files on any medium: the caller provides the files, and gets them back.
 ghost use Rattle.std.specs.Prelude.{◌≡◌, false, IfErr, IfOk, IsTrue};
 ghost use Rattle.cpi_files.specs.Files.{IsClosedAs, IsDoneAndClosed, IsRefusedAndClosed};
 ghost use Rattle.cpi_files.specs.Files.{IsDoneInFiles, IsRefusedInFiles};
@@ -21,8 +21,8 @@ fn close<D: Disk + Drop>(conn: Connection<FileStore<D>>) -> (Result<(), OpenFaul
     }
 }
 
-// Does the job in the office that the connection holds, closes the connection and gives its files back. The error is
-// that of an office that couldn't be opened.
+// Does the job in the office that the connection holds, closes the connection and gives its files back. The error says
+// that the office couldn't be opened.
 fn job_in_store<D: Disk + Drop, J: BookJob, R: Read, W: Write, E: Write>(
     alloc: Global,
     conn: Connection<FileStore<D>>,
@@ -54,9 +54,9 @@ fn job_in_store<D: Disk + Drop, J: BookJob, R: Read, W: Write, E: Write>(
 }
 
 /// Does the job in the office that the files hold, closes it and gives the files back. Empty files get the tables of an
-/// office that holds nothing. Files with the tables of an office stay as they are, and those of schema 1 are migrated.
-/// If the files hold no office, the job doesn't begin, they stay as they were, and the error says why. The job's answer
-/// comes with that of the close, before which each answered command is kept.
+/// empty office. Files with the tables of an office stay as they are, and those of schema 1 are migrated.
+/// If the files hold no office, the job doesn't begin, they stay as they were, and the error says why. The result of
+/// the close comes beside the job's; each answered command is kept before it.
 pub fn job_in_files<D: Disk + Drop, J: BookJob, R: Read, W: Write, E: Write>(
     alloc: Global,
     files: Files<D>,

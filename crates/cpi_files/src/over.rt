@@ -6,12 +6,13 @@ ghost use Rattle.cpi_files.specs.Over.{IsDoneOver};
 
 use crate::job::BookJob;
 use cpi_sql::{SqlBook, Unopened};
+use cpi_sql_rows::settle;
 use sqlite::{Alter, Connection};
 use std::alloc::Global;
 use std::io::{Read, Write};
 
 /// Does the job in the office that the connection holds, and gives the connection back with the job's report. If the
-/// connection holds no office, the job doesn't begin, and the error has the connection as it was.
+/// connection holds no office, the job doesn't begin, and the error contains the connection as it was.
 pub fn job_over<S: Alter + Drop, J: BookJob, R: Read, W: Write, E: Write>(
     alloc: Global,
     conn: Connection<S>,
@@ -30,7 +31,9 @@ pub fn job_over<S: Alter + Drop, J: BookJob, R: Read, W: Write, E: Write>(
     match SqlBook::new(alloc, conn) {
         Ok(book) => {
             let (book, told) = job.run(alloc, book, reader, out, err);
-            Ok((book.into_connection(), told))
+            let conn = book.into_connection();
+            settle(&conn);
+            Ok((conn, told))
         }
         Err(unopened) => Err(unopened),
     }

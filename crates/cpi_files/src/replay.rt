@@ -13,7 +13,7 @@ use cpi_wire::Failure;
 use std::alloc::Global;
 use std::io::{Read, Write, sink};
 
-// The replay of an input as a job over a book. It adds the clock, by which civil times are read.
+// The replay of an input, as a job over a book. It adds the clock that reads civil times.
 #[derive(Drop)]
 struct ReplayByClock {
     clock: Zone,
@@ -40,8 +40,8 @@ impl BookJob for ReplayByClock {
 
 /// Answers the records of the reader, each by its line before the next one is carried out, in the office of the
 /// cabinet's files, and closes them. The clock of the zone reads civil times, and a buffer reads the input. If the zone
-/// is no rule of a clock as POSIX writes it, no file is taken, and the error is `BadZone`. If the files hold no office,
-/// nothing is read, nothing is written, and they stay as they were. An error of the input goes before one of the close.
+/// isn't a POSIX rule of a clock, no file is taken, and the error is `BadZone`. If the files hold no office, nothing is
+/// read, nothing is written, and they stay as they were. An error in the input takes precedence over one in the close.
 pub fn replay_in_cabinet<C: Cabinet, R: Read, W: Write>(
     alloc: Global,
     zone: &str,

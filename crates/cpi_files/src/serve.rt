@@ -20,7 +20,7 @@ struct Rest<L> {
     left: u32,
 }
 
-// Serving up to `limit` connections at an address. It has a listener once an office was opened.
+// Serving up to `limit` connections at an address. It has a listener once an office has been opened.
 #[derive(Drop)]
 struct Serve<'a, R: Eprint, A: Address> {
     rt: &'a R,
@@ -30,7 +30,7 @@ struct Serve<'a, R: Eprint, A: Address> {
     limit: u32,
 }
 
-// The listener that is there, or else one that is opened at the address, with its error.
+// The listener that there is, or else one that is opened at the address. The error is that of the address.
 fn listener_at<A: Address>(address: &A, listener: Option<A::Open>) -> Result<A::Open, RunFault>
     ensures ok { IfOk result (IsListener (A.opens address.now) listener) }
     ensures err { IfErr result (λ why. IsUnheard why × IsNone listener) }
@@ -71,8 +71,8 @@ impl<R: Eprint, A: Address> BookJob for Serve<'_, R, A> {
     }
 }
 
-// Serves over the office of the cabinet's files until no connection is left or one of them shook the book, and closes
-// them. If none is left, a close that failed is the error.
+// Serves over the office of the cabinet's files until no connection is left or one of them shakes the book, and closes
+// them. If none is left and the close failed, that is the error.
 fn serve_in_cabinet<R: Eprint, C: Cabinet, A: Address>(
     alloc: Global,
     cabinet: &mut C,
@@ -98,7 +98,7 @@ fn serve_in_cabinet<R: Eprint, C: Cabinet, A: Address>(
     Ok(rest)
 }
 
-// Serves over the office of the cabinet's files with the desk. If a connection shook the book and others are left, the
+// Serves over the office of the cabinet's files with the desk. If a connection shakes the book and others are left, the
 // files are opened again.
 fn serve_at_desk<R: Eprint, C: Cabinet, A: Address>(
     alloc: Global,
@@ -135,10 +135,10 @@ fn serve_at_desk<R: Eprint, C: Cabinet, A: Address>(
 }
 
 /// Serves the office of the cabinet's files over HTTP at an address, for `limit` connections one after another, with
-/// the desk of the zone and the key. If a connection shook the book, the files are closed, put back and taken again,
+/// the desk of the zone and the key. If a connection shakes the book, the files are closed, put back and taken again,
 /// and the listener stays. The errors are those of the zone, of the key, of the database and of the address, in this
-/// order, and then those of the run. Standard error gets a line when the book was shaken, when the files are open
-/// again, and when the limit has come.
+/// order, and then those of the run. Standard error gets a line when the book is shaken, when the files are open
+/// again, and when the limit is reached.
 pub fn run_serve<R: Eprint, C: Cabinet, A: Address>(
     alloc: Global,
     rt: &R,

@@ -11,7 +11,7 @@ use cpi_store::Book;
 use std::alloc::Global;
 use std::io::{Read, Write, empty};
 
-// The print of a table as a job over a book.
+// Printing a table, as a job over a book.
 #[derive(Drop)]
 struct Print {
     asked: AskedTable,
@@ -40,9 +40,9 @@ impl BookJob for Print {
     }
 }
 
-/// Prints a table from the office of the cabinet's files, closes them, and answers the exit status. The office is as it
-/// was, so nothing is lost if their log can't be copied. If the files hold no office, nothing is written, they stay as
-/// they were, and the error says why.
+/// Prints a table from the office of the cabinet's files, closes them, and returns the exit status. The office doesn't
+/// change, so nothing is lost if their log can't be copied. If the files hold no office, nothing is written, they stay
+/// as they were, and the error says why.
 pub fn table_in_cabinet<C: Cabinet, W: Write, E: Write>(
     alloc: Global,
     cabinet: &mut C,

@@ -5,16 +5,14 @@ use Rattle.cpi_app.proofs.command.serve_command.Goals as goal
 
 pub returns-clause-app : goal.returns-clause-app
 returns-clause-app c =
-    let one = c.in_ok-arg.ensures.shape (search rules) ∙ ap₂ with_rule c.subcommand.ensures.app
+    let one = c.in_ok-arg.ensures.shape (search rules) ∙ ap₂ with_rule c.bare_serve.ensures.app
     c.required.ensures.rule in
     let two = c.in_ok-arg-2.ensures.shape (search rules) ∙ ap₂ with_rule one c.number.ensures.rule in
-    let three = c.in_ok-arg-3.ensures.shape c.in_ok-either.ensures.local
-    ∙ ap₂ with_rule two c.in_ok-either.ensures.rule in
-    let four = c.in_ok-arg-4.ensures.shape c.in_ok-either-2.ensures.local
-    ∙ ap₂ with_rule three c.in_ok-either-2.ensures.rule in
+    let three = c.in_ok-arg-3.ensures.shape (search rules) ∙ ap₂ with_rule two c.option.ensures.rule in
+    let four = c.in_ok-arg-4.ensures.shape (search rules) ∙ ap₂ with_rule three c.option-2.ensures.rule in
     let five = c.in_ok-arg-5.ensures.shape (search rules) ∙ ap₂ with_rule four c.number-2.ensures.rule in
-    IfOk-weaker c.arg-6.result _ _ (λ r h. h.shape c.option.ensures.local ∙ ap₂ with_rule five c.option.ensures.rule)
-    c.arg-6.ensures
+    IfOk-weaker c.arg-6.result _ _ (λ r h. h.shape c.option-3.ensures.local
+    ∙ ap₂ with_rule five c.option-3.ensures.rule) c.arg-6.ensures
 
 pub returns-clause-local : goal.returns-clause-local
 returns-clause-local c =
@@ -30,11 +28,11 @@ returns-clause-local c =
       three,
       two,
       one,
-      c.subcommand.ensures.local,
+      c.bare_serve.ensures.local,
       c.required.ensures.local,
       c.number.ensures.local,
-      c.in_ok-either.ensures.local,
-      c.in_ok-either-2.ensures.local,
-      c.number-2.ensures.local,
       c.option.ensures.local,
+      c.option-2.ensures.local,
+      c.number-2.ensures.local,
+      c.option-3.ensures.local,
     ) refl) c.arg-6.ensures

@@ -1,4 +1,5 @@
 use Rattle.std.proofs.Common.{refl}
+use Rattle.clap.proofs.OnLiterals.{clap_on_literals}
 use Rattle.clap.specs.Walk.{walked}
 use Rattle.cpi_app.proofs.examples.worked_commands.Goals as goal
 
@@ -21,3 +22,11 @@ returns-clause-prints c = (refl, refl, refl, refl, refl, refl)
 pub returns-clause-names_none : goal.returns-clause-names_none
 unfolding walked
 returns-clause-names_none c = (refl, refl, refl, refl, refl)
+
+pub returns-clause-follows_rules : goal.returns-clause-follows_rules
+unfolding clap_on_literals
+returns-clause-follows_rules c = (refl, refl, refl, refl, refl)
+
+pub returns-clause-breaks_rules : goal.returns-clause-breaks_rules
+unfolding clap_on_literals
+returns-clause-breaks_rules c = (refl, refl, refl, refl, refl, refl)

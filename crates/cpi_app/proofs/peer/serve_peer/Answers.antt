@@ -17,5 +17,5 @@ returns g c =
             (refl {a = append_known (g.W.Write.contents after.writer.inner) (lost_bytes after.lost.items)});
         noted = rw c.into_parts-writer.ensures.note (failed_or_none after.note.has_failed after.lost.items after.noted);
       },
-      c.serve-outcome.ensures,
+      c.serve-outcome.ensures.served,
     )

@@ -27,7 +27,7 @@ returns g c =
     let next = c.in-Some.next.now in
     let item = c.in-Some.ensures.item in
     let found = slice_get_read c.args.self.now.queued.items _ _ next refl item.3.0 item.1 in
-    let now : Queued = record next { written = c.serve.new.writer } in (
+    let now : Queued = record next { written = c.serve-outcome.new.writer } in (
       connection c.in-Some-moment.now (Some next.sent.items) (Some next.written.items) (Some now.written.items),
       (
         next,
@@ -42,5 +42,5 @@ returns g c =
           others = refl;
         },
       ),
-      rw (← c.as_slice-sent.ensures.value) c.serve.ensures,
+      rw (← c.as_slice-sent.ensures.value) c.serve-outcome.ensures.served,
     )
