@@ -17,7 +17,8 @@ ghost use Rattle.cpi_store.specs.Office.{PutsPlan, Quotes, Registers, given_unti
 ghost use Rattle.cpi_store.specs.Office.{quotes_of_month};
 ghost use Rattle.cpi_store.specs.Sources.{office_sources};
 ghost use Rattle.cpi_store.specs.Tables.{table_until};
-ghost use Rattle.cpi_sql_rows.specs.Common.{⊤, AreTaken, IsTrue, None, OnErr, OnOk, row_by_number, book_state, false};
+ghost use Rattle.cpi_sql_rows.specs.Common.{⊤, AreTaken, HasTables, IsCleanBook, IsTrue, None, OnErr, OnOk};
+ghost use Rattle.cpi_sql_rows.specs.Common.{book_state, false, row_by_number};
 ghost use Rattle.cpi_sql_rows.specs.Common.{held_by, map, option_map, refl, state, true, Some};
 ghost use Rattle.cpi_sql_rows.specs.Finding.{IsSettled};
 ghost use Rattle.cpi_sql_rows.specs.Lists.{level_in_row};
@@ -146,9 +147,10 @@ impl<S: Alter + Drop> SqlBook<S> {
         }
     }
 
-    /// The connection, given back.
+    /// The connection, given back. While it is clean, it holds the tables of an office.
     pub fn into_connection(self) -> Connection<S>
-        ensures { result ≡ self.held }
+        ensures held { result ≡ self.held }
+        ensures tables { IsCleanBook (state S.Store self.held) → HasTables (state S.Store self.held) }
     {
         self.conn
     }
