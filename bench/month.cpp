@@ -2,9 +2,14 @@
 // the same tables, computed plainly with maps; with no proofs, no limits looked at and no handling of faults. It
 // measures; it is no product. It prints the tables as CSV, and the seconds of each month to standard error.
 //
+//   month            maps by code and by series
+//   month --flat     arrays in the order of series, with numbers in place of codes: the limit of such a computation
+//
 // Build: g++ -O2 -std=c++17 month.cpp -o month
 #include <algorithm>
+#include <array>
 #include <chrono>
+#include <climits>
 #include <cstdio>
 #include <cstdlib>
 #include <map>
@@ -216,6 +221,155 @@ static Release release_of(const Plan &plan, int month, vector<Quote> frozen) {
     return release;
 }
 
+// ---- the same by flat arrays
+
+struct FlatQuote { int series, item, last_month; Mark mark; };
+struct FlatCarried { int series, item, last_month, down; long ticks, up; };
+struct FlatRelease { vector<FlatQuote> frozen; vector<FlatCarried> carried; vector<long> chained; };
+struct FlatRow { FlatCarried before; long base; const Mark *mark; bool was_observed; int node; };
+
+// The nodes in the order of their codes, with the node of each item, and the nodes at and above each aggregate.
+struct FlatPlan {
+    vector<string> codes;
+    vector<Node> nodes;
+    vector<int> node_of_item;
+    vector<std::array<int, 6>> paths;
+};
+
+static map<int, FlatRelease> flat_releases;
+
+static FlatPlan flat_plan(const Plan &plan) {
+    FlatPlan flat;
+    map<string, int> numbers;
+    for (auto &[code, node] : plan.nodes) {
+        numbers[code] = flat.codes.size();
+        flat.codes.push_back(code);
+        flat.nodes.push_back(node);
+    }
+    flat.paths.resize(flat.codes.size());
+    for (int n = 0; n < COUNT; n++) {
+        string code = aggregate(n);
+        int number = numbers[code], step = 0;
+        flat.node_of_item.push_back(number);
+        for (auto &above : codes_above(code)) flat.paths[number][step++] = numbers[above];
+        flat.paths[number][step] = number;
+    }
+    return flat;
+}
+
+static vector<FlatQuote> flat_quotes(int turn) {
+    vector<FlatQuote> quotes;
+    for (auto &it : made_quotes(turn))
+        quotes.push_back({it.series, atoi(it.item.c_str() + 1), it.last_month, it.mark});
+    return quotes;
+}
+
+// The bases of the link month in the order of their series: what was observed in it, or else carried to it.
+static vector<FlatRow> flat_bases(const FlatPlan &plan, const FlatRelease &link, int january) {
+    vector<FlatRow> rows;
+    rows.reserve(link.frozen.size() + link.carried.size());
+    size_t c = 0, q = 0;
+    while (c < link.carried.size() || q < link.frozen.size()) {
+        int carried = c < link.carried.size() ? link.carried[c].series : INT_MAX;
+        int quoted = q < link.frozen.size() ? link.frozen[q].series : INT_MAX;
+        const FlatQuote *quote = quoted <= carried ? &link.frozen[q++] : nullptr;
+        const FlatCarried *kept = carried <= quoted ? &link.carried[c++] : nullptr;
+        FlatCarried base;
+        if (quote && quote->mark.kind != Kind::missing)
+            base = {quote->series, quote->item, quote->last_month, 1, 10000 * quote->mark.price, 10000};
+        else if (kept) base = *kept;
+        else continue;
+        if (base.last_month >= january)
+            rows.push_back({base, base.ticks, nullptr, false, plan.node_of_item[base.item]});
+    }
+    return rows;
+}
+
+// The quote of a series, behind those of the series below it.
+static const FlatQuote *quote_of(const vector<FlatQuote> &quotes, size_t &at, int series) {
+    while (at < quotes.size() && quotes[at].series < series) at++;
+    return at < quotes.size() && quotes[at].series == series ? &quotes[at] : nullptr;
+}
+
+static bool is_like(const FlatRow &row) { return row.mark && is_comparable(*row.mark); }
+
+// Puts the price before and the mark of the month into each row, and sums what is matched, by node.
+static void match(vector<FlatRow> &rows, const FlatRelease &last, const vector<FlatQuote> &frozen, bool is_january,
+                  vector<long> &now, vector<long> &then) {
+    size_t c = 0, earlier = 0, current = 0;
+    for (auto &row : rows) {
+        int series = row.before.series;
+        if (!is_january) {
+            while (last.carried[c].series < series) c++;
+            row.before = last.carried[c];
+        }
+        auto before = quote_of(last.frozen, earlier, series), quote = quote_of(frozen, current, series);
+        row.was_observed = before && before->mark.kind != Kind::missing;
+        row.mark = quote ? &quote->mark : nullptr;
+        if (!is_like(row) || !row.was_observed) continue;
+        now[row.node] += rounded(wide(row.mark->price) * row.before.up, row.before.down);
+        then[row.node] += row.before.ticks;
+    }
+}
+
+static FlatCarried carry(const FlatRow &row, const vector<long> &now, const vector<long> &then) {
+    FlatCarried next = row.before;
+    if (is_like(row)) {
+        next.ticks = rounded(wide(row.mark->price) * next.up, next.down);
+    } else {
+        next.ticks = rounded(wide(next.ticks) * now[row.node], then[row.node]);
+        if (row.mark && row.mark->kind == Kind::other) next.up = next.ticks, next.down = row.mark->price;
+    }
+    return next;
+}
+
+static vector<Sum> flat_sums(const FlatPlan &plan, const vector<FlatRow> &rows, FlatRelease &release,
+                             const vector<long> &now, const vector<long> &then) {
+    vector<wide> current(plan.codes.size()), base(plan.codes.size());
+    vector<char> is_imputed(plan.codes.size());
+    release.carried.reserve(rows.size());
+    for (auto &row : rows) {
+        release.carried.push_back(carry(row, now, then));
+        current[row.node] += release.carried.back().ticks;
+        base[row.node] += row.base;
+        is_imputed[row.node] |= !is_like(row);
+    }
+    vector<Sum> sums(plan.codes.size());
+    for (int own : plan.node_of_item) {
+        long index = rounded(HUNDRED * current[own], base[own]);
+        for (int node : plan.paths[own]) {
+            sums[node].index += wide(plan.nodes[own].weight) * index;
+            sums[node].is_imputed |= is_imputed[own];
+        }
+    }
+    return sums;
+}
+
+static vector<Level> flat_table(const FlatPlan &plan, int month, const vector<Sum> &sums, FlatRelease &release) {
+    auto &link = flat_releases[month / 12 * 12 - 1].chained, &last = flat_releases[month - 1].chained;
+    vector<Level> levels;
+    levels.reserve(plan.codes.size());
+    for (size_t n = 0; n < plan.codes.size(); n++) {
+        long linked = link.empty() ? HUNDRED : link[n], within = rounded(sums[n].index, plan.nodes[n].weight);
+        long chained = rounded(wide(linked) * within, HUNDRED);
+        release.chained.push_back(chained);
+        levels.push_back({plan.codes[n], plan.nodes[n].title, plan.nodes[n].weight, within, chained,
+                          change(month % 12 == 0 ? linked : last[n], chained), {}, sums[n].is_imputed});
+    }
+    return levels;
+}
+
+// The table of a month; none of the months here is a year after another one.
+static vector<Level> flat_release(const FlatPlan &plan, int month, vector<FlatQuote> frozen) {
+    FlatRelease &release = flat_releases[month];
+    release.frozen = std::move(frozen);
+    if (month == FIRST_MONTH) return {};
+    auto rows = flat_bases(plan, flat_releases[month / 12 * 12 - 1], month / 12 * 12);
+    vector<long> now(plan.codes.size()), then(plan.codes.size());
+    match(rows, flat_releases[month - 1], release.frozen, month % 12 == 0, now, then);
+    return flat_table(plan, month, flat_sums(plan, rows, release, now, then), release);
+}
+
 // ---- the table as CSV
 
 static string tenths(optional<long> number) {
@@ -229,16 +383,32 @@ static void print(const Level &row) {
            tenths(row.year_change).c_str(), row.is_imputed, row.title.c_str());
 }
 
-int main() {
+static void tell(int month, std::chrono::steady_clock::time_point begin) {
+    std::chrono::duration<double> took = std::chrono::steady_clock::now() - begin;
+    fprintf(stderr, "%d-%02d %f\n", month / 12, month % 12 + 1, took.count());
+}
+
+static void freeze(const Plan &plan, int month, vector<Quote> frozen) {
+    auto begin = std::chrono::steady_clock::now();
+    Release release = release_of(plan, month, std::move(frozen));
+    tell(month, begin);
+    for (auto &row : release.levels) print(row);
+    releases[month] = std::move(release);
+}
+
+static void freeze(const FlatPlan &plan, int month, vector<FlatQuote> frozen) {
+    auto begin = std::chrono::steady_clock::now();
+    auto levels = flat_release(plan, month, std::move(frozen));
+    tell(month, begin);
+    for (auto &row : levels) print(row);
+}
+
+int main(int count, char **words) {
     Plan plan = made_plan();
+    FlatPlan flat = flat_plan(plan);
+    bool is_flat = count > 1 && string(words[1]) == "--flat";
     for (int turn = 0; turn < MONTHS; turn++) {
-        int month = FIRST_MONTH + turn;
-        vector<Quote> frozen = made_quotes(turn);
-        auto begin = std::chrono::steady_clock::now();
-        Release release = release_of(plan, month, std::move(frozen));
-        std::chrono::duration<double> took = std::chrono::steady_clock::now() - begin;
-        fprintf(stderr, "%d-%02d %f\n", month / 12, month % 12 + 1, took.count());
-        for (auto &row : release.levels) print(row);
-        releases[month] = std::move(release);
+        if (is_flat) freeze(flat, FIRST_MONTH + turn, flat_quotes(turn));
+        else freeze(plan, FIRST_MONTH + turn, made_quotes(turn));
     }
 }

@@ -9,14 +9,25 @@ price) and quotes, with the checks of an office that a valid input meets.
 
     yardstick.py --freezes FILE < RECORDS
 
-The words freeze and tables alone, over an office of docs/reference/FORMATS.md that stands in the file. A month is computed
-from the rows that a freeze reads, and its release is one durable commit.
+Only the words freeze and tables, over an office of docs/reference/FORMATS.md that is in the file. A month is computed
+from the rows that a freeze reads, and its release is one durable commit. Prices are in minor units, ticks are 1/10,000
+of these, and a month is a number such as 202601.
 """
+
+from __future__ import annotations
 
 import csv
 import json
 import sqlite3
 import sys
+from collections.abc import Iterable, Iterator, Mapping, Sequence
+from typing import Any, Optional, Union
+
+Reply = dict[str, object]
+"""A reply line before it is written."""
+
+Row = tuple[Any, ...]
+"""A row as SQLite gives it."""
 
 TABLES = """
 CREATE TABLE item (code TEXT PRIMARY KEY, text, unit, low, high) WITHOUT ROWID;
@@ -37,53 +48,61 @@ QUOTES = """SELECT slot, month, mark, value, receipt FROM quote WHERE collector 
 
 
 class Office:
-    def __init__(self, file):
+    """An office in memory, or in a new file."""
+
+    def __init__(self, file: Optional[str]) -> None:
         self.db = sqlite3.connect(file or ":memory:", isolation_level=None)
         if file:
             self.db.execute("PRAGMA journal_mode = WAL")
             self.db.execute("PRAGMA synchronous = FULL")
         self.db.executescript(TABLES)
 
-    def one(self, statement, *values):
-        return self.db.execute(statement, values).fetchone()
+    def find(self, statement: str, *values: object) -> Optional[Row]:
+        """The first row of a question, if there is one."""
+        row: Optional[Row] = self.db.execute(statement, values).fetchone()
+        return row
 
-    def reply(self, fields):
+    def reply(self, fields: Sequence[str]) -> Reply:
+        """The reply to a record."""
         moment, caller, word, *rest = fields
         if caller == "desk":
             return self.command(word, rest)
-        collector = self.one("SELECT number FROM collector WHERE key = ?", caller)
+        collector = self.find("SELECT number FROM collector WHERE key = ?", caller)
         if not collector:
             return {"refused": 11}
         if word == "quotes":
-            rows = self.db.execute(QUOTES, (collector[0], month(rest[0]), month(rest[1])))
+            rows = self.db.execute(QUOTES, (collector[0], number_of(rest[0]), number_of(rest[1])))
             return {"quotes": [[slot, text_of(at), *values] for slot, at, *values in rows]}
-        return self.submit(collector[0], int(moment), int(rest[0]), month(rest[1]), int(rest[3]), len(rest) == 5)
+        return self.submit(collector[0], int(moment), int(rest[0]), number_of(rest[1]), int(rest[3]), len(rest) == 5)
 
-    def command(self, word, rest):
+    def command(self, word: str, rest: Sequence[str]) -> Reply:
+        """Carries out a command of the desk."""
+        row: list[Union[int, str]]
         if word == "item":
             table, row = "item", [*rest[:3], int(rest[3]), int(rest[4])]
         elif word == "outlet" or word == "collector":
             table, row = word, [int(rest[0]), rest[1]]
         elif word == "assign":
-            table, row = "assignment", [*map(int, rest[:3]), rest[3], month(rest[4]), month(rest[5])]
+            table, row = "assignment", [*map(int, rest[:3]), rest[3], number_of(rest[4]), number_of(rest[5])]
         else:
-            table, row = "calendar", [month(rest[0]), *map(int, rest[1:])]
+            table, row = "calendar", [number_of(rest[0]), *map(int, rest[1:])]
         self.db.execute(f"INSERT INTO {table} VALUES ({', '.join('?' * len(row))})", row)
         return {"done": True}
 
-    def submit(self, collector, now, slot, at, price, is_confirmed):
-        assigned = self.one(
+    def submit(self, collector: int, now: int, slot: int, at: int, price: int, is_confirmed: bool) -> Reply:
+        """The receipt of a price, or why it is refused."""
+        assigned = self.find(
             "SELECT item, first_month, last_month FROM assignment WHERE collector = ? AND slot = ?", collector, slot
         )
         if not assigned:
             return {"refused": 20}
         item, first, last = assigned
-        stored = self.one(
+        stored = self.find(
             "SELECT value, receipt FROM quote WHERE collector = ? AND slot = ? AND month = ?", collector, slot, at
         )
         if stored and stored[0] == price:
             return {"receipt": stored[1]}
-        window = self.one("SELECT opens, closes FROM calendar WHERE month = ?", at)
+        window = self.find("SELECT opens, closes FROM calendar WHERE month = ?", at)
         if not window:
             return {"refused": 21}
         if not first <= at <= last:
@@ -92,82 +111,97 @@ class Office:
             return {"refused": 23}
         if now >= window[1]:
             return {"refused": 24}
-        before = self.one(LAST_PRICE, collector, slot, at)
+        before = self.find(LAST_PRICE, collector, slot, at)
         if before and not is_confirmed:
-            low, high = self.one("SELECT low, high FROM item WHERE code = ?", item)
+            low, high = self.db.execute("SELECT low, high FROM item WHERE code = ?", (item,)).fetchone()
             low, high = -(-before[0] * low // 1000), before[0] * high // 1000
             if not low <= price <= high:
                 return {"high": high, "last": before[0], "low": low, "refused": 26}
-        receipt = (self.one("SELECT max(receipt) FROM quote WHERE collector = ?", collector)[0] or 0) + 1
+        greatest = self.find("SELECT max(receipt) FROM quote WHERE collector = ?", collector)
+        receipt = ((greatest and greatest[0]) or 0) + 1
         self.db.execute(PUT_QUOTE, (collector, slot, at, price, receipt))
         return {"receipt": receipt}
 
 
-MONTH_QUOTES = """SELECT a.collector, a.slot, a.item, a.last_month, q.mark, q.value FROM assignment_2 AS a JOIN quote_2 AS q
-    ON q.collector = a.collector AND q.slot = a.slot AND q.month = ? ORDER BY a.collector, a.slot"""
+MONTH_QUOTES = """SELECT a.collector, a.slot, a.item, a.last_month, q.mark, q.value
+    FROM assignment_2 AS a JOIN quote_2 AS q ON q.collector = a.collector AND q.slot = a.slot AND q.month = ?
+    ORDER BY a.collector, a.slot"""
 FROZEN_QUOTES = "SELECT collector, slot, item, last_month, mark, value FROM frozen_2 WHERE month = ? AND revision = 1"
 CARRIED = """SELECT collector, slot, item, last_month, ticks, knum, kden, observed FROM carried_2
     WHERE month = ? AND revision = 1 ORDER BY collector, slot"""
 LEVELS = "SELECT code, chained FROM level_2 WHERE month = ? AND revision = 1"
 WHOLE, MOST = 10**8, 10**15
+"""An index of 100, and the most ticks of a price, or a level, that the office stores."""
+
+Sample = Mapping[tuple[int, int], tuple[str, Row]]
+"""By series, its aggregate, and its base as a row of `carried`."""
 
 
-def rounded(a, b):
-    return (2 * a + b) // (2 * b)
+def divide(over: int, under: int) -> int:
+    """A quotient of numbers above 0, rounded half up."""
+    return (2 * over + under) // (2 * under)
 
 
-def change(before, now):
-    size = rounded(1000 * abs(now - before), before)
+def change_of(before: int, now: int) -> int:
+    """The change between two levels, in tenths of a percent."""
+    size = divide(1000 * abs(now - before), before)
     return size if now >= before else -size
 
 
-class Fault(Exception):
+class Lack(Exception):
     """A freeze is refused by 49, with a fault and the code where it is."""
+
+    def __init__(self, fault: int, code: str) -> None:
+        super().__init__(fault, code)
+        self.fault, self.code = fault, code
 
 
 class Releases:
-    """The freezes of an office whose tables stand in a file, by the rules of docs/reference/OFFICE.md: of each month the
-    first revision alone."""
+    """The freezes of an office whose tables are in a file, by the rules of docs/reference/OFFICE.md: of each month only
+    the first revision."""
 
-    def __init__(self, file):
+    def __init__(self, file: str) -> None:
         self.db = sqlite3.connect(file, isolation_level=None)
         self.db.execute("PRAGMA journal_mode = WAL")
         self.db.execute("PRAGMA synchronous = FULL")
         self.db.execute("PRAGMA foreign_keys = ON")
 
-    def rows(self, statement, *values):
+    def read(self, statement: str, *values: object) -> list[Row]:
+        """The rows of a question."""
         return self.db.execute(statement, values).fetchall()
 
-    def reply(self, fields):
+    def reply(self, fields: Sequence[str]) -> Reply:
+        """The reply to a record."""
         moment, _, word, *rest = fields
         if word == "tables":
-            rows = self.rows("SELECT month, publishes FROM release_2 WHERE publishes <= ? ORDER BY month", int(moment))
+            rows = self.read("SELECT month, publishes FROM release_2 WHERE publishes <= ? ORDER BY month", int(moment))
             return {"tables": [[text_of(at), 1, publishes] for at, publishes in rows]}
-        at, carry = month(rest[0]), rest[1:]
-        months = [it for (it,) in self.rows("SELECT month FROM release_2 ORDER BY month")]
+        at, carry = number_of(rest[0]), rest[1:]
+        months = [month for (month,) in self.read("SELECT month FROM release_2 ORDER BY month")]
         if at in months:
             return {"refused": 50}
-        if at != after(months[-1]) if months else at % 100 != 12:
+        if at != month_after(months[-1]) if months else at % 100 != 12:
             return {"refused": 46}
-        window = self.rows("SELECT closes, publishes FROM calendar WHERE month = ?", at)
+        window = self.read("SELECT closes, publishes FROM calendar WHERE month = ?", at)
         if not window:
             return {"refused": 21}
         if int(moment) < window[0][0]:
             return {"refused": 47}
         try:
             return self.freeze(int(moment), window[0][1], at, carry, months[-1] if months else None)
-        except Fault as fault:
-            return {"code": fault.args[1], "fault": fault.args[0], "refused": 49}
+        except Lack as lack:
+            return {"code": lack.code, "fault": lack.fault, "refused": 49}
 
-    def freeze(self, moment, publishes, at, carry, last):
-        quotes, prices, levels = self.rows(MONTH_QUOTES, at), [], []
+    def freeze(self, moment: int, publishes: int, at: int, carry: Sequence[str], last: Optional[int]) -> Reply:
+        """Freezes a month after the last one, if there is one. Lack: its table can't be computed."""
+        quotes, prices, levels = self.read(MONTH_QUOTES, at), list[Row](), list[Row]()
         if last:
-            nodes = self.rows("SELECT code, title, weight FROM node WHERE year = ? ORDER BY code", at // 100)
+            nodes = self.read("SELECT code, title, weight FROM node WHERE year = ? ORDER BY code", at // 100)
             if not nodes:
                 return {"refused": 48}
             link = at // 100 * 100 - 88
             sample = self.sample(at // 100, link)
-            prices = moved(sample, self.before(sample, link, last), quotes, carry)
+            prices = move_prices(sample, self.before(sample, link, last), quotes, carry)
             levels = [*self.table(at, link, last, nodes, sample, prices)]
         self.db.execute("BEGIN IMMEDIATE")
         header = at, moment, publishes, " ".join(sorted(set(carry)))
@@ -178,23 +212,30 @@ class Releases:
         self.db.execute("COMMIT")
         return {"done": True}
 
-    def sample(self, year, link):
+    def sample(self, year: int, link: int) -> Sample:
         """By series, in order: the aggregate, and the base as a row of `carried`."""
-        places = dict(self.rows("SELECT item, code FROM plan_item WHERE year = ?", year))
-        bases = {row[:2]: row for row in self.rows(CARRIED, link)}
-        for collector, slot, item, last, _, value in self.rows(FROZEN_QUOTES, link):
+        placed = self.read("SELECT item, code FROM plan_item WHERE year = ?", year)
+        places: dict[str, str] = {item: code for item, code in placed}
+        bases: dict[tuple[int, int], Row] = {(row[0], row[1]): row for row in self.read(CARRIED, link)}
+        for collector, slot, item, last, _, value in self.read(FROZEN_QUOTES, link):
             if value:
                 bases[collector, slot] = collector, slot, item, last, 10_000 * value, 10_000, 1, 1
         taken = sorted(series for series, row in bases.items() if row[3] > link and row[2] in places)
         return {series: (places[bases[series][2]], bases[series]) for series in taken}
 
-    def before(self, sample, link, last):
+    def before(self, sample: Sample, link: int, last: int) -> Iterable[Row]:
         """What the sample's series count as in the month before, as rows of `carried`."""
-        return (row for _, row in sample.values()) if last == link else self.rows(CARRIED, last)
+        return (row for _, row in sample.values()) if last == link else self.read(CARRIED, last)
 
-    def table(self, at, link, last, nodes, sample, prices):
+    def read_levels(self, month: int) -> dict[str, int]:
+        """The chained levels of a month, by code."""
+        return {code: level for code, level in self.read(LEVELS, month)}
+
+    def table(
+        self, at: int, link: int, last: int, nodes: Sequence[Row], sample: Sample, prices: Sequence[Row]
+    ) -> Iterator[Row]:
         """The rows of the table, by code."""
-        ups, downs, sums = {}, {}, {}
+        ups, downs, sums = dict[str, int](), dict[str, int](), dict[str, list[int]]()
         for (code, base), price in zip(sample.values(), prices):
             ups[code] = ups.get(code, 0) + price[4]
             downs[code] = downs.get(code, 0) + base[4]
@@ -204,30 +245,31 @@ class Releases:
             if len(code) < 11:
                 continue
             if code not in ups:
-                raise Fault(1, code)
-            index, (_, is_imputed) = rounded(WHOLE * ups[code], downs[code]), sums.get(code, (0, 0))
+                raise Lack(1, code)
+            index, is_imputed = divide(WHOLE * ups[code], downs[code]), sums.get(code, (0, 0))[1]
             for node in ("00", code[:2], code[:4], code[:6], code[:8], code):
                 whole = sums.setdefault(node, [0, 0])
                 whole[0] += weight * index
                 whole[1] |= is_imputed
-        links, lasts, years = (dict(self.rows(LEVELS, it)) for it in (link, last, at - 100))
+        links, lasts, years = (self.read_levels(month) for month in (link, last, at - 100))
         for code, title, weight in nodes:
-            base, within = links.get(code, WHOLE), rounded(sums[code][0], weight)
-            level = rounded(base * within, WHOLE)
+            linked, within = links.get(code, WHOLE), divide(sums[code][0], weight)
+            level = divide(linked * within, WHOLE)
             if not 1 <= level <= MOST:
-                raise Fault(3, code)
-            year = base if at % 100 == 12 else years.get(code)
-            by_month = change(base if last == link else lasts[code], level)
-            yield code, title, weight, within, level, by_month, year and change(year, level), sums[code][1]
+                raise Lack(3, code)
+            year = linked if at % 100 == 12 else years.get(code)
+            by_month = change_of(linked if last == link else lasts[code], level)
+            yield code, title, weight, within, level, by_month, year and change_of(year, level), sums[code][1]
 
 
-def moved(sample, before, quotes, carry):
-    """The carried prices of a month, by series, as rows of `carried`."""
-    found = {(collector, slot): (mark, value) for collector, slot, _, _, mark, value in quotes}
-    ups, downs, prices, rest = {}, {}, [], []
+def move_prices(sample: Sample, before: Iterable[Row], quotes: Sequence[Row], carry: Sequence[str]) -> list[Row]:
+    """The carried prices of a month, by series, as rows of `carried`. Lack: an aggregate has no price, and isn't
+    carried."""
+    quoted = {(collector, slot): (mark, value) for collector, slot, _, _, mark, value in quotes}
+    ups, downs, prices, rest = dict[str, int](), dict[str, int](), list[Row](), list[tuple[int, str, int]]()
     for row in before:
         collector, slot, item, last, ticks, up, down, was_observed = row
-        code, mark, value = sample[collector, slot][0], *found.get((collector, slot), ("", 0))
+        code, mark, value = sample[collector, slot][0], *quoted.get((collector, slot), ("", 0))
         if mark != "price" and mark != "comparable":
             rest.append((len(prices), code, value))
             prices.append(row)
@@ -242,29 +284,34 @@ def moved(sample, before, quotes, carry):
         if code in downs:
             ticks = (2 * ticks * ups[code] + downs[code]) // (2 * downs[code])
         elif code not in carry:
-            raise Fault(2, min(code for _, code, _ in rest if code not in downs and code not in carry))
+            raise Lack(2, min(code for _, code, _ in rest if code not in downs and code not in carry))
         prices[at] = (collector, slot, item, last, ticks, *((ticks, value, 1) if value else (up, down, 0)), 1)
     for row in prices:
         if not 1 <= row[4] <= MOST:
-            raise Fault(3, min(sample[row[:2]][0] for row in prices if not 1 <= row[4] <= MOST))
+            raise Lack(3, min(sample[row[0], row[1]][0] for row in prices if not 1 <= row[4] <= MOST))
     return prices
 
 
-def after(at):
+def month_after(at: int) -> int:
+    """The month after one."""
     return at + 1 if at % 100 < 12 else at + 89
 
 
-def month(text):
+def number_of(text: str) -> int:
+    """202601 of `2026-01`."""
     return int(text[:4]) * 100 + int(text[5:])
 
 
-def text_of(at):
+def text_of(at: int) -> str:
+    """`2026-01` of 202601."""
     return f"{at // 100}-{at % 100:02}"
 
 
-def main():
+def main() -> None:
     words = sys.argv[1:]
-    office = Releases(words[1]) if words[:1] == ["--freezes"] else Office(words[0] if words else None)
+    office: Union[Office, Releases] = (
+        Releases(words[1]) if words[:1] == ["--freezes"] else Office(words[0] if words else None)
+    )
     for fields in csv.reader(sys.stdin):
         sys.stdout.write(json.dumps(office.reply(fields), separators=(",", ":"), sort_keys=True) + "\n")
 
