@@ -89,13 +89,14 @@ async function loadNotes() {
   const parts = await Promise.allSettled([import("./notes.js"), import("./questions.js")]);
   for (const { value } of /** @type {any[]} */ (parts)) value?.listen();
   if (parts.every(({ status }) => status === "fulfilled")) return;
-  noticeUntilRead(() => t("The part of this page for notes isn’t on this phone yet. Open the page again with a line."));
+  noticeUntilRead(() => t("The part of this page that handles notes isn’t on this phone yet. Open the page again when you are online."));
 }
 
 /** An error that nothing else has reported: of a browser that keeps nothing, or of the page itself. */
 function told(fault) {
   return fault instanceof DOMException ? pageKeepsNothing(fault)
-    : t("The page met an error: {error}. Load it anew.", { error: isolated(String(fault?.message ?? fault)) });
+    : t("An error occurred on this page: {error}. Reload the page.",
+      { error: isolated(String(fault?.message ?? fault)) });
 }
 
 line.on.gone = session.followOthers;

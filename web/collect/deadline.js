@@ -56,7 +56,7 @@ function wordsOf(window) {
     const moment = momentOf(opens * 1000, window.opens_zone);
     const values = { month: inWords(month), moment, within: within(opens - now) };
     // t: {moment} is such as 30 November, 18:00; {within} is such as in 2 days
-    return t("The window of {month} opens on {moment}, {within}.", values);
+    return t("The window for {month} opens on {moment}, {within}.", values);
   }
   const moment = momentOf(closes * 1000, window.closes_zone);
   // t: {moment} is such as 30 November, 18:00; {within} is such as in 2 days
@@ -82,9 +82,9 @@ function shortOf({ word, opens, closes }) {
 /** What the office's last answer said, if the published window is another one. */
 function wordsOfOffice({ word, month }) {
   const values = { month: inWords(month) };
-  if (word === "open") return t("The office takes prices of {month}. This phone doesn’t know yet until when.", values);
-  if (word === "closed") return t("The office says that the window of {month} has closed.", values);
-  return t("The office says that the window of {month} isn’t open yet.", values);
+  if (word === "open") return t("The office accepts prices for {month}. This phone doesn’t know the deadline yet.", values);
+  if (word === "closed") return t("The office says that the window for {month} has closed.", values);
+  return t("The office says that the window for {month} isn’t open yet.", values);
 }
 
 /** A moment by the office's clock; if the phone's differs, by that too, and by that only if the office's isn't known. */
@@ -93,7 +93,7 @@ function momentOf(at, zone) {
   const moment = timeBy(zone, at);
   if (new Date(at).getTimezoneOffset() * -MINUTE === zone[1]) return moment;
   // t: one moment by two clocks: 30 November, 18:00 CET (30 November, 20:00 by this phone)
-  return t("{moment} ({own} by this phone)", { moment, own: timeOf(at) });
+  return t("{moment} ({own} on this phone’s clock)", { moment, own: timeOf(at) });
 }
 
 function warning(count) {

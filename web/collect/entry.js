@@ -58,7 +58,7 @@ function chosen() {
   if (read?.price) return { mark, value: read.price };
   if (read?.readings) return form.askReading(read.readings, read.isRounded);
   form.focusPrice();
-  return form.showFault(t("Write the price with figures, such as {price}.", { price: figures(210) }));
+  return form.showFault(t("Type the price in digits, such as {price}.", { price: figures(210) }));
 }
 
 /** Keeps what the form says on the phone, and sends it; the form of the next row comes in its place. */
@@ -151,7 +151,7 @@ async function drop() {
     close();
   } else {
     edit(slot, month);
-    form.showFault(t("The office has answered meanwhile, so it can’t be taken back. Look at it again."));
+    form.showFault(t("The office has answered in the meantime, so you can’t undo this entry. Check it again."));
   }
 }
 

@@ -1,4 +1,5 @@
 // What the form of an entry shows. Price and Save come first: they are seen above the keyboard of a small phone.
+import { office } from "../config.js";
 import { find, make } from "../shared/dom.js";
 import { changeOf, figures, percent, shown, typed } from "../shared/money.js";
 import { inWords } from "../shared/months.js";
@@ -26,6 +27,7 @@ export function fill({ month, slot, row, entry, stored }) {
   find("entry-item").replaceChildren(...article(make("bdi", {}, text), unit && make("bdi", {}, unit)));
   find("entry-last").textContent = lastInWords(row);
   find("entry-stored").textContent = stored ? storedInWords(stored) : "";
+  find("entry-map").replaceChildren(...mapLink(outlet));
   for (const radio of form().mark) {
     radio.checked = radio.value === mark;
     radio.disabled = row[6] === null && isReplacement(radio.value) && radio.value !== mark;
@@ -45,7 +47,19 @@ export function fill({ month, slot, row, entry, stored }) {
 
 function storedInWords([, , mark, value, receipt]) {
   // t: {entered} is such as 3.21, or Sold out
-  return t("The office has: {entered}, receipt {receipt}.", { entered: inMarks(mark, value), receipt: whole(receipt) });
+  return t("The office has stored: {entered} (receipt {receipt}).",
+    { entered: inMarks(mark, value), receipt: whole(receipt) });
+}
+
+/** A link from a shop to a map, if the office has set the map's address, with {shop} for the name. Nothing is sent there
+ * before the link is touched. */
+function mapLink(outlet) {
+  const { map = "" } = /** @type {{ map?: string }} */ (office);
+  if (!/^(geo:|https:\/\/)/.test(map)) return [];
+  const href = map.replace("{shop}", () => encodeURIComponent(outlet));
+  const target = map.startsWith("geo:") ? null : "_blank"; // (a program of the phone takes the place of no page)
+  // t: a link of the form: opens the map of the phone
+  return [make("a", { href, target, rel: "noreferrer" }, t("Show this shop on a map"))];
 }
 
 /** What the form has: mark, reason, price as it is written, and a note; null if nothing is written in it. */
@@ -64,7 +78,7 @@ export function putDraft(written, edited) {
   showQuestion(null);
   showFields(row);
   showChange(row);
-  find("price-fault").textContent = t("You wrote this before, and didn’t save it.");
+  find("price-fault").textContent = t("You typed this earlier, but didn’t save it.");
 }
 
 /** Scrolls the form to some of its parts, the first one last, if they are out of sight. */
@@ -76,7 +90,7 @@ function lastInWords(row) {
   if (row[6] === null) return t("There is no last price.");
   const found = boundsOf(row);
   if (!found) return t("Last price {last}.", { last: shown(row[6]) });
-  return t("Last price {last}. Taken without a second look: {low} to {high}.", inPrices(found));
+  return t("Last price {last}. Usual range: {low} to {high}.", inPrices(found));
 }
 
 const inPrices = ({ last, low, high }) => ({ last: shown(last), low: shown(low), high: shown(high) });
@@ -86,7 +100,7 @@ function showFields(row) {
   const mark = markOf();
   find("entry-price").hidden = mark === "missing";
   find("entry-reason").hidden = mark !== "missing";
-  find("entry-hint").textContent = row[6] === null ? t("A replacement needs an earlier price of this slot.") : "";
+  find("entry-hint").textContent = row[6] === null ? t("A replacement needs an earlier price for this slot.") : "";
 }
 
 /** Shows by how much the price that is being typed differs from the last one. */
@@ -148,7 +162,7 @@ export function showSaved(kept, isElsewhere = false) {
 export function askReading(readings, isRounded) {
   showQuestion(null);
   find("entry-refusal").hidden = false;
-  find("entry-refusal").replaceChildren(make("p", {}, t("This can be read in more than one way. Which price is it?")),
+  find("entry-refusal").replaceChildren(make("p", {}, t("This could mean more than one price. Which one is it?")),
     make("div", { class: "actions" }, ...readings.map((price, n) =>
       make("button", { type: "button", "data-reading": price, onclick: () => on.reading(price) },
         // t: a button: a price that was typed with more decimals than the office writes: 1.46, rounded
@@ -184,9 +198,9 @@ function question(entry, isFar, isMoved) {
     const refused = t("Refused ({number}).", { number: whole(reply.refused) });
     return [make("strong", {}, refused), " ", whyNotStored(entry)];
   }
-  return [make("strong", {}, t("This price is far from the last one. Look again.")),
+  return [make("strong", {}, t("This price is far from the last one. Check it again.")),
     make("span", { class: "bounds" },
-      t("Last price {last}; without a second look {low} to {high} is taken.", inPrices(reply)))];
+      t("Last price {last}. Usual range: {low} to {high}.", inPrices(reply)))];
 }
 
 /** Leaves nothing of a slot in the form. */

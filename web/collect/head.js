@@ -1,6 +1,7 @@
 // The head of the page: who is signed in, the connection to the office, and how much isn't stored. It is seen always.
 import { becomes, find, make } from "../shared/dom.js";
 import { form, t, tn } from "../shared/texts.js";
+import { timeToCome } from "./opening.js";
 import { notes, questions } from "./optional.js";
 import { countOf, state } from "./state.js";
 
@@ -12,11 +13,11 @@ export function showHead() {
   find("line").dataset.line = state.line === "up" && waiting ? "waiting" : state.line;
   showAlarm([
     // t: of entries, on the red button of the head; short
-    state.refusal && waiting && tn("{count} not taken", "{count} not taken", waiting),
+    state.refusal && waiting && tn("{count} not accepted", "{count} not accepted", waiting),
     // t: of entries, on the red button of the head; short
     refused && tn("{count} refused", "{count} refused", refused),
     // t: of entries, on the red button of the head; short
-    look && tn("{count} to look at", "{count} to look at", look),
+    look && tn("{count} to check", "{count} to check", look),
     notes.alarm(),
     questions.alarm(),
   ].filter(Boolean));
@@ -32,9 +33,16 @@ function showAlarm(told) {
 
 function wordsOf(waiting) {
   if (state.line === "down") {
-    return waiting ? tn("No line: {count} entry kept on this phone", "No line: {count} entries kept on this phone", waiting)
+    return waiting ? tn("Offline: {count} entry kept on this phone", "Offline: {count} entries kept on this phone", waiting)
       // t: no connection to the office; short
-      : t("No line");
+      : t("Offline");
+  }
+  const time = state.line === "busy" ? timeToCome(state.expected) : "";
+  if (time) {
+    return waiting ? tn("The office will answer at about {time}: {count} entry kept on this phone",
+      "The office will answer at about {time}: {count} entries kept on this phone", waiting, { time })
+      // t: while it starts; short
+      : t("The office will answer at about {time}", { time });
   }
   if (state.line === "busy") {
     return waiting ? tn("The office is busy: {count} entry kept on this phone",
@@ -42,7 +50,7 @@ function wordsOf(waiting) {
   }
   if (state.line === "odd") return whenOdd(waiting);
   if (waiting && state.refusal) {
-    return tn("Not taken: {count} entry kept on this phone", "Not taken: {count} entries kept on this phone", waiting);
+    return tn("Not accepted: {count} entry kept on this phone", "Not accepted: {count} entries kept on this phone", waiting);
   }
   // t: of entries, in the head of the page; short
   if (waiting) return tn("{count} to be sent", "{count} to be sent", waiting);
@@ -53,10 +61,10 @@ function wordsOf(waiting) {
 /** (two lines of a small phone, so that the head doesn't grow) */
 function whenOdd(waiting) {
   // t: at most 60 letters
-  if (waiting === 0) return t("The answer made no sense. The page asks again.");
+  if (waiting === 0) return t("The office’s answer can’t be read. The page asks again.");
   // t: at most 70 letters
-  return tn("Not known if {count} entry is stored. The page asks again.",
-    "Not known if {count} entries are stored. The page asks again.", waiting);
+  return tn("The page doesn’t know whether {count} entry is stored. It asks again.",
+    "The page doesn’t know whether {count} entries are stored. It asks again.", waiting);
 }
 
 let lasting = () => ""; // gives a text that stays until the collector has read it, or none
@@ -66,7 +74,7 @@ let onRead = () => {}; // is called then
 export function notice(text) {
   const kept = lasting(), told = text || kept, isLasting = Boolean(told) && told === kept;
   // t: a button under a notice, which goes away then
-  const read = isLasting && make("button", { type: "button", onclick: wasRead }, t("I know"));
+  const read = isLasting && make("button", { type: "button", onclick: wasRead }, t("OK"));
   // (a button that is there stays, so that a finger that is on it isn't lost)
   becomes(find("notice"), make("p", { id: "notice", class: "notice", role: "alert", hidden: !told },
     ...[told, isLasting && " ", read].filter(Boolean)));

@@ -26,7 +26,7 @@ export function readKey(text) {
     return { fault: t("A key has {length} characters, or {longest} with its check character. This one has {count}.", values) };
   }
   if (typed.length > LENGTH && !isChecked(typed)) {
-    return { fault: t("A character is wrong, or two have changed places: compare the key with the sheet.") };
+    return { fault: t("A character is wrong, or two are swapped: compare the key with the sheet.") };
   }
   return { key: typed.slice(0, LENGTH) };
 }

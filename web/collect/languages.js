@@ -32,7 +32,7 @@ async function chosen({ target }) {
   try {
     if (language !== code()) await choose(language);
   } catch {
-    find("languages-fault").textContent = t("The texts of this language aren’t on this phone yet, and there is no line.");
+    find("languages-fault").textContent = t("The texts in this language aren’t on this phone yet, and you are offline.");
     return;
   }
   find("languages").close();

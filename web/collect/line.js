@@ -3,6 +3,7 @@ import { NoAnswer } from "../shared/api.js";
 import { notice, showHead } from "./head.js";
 import { render, show, showCounts, touch } from "./list.js";
 import { fetchLists, isOld } from "./lists.js";
+import { expectedAt } from "./opening.js";
 import { showSentAgain } from "./restored.js";
 import { dueIn, made, sendAll } from "./send.js";
 import { state, storedOf, takeEntries, takeKept } from "./state.js";
@@ -86,7 +87,9 @@ async function once() {
       timer = setTimeout(later, LONGEST_WAIT * 1000); // (the phone's disk was full, say)
       throw fault;
     }
-    if (state.who === who) state.line = { line: "down", odd: "odd" }[fault.kind] ?? "busy";
+    const line = { line: "down", odd: "odd" }[fault.kind] ?? "busy";
+    const expected = line === "busy" ? await expectedAt(giving.signal) : null;
+    if (state.who === who) Object.assign(state, { line, expected });
     wait = fault.wait;
   }
   if (state.who !== who || !who) return;

@@ -91,15 +91,15 @@ function progress(stored, all, at) {
   const counts = { stored: whole(stored), all: whole(all) };
   const isToday = new Date(at).toDateString() === new Date().toDateString();
   // t: {time} is such as 17:30, when the list came
-  return (isToday ? t("{stored} of {all} stored, list of {time}", { ...counts, time: clockOf(at) })
+  return (isToday ? t("{stored} of {all} stored, as of {time}", { ...counts, time: clockOf(at) })
     // t: {day} is such as 25 Nov 2026, when the list came
-    : t("{stored} of {all} stored, list of {day}", { ...counts, day: dayOf(at) })) + restOf(stored, all);
+    : t("{stored} of {all} stored, as of {day}", { ...counts, day: dayOf(at) })) + restOf(stored, all);
 }
 
 function whyNoList() {
-  if (state.line === "unknown") return t("Asking the office for the list of this month…");
-  if (state.line === "down") return t("The list of this month isn’t on this phone yet, and there is no line.");
-  return t("No list of this month yet.");
+  if (state.line === "unknown") return t("Asking the office for this month’s list…");
+  if (state.line === "down") return t("This month’s list isn’t on this phone yet, and you are offline.");
+  return t("No list for this month yet.");
 }
 
 const empty = (text) => make("p", { class: "empty" }, text);
@@ -110,7 +110,7 @@ function listed() {
   const sections = outletSections();
   if (sections.length) return sections;
   const isDone = state.list.work.length > 0;
-  return [empty(isDone ? t("All done: everything of this month is stored.") : t("Nothing to price in this month."))];
+  return [empty(isDone ? t("All done: everything for this month is stored.") : t("Nothing to price this month."))];
 }
 
 const rowsOf = (outlet) => state.list.work.filter((row) => row[1] === outlet);
@@ -160,7 +160,7 @@ function slotButton([slot, , , , text, unit, last]) {
 
 function lastOf(price) {
   // t: there is no last price of this row; short
-  if (price === null) return t("last none");
+  if (price === null) return t("no last price");
   // t: the last price of this row; short
   return t("last {price}", { price: shown(price) });
 }
@@ -169,18 +169,18 @@ function lastOf(price) {
  * keeps it. */
 function lineOf(slot) {
   // t: of a row whose form was closed before it was saved; short
-  const told = draftOf({ month: state.month, slot }) ? t("Written, not saved") : questions.lineOf(slot) || stillStored(slot);
+  const told = draftOf({ month: state.month, slot }) ? t("Typed, not saved") : questions.lineOf(slot) || stillStored(slot);
   if (told) tall.add(slot);
   return told || (tall.has(slot) ? "\u00a0" : "");
 }
 
 function quotesTable() {
-  if (state.list.quotes.length === 0) return empty(t("The office has no quote of yours of this month."));
+  if (state.list.quotes.length === 0) return empty(t("The office has none of your prices for this month."));
   const head = (text, n) => make("th", { scope: "col", class: n ? "number" : null }, text);
   // t: the heads of a table: the item, what is stored of it, and the number of its receipt
   const heads = [t("Item"), tc("head of a column", "Stored"), t("Receipt")].map(head);
   return make("table", { class: "quotes" },
-    make("caption", {}, t("What the office has stored for you")),
+    make("caption", {}, t("Your prices stored by the office")),
     make("thead", {}, make("tr", {}, ...heads)), make("tbody", {}, ...state.list.quotes.map(quoteRow)));
 }
 

@@ -52,7 +52,7 @@ function item(note) {
     make("p", { class: needsLook(note) ? "why bad" : "why" }, whyNotSent(note)),
     make("div", { class: "actions" },
       isShown && make("button", { type: "button", "data-do": "open" }, t("Open")),
-      make("button", { type: "button", "data-do": "drop" }, t("Drop"))));
+      make("button", { type: "button", "data-do": "drop" }, t("Delete"))));
 }
 
 /** Brings the list into sight; whether there is one. */
@@ -67,11 +67,11 @@ export function showAll() {
 
 function askToDrop(note) {
   dropping = note;
-  find("note-dropping-title").textContent = t("Drop this note?");
+  find("note-dropping-title").textContent = t("Delete this note?");
   find("note-keep").textContent = t("Keep it");
-  find("note-gone").textContent = t("Drop it");
+  find("note-gone").textContent = t("Delete it");
   find("note-dropping-text").replaceChildren(...noteInWords({ ...note, hasPhoto: Boolean(note.photo) }), ". ",
-    t("The desk doesn’t have it, and it will be gone from this phone."));
+    t("The desk doesn’t have it, and it will be deleted from this phone."));
   find("note-dropping").returnValue = "keep";
   find("note-dropping").showModal();
 }

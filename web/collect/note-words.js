@@ -17,20 +17,20 @@ export function noteInWords({ isSale, brand, quantity, text, hasPhoto }) {
 /** Why a note isn't sent, and what to do. */
 export function whyNotSent({ fault }) {
   const reasons = {
-    price: () => t("It waits until the office has stored its price."),
-    moved: () => t("The office has another price now than the one that this note is of. Open it and save it, or drop it."),
-    line: () => t("There is no line. It is sent by itself."),
-    busy: () => t("The desk’s machine is busy. It is sent by itself."),
-    office: () => t("The desk’s machine can’t ask the office. It is sent by itself."),
-    none: () => t("The office doesn’t take notes at the moment. It is sent by itself if it does again."),
-    key: () => t("The key isn’t taken. Ask the desk."),
-    picture: () => t("The photograph can’t be read as a picture. Open it, and take another one."),
-    long: () => t("It is too long, with its photograph. Open it, and take another photograph."),
-    many: () => t("The desk has as many notes of you of this month as it takes. Tell the desk, or drop it."),
-    past: () => t("Notes of this month aren’t kept any more. Drop it."),
+    price: () => t("The note is waiting until the office has stored its price."),
+    moved: () => t("The office’s price has changed since you wrote this note. Open and save the note, or delete it."),
+    line: () => t("You are offline. The note will be sent automatically."),
+    busy: () => t("The desk’s machine is busy. The note will be sent automatically."),
+    office: () => t("The desk’s machine can’t reach the office. The note will be sent automatically."),
+    none: () => t("The office doesn’t accept notes at the moment. The note will be sent automatically when it does."),
+    key: () => t("The key isn’t accepted. Ask the desk."),
+    picture: () => t("The photograph can’t be read as a picture. Open the note and take another photograph."),
+    long: () => t("The note and its photograph are too large. Open the note and take another photograph."),
+    many: () => t("You have reached this month’s limit of notes. Tell the desk, or delete this one."),
+    past: () => t("Notes for this month are no longer kept. Delete this one."),
   };
   // t: of a note; {fault} is a word
-  return reasons[fault]?.() ?? t("The desk’s machine doesn’t read it ({fault}). Open it and mend it, or drop it.", { fault });
+  return reasons[fault]?.() ?? t("The desk’s machine can’t read this note ({fault}). Open and correct it, or delete it.", { fault });
 }
 
 /** Whether a note needs its collector. */
@@ -40,7 +40,7 @@ export const needsLook = ({ state, fault }) => state === "refused" || fault === 
 export const toBeSent = (count) => tn("{count} note to be sent", "{count} notes to be sent", count);
 
 // t: on the red button of the head; short
-export const toLookAt = (count) => tn("{count} note to look at", "{count} notes to look at", count);
+export const toLookAt = (count) => tn("{count} note to check", "{count} notes to check", count);
 
-export const thrownAway = (count) => tn("{count} note on this phone hasn’t been sent to the desk. Signing out throws it away.",
-  "{count} notes on this phone haven’t been sent to the desk. Signing out throws them away.", count);
+export const thrownAway = (count) => tn("{count} note on this phone hasn’t been sent to the desk. Signing out deletes it.",
+  "{count} notes on this phone haven’t been sent to the desk. Signing out deletes them.", count);

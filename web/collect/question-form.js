@@ -47,7 +47,7 @@ function speak(isOpen) {
   // t: above the form of a price; {question} is what the desk has written
   find("question").replaceChildren(...(isOpen ? parts(t("The desk asks: {question}"), asked)
     // t: above the form of a price; {question} is what the desk has written
-    : parts(t("The desk doesn’t ask this any more: {question}"), asked)));
+    : parts(t("The desk no longer asks this: {question}"), asked)));
   // t: the field of a text
   find("answer-label").textContent = t("Your answer to the desk");
   find("answer-right").hidden = !stored;
@@ -58,11 +58,12 @@ function speak(isOpen) {
   // t: a button
   find("answer-send").textContent = t("Send the text");
   const about = isClosed(month)
-    ? t("The month’s window has closed, so the office takes no other price. Write the right one as a text: the desk can "
-      + "open the window again.")
-    : t("To correct the price, write the right one above and save it: the desk is told.");
+    ? t("The window for this month has closed, so the office doesn’t accept another price. Write the right price as "
+      + "text: the desk can reopen the window.")
+    : t("To correct the price, type the right one above and save it: the desk will see it.");
   // t: {count} is a number of letters
-  const most = t("At most {count} letters. Only the desk reads it, and you.", { count: grouped(MOST_LETTERS) });
+  const most = t("At most {count} characters. Only you and the desk can read your answer.",
+    { count: grouped(MOST_LETTERS) });
   find("answer-about").textContent = `${about} ${most}`;
 }
 
@@ -93,7 +94,7 @@ async function answer(said) {
     await on.answer(question, said);
   } catch (fault) {
     // t: {error} is the browser's name of an error
-    find("answer-fault").textContent = t("The answer isn’t kept: the browser refuses it ({error}).", { error: fault.name });
+    find("answer-fault").textContent = t("The answer isn’t saved: the browser doesn’t allow it ({error}).", { error: fault.name });
   }
 }
 

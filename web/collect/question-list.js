@@ -36,7 +36,7 @@ export function render(found) {
   listed = found;
   find("questions").hidden = found.length === 0;
   // t: a heading: questions about single prices
-  find("questions-title").textContent = t("Questions of the desk");
+  find("questions-title").textContent = t("Questions from the desk");
   becomes(find("questions-list"), make("ul", { id: "questions-list" }, ...found.map(item)));
 }
 
@@ -51,7 +51,7 @@ function item({ question, answer, row }) {
     make("div", { class: "actions" },
       // t: a button that opens the form of a question
       make("button", { type: "button", "data-do": "open" }, answer ? t("Open") : t("Answer")),
-      answer && make("button", { type: "button", "data-do": "drop" }, t("Drop"))));
+      answer && make("button", { type: "button", "data-do": "drop" }, t("Delete"))));
 }
 
 /** Brings the list into sight; whether there is one. */
@@ -66,11 +66,11 @@ export function showAll() {
 
 function askToDrop(answer) {
   dropping = answer;
-  find("answer-dropping-title").textContent = t("Drop this answer?");
+  find("answer-dropping-title").textContent = t("Delete this answer?");
   find("answer-keep").textContent = t("Keep it");
-  find("answer-gone").textContent = t("Drop it");
+  find("answer-gone").textContent = t("Delete it");
   find("answer-dropping-text").replaceChildren(...answerInWords(answer), ". ",
-    t("The desk doesn’t have it, and it will be gone from this phone."));
+    t("The desk doesn’t have it, and it will be deleted from this phone."));
   find("answer-dropping").returnValue = "keep";
   find("answer-dropping").showModal();
 }

@@ -18,21 +18,20 @@ export function answerInWords({ what, mark, value, text }) {
 /** Why an answer isn't sent, and what to do. */
 export function whyNotSent({ fault }) {
   const reasons = {
-    price: () => t("The answer waits until the office has stored its price."),
-    moved: () => t("The office has another price now than the one that this answer is about. Open it and answer again, or "
-      + "drop it."),
-    line: () => t("There is no line. The answer is sent by itself."),
-    busy: () => t("The desk’s machine is busy. The answer is sent by itself."),
-    office: () => t("The desk’s machine can’t ask the office. The answer is sent by itself."),
-    none: () => t("The office doesn’t take answers at the moment. The answer is sent by itself if it does again."),
-    key: () => t("The key isn’t taken. Ask the desk."),
-    long: () => t("It is too long. Open it and write less, or drop it."),
-    many: () => t("The desk has as many answers to this question as it takes. Tell the desk, or drop it."),
-    question: () => t("The desk doesn’t have this question any more. Drop the answer."),
+    price: () => t("The answer is waiting until the office has stored its price."),
+    moved: () => t("The office’s price has changed since you answered. Open the question and answer again, or delete this answer."),
+    line: () => t("You are offline. The answer will be sent automatically."),
+    busy: () => t("The desk’s machine is busy. The answer will be sent automatically."),
+    office: () => t("The desk’s machine can’t reach the office. The answer will be sent automatically."),
+    none: () => t("The office doesn’t accept answers at the moment. The answer will be sent automatically when it does."),
+    key: () => t("The key isn’t accepted. Ask the desk."),
+    long: () => t("The answer is too long. Open and shorten it, or delete it."),
+    many: () => t("This question has reached its limit of answers. Tell the desk, or delete this one."),
+    question: () => t("The desk no longer has this question. Delete the answer."),
   };
   // t: of an answer to the desk; {fault} is a word
   return reasons[fault]?.()
-    ?? t("The desk’s machine doesn’t read the answer ({fault}). Open it and mend it, or drop it.", { fault });
+    ?? t("The desk’s machine can’t read the answer ({fault}). Open and correct it, or delete it.", { fault });
 }
 
 /** Whether an answer needs its collector. */
@@ -45,5 +44,5 @@ export const toBeSent = (count) => tn("{count} answer to be sent", "{count} answ
 export const toBeAnswered = (count) => tn("{count} question", "{count} questions", count);
 
 export const thrownAway = (count) => tn(
-  "{count} answer on this phone hasn’t been sent to the desk. Signing out throws it away.",
-  "{count} answers on this phone haven’t been sent to the desk. Signing out throws them away.", count);
+  "{count} answer on this phone hasn’t been sent to the desk. Signing out deletes it.",
+  "{count} answers on this phone haven’t been sent to the desk. Signing out deletes them.", count);

@@ -203,7 +203,7 @@ const ifAny = (count, words) => (count ? words(count) : "");
 
 /** What the row of a slot says of a question; or no text. */
 function lineOf(slot) {
-  if (form.isTyped({ month: state.month, slot })) return t("Written, not saved");
+  if (form.isTyped({ month: state.month, slot })) return t("Typed, not saved");
   // t: of a row about whose price the desk has a question; short
   if (isOpen(slot)) return t("The desk asks");
   // t: of a row whose answer to the desk is on this phone; short

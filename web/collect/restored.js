@@ -14,9 +14,9 @@ export async function showSentAgain({ key, who }) {
 function inWords(numbers) {
   const count = numbers.length, receipts = { receipts: inRanges(numbers) };
   // t: {receipts} are numbers of receipts, such as 6–8, 12
-  return tn("The office was restored from a copy that lacked {count} entry of yours. It was sent again, with a new receipt: "
-    + "{receipts}.", "The office was restored from a copy that lacked {count} entries of yours. They were sent again, with new "
-    + "receipts: {receipts}.", count, receipts);
+  return tn("The office was restored from a copy that lacked {count} of your entries. This phone sent it again and "
+    + "got a new receipt: {receipts}.", "The office was restored from a copy that lacked {count} of your entries. "
+    + "This phone sent them again and got new receipts: {receipts}.", count, receipts);
 }
 
 /** Numbers as `6–8, 12`. */

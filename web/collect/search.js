@@ -54,7 +54,7 @@ function searchFor(text) {
 /** Says that no row that was found is to do. */
 export function sayNone() {
   // t: none of the rows that were found is left to do
-  find("found").textContent = t("All of these are entered.");
+  find("found").textContent = t("You have entered all of these.");
 }
 
 /** Nothing is searched for, and nothing is folded. */

@@ -10,6 +10,7 @@ import { nameIn, readKey, takeLink } from "./key.js";
 import * as line from "./line.js";
 import { choose, render, show } from "./list.js";
 import { takeShared } from "./lists.js";
+import { expectedAt, timeToCome } from "./opening.js";
 import { notes, questions } from "./optional.js";
 import { showSentAgain } from "./restored.js";
 import * as search from "./search.js";
@@ -83,12 +84,18 @@ async function keyFault(key) {
   try {
     const { work, refused } = await ask("GET", `/work/${state.month}`, { key });
     if (work || refused === 21) return "";
-    return refused === 12 ? t("This key isn’t a collector’s.") : toCollector({ refused: refused ?? 90 });
+    return refused === 12 ? t("This key doesn’t belong to a collector.") : toCollector({ refused: refused ?? 90 });
   } catch (fault) {
     if (!(fault instanceof NoAnswer)) throw fault;
-    if (fault.kind === "odd") return t("The answer made no sense. Try again in a moment, or on another network.");
-    if (fault.kind !== "line") return t("The office is busy. Try again in a moment.");
-    return t("There is no line to the office. Sign in once with a line; afterwards the page works without.");
+    if (fault.kind === "odd") {
+      return t("The office’s answer can’t be read. Try again in a moment, or on another network.");
+    }
+    if (fault.kind !== "line") {
+      const time = timeToCome(await expectedAt());
+      return time ? t("The office is starting. Try again at about {time}.", { time })
+        : t("The office is busy. Try again in a moment.");
+    }
+    return t("The office can’t be reached. Sign in once when you are online; afterwards the page also works offline.");
   }
 }
 
@@ -120,19 +127,21 @@ function askToLeave() {
   find("leaving-text").textContent = lost.filter(Boolean).join(" ");
   find("leaving-taken").hidden = count === 0;
   // t: a button of the question of "Sign out"
-  find("leaving-go").textContent = count + notes.count() + questions.count() ? t("Throw away and sign out") : t("Sign out");
+  find("leaving-go").textContent = count + notes.count() + questions.count() ? t("Delete and sign out") : t("Sign out");
   find("leaving").returnValue = "stay";
   find("leaving").showModal();
 }
 
 function whatIsLeft(count) {
-  if (!count) return t("Everything you saved has been sent. The key and the lists are removed from this phone.");
-  return tn("{count} entry on this phone hasn’t been stored by the office. Signing out throws it away.",
-    "{count} entries on this phone haven’t been stored by the office. Signing out throws them away.", count);
+  if (!count) {
+    return t("Everything you saved has been sent. Signing out deletes the key and the lists from this phone.");
+  }
+  return tn("The office hasn’t stored {count} entry on this phone. Signing out deletes it.",
+    "The office hasn’t stored {count} entries on this phone. Signing out deletes them.", count);
 }
 
-const whatIsWritten = (count) => tn("What you wrote into {count} form and didn’t save is lost.",
-  "What you wrote into {count} forms and didn’t save is lost.", count);
+const whatIsWritten = (count) => tn("You will lose what you typed in {count} form and didn’t save.",
+  "You will lose what you typed in {count} forms and didn’t save.", count);
 
 async function left() {
   if (find("leaving").returnValue !== "leave") return;

@@ -6,6 +6,7 @@ export const signedOut = () => ({
   list: null, // { work, quotes, at } of the month, as the office sent it last
   entries: [], // all that the office hasn't stored, of all months
   line: "unknown", // "up", "down", "busy", "odd"
+  expected: null, // when a busy office is expected to answer, in milliseconds, or null
   refusal: null, // of all that waits: the key is denied (11), or the office's memory or disk failed (90), say
 });
 

@@ -4,11 +4,11 @@
 // writes it. What an office sets itself (SET) is kept too, and read anew behind each start, so that the next one has it; and
 // so are the catalogues of languages that this phone has spoken, and the files of notes and questions if the office takes
 // them: the page names these.
-const VERSION = "9c7c0275049df8bf";
+const VERSION = "ed0f774852d3fb3b";
 const FILES = [
   "./", "answers.js", "app.js", "collect.css", "deadline.js", "drafts.js", "entry.js", "export.js", "form.js", "head.js",
   "icon.svg", "kept-lists.js", "key.js", "languages.js", "line.js", "list.js", "lists.js", "look.js",
-  "manifest.webmanifest", "optional.js", "quotes.js", "refused.js", "restored.js", "search.js", "send.js", "session.js",
+  "manifest.webmanifest", "opening.js", "optional.js", "quotes.js", "refused.js", "restored.js", "search.js", "send.js", "session.js",
   "shown-month.js", "state.js", "storage.js", "store.js", "tabs.js", "unsent.js", "wording.js",
   "../shared/api.js", "../shared/base.css", "../shared/csv.js", "../shared/dom.js", "../shared/money.js",
   "../shared/language.js", "../shared/languages.js", "../shared/months.js", "../shared/texts.js", "../shared/windows.js",

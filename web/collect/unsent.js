@@ -59,7 +59,7 @@ function item(then) {
       // t: a button that opens the form of an entry
       make("button", { type: "button", "data-do": "open" }, t("Open")),
       // t: a button that throws away an entry that isn't stored
-      make("button", { type: "button", "data-do": "drop" }, t("Drop"))));
+      make("button", { type: "button", "data-do": "drop" }, t("Delete"))));
 }
 
 /** The outlet, the item and the unit of an entry; in place of an item that isn't known its slot. */
@@ -78,14 +78,14 @@ function storedAs(entry) {
 function becomeOf(then, now, sent) {
   const before = whyNotStored(then);
   if (now && whyNotStored(now) === before) return [before];
-  const after = now ? changed(kindOf(now)) : sent ? t("Stored.") : t("It isn’t on this phone any more.");
+  const after = now ? changed(kindOf(now)) : sent ? t("Stored.") : t("It is no longer on this phone.");
   return [make("span", { class: "before" }, before), make("span", {}, after)];
 }
 
 function changed(kind) {
-  if (kind === "waiting") return t("It waits to be sent.");
+  if (kind === "waiting") return t("It is waiting to be sent.");
   // t: "open it" is open the entry, by the button Open
-  return kind === "refused" ? t("Refused: open it.") : t("To look at: open it.");
+  return kind === "refused" ? t("Refused: open it.") : t("Open and check it.");
 }
 
 // ---- Dropping one
@@ -99,8 +99,8 @@ function askToDrop(entry) {
   find("dropping-text").replaceChildren(
     // t: {item} is an item with its unit, {entered} is such as 3.21, or Sold out, {month} is such as November 2026
     ...parts(outlet ? t("{item}: {entered}, {month}, {outlet}.") : t("{item}: {entered}, {month}."), values), " ",
-    entry.state === "waiting" ? t("It will be gone from this phone, unless the office has stored it by now.")
-      : t("The office hasn’t stored it, and it will be gone from this phone."));
+    entry.state === "waiting" ? t("It will be deleted from this phone, unless the office has stored it by now.")
+      : t("The office hasn’t stored it, and it will be deleted from this phone."));
   find("dropping").returnValue = "keep";
   find("dropping").showModal();
 }

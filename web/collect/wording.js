@@ -26,7 +26,7 @@ export function inMarks(mark, value) {
   if (mark === "missing") return reason(value);
   const price = shown(value);
   if (mark === "price") return price;
-  return mark === "comparable" ? t("Comparable article, {price}", { price }) : t("Other article, {price}", { price });
+  return mark === "comparable" ? t("Comparable replacement, {price}", { price }) : t("Replacement, {price}", { price });
 }
 
 function reason(value) {
@@ -34,7 +34,7 @@ function reason(value) {
     // t: why there is no price; short
     stock: () => t("Sold out"), closed: () => t("Shop closed"),
     // t: why there is no price; short
-    gone: () => t("No longer sold"), refused: () => t("Shop doesn’t tell"),
+    gone: () => t("No longer sold"), refused: () => t("Shop refused"),
   };
   return reasons[value]?.() ?? value;
 }
@@ -53,7 +53,7 @@ function stateOf(kind) {
   // t: of an entry that is kept on this phone; short
   if (kind === "waiting") return ["waiting", t("To be sent")];
   // t: of an entry that its collector has to look at once more; short
-  if (kind === "look") return ["bad", t("Look again")];
+  if (kind === "look") return ["bad", t("Check again")];
   // t: of an entry that the office refused; short
   return ["bad", t("Refused")];
 }
@@ -67,13 +67,13 @@ export function stillStored(slot) {
 
 /** Why an entry isn't stored, and what to do, in a sentence or two. */
 export function whyNotStored(entry) {
-  if (entry.state === "waiting") return state.refusal ? toCollector(state.refusal) : t("It waits to be sent.");
+  if (entry.state === "waiting") return state.refusal ? toCollector(state.refusal) : t("It is waiting to be sent.");
   if (entry.had) return whyLacked(entry);
   if (entry.state !== "moved") return toCollector(entry.reply);
   const { mark, value, receipt } = entry.reply;
   const values = { entered: inMarks(mark, value), receipt: whole(receipt) };
   // t: {entered} is such as 3.21, or Sold out
-  return t("The office has {entered} (receipt {receipt}), stored since this was written. Which one is right?", values);
+  return t("The office has {entered} (receipt {receipt}), stored after you typed this. Which one is right?", values);
 }
 
 /** The same of an entry that the office had stored, before it was restored from a copy. */
@@ -81,33 +81,33 @@ function whyLacked({ state: become, reply, had }) {
   if (become !== "moved") {
     const told = { receipt: whole(had), why: toCollector(reply) };
     // t: {receipt} is the number of a receipt; {why} is a sentence or two, such as: The window has closed. Tell the desk.
-    return t("The office had stored this, with receipt {receipt}, and was restored from a copy that lacks it. {why}", told);
+    return t("The office had stored this with receipt {receipt}, but was then restored from a copy that lacks it. {why}", told);
   }
   const values = { entered: inMarks(reply.mark, reply.value), receipt: whole(reply.receipt), had: whole(had) };
   // t: {entered} is such as 3.21, or Sold out; {receipt} and {had} are numbers of receipts
-  return t("The office was restored from a copy. It has {entered} now (receipt {receipt}); it had this one (receipt {had}). "
-    + "Which one is right?", values);
+  return t("The office was restored from a copy. It now has {entered} (receipt {receipt}). Before that, it had this "
+    + "one (receipt {had}). Which one is right?", values);
 }
 
 const isFull = ({ name }) => name === "QuotaExceededError";
 
 /** Why an entry isn't on the phone, from the browser's error, whose name it has. */
 export const entryNotKept = (fault) => (isFull(fault)
-  ? t("An entry isn’t kept: there is no room left. Make room on the phone, and save again.")
+  ? t("An entry isn’t saved: the phone is full. Free some space, and save again.")
   // t: {error} is the browser's name of an error
-  : t("An entry isn’t kept: the browser refuses it ({error}). Let it keep data of this site, or leave the private window.",
+  : t("An entry isn’t saved: the browser doesn’t allow it ({error}). Allow this site to store data, or use a window that isn’t private.",
     { error: fault.name }));
 
 /** The same of the entry in the form. */
 export const thisNotKept = (fault) => (isFull(fault)
-  ? t("This entry isn’t kept: there is no room left. Make room on the phone, and save again.")
+  ? t("This entry isn’t saved: the phone is full. Free some space, and save again.")
   // t: {error} is the browser's name of an error
-  : t("This entry isn’t kept: the browser refuses it ({error}). Let it keep data of this site, or leave the private window.",
+  : t("This entry isn’t saved: the browser doesn’t allow it ({error}). Allow this site to store data, or use a window that isn’t private.",
     { error: fault.name }));
 
 /** The same of what the page itself needs. */
 export const pageKeepsNothing = (fault) => (isFull(fault)
-  ? t("The page can’t keep what it needs here: there is no room left. Make room on the phone, and save again.")
+  ? t("The page can’t store its data: the phone is full. Free some space, and save again.")
   // t: {error} is the browser's name of an error
-  : t("The page can’t keep what it needs here: the browser refuses it ({error}). Let it keep data of this site, or leave the "
-    + "private window.", { error: isolated(fault.name) }));
+  : t("The page can’t store its data: the browser doesn’t allow it ({error}). Allow this site to store data, or use "
+    + "a window that isn’t private.", { error: isolated(fault.name) }));

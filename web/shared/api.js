@@ -40,7 +40,7 @@ export async function ask(method, path, { key, body, seconds = 60, signal } = {}
 }
 
 /** A signal that ends after so many seconds, or with another one, as far as the browser can join them. */
-function endOf(seconds, signal) {
+export function endOf(seconds, signal) {
   const late = AbortSignal.timeout?.(seconds * 1000);
   return signal && late ? AbortSignal.any?.([signal, late]) ?? late : signal ?? late;
 }
