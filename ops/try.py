@@ -5,9 +5,11 @@
 
 The office is the made-up country of examples/national: two to three years of published tables up to last month, and
 this month's window is open. It is made by the first call in a month, which takes a minute or more, and stays in FOLDER
-with what is sent to it: out/try in the repository, and ~/.cache/sabrethog/out/try where this is installed. With --db it
-is a copy of the office in FILE instead. Each start publishes its website, and the desk's pages are served beside the
-office; their log, and the notes that phones send, are beside the office's file. Nothing else on the machine is changed.
+with what is sent to it, so the next call goes on where this one was stopped: out/try in the repository, and
+~/.cache/sabrethog/out/try if this is installed. With --db it is a copy of the office in FILE instead, which is copied
+anew once FILE has changed. Each start publishes its website, in all languages that the country has texts in, and the
+desk's pages are served beside the office; their log, and the notes that phones send, are beside the office's file. The
+keys of the desk and of supervisors are in FOLDER. Nothing else on the machine is changed.
 
 It listens at this machine alone, or at the ADDRESS of it that is named, for a phone in the same network: who can reach
 that address can read and send what its pages can, so let it be a network that you trust. The certificate is drawn for
@@ -35,45 +37,50 @@ if __name__ == "__main__":
 import argparse
 import contextlib
 import csv
-import datetime
 import fcntl
 import os
 import re
-import secrets
 import shutil
 import subprocess
 import tempfile
 import time
-from collections.abc import Iterator
+from collections.abc import Iterator, Sequence
 from functools import partial
 from pathlib import Path
 from typing import NoReturn, Optional, Union
 
 from cpi_tools.office.calendar_file import write_calendar
 from cpi_tools.office.copying import right_copy
-from cpi_tools.tryout.front import (
+from cpi_tools.tryout.trial_services import (
     LOCALHOST,
     Front,
     Place,
+    TrialSite,
+    Tried,
+    TriedDesk,
+    desk_needs,
     fingerprint,
+    folder_of_trial,
     free_port,
     is_listening,
     keep_certificate,
     standing,
     system_program,
+    write_config,
+    write_site_config,
 )
 from cpi_tools.text.languages import SOURCE, a_language
 from cpi_tools.text.clocks import clock_of
 from cpi_tools.publish.figures.config import read_config
-from cpi_tools.office.public import from_file
+from cpi_tools.office.public import Published, from_file
+from cpi_tools.office.stored import Window
 from cpi_tools.office.program import Cpi, CpiFailed, add_program, end_text as told_end
 from cpi_tools.publish.pack import publish
-from cpi_tools.desk.keys.sign_in import address_of_page, link_of
+from cpi_tools.desk.serve.watched_office import state_of
+from cpi_tools.desk.keys.keys_cli import address_of_page, link_of
 from cpi_tools.text.terminal import Fault, ToolWords, because_of, ends_by_signals, needs
-from cpi_tools.tryout.trial_folder import folder_of_trial
-from cpi_tools.tryout.trial_config import write_config
-from cpi_tools.tryout.trial_desk import Tried, TriedDesk, desk_needs
-from cpi_tools.tryout.trial_site import TrialSite, write_site_config
+from cpi_tools.tryout.trial_calendar import month_now, write_announced
+from cpi_tools.tryout.trial_keys import SUPERVISORS, first_key, kept_desk_key, kept_supervisors
 
 ROOT = Path(__file__).resolve().parents[1]
 
@@ -83,8 +90,8 @@ ZONE = "CET-1CEST,M3.5.0,M10.5.0/3"
 COUNTRY = ROOT / "examples/national/office.ini"
 """Who publishes the website of the made-up country."""
 
-SITE = "published"
-"""The folder of the website."""
+SITE, SITE_OF = "published", "published-of"
+"""The folder of the website, and the file that says of which office's file it is."""
 
 CALENDAR = "calendar.json"
 """The windows of the office's calendar, which the desk's application writes again once it sends one."""
@@ -107,6 +114,11 @@ def made_up_country(folder: Path, cpi: Cpi, month: str) -> Path:
     file = folder / f"{month}.db"
     if file.exists():
         return file
+    for earlier in sorted(folder.glob("[0-9][0-9][0-9][0-9]-[0-9][0-9].db"))[-1:]:
+        print(
+            f"The office of {earlier.stem}, with what was sent to it, stays: --db {earlier} shows a copy of it.",
+            flush=True,
+        )
     print("The made-up country lives through two to three years first: a minute or more, once a month.", flush=True)
     made = file.with_suffix(".new")
     room = Path(IN_MEMORY) if os.access(IN_MEMORY, os.W_OK) else folder
@@ -121,33 +133,56 @@ def made_up_country(folder: Path, cpi: Cpi, month: str) -> Path:
 
 
 def copy_of(office: Path, folder: Path) -> Path:
-    """A copy of an office's own file, as it is now."""
+    """A copy of an office's own file, as it is now: the one of the trial before, with what was sent to it, if the file
+    hasn't changed since."""
     copies = folder / "copy"
+    file, copied = copies / office.name, copies / "copied-of.txt"
+    try:
+        state = f"{office.resolve()} {state_of(office)}"
+    except OSError as fault:
+        raise Fault(because_of(fault)) from fault
+    if file.exists() and copied.exists() and copied.read_text(encoding="utf-8") == state:
+        print("The copy of the trial before is used again: the office's file hasn't changed since.", flush=True)
+        return file
     shutil.rmtree(copies, ignore_errors=True)
     copies.mkdir()
-    return right_copy(office, copies)
+    copy = right_copy(office, copies)
+    copied.write_text(state, encoding="utf-8")
+    return copy
 
 
-def write_website(cpi: Cpi, file: Path, folder: Path, is_country: bool, of: TrialSite) -> Path:
+def write_website(cpi: Cpi, file: Path, folder: Path, windows: Optional[Sequence[Window]], of: TrialSite) -> Path:
     """The website of what an office has published until now, in `published`; none if that is no table yet. The file of
-    its configuration."""
-    site = folder / SITE
-    # (each made-up country is another one, whose tables take the place of those before)
-    shutil.rmtree(site, ignore_errors=True)
+    its configuration. `windows` are those of the made-up country, None of another office."""
     published = from_file(cpi, file, int(time.time()))
     first = min((each.listed.month for each in published if each.table), default="")
-    config = write_site_config(folder, COUNTRY if is_country else None, first, of)
+    if windows is not None:
+        write_announced(folder, (each.listed for each in published), windows)
+    config = write_site_config(folder, COUNTRY if windows is not None else None, first, of)
     if first:
-        publish(published, read_config(config), site, None, lambda _: None)
+        publish_tables(published, config, folder, file)
     return config
+
+
+def publish_tables(published: Sequence[Published], config: Path, folder: Path, file: Path) -> None:
+    """Publishes tables after those of the trial before, if they are of the same file. Else, or if that is refused, such
+    as by newer tools, they take the place of all that is there."""
+    site, owner = folder / SITE, folder / SITE_OF
+    if owner.exists() and owner.read_text(encoding="utf-8") == str(file):
+        with contextlib.suppress(Fault):
+            publish(published, read_config(config), site, None, lambda _: None)
+            return
+    owner.unlink(missing_ok=True)
+    shutil.rmtree(site, ignore_errors=True)
+    publish(published, read_config(config), site, None, lambda _: None)
+    owner.write_text(str(file), encoding="utf-8")
 
 
 class Office:
     """A running `cpi serve`; it ends after its connections, and is started again then."""
 
-    def __init__(self, cpi: Cpi, file: Path, port: int, zone: str):
-        self.cpi, self.file, self.port, self.zone = cpi, file, port, zone
-        self.desk_key = secrets.token_hex(16)
+    def __init__(self, cpi: Cpi, file: Path, port: int, zone: str, desk_key: str):
+        self.cpi, self.file, self.port, self.zone, self.desk_key = cpi, file, port, zone, desk_key
         self.process: Optional[subprocess.Popen[bytes]] = None
 
     def start(self) -> None:
@@ -175,6 +210,7 @@ class Office:
         raise Fault(f"{self.file}: {told_end(status, errors)}")
 
     def stop(self) -> None:
+        """Ends the program, if it runs."""
         if self.process:
             with self.process:
                 self.process.terminate()
@@ -193,6 +229,7 @@ def told(place: Place, office: Office, is_country: bool, folder: Path) -> str:
         *([("", link, "signs in without typing")] if is_country else []),
         ("everybody", f"{place.url}/", ""),
         ("the desk", f"{place.url}/desk/", f"key {office.desk_key}"),
+        ("supervisors", f"{place.url}/desk/team/", f"key {first_key(folder / SUPERVISORS)}"),
     ]
     addresses = "".join(f"  {who:<11} {address}  {key}".rstrip() + "\n" for who, address, key in rows)
     return (
@@ -289,19 +326,20 @@ def serve(chosen: argparse.Namespace, cpi: Cpi, folder: Path) -> int:
     """Office and front in a folder, until something ends."""
     place = place_of(chosen.address, chosen.port, folder)
     (folder / "plain.sock").unlink(missing_ok=True)
-    month = datetime.date.today().strftime("%Y-%m")
+    # (the day of the country's own clock, by which its window opens)
+    month = month_now(clock_of(ZONE), time.time())
     file = copy_of(Path(chosen.db), folder) if chosen.db else made_up_country(folder, cpi, month)
     keep_certificate(folder, place.host)
     place = place._replace(config=write_config(ROOT / "web/config.js", folder / "config.js", chosen.language))
-    office = Office(cpi, file, place.office_port, chosen.zone)
+    office = Office(cpi, file, place.office_port, chosen.zone, kept_desk_key(folder))
     print("The office reads its file, which takes some seconds.", flush=True)
     front = Front(ROOT / "ops/nginx.conf", folder, place)
     with started(office):
         # (the program has opened the file, so it is an office, and of the tables that are read here)
-        write_calendar(file, folder / CALENDAR, clock=clock_of(chosen.zone))
-        print("Its website is written, which takes some seconds, too.", flush=True)
+        windows = write_calendar(file, folder / CALENDAR, clock=clock_of(chosen.zone))
+        print("Its website is written, which takes up to half a minute.", flush=True)
         of = TrialSite(f"{place.url}/{SITE}/", file.with_name(f"{file.stem}-revisions.csv"), chosen.language)
-        config = write_website(cpi, file, folder, not chosen.db, of)
+        config = write_website(cpi, file, folder, None if chosen.db else windows, of)
         with started(desk_of(chosen, cpi, file, place, config)) as desk, standing(front, partial(of_a_trial, folder)):
             print(told(place, office, not chosen.db, folder), flush=True)
             watch(office, desk, front)
@@ -310,12 +348,9 @@ def serve(chosen: argparse.Namespace, cpi: Cpi, folder: Path) -> int:
 def desk_of(chosen: argparse.Namespace, cpi: Cpi, file: Path, place: Place, config: Path) -> TriedDesk:
     """The desk's application of a trial; the configuration is that of its website."""
     room, spoken = file.with_name(f"{file.stem}-desk"), chosen.language if chosen.language != SOURCE else None
-    front = f"{place.url}/desk/"
-    site = config.with_name(SITE)
-    tried = Tried(
-        place.office_port, file, chosen.zone, room, Path(place.desk.removeprefix("unix:")), front, spoken, site, config
-    )
-    return TriedDesk(cpi, tried)
+    socket = Path(place.desk.removeprefix("unix:"))
+    own = (f"{place.url}/desk/", spoken, config.with_name(SITE), config, kept_supervisors(config.parent))
+    return TriedDesk(cpi, Tried(place.office_port, file, chosen.zone, room, socket, *own))
 
 
 def watch(office: Office, desk: Process, front: Front) -> NoReturn:
@@ -336,6 +371,7 @@ def a_port(text: str) -> int:
 
 
 def parser() -> ToolWords:
+    """The words of the command."""
     words = ToolWords(prog="ops/try", description=__doc__)
     words.add_argument("--address", default=LOCALHOST, help="an address of this machine in its network (localhost)")
     words.add_argument("--port", type=a_port, default=8443, help="the port of the front (8443)")
