@@ -24,7 +24,7 @@ from babel.messages.plurals import PLURALS
 from babel.messages.pofile import read_po, write_po
 from babel.plural import to_gettext
 
-from cpi_tools.text.elided import OF, plain_name
+from cpi_tools.text.others import OF, plain_name
 from extractors import COMMENT, refused
 
 SOURCE = "en"
@@ -41,10 +41,11 @@ KEYWORDS: Mapping[str, Any] = {
     "_": None,
     "message": None,
     "message_of": (1, 2),
-    "marked": None,
-    "marked_as": ((1, "c"), 2),
+    "mark_text": None,
+    "mark_text_as": ((1, "c"), 2),
 }
-"""What functions take texts: a text, a context and a text, or the two forms of a count. `marked` only marks a text."""
+"""What functions take texts: a text, a context and a text, or the two forms of a count. `mark_text` only marks a
+text."""
 
 CONTEXT_ENDS = "\x04"
 """Between a context and its text, as in gettext's files."""

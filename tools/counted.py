@@ -26,12 +26,15 @@ IRREGULAR = frozenset(
 )
 """Participles that don't end in -ed."""
 
-TRUSTED = ("cpi/src/main.rt", "cpi_files/src/file.rt", "cpi_app/src/machine.rt")
+TRUSTED = ("cpi/src/main.rt", "cpi_files/src/host.rt", "cpi_app/src/machine.rt")
 """The files of what the program does to the machine, which no contract says and people read."""
 VERBS = frozenset({"put", "read", "run", "split"})
 """Those that are also what one tells somebody to do."""
 
-COMPANIONS = "tools/cpi_tools/"
+VAGUE = frozenset({"it", "found"})
+"""Names of variables that don't say what they are."""
+
+COMPANIONS, BENCHES = "tools/cpi_tools/", "bench/"
 MOST_FILES = 30
 """A folder of the companions has at most so many files."""
 
@@ -102,6 +105,7 @@ def literals(part: str) -> list[str]:
 
 
 def is_comment(line: str) -> bool:
+    """Whether a line is only a comment."""
     return line.lstrip().startswith(("//", "--"))
 
 
@@ -139,6 +143,7 @@ def long_functions() -> list[str]:
 
 
 def short_proofs() -> list[str]:
+    """The proof files with fewer than SHORT lines."""
     return [file for file, lines in texts("proofs") if len(lines) < SHORT]
 
 
@@ -200,9 +205,14 @@ def wide_folders() -> list[str]:
     return sorted(f"{it.relative_to(TOP)}: {count}" for it, count in folders.items() if count > MOST_FILES)
 
 
-def python_names(kinds: tuple[type[ast.AST], ...]) -> Iterator[tuple[str, str]]:
-    """The names of some kinds that the companions give, each with its file and line."""
-    for file in modules():
+def benches() -> list[str]:
+    """The programs of bench/ in Python, and their modules."""
+    return sorted(it for it in written_in("python") if it.startswith(BENCHES))
+
+
+def python_names(files: list[str], kinds: tuple[type[ast.AST], ...]) -> Iterator[tuple[str, str]]:
+    """The names of some kinds that these files give, each with its file and line."""
+    for file in files:
         for node in ast.walk(ast.parse((TOP / file).read_text(encoding="utf-8"))):
             if isinstance(node, kinds):
                 name = getattr(node, "name", None) or getattr(node, "arg", None) or getattr(node, "id", "")
@@ -210,12 +220,18 @@ def python_names(kinds: tuple[type[ast.AST], ...]) -> Iterator[tuple[str, str]]:
 
 
 def told() -> list[str]:
-    """Functions, classes, parameters and variables of the companions with the name `told`."""
+    """Functions, classes, parameters and variables of the companions and the benches with the name `told`."""
     kinds = (ast.FunctionDef, ast.ClassDef, ast.arg, ast.Name)
-    return [at for at, name in python_names(kinds) if name == "told"]
+    return [at for at, name in python_names(modules() + benches(), kinds) if name == "told"]
+
+
+def vague_names() -> list[str]:
+    """Parameters and variables of the benches with a name that doesn't say what they are."""
+    return [at for at, name in python_names(benches(), (ast.arg, ast.Name)) if name in VAGUE]
 
 
 def python_participles() -> list[str]:
-    """Functions of the companions whose name is one word that ends in -ed, or is one of IRREGULAR and no verb."""
-    names = python_names((ast.FunctionDef,))
+    """Functions of the companions and the benches whose name is one word that ends in -ed, or is one of IRREGULAR and
+    no verb."""
+    names = python_names(modules() + benches(), (ast.FunctionDef,))
     return [at for at, name in names if name in IRREGULAR - VERBS or re.fullmatch(r"[a-z]{2,}[^e]ed", name)]

@@ -29,6 +29,8 @@ FOR_READERS = {
     "docs/decide/TRY.md",
     "docs/desk/COLLECTING.md",
     "docs/desk/PHONE.md",
+    "po/cpi.pot:web/",
+    "po/cpi.pot:publish/",
 }
 
 

@@ -21,6 +21,8 @@ import subprocess
 import sys
 import time
 from collections.abc import Iterable
+from contextlib import suppress
+from pathlib import Path
 
 TICKS = os.sysconf("SC_CLK_TCK")
 QUIET = 30
@@ -35,6 +37,7 @@ def fields_of(process: str) -> list[str]:
 
 
 def is_below(process: str, top: int) -> bool:
+    """Whether a process is `top`, or below it."""
     while int(process) > 1 and int(process) != top:
         process = fields_of(process)[0]
     return int(process) == top
@@ -66,6 +69,7 @@ class Seen:
         self.running: dict[Kind, float] = {}
 
     def look(self, top: int) -> None:
+        """Notes the seconds of the processor of each process below `top`."""
         for process in filter(str.isdigit, os.listdir("/proc")):
             try:
                 kind = kind_of(process, top)
@@ -76,6 +80,7 @@ class Seen:
                 continue
 
     def minutes(self, kinds: Iterable[Kind]) -> float:
+        """The minutes of the processor of some kinds."""
         return sum(value for (_, kind), value in self.seconds.items() if kind in kinds) / 60
 
     def tell_quiet(self, since: float) -> None:
@@ -85,6 +90,7 @@ class Seen:
             tell(", ".join(kind), self.minutes([kind]))
 
     def lines(self) -> list[str]:
+        """The lines of the report: sums first, then each kind."""
         kinds = sorted({kind for _, kind in self.seconds})
         sums = [(f"all, {of}", [it for it in kinds if it[1] == of]) for of in ("proof", "tests", "edits")]
         sums += [(", ".join(kind), [kind]) for kind in kinds]
@@ -92,13 +98,24 @@ class Seen:
 
 
 def tell(name: str, minutes: float) -> None:
+    """Prints the minutes of a part, and the minute since the beginning, on standard error."""
     at = (time.time() - BEGUN) / 60
     print(f"minutes: {name}: {minutes:.1f} (at minute {at:.0f})", file=sys.stderr, flush=True)
+
+
+def let_others_go_first(niceness: int) -> None:
+    """Raises the niceness of this process, which leads a session. Linux may share the processors among sessions first,
+    which have a niceness of their own then (sched(7), the autogroup feature)."""
+    os.nice(niceness)
+    with suppress(OSError):
+        Path("/proc/self/autogroup").write_text(str(niceness))
 
 
 def main() -> int:
     if len(sys.argv) < 4:
         sys.exit(__doc__)
+    if niceness := int(os.environ.pop("PART_NICENESS", "0")):
+        let_others_go_first(niceness)
     file, name, command = sys.argv[1], sys.argv[2], sys.argv[3:]
     is_gate = os.path.basename(command[0]) in ("rt", "gate")
     seen, begun = Seen(), time.time()

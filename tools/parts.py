@@ -14,7 +14,7 @@ from collections.abc import Sequence
 from contextlib import suppress
 from pathlib import Path
 from types import TracebackType
-from typing import NamedTuple
+from typing import Any, NamedTuple
 
 HERE = Path(__file__).resolve().parent
 
@@ -78,17 +78,24 @@ class Parts:
         for running in [*self._running.values()]:
             end(running)
 
-    def run(self, name: str, *words: str, hours: float = 24) -> Result:
-        """Runs a command as a part of this name. One that goes on for longer than so many hours is ended, and fails."""
+    def run(self, name: str, *words: str, hours: float = 24, niceness: int = 0) -> Result:
+        """Runs a command as a part of this name, with so much niceness. One that goes on for longer than so many hours is
+        ended, and fails."""
         command = [str(HERE / "minutes.py"), str(self.minutes), name, *words]
-        how = {"stdin": subprocess.DEVNULL, "stdout": subprocess.PIPE, "stderr": subprocess.STDOUT, "errors": "replace"}
-        running = subprocess.Popen(command, start_new_session=True, **how)  # type: ignore[call-overload]
+        how: dict[str, Any] = {
+            "stdin": subprocess.DEVNULL,
+            "stdout": subprocess.PIPE,
+            "stderr": subprocess.STDOUT,
+            "errors": "replace",
+        }
+        how["env"] = {**os.environ, "PART_NICENESS": str(niceness)}
+        running = subprocess.Popen(command, start_new_session=True, **how)
         self._running[name] = running
         timer = threading.Timer(hours * 3600, self._give_up, (name, hours, running))
         timer.daemon = True
         timer.start()
         lines = []
-        for line in running.stdout:
+        for line in running.stdout or ():
             lines.append(line.rstrip("\n"))
             self.say(f"{name} | {lines[-1]}")
         status = running.wait()

@@ -27,10 +27,12 @@ def end(top: Path) -> None:
 
 
 def is_proved(top: Path, crate: str) -> bool:
+    """Whether the gate has proved a crate."""
     return (top / FOLDER / crate).exists()
 
 
 def has_ended(top: Path) -> bool:
+    """Whether the gate has ended."""
     return is_proved(top, END)
 
 

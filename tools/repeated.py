@@ -64,6 +64,7 @@ def with_numbers(statement: str) -> str:
 
 
 def indent_of(line: str) -> int:
+    """How many blanks a line begins with."""
     return len(line) - len(line.lstrip(" "))
 
 
@@ -146,5 +147,6 @@ def length(files: dict[str, list[Line]], one: Place, other: Place) -> int:
 
 
 def run_of(files: dict[str, list[Line]], one: Place, other: Place, count: int) -> Run:
+    """The run of so many lines from two places on."""
     first, second = (files[file][at : at + count] for file, at in (one, other))
     return Run(count, one[0], other[0], (first[0].number, first[-1].number), (second[0].number, second[-1].number))

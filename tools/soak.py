@@ -75,11 +75,13 @@ class Checks:
 
 
 def drawn_entry(drawn: random.Random) -> str:
+    """An entry: a mark and its value."""
     price = drawn.randrange(1, 2000)
     return drawn.choice([f"price,{price}", f"price,{price},confirm", "missing,closed", "other,5"])
 
 
 def drawn_import(drawn: random.Random, month: str) -> bytes:
+    """The body of an import, with rows of several kinds."""
     code = drawn.choice(["TEA", "SALT", f"N{drawn.randrange(50)}"])
     rows = [f"quote,1,{month},{drawn_entry(drawn)}", "items", f"item,{code},Text,1 kg,700,1500"]
     rows += [f"outlet,{drawn.randrange(20)},Shop", f"calendar,2025-12,0,1,{drawn.randrange(1, 9)}"]

@@ -9,17 +9,19 @@ from collections.abc import Iterable, Iterator, Sequence
 from importlib import import_module
 from typing import Optional
 
-from .text.csv_files import formulas_told
-from .text.output import shown_outputs
-from .text.terminal import Fault, ToolWords, ends_by_signals, is_line
+from .text.text_files import formulas_told
+from .text.terminal import Fault, ToolWords, ends_by_signals, is_line, shown_outputs
 from .version import ShowVersion
 
 TOOLS = {
     "backup": "guard.backup", "drill": "guard.drill", "restore": "guard.restore", "follow": "guard.follow",
     "receive": "guard.receive", "keep": "guard.keep", "promote": "guard.promote", "gaps": "guard.gaps",
     "probe": "guard.watch.probe", "doctor": "guard.doctor", "keys": "desk.keys.keys_cli",
-    "calendar": "office.calendar_file", "desk": "desk.desk_cli", "explain": "explain.explain_cli",
-    "compare": "office.compare", "quality": "publish.quality_counts", "publish": "publish.pack",
+    "calendar": "office.calendar_file", "desk": "desk.desk_cli", "explain": "explain.explanation",
+    "compare": "office.compare", "quality": "publish.quality_counts",
+    "average-prices": "publish.average_prices", "publish": "publish.pack",
+    "release-pdf": "publish.typeset.release_pdf", "research-file": "research.research_file",
+    "seasonal": "publish.seasonal",
     "take-in": "sheets.maps.take_in_words", "take-out": "sheets.take_out", "next-year": "sheets.year.next_year",
     "weights": "sheets.year.moved_weights",
 }  # fmt: skip
@@ -63,10 +65,10 @@ def _run(words: Sequence[str]) -> int:
     """Runs a tool by its words; its exit status."""
     tool = "cpi-tools"
     try:
-        with _flushed():
+        with _flush():
             chosen, others = _parser_for(words).parse_known_args(words)
         tool = f"cpi-tools {chosen.tool}"
-        with _flushed():
+        with _flush():
             return _ran(chosen, others, words)
     except Fault as fault:
         print(f"{tool}: {fault}", file=sys.stderr)
@@ -74,7 +76,7 @@ def _run(words: Sequence[str]) -> int:
 
 
 @contextlib.contextmanager
-def _flushed() -> Iterator[None]:
+def _flush() -> Iterator[None]:
     """Text written meanwhile is written out at the end, so that its fault is one line, also after `--help`."""
     try:
         yield

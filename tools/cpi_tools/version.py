@@ -25,7 +25,7 @@ NAMES = ("sources", "kit", "program")
 """The lines of `dist/MADE` that are printed."""
 
 
-def made(top: Path) -> dict[str, str]:
+def read_made(top: Path) -> dict[str, str]:
     """The lines of `dist/MADE`; none if it isn't there or can't be read."""
     try:
         text = (top / "dist/MADE").read_text(encoding="utf-8", errors="backslashreplace")
@@ -81,7 +81,7 @@ def told_of_program(top: Path, shipped: dict[str, str]) -> str:
 
 def lines(top: Path = TOP) -> Iterator[str]:
     """The whole text, line by line; a line that isn't UTF-8 is escaped."""
-    shipped = made(top)
+    shipped = read_made(top)
     text = [f"cpi-tools {VERSION}"]
     if shipped:
         text += [f"{name}: {shipped.get(name, 'dist/MADE has no such line')}" for name in NAMES]

@@ -32,6 +32,7 @@ def sum_files(paths: Iterable[Path]) -> str:
 
 
 def sum_kit(kit: Path) -> str:
+    """The sum of what the toolchain is."""
     return sum_files([kit / "KIT-ID", kit / "bin/rattle"])
 
 
@@ -51,6 +52,7 @@ class Cache:
         self.folder, self.sum = folder, sum
 
     def key(self, edit: Edit) -> str:
+        """The name under which the verdict of an edit is kept: a sum of all that it depends on."""
         error = (edit.code, edit.says) if edit.code else ()
         laws = sorted(edit.names()) if edit.is_of_definitions() else []
         return hashlib.sha256(repr((self.sum, edit.name, edit.pairs, *error, *laws)).encode()).hexdigest()

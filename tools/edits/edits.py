@@ -48,9 +48,11 @@ class Edit(NamedTuple):
     says: str = ""
 
     def names(self) -> set[str]:
+        """The names of its functions."""
         return {it.name for it in self.functions}
 
     def files(self) -> set[str]:
+        """The files that it changes."""
         return {it.file for it in self.pairs}
 
     def find_function_at(self, file: str, line: int) -> str:
@@ -186,6 +188,7 @@ def find_line(texts: Mapping[str, str], pair: Pair) -> Optional[int]:
 
 
 def find_items_around(crate: Crate, pair: Pair) -> list[Item]:
+    """The items of the crate that contain the first line of a pair; none if it isn't there."""
     line = find_line(crate.texts, pair)
     return [] if line is None else crate.find_items_at(pair.file, line)
 

@@ -31,6 +31,7 @@ class Libraries(NamedTuple):
     uses: Mapping[str, Sequence[str]]
 
     def list_below(self, crate: str) -> list[str]:
+        """The crates below one."""
         return below({name: list(it) for name, it in self.uses.items()}, crate)
 
     def path(self, name: str) -> Path:

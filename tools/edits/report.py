@@ -47,6 +47,7 @@ class Report(NamedTuple):
     lines: Sequence[str]
 
     def find_last(self) -> str:
+        """The beginning of the last line; nothing if there is none."""
         return self.lines[-1][:200] if self.lines else ""
 
     def find_first_note(self) -> str:

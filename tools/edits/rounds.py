@@ -114,6 +114,7 @@ class Trial:
         return Verdict(NOT_TRIED, f"its check ended with status {report.status}: {report.find_last()}")
 
     def settle(self, edit: Edit, verdict: Verdict) -> None:
+        """Takes the verdict on an edit, and keeps that it is refused."""
         self.verdicts[edit.name] = verdict
         if verdict.word == REFUSED:
             self.cache.keep(edit, verdict.text)

@@ -58,6 +58,7 @@ class Crate(NamedTuple):
     items: Sequence[Item]
 
     def find_items_at(self, file: str, line: int) -> list[Item]:
+        """The items that contain a line of a file."""
         return [it for it in self.items if it.file == file and it.first <= line <= it.last]
 
     def find_users(self, item: Item) -> list[Item]:
@@ -68,6 +69,7 @@ class Crate(NamedTuple):
         return [it for it in others if word.search(it.text)]
 
     def find_root(self) -> str:
+        """The first source of the crate."""
         return "src/main.rt" if "src/main.rt" in self.texts else "src/lib.rt"
 
 

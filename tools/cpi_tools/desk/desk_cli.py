@@ -1,4 +1,4 @@
-"""The words of `cpi-tools desk` and its jobs, and how those at the terminal are run.
+"""The arguments of `cpi-tools desk` and its jobs, and the jobs that run at the terminal.
 
 The page of a month at the desk.
 """
@@ -19,9 +19,9 @@ from ..office.folders import written_folder
 from ..office.program import Cpi, add_program
 from ..office.stored import REASONS
 from ..text import charts, page_templates, section_pages
-from ..text.csv_files import add_safe_csv
+from ..text.text_files import add_safe_csv
 from ..text.report_language import ENGLISH, Teller, add_language, chosen_teller
-from ..text.sections import text_of, write_csv
+from ..text.message import text_of, write_csv
 from ..text.terminal import Fault, Progress, ToolWords, a_moment, a_month, a_slot, at_least, needs
 from .month import closing, what_if
 from .month.month_report import Asked, Report, report_of, text_of_report
@@ -31,7 +31,7 @@ from .serve.serve_cli import add_serve
 PAGE = "month.html"
 
 SHOWN_SERIES = 40
-"""The most series of an aggregate that are shown with the question what to do with it."""
+"""The largest number of an aggregate's series that the question of what to do with it shows."""
 
 AGGREGATE = re.compile(r"(0[1-9]|1[0-3])\.[0-9]\.[0-9]\.[0-9]-(0[1-9]|[1-9][0-9])")
 
@@ -46,7 +46,7 @@ class Desk(NamedTuple):
 
 @contextlib.contextmanager
 def at_desk(chosen: argparse.Namespace) -> Iterator[Desk]:
-    """Copies the office's file with its log; the copy goes at the end, since keys are in it."""
+    """Copies the office's file with its log, and deletes the copy at the end, since it contains keys."""
     cpi = Cpi(chosen.program)
     with Progress("cpi-tools desk") as progress:
         progress.now("copying the office")
@@ -55,7 +55,7 @@ def at_desk(chosen: argparse.Namespace) -> Iterator[Desk]:
 
 
 def moment_of(chosen: argparse.Namespace) -> int:
-    """The moment of --at, else now."""
+    """The time given with --at, or now."""
     given: Optional[int] = chosen.at
     return int(time.time()) if given is None else given
 
@@ -87,20 +87,20 @@ def run_close(chosen: argparse.Namespace) -> int:
     """Prints the one record that freezes a month."""
     at = moment_of(chosen)
     codes = None if isinstance(chosen.carry, str) else chosen.carry
-    asks = answered if chosen.carry == "ask" else None
+    asks = ask_line if chosen.carry == "ask" else None
     with at_desk(chosen) as desk:
         desk.progress.now("freezing the month on a copy")
         closed = closing.close(desk.cpi, desk.copy, chosen.month, at)
     for it in closed.named:
         print(text_of(it.series, SHOWN_SERIES), file=sys.stderr)
-    decisions = closing.decided(closed, at, codes, asks)
+    decisions = closing.decide(closed, at, codes, asks)
     for line in closing.closing_lines(closed, decisions, chosen.by, codes):
         print(line, file=sys.stderr)
     print(closing.freeze_record(closed, at))
     return 0
 
 
-def answered(question: str) -> str:
+def ask_line(question: str) -> str:
     """A line of standard input, asked for on standard error."""
     print(question, end="", file=sys.stderr, flush=True)
     line = sys.stdin.readline()
@@ -142,7 +142,7 @@ def a_carry_list(text: str) -> Union[str, list[str]]:
 
 
 def a_price(text: str) -> tuple[tuple[int, int], int]:
-    """A type of argparse: ((7, 2), 210) of `7/2=210`."""
+    """A type of argparse: ((7, 2), 210) from `7/2=210`."""
     place, equals, price = text.partition("=")
     if not equals or not re.fullmatch(r"[1-9][0-9]{0,8}", price):
         raise argparse.ArgumentTypeError(f"{text} isn't COLLECTOR/SLOT=PRICE, like 7/2=210, the price in minor units")

@@ -1,4 +1,4 @@
 """`cpi-tools explain`: a figure down to its receipts, and the life of a series.
 
-The rows of a copy are taken as claims: each line says what its row has to be, by the rows that it comes from.
+The tool treats the rows of a copy as claims: each line computes what its row must be from the rows that it comes from.
 """

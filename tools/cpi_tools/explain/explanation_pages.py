@@ -12,9 +12,9 @@ import jinja2
 from ..text import page_templates, section_pages
 from ..text.exact import at_and_above, depth_of, parent_of
 from ..text.report_language import ENGLISH, Teller
-from .explanation import explained
+from .explanation import explain_node
 from .explanation_lines import Explanation
-from .life import Life
+from .aggregate import Life
 from .release_sources import AGGREGATE, Sources
 
 TEMPLATES = Path(__file__).resolve().parent / "templates"
@@ -22,22 +22,22 @@ TEMPLATES = Path(__file__).resolve().parent / "templates"
 FIRST_PAGE = "00.html"
 
 LINES_SHOWN = 12
-"""A part with more lines is folded."""
+"""A part that has more lines than this is folded."""
 
 
 def page_of(code: str) -> str:
-    """The node whose page a node is on: an aggregate is on that of its subclass."""
+    """The node whose page contains a node: an aggregate is on the page of its subclass."""
     return parent_of(code) or code if depth_of(code) == AGGREGATE else code
 
 
 def on_page(sources: Sources, node: str) -> list[str]:
-    """The nodes of a page: a subclass is followed by its aggregates."""
+    """The nodes on a page: a subclass is followed by its aggregates."""
     return [code for code in sources.own.levels if page_of(code) == node]
 
 
 def write_one(sources: Sources, code: str, to: Path, teller: Teller = ENGLISH) -> list[Explanation]:
-    """Writes the page of a node, which links to no other; its content."""
-    found = [explained(sources, each) for each in on_page(sources, page_of(code))]
+    """Writes the page of a node, which links to no other page; returns the explanations on it."""
+    found = [explain_node(sources, each) for each in on_page(sources, page_of(code))]
     _write(section_pages.environment([TEMPLATES], teller), found, to, None)
     return found
 
@@ -48,11 +48,11 @@ def write_life(life: Life, to: Path, teller: Teller = ENGLISH) -> None:
 
 
 def write_all(sources: Sources, folder: Path, teller: Teller = ENGLISH) -> Iterator[Explanation]:
-    """Writes all pages into a folder; the explanations as they are made."""
+    """Writes all pages into a folder; yields the explanations as they are made."""
     environment = section_pages.environment([TEMPLATES], teller)
     for node in sources.own.levels:
         if page_of(node) == node:
-            found = [explained(sources, each) for each in on_page(sources, node)]
+            found = [explain_node(sources, each) for each in on_page(sources, node)]
             _write(environment, found, folder / f"{node}.html", sources)
             yield from found
 

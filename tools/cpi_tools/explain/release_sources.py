@@ -1,4 +1,4 @@
-"""A release with all that it was computed from: each earlier month in its latest revision."""
+"""A release with everything from which it was computed: each earlier month in its latest revision."""
 
 from __future__ import annotations
 
@@ -19,8 +19,7 @@ from ..office.stored import (
     Series,
     StoredOffice,
 )
-from ..text.message import Message, month_of, row, message, whole
-from ..text.money import TICKS, Money
+from ..text.message import TICKS, Message, Money, message, month_of, row, whole
 from ..text.terminal import Fault, link_month, month_before
 
 AGGREGATE = 5
@@ -31,7 +30,7 @@ WHOLE_SCALE = (TICKS, 1)
 
 
 class NotExplained(Fault):
-    """A month, a node or a series that the file doesn't have; one line."""
+    """The file doesn't contain a month, a node or a series; the message is one line."""
 
 
 class Sent(NamedTuple):
@@ -49,32 +48,34 @@ class Month:
         self._office, self.release = office, release
 
     @cached_property
-    def carried(self) -> dict[Series, Carried]:
-        """What each series counts as, in order."""
-        return dict(sorted(self._office.carried(self.release).items()))
+    def carried_prices(self) -> dict[Series, Carried]:
+        """The carried price of each series, in order."""
+        return dict(sorted(self._office.read_carried(self.release).items()))
 
     @cached_property
     def frozen(self) -> dict[Series, Frozen]:
-        """The quotes that it was frozen with."""
+        """The quotes with which the month was frozen."""
         return self._office.frozen(self.release)
 
     @cached_property
     def levels(self) -> dict[str, Level]:
-        """The rows of its table, by code in order."""
+        """The rows of the month's table, in the order of their codes."""
         return dict(sorted(self._office.levels(self.release).items()))
 
     def is_observed(self, series: Series) -> bool:
-        """Whether a series had a price."""
+        """Whether a price of a series was observed."""
         return series in self.frozen and self.frozen[series].mark in OBSERVED
 
 
 def _no_table(month: int) -> Message:
-    """Why the first month isn't explained."""
-    return message("{month} has no table: it is the first month, which later ones begin at", month=month_of(month))
+    """The reason why the first month isn't explained."""
+    return message(
+        "{month} has no table: it is the first month, from which the later ones are computed", month=month_of(month)
+    )
 
 
 class Sources:
-    """A release of a month, the months that it was computed from, the survey, and how amounts of money are written.
+    """A release of a month, the months from which it was computed, the survey, and how amounts of money are written.
 
     Raises NotExplained if the month isn't frozen, lacks that revision, or has no table.
     """
@@ -115,29 +116,29 @@ class Sources:
         return self.month % 100 == 1
 
     def latest(self, month: int) -> Optional[Month]:
-        """The latest release of a month, if it has one."""
+        """The latest release of a month; None if it isn't frozen."""
         return Month(self.office, self._latest[month]) if month in self._latest else None
 
-    def _known(self, month: int) -> Month:
+    def _find_month(self, month: int) -> Month:
         found = self.latest(month)
         if found is None:
             places = {"month": month_of(month), "own": month_of(self.month)}
-            raise NotExplained(message("{month}, which {own} is computed from, isn't there", **places))
+            raise NotExplained(message("{month}, from which {own} is computed, is missing", **places))
         return found
 
     @cached_property
     def link(self) -> Month:
         """The link month."""
-        return self._known(link_month(self.month))
+        return self._find_month(link_month(self.month))
 
     @cached_property
     def before(self) -> Month:
         """The month before."""
-        return self.link if self.is_january else self._known(month_before(self.month))
+        return self.link if self.is_january else self._find_month(month_before(self.month))
 
     @cached_property
     def year_before(self) -> dict[str, Level]:
-        """The table of twelve months before; empty if there is none."""
+        """The table of the month twelve months earlier; empty if there is none."""
         found = self.latest(self.month - 100)
         return found.levels if found else {}
 
@@ -150,37 +151,37 @@ class Sources:
 
     @cached_property
     def samples(self) -> dict[str, list[Series]]:
-        """The series of each aggregate's sample, as the rows of carried prices have them."""
+        """The series of each aggregate's sample, from the rows of carried prices."""
         found: dict[str, list[Series]] = {code: [] for code in self.aggregates}
-        for series, it in self.own.carried.items():
+        for series, it in self.own.carried_prices.items():
             found.setdefault(self.plan.places.get(it.item, ""), []).append(series)
         return found
 
     @cached_property
-    def held(self) -> dict[Series, list[Assignment]]:
-        """The assignments of each series, from the first to the last who has it."""
+    def assignments(self) -> dict[Series, list[Assignment]]:
+        """The assignments of each series, from the first collector to the last."""
         found: dict[Series, list[Assignment]] = {}
         for it in self.office.assignments():
             found.setdefault(it.series, []).append(it)
         return found
 
     def holder(self, series: Series, month: int) -> Assignment:
-        """Who prices a series in a month, or had it last before."""
-        own = self.held[series]
+        """The assignment of the collector who prices a series in a month, or who had it last before."""
+        own = self.assignments[series]
         return next((it for it in reversed(own) if it.first_month <= month), own[0])
 
     @cached_property
-    def copied(self) -> dict[tuple[int, int], int]:
-        """The price that each slot was handed over with."""
+    def copied_prices(self) -> dict[tuple[int, int], int]:
+        """The price with which each slot was handed over."""
         return self.office.copied_prices()
 
     @cached_property
-    def sent(self) -> dict[tuple[Series, int], Sent]:
+    def stored_quotes(self) -> dict[tuple[Series, int], Sent]:
         """The quotes now stored for the month and for the link month, by series and month."""
         found: dict[tuple[Series, int], Sent] = {}
         for month in (self.month, link_month(self.month)):
             quotes, receipts = self.office.quotes(month), self.office.receipts(month)
-            for own in self.held.values():
+            for own in self.assignments.values():
                 for it in own:
                     if it[:2] in quotes and it.first_month <= month <= it.last_month:
                         found[it.series, month] = Sent(it, quotes[it[:2]], receipts[it[:2]])
@@ -192,14 +193,14 @@ class Sources:
         """The base of a series in ticks, and its scale."""
         if self.link.is_observed(series):
             return self.link.frozen[series].value * WHOLE_SCALE[0], WHOLE_SCALE
-        it = self.link.carried[series]
+        it = self.link.carried_prices[series]
         return it.ticks, (it.knum, it.kden)
 
     def then(self, series: Series) -> tuple[int, tuple[int, int]]:
-        """What a series counted as in the month before in ticks, and its scale; in January its base."""
+        """The price in ticks that a series counted as in the month before, and its scale; in January its base."""
         if self.is_january:
             return self.base(series)
-        it = self.before.carried[series]
+        it = self.before.carried_prices[series]
         return it.ticks, (it.knum, it.kden)
 
     def is_comparable(self, series: Series) -> bool:
@@ -207,9 +208,9 @@ class Sources:
         return series in self.own.frozen and self.own.frozen[series].mark in COMPARABLE
 
     def is_matched(self, series: Series) -> bool:
-        """Whether it has one, and was observed in the month before."""
+        """Whether a series has a comparable price, and was observed in the month before."""
         return self.is_comparable(series) and self.before.is_observed(series)
 
     def row(self, table: str, key: object) -> str:
-        """How a row of the release is named."""
+        """The name of a row of the release."""
         return f"{table} ({self.month}, {self.own.release.revision}, {key})"

@@ -1,4 +1,4 @@
-"""The sentences of an explanation in English, each of them whole, with named places for figures, months and names.
+"""The sentences of an explanation in English. Each is whole, with named places for figures, months and names.
 
 A translation has the same keys and the same places. No sentence is put together from pieces of others. If a count
 changes the words around it, there is a sentence for one and a sentence for many.
@@ -9,55 +9,58 @@ from __future__ import annotations
 from collections.abc import Mapping
 
 ROSE, FELL, SMALL, SAME, NONE = "rose", "fell", "small", "same", "none"
-"""Which way prices went: SMALL if the change is 0.0 percent but the levels differ, SAME if they don't; NONE if there is
-nothing to compare with."""
+"""The direction in which prices moved: SMALL if the change is 0.0 percent but the levels differ, SAME if they don't;
+NONE if there is nothing to compare with."""
 
 CHANGES: Mapping[tuple[str, str], str] = {
-    (ROSE, ROSE): "{title}: prices rose by {change} percent from {before} to {month}, and by {year_change} percent in a"
-    " year.",
-    (ROSE, FELL): "{title}: prices rose by {change} percent from {before} to {month}; in a year they fell by"
+    (ROSE, ROSE): "{title}: prices rose by {change} percent from {before} to {month}, and by {year_change} percent"
+    " over twelve months.",
+    (ROSE, FELL): "{title}: prices rose by {change} percent from {before} to {month}; over twelve months they fell by"
     " {year_change} percent.",
-    (ROSE, SMALL): "{title}: prices rose by {change} percent from {before} to {month}; in a year they changed by less"
-    " than 0.05 percent.",
-    (ROSE, SAME): "{title}: prices rose by {change} percent from {before} to {month}; in a year they didn't change.",
-    (ROSE, NONE): "{title}: prices rose by {change} percent from {before} to {month}; {year_before} has no figure, so"
-    " there is no change in a year.",
-    (FELL, ROSE): "{title}: prices fell by {change} percent from {before} to {month}; in a year they rose by"
-    " {year_change} percent.",
-    (FELL, FELL): "{title}: prices fell by {change} percent from {before} to {month}, and by {year_change} percent in a"
-    " year.",
-    (FELL, SMALL): "{title}: prices fell by {change} percent from {before} to {month}; in a year they changed by less"
-    " than 0.05 percent.",
-    (FELL, SAME): "{title}: prices fell by {change} percent from {before} to {month}; in a year they didn't change.",
-    (FELL, NONE): "{title}: prices fell by {change} percent from {before} to {month}; {year_before} has no figure, so"
-    " there is no change in a year.",
-    (SMALL, ROSE): "{title}: prices changed by less than 0.05 percent from {before} to {month}; in a year they rose by"
-    " {year_change} percent.",
-    (SMALL, FELL): "{title}: prices changed by less than 0.05 percent from {before} to {month}; in a year they fell by"
-    " {year_change} percent.",
-    (SMALL, SMALL): "{title}: prices changed by less than 0.05 percent, both from {before} to {month} and in a year.",
-    (SMALL, SAME): "{title}: prices changed by less than 0.05 percent from {before} to {month}; in a year they didn't"
+    (ROSE, SMALL): "{title}: prices rose by {change} percent from {before} to {month}; over twelve months they changed"
+    " by less than 0.05 percent.",
+    (ROSE, SAME): "{title}: prices rose by {change} percent from {before} to {month}; over twelve months they didn't"
     " change.",
+    (ROSE, NONE): "{title}: prices rose by {change} percent from {before} to {month}; {year_before} has no figure, so"
+    " no annual change is given.",
+    (FELL, ROSE): "{title}: prices fell by {change} percent from {before} to {month}; over twelve months they rose by"
+    " {year_change} percent.",
+    (FELL, FELL): "{title}: prices fell by {change} percent from {before} to {month}, and by {year_change} percent"
+    " over twelve months.",
+    (FELL, SMALL): "{title}: prices fell by {change} percent from {before} to {month}; over twelve months they changed"
+    " by less than 0.05 percent.",
+    (FELL, SAME): "{title}: prices fell by {change} percent from {before} to {month}; over twelve months they didn't"
+    " change.",
+    (FELL, NONE): "{title}: prices fell by {change} percent from {before} to {month}; {year_before} has no figure, so"
+    " no annual change is given.",
+    (SMALL, ROSE): "{title}: prices changed by less than 0.05 percent from {before} to {month}; over twelve months"
+    " they rose by {year_change} percent.",
+    (SMALL, FELL): "{title}: prices changed by less than 0.05 percent from {before} to {month}; over twelve months"
+    " they fell by {year_change} percent.",
+    (SMALL, SMALL): "{title}: prices changed by less than 0.05 percent, both from {before} to {month} and over twelve"
+    " months.",
+    (SMALL, SAME): "{title}: prices changed by less than 0.05 percent from {before} to {month}; over twelve months"
+    " they didn't change.",
     (SMALL, NONE): "{title}: prices changed by less than 0.05 percent from {before} to {month}; {year_before} has no"
-    " figure, so there is no change in a year.",
-    (SAME, ROSE): "{title}: prices didn't change from {before} to {month}; in a year they rose by {year_change}"
-    " percent.",
-    (SAME, FELL): "{title}: prices didn't change from {before} to {month}; in a year they fell by {year_change}"
-    " percent.",
-    (SAME, SMALL): "{title}: prices didn't change from {before} to {month}; in a year they changed by less than 0.05"
-    " percent.",
-    (SAME, SAME): "{title}: prices didn't change, neither from {before} to {month} nor in a year.",
-    (SAME, NONE): "{title}: prices didn't change from {before} to {month}; {year_before} has no figure, so there is no"
-    " change in a year.",
+    " figure, so no annual change is given.",
+    (SAME, ROSE): "{title}: prices didn't change from {before} to {month}; over twelve months they rose by"
+    " {year_change} percent.",
+    (SAME, FELL): "{title}: prices didn't change from {before} to {month}; over twelve months they fell by"
+    " {year_change} percent.",
+    (SAME, SMALL): "{title}: prices didn't change from {before} to {month}; over twelve months they changed by less"
+    " than 0.05 percent.",
+    (SAME, SAME): "{title}: prices didn't change, either from {before} to {month} or over twelve months.",
+    (SAME, NONE): "{title}: prices didn't change from {before} to {month}; {year_before} has no figure, so no annual"
+    " change is given.",
 }
-"""What prices did on the month, and on the year."""
+"""The monthly and the annual change of prices."""
 
 # ---- an elementary aggregate
 
 ONE_COMPARED = "One price could be compared: {item} at {outlet} went from {then} to {now}."
 
 ONE_COMPARED_REPLACED = (
-    "One price could be compared: {item} at {outlet} went from {then} to {now}, counted as what it replaced."
+    "One price could be compared: {item} at {outlet} went from {then} to {now}, in terms of the item that it replaced."
 )
 
 COMPARED = (
@@ -66,8 +69,8 @@ COMPARED = (
 )
 
 COMPARED_REPLACED = (
-    "{count} prices in {shops} shops ({outlets}) could be compared: {rose} rose and {fell} fell;"
-    " {item} at {outlet} changed most, from {then} to {now}, counted as what it replaced."
+    "{count} prices in {shops} shops ({outlets}) could be compared: {rose} rose and {fell} fell; {item} at {outlet}"
+    " changed most, from {then} to {now}, in terms of the item that it replaced."
 )
 
 COMPARED_IN_ONE_SHOP = (
@@ -76,37 +79,38 @@ COMPARED_IN_ONE_SHOP = (
 )
 
 COMPARED_REPLACED_IN_ONE_SHOP = (
-    "{count} prices at {outlet} could be compared: {rose} rose and {fell} fell; {item} changed most,"
-    " from {then} to {now}, counted as what it replaced."
+    "{count} prices at {outlet} could be compared: {rose} rose and {fell} fell; {item} changed most, from {then} to"
+    " {now}, in terms of the item that it replaced."
 )
 
 COMPARED_UNCHANGED = "{count} prices in {shops} shops ({outlets}) could be compared, and none of them changed."
 
 COMPARED_UNCHANGED_IN_ONE_SHOP = "{count} prices at {outlet} could be compared, and none of them changed."
 
-NONE_COMPARED = "No price could be compared, since none was found in {before}: those of {month} count as they are."
+NONE_COMPARED = "No price could be compared, since none was found in {before}; the prices of {month} count as they are."
 
 ONE_IMPUTED: Mapping[str, str] = {
-    "stock": "{item} was out of stock at {outlet}, so its price is imputed: it moves with what could be compared ({earlier}"
-    " to {later}), from {then} to {now}.",
-    "closed": "{outlet} was closed, so its price of {item} is imputed: it moves with what could be compared ({earlier} to"
-    " {later}), from {then} to {now}.",
-    "gone": "{outlet} no longer sells {item}, so the price is imputed: it moves with what could be compared ({earlier} to"
-    " {later}), from {then} to {now}.",
-    "refused": "{outlet} refused the price of {item}, so it is imputed: it moves with what could be compared ({earlier} to"
-    " {later}), from {then} to {now}.",
-    "": "Nothing was sent of {item} at {outlet}, so its price is imputed: it moves with what could be compared ({earlier}"
-    " to {later}), from {then} to {now}.",
-    "ended": "{item} at {outlet} is no longer priced, so its price is imputed: it moves with what could be compared"
+    "stock": "{item} was out of stock at {outlet}, so its price is imputed: it moves with the prices that could be"
+    " compared ({earlier} to {later}), from {then} to {now}.",
+    "closed": "{outlet} was closed, so its price of {item} is imputed: it moves with the prices that could be compared"
     " ({earlier} to {later}), from {then} to {now}.",
-    "other": "{item} at {outlet} was replaced by one of another quality, so its price is imputed: it moves with what"
-    " could be compared ({earlier} to {later}), from {then} to {now}.",
+    "gone": "{outlet} no longer sells {item}, so the price is imputed: it moves with the prices that could be compared"
+    " ({earlier} to {later}), from {then} to {now}.",
+    "refused": "{outlet} refused to give the price of {item}, so it is imputed: it moves with the prices that could be"
+    " compared ({earlier} to {later}), from {then} to {now}.",
+    "": "Nothing was sent for {item} at {outlet}, so its price is imputed: it moves with the prices that could be"
+    " compared ({earlier} to {later}), from {then} to {now}.",
+    "ended": "{item} at {outlet} is no longer priced, so its price is imputed: it moves with the prices that could be"
+    " compared ({earlier} to {later}), from {then} to {now}.",
+    "other": "{item} at {outlet} was replaced by an item of another quality, so its price is imputed: it moves with"
+    " the prices that could be compared ({earlier} to {later}), from {then} to {now}.",
 }
-"""Why the only imputed price is, by the reason of the quote; nothing, if a collector was to price it and sent no quote."""
+"""The reason why the only imputed price is imputed, by the reason of the quote; the key is empty if a collector should
+have priced it, but sent no quote."""
 
 IMPUTED = (
-    "{count} prices couldn't be compared ({reasons}), so they are imputed: they move with what could be compared"
-    " ({earlier} to {later})."
+    "{count} prices couldn't be compared ({reasons}), so they are imputed: they move with the prices that could be"
+    " compared ({earlier} to {later})."
 )
 
 ONE_CARRIED = (
@@ -128,7 +132,7 @@ REASONS: Mapping[str, str] = {
     "ended": "no longer priced",
     "other": "another quality",
 }
-"""Why there is no price to compare, as a label next to a name or a count."""
+"""The reason why no price can be compared, as a label next to a name or a count."""
 
 NAMED_REASON, COUNTED_REASON = "{outlet}: {reason}", "{reason}: {count}"
 
@@ -137,50 +141,55 @@ AND_MORE = "{names}; and others"
 ITEM = "{text}, {unit}"
 
 ONE_PRICE_MAKES = (
-    "It is the only price: after {base} in {december} it counts as {now}, so the level, {link} then, is {level}."
+    "It is the only price; it was {base} in {december} and now counts as {now}, so the level, which was {link} then,"
+    " is {level}."
 )
 
 PRICES_MAKE = (
-    "Together the {count} prices count as {now}, after {base} in {december}, so the level, {link} then, is {level}."
+    "Together the {count} prices were {base} in {december} and now count as {now}, so the level, which was {link}"
+    " then, is {level}."
 )
 
 ONE_RETURNED_PRICE_MAKES = (
-    "The only price, that of {item} at {outlet}, was found again after at least one month without a price (counted as"
-    " {then}, found at {found}): after {base} in {december} it counts as {now}, so the level, {link} then, is {level}."
+    "After at least one month without a price, in which it counted as {then}, the only price, of {item} at {outlet},"
+    " was found again at {found}. It was {base} in {december} and now counts as {now}, so the level, which was {link}"
+    " then, is {level}."
 )
 
 ONE_RETURNED_REPLACED_PRICE_MAKES = (
-    "The only price, that of {item} at {outlet}, was found again after at least one month without a price (counted as"
-    " {then}, found at {found} in terms of what it replaced): after {base} in {december} it counts as {now}, so the level,"
-    " {link} then, is {level}."
+    "After at least one month without a price, in which it counted as {then}, the only price, of {item} at {outlet},"
+    " was found again at {found}, in terms of the item that it replaced. It was {base} in {december} and now counts"
+    " as {now}, so the level, which was {link} then, is {level}."
 )
 
 PRICES_WITH_ONE_RETURNED_MAKE = (
-    "Together the {count} prices ({item} at {outlet} was found again after at least one month without a price: counted as"
-    " {then}, found at {found}) count as {now}, after {base} in {december}, so the level, {link} then, is {level}."
-)
-
-PRICES_WITH_ONE_RETURNED_REPLACED_MAKE = (
-    "Together the {count} prices ({item} at {outlet} was found again after at least one month without a price: counted as"
-    " {then}, found at {found} in terms of what it replaced) count as {now}, after {base} in {december}, so the level,"
+    "After at least one month without a price, in which it counted as {then}, {item} at {outlet} was found again at"
+    " {found}. Together the {count} prices were {base} in {december} and now count as {now}, so the level, which was"
     " {link} then, is {level}."
 )
 
+PRICES_WITH_ONE_RETURNED_REPLACED_MAKE = (
+    "After at least one month without a price, in which it counted as {then}, {item} at {outlet} was found again at"
+    " {found}, in terms of the item that it replaced. Together the {count} prices were {base} in {december} and now"
+    " count as {now}, so the level, which was {link} then, is {level}."
+)
+
 PRICES_WITH_RETURNED_MAKE = (
-    "Together the {count} prices ({returned} were found again after at least one month without a price; of these {item} at"
-    " {outlet} changed most: counted as {then}, found at {found}) count as {now}, after {base} in {december}, so the"
-    " level, {link} then, is {level}."
+    "{returned} prices were found again after at least one month without a price; of these, {item} at {outlet}"
+    " changed most, from {then} to {found}. Together the {count} prices were {base} in {december} and now count as"
+    " {now}, so the level, which was {link} then, is {level}."
 )
 
 PRICES_WITH_RETURNED_REPLACED_MAKE = (
-    "Together the {count} prices ({returned} were found again after at least one month without a price; of these {item} at"
-    " {outlet} changed most: counted as {then}, found at {found} in terms of what it replaced) count as {now}, after"
-    " {base} in {december}, so the level, {link} then, is {level}."
+    "{returned} prices were found again after at least one month without a price; of these, {item} at {outlet}"
+    " changed most, from {then} to {found}, in terms of the item that it replaced. Together the {count} prices were"
+    " {base} in {december} and now count as {now}, so the level, which was {link} then, is {level}."
 )
 
 PRICES_WITH_RETURNED_UNCHANGED_MAKE = (
-    "Together the {count} prices ({returned} were found again after at least one month without a price, each at what it"
-    " had counted as) count as {now}, after {base} in {december}, so the level, {link} then, is {level}."
+    "{returned} prices were found again after at least one month without a price, each at the price that it had"
+    " counted as. Together the {count} prices were {base} in {december} and now count as {now}, so the level, which"
+    " was {link} then, is {level}."
 )
 
 # ---- a node above
@@ -199,7 +208,7 @@ CONTRIBUTION = "{title} ({points})"
 
 ONE_PRICE_FOUND = "It rests on one price, which was found at {outlet}."
 
-ONE_PRICE_IMPUTED = "It rests on one price, that of {outlet}, and this is imputed ({reasons})."
+ONE_PRICE_IMPUTED = "It rests on one price, at {outlet}, which is imputed ({reasons})."
 
 ALL_FOUND = "It rests on {prices} prices in {shops} shops, and all of them were found."
 
@@ -218,48 +227,49 @@ PRICES_IMPUTED_IN_ONE_SHOP = (
 CARRIED_BELOW = "nothing to compare, so carried by the desk: {titles}"
 
 ONE_AGGREGATE_MAKES = (
-    "Its one aggregate has the index {index} ({december} is 100), so the level, {link} then, is {level}."
+    "Its only aggregate has the index {index} ({december} is 100), so the level, which was {link} then, is {level}."
 )
 
 AGGREGATES_MAKE = (
-    "By their weights, the indices of its {count} aggregates have the mean {index} ({december} is 100), so the level,"
-    " {link} then, is {level}."
+    "The weighted mean of the indices of its {count} aggregates is {index} ({december} is 100), so the level, which"
+    " was {link} then, is {level}."
 )
 
 # ---- what happened to the month
 
 REVISED = "This is revision {revision}; in revision {other} the level was {level}."
 
-REVISED_SINCE = "This is revision {revision}; revision {other} took its place, with the level {level}."
+REVISED_SINCE = "This is revision {revision}; revision {other}, with the level {level}, has replaced it."
 
-HANDED_OVER = "From {month} on collector {collector} prices {item} at {outlet}, in place of collector {former}."
+HANDED_OVER = "From {month} on, collector {collector} prices {item} at {outlet} in place of collector {former}."
 
 HANDED_OVER_MANY = (
-    "From {month} on other collectors look for {count} of these prices; {item} at {outlet} went from collector {former} to"
-    " collector {collector}."
+    "From {month} on, other collectors look for {count} of these prices; {item} at {outlet} passed from collector"
+    " {former} to collector {collector}."
 )
 
 REVISED_HANDED_OVER = (
-    "This is revision {revision} (in revision {other} the level was {level}), and from {month} on collector {collector}"
-    " prices {item} at {outlet}, in place of collector {former}."
+    "This is revision {revision} (in revision {other} the level was {level}), and from {month} on, collector"
+    " {collector} prices {item} at {outlet} in place of collector {former}."
 )
 
 REVISED_HANDED_OVER_MANY = (
-    "This is revision {revision} (in revision {other} the level was {level}), and from {month} on other collectors look for"
-    " {count} of these prices; {item} at {outlet} went from collector {former} to collector {collector}."
+    "This is revision {revision} (in revision {other} the level was {level}), and from {month} on, other collectors"
+    " look for {count} of these prices; {item} at {outlet} passed from collector {former} to collector {collector}."
 )
 
 REVISED_SINCE_HANDED_OVER = (
-    "This is revision {revision} (revision {other} took its place, with the level {level}), and from {month} on"
-    " collector {collector} prices {item} at {outlet}, in place of collector {former}."
+    "This is revision {revision} (revision {other}, with the level {level}, has replaced it), and from {month} on,"
+    " collector {collector} prices {item} at {outlet} in place of collector {former}."
 )
 
 REVISED_SINCE_HANDED_OVER_MANY = (
-    "This is revision {revision} (revision {other} took its place, with the level {level}), and from {month} on other"
-    " collectors look for {count} of these prices; {item} at {outlet} went from collector {former} to collector {collector}."
+    "This is revision {revision} (revision {other}, with the level {level}, has replaced it), and from {month} on,"
+    " other collectors look for {count} of these prices; {item} at {outlet} passed from collector {former} to"
+    " collector {collector}."
 )
 
 UNTRUE = (
-    "No sentence says how this figure came about: a line below isn't true (it begins with !), so something in the file"
-    " was changed since the freeze."
+    "No sentence says how this figure came about: a line below isn't true (it begins with !), so something in the"
+    " file has been changed since the freeze."
 )

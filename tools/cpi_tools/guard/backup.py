@@ -18,10 +18,10 @@ from typing import NamedTuple, Optional
 
 from ..office.copying import EMPTIED_BYTES, PATIENCE, has_frames, log_beside, right_copy
 from ..office.program import LAST_MOMENT, Cpi, CpiFailed, add_program, record
-from ..office.rooms import new_room
-from ..text.terminal import Fault, Progress, ToolWords, a_file, at_least, because_of, counted, time_text
-from .copies.desk_backup import desk_beside, write_desk
-from .copies.desk_files import LOG, seen_in
+from ..office.folders import new_room
+from ..text.terminal import Fault, Progress, ToolWords, a_file, at_least, because_of, time_text, write_count
+from ..text.text_files import rename_to_new
+from .copies.desk_files import LOG, desk_beside, seen_in, write_desk
 
 
 LF = b"\n"
@@ -140,7 +140,7 @@ def back_up(
     desk_log: Optional[Path] = None,
 ) -> Note:
     """Makes the backup `to` of an office's file, and a note next to it, with the last line of `desk_log` if there is
-    one; the note. `desk` is the folder of the desk's pages, which goes along.
+    one; the note. `desk` is the folder of the desk's pages, which the backup includes.
 
     `is_replacing` lets it replace an existing file. `patience` (seconds) and `pause` (a process) are arguments of
     `right_copy`. Raises BackupFailed, CopyFailed or CpiFailed, and leaves nothing, if it wasn't made.
@@ -215,7 +215,7 @@ def _look_at_log(to: Path) -> None:
 def _put(copy: Path, written: Path, to: Path, is_replacing: bool, archive: Optional[Path]) -> None:
     """Puts a backup, the desk's folder and the note into their place, each on the disk before it has its name.
 
-    If a backup is replaced, the old note goes first: a backup with the note of another would seem damaged.
+    If a backup is replaced, the old note is removed first: a backup with the note of another would seem damaged.
     """
     pairs = [(copy, to), *([(archive, desk_beside(to))] if archive else []), (written, note_beside(to))]
     for each, _ in pairs:
@@ -237,16 +237,11 @@ def _put(copy: Path, written: Path, to: Path, is_replacing: bool, archive: Optio
 
 
 def _rename_to_new(path: Path, to: Path) -> None:
-    """Renames a file to a free name, even if another file took it a moment ago."""
+    """Renames a file to a free name. Raises BackupFailed if another file took it, even a moment ago."""
     try:
-        os.link(path, to)
+        rename_to_new(path, to)
     except FileExistsError:
         raise BackupFailed(f"{to} is there already (--replace puts the backup in its place)") from None
-    except OSError:
-        # (a file system without hard links)
-        path.rename(to)
-    else:
-        path.unlink()
 
 
 def _sync(path: Path) -> None:
@@ -282,7 +277,7 @@ if the arguments are refused; 4 if it was made without the desk's folder (one li
 """
 
 WITHOUT_DESK = 4
-"""The exit status if a desk's folder couldn't be read, and the office's backup is there without it."""
+"""The exit status if a desk's folder couldn't be read, and the office's backup was made without it."""
 
 
 def add_words(tools: argparse._SubParsersAction[ToolWords]) -> None:
@@ -335,7 +330,7 @@ def run(chosen: argparse.Namespace) -> int:
             desk_log=chosen.desk_log,
         )
     print(
-        f"{chosen.dest}: {counted(note.size, 'byte')}, {counted(note.tables, 'table')},"
+        f"{chosen.dest}: {write_count(note.size, 'byte')}, {write_count(note.tables, 'table')},"
         f" copied {time_text(note.copied)}, SHA-256 {note.sha256}"
     )
     if note.desk:

@@ -16,21 +16,20 @@ import signal
 import sqlite3
 import stat
 import sys
+import time
 from collections.abc import Generator, Iterator
 from pathlib import Path
 from shlex import quote
 from typing import NamedTuple, Optional
 
-from ..office.access import User, acting_as, may, owner_and_mode, this_user, user_of
+from ..office.access import User, acting_as, holders_of, is_held, may, owner_and_mode, this_user, user_of
 from ..office.copying import has_frames, log_beside, private_copy
-from ..office.held_folders import first_line
-from ..office.holders import holders_of, is_held
+from ..office.folders import first_line
 from ..office.program import LAST_MOMENT, Cpi, CpiFailed, add_program, record
 from ..office.stored import SCHEMA, stored_office
 from ..text.terminal import Fault, Progress, ToolWords, because_of
 from .follow import restoring_beside
-from .next_open import MIB, NextOpen, free_memory, in_words, next_open
-from .other_logs import other_log_of
+from .next_open import MIB, NextOpen, announce_opening, free_memory, in_words, next_open, other_log_of
 from .promote import HERE
 
 HALF = 50
@@ -101,13 +100,15 @@ KINDS = (
 
 
 def of_place(path: Path) -> Iterator[Cause]:
-    """Whether a file is there at all."""
+    """The cause, if the file doesn't exist."""
     try:
         mode = path.stat().st_mode
     except FileNotFoundError:
         yield _missing(path)
     except NotADirectoryError:
-        yield Cause(f"{_first_that_is_no_folder(path)}, which its name takes for a folder, is a file", "Mend the name")
+        yield Cause(
+            f"{_first_that_is_no_folder(path)}, which its name takes for a folder, is a file", "Correct the name"
+        )
     except PermissionError:
         # (told by what the user may do)
         pass
@@ -123,7 +124,7 @@ def of_place(path: Path) -> Iterator[Cause]:
 
 def _missing(path: Path) -> Cause:
     if path.is_symlink():
-        return Cause(f"it is a link to {os.readlink(path)}, which isn't there", "Mend the link")
+        return Cause(f"it is a link to {os.readlink(path)}, which isn't there", "Correct the link")
     if not path.parent.exists():
         folder = next(each for each in reversed(path.absolute().parents) if not each.exists())
         return Cause(f"there is no folder {folder}", "Make the folder, or mend the name")
@@ -158,7 +159,7 @@ def of_access(path: Path, user: User) -> Iterator[Cause]:
     with acting_as(user):
         denied = [each for each in folders if not may(each, os.X_OK)]
     if denied:
-        yield Cause(*_denied(denied[0], "enter", user))
+        yield Cause(*_explain_denial(denied[0], "enter", user))
         return
     if os.statvfs(path).f_flag & os.ST_RDONLY:
         yield Cause("its disk is mounted read-only", "Mount it for writing (`findmnt -T` shows the mount)")
@@ -171,14 +172,14 @@ def of_access(path: Path, user: User) -> Iterator[Cause]:
         asked += [(log.parent, os.W_OK, "make the log in")]
     with acting_as(user):
         found = [(each, what) for each, mode, what in asked if not may(each, mode)]
-    yield from (Cause(*_denied(each, what, user)) for each, what in found[:1])
+    yield from (Cause(*_explain_denial(each, what, user)) for each, what in found[:1])
 
 
 NEEDS = {"read": 0o400, "write": 0o200, "make the log in": 0o200, "enter": 0o100}
 """The bits of the owner's part of a mode that let the owner act."""
 
 
-def _denied(path: Path, what: str, user: User) -> tuple[str, str]:
+def _explain_denial(path: Path, what: str, user: User) -> tuple[str, str]:
     """A user's missing right, the reason, and the remedy."""
     owner, mode = owner_and_mode(path)
     folder, _ = owner_and_mode(path.parent)
@@ -198,7 +199,7 @@ def _denied(path: Path, what: str, user: User) -> tuple[str, str]:
 
 def opener_of(path: Path, named: Optional[str]) -> User:
     """The user that is to open a file: the named one, or the one that runs this program. For root, who may open
-    everything, it is the owner of the folder, as of the folder of a service. Raises Fault if there is no such user, or
+    everything, it is the owner of the folder, as of the folder of a service. Raises Fault if the user doesn't exist, or
     if this one can't take that user's rights."""
     if named is None:
         folder = path.absolute().parent
@@ -216,7 +217,7 @@ def opener_of(path: Path, named: Optional[str]) -> User:
 
 
 def of_holders(path: Path) -> Iterator[Cause]:
-    """Who holds the file."""
+    """The cause, if a program holds the file."""
     if not is_held(path):
         return
     held = [*holders_of(path)]
@@ -361,7 +362,7 @@ def _of_tables(copy: Path) -> Iterator[Cause]:
                 yield Cause(f"it is a file of SQLite and no office: it has the tables {others}", OTHER_FILE)
                 return
             versions = [number for (number,) in office.ask("SELECT number FROM version")]
-            faults = [*office.broken()]
+            faults = [*office.find_faults()]
     except sqlite3.OperationalError as fault:
         yield Cause(f"it is a file of SQLite and no office: {fault}", OTHER_FILE)
         return
@@ -387,26 +388,31 @@ another schema; its disk may be full or read-only. The tool first checks the cau
 copy of FILE. Then cpi opens a private copy of FILE and its log, in the folder that TMPDIR names,
 and SQLite checks it. FILE itself is only read: it is neither written nor locked.
 
-The user is the one who runs this tool. For root, who may open every file, it is the owner of
-FILE's folder, so the tool finds a file that root created in the folder of a service. Without root,
-the tool can't see that another user's process holds FILE, and the line says so.
-
-The memory and time that an open takes grow with the rows of FILE. If it takes more memory than
-cpi.service (for /var/lib/cpi/office.db) or this machine allows, that is a cause; from half of that
-on, it is a warning.
-
-If the log next to FILE belongs to another file, cpi would put it into FILE on opening. The tool
-finds such a log from its content and that of FILE: FILE is whole by itself, and with the log it is
-damaged, another office, or an earlier one. With --log, the tool checks only this, as cpi-serve
-does before each start with a log. If both fit together, but FILE is newer than the log, a warning
+The user is the one who runs this tool. If root runs it, who may open every file, the user is the
+owner of FILE's folder instead: so the tool finds a file that root created in the folder of a
+service. Without root, the tool can't see whether another user's process holds FILE, and the line
 says so.
+
+The memory and time needed to open FILE grow with the number of its rows. If opening FILE needs
+more memory than cpi.service (for /var/lib/cpi/office.db) or this machine allows, the tool names
+that as the cause; if it needs at least half of that, the tool warns.
+
+If the log next to FILE belongs to another file, cpi would apply the log to FILE when it opens FILE.
+The tool recognizes such a log by the contents of both: FILE alone is whole, but with the log it
+is damaged, another office, or an earlier one. With --log, the tool checks only this, as cpi-serve
+does before each start with a log. If both fit together, but FILE is newer than the log, the tool
+warns.
+
+With --opening, the tool only writes the time at which an open that begins now is expected to end,
+as cpi-serve does before each start. The front shows that time to phones and pages until the office
+listens. If the open takes less than five seconds, the tool writes nothing.
 """
 
 EPILOG = """\
 example: cpi-tools doctor office.db
 
 exit status: 0 if nothing is wrong, and cpi opens FILE; 1 if something is wrong, or if a line on
-standard error says that this can't be found out; 2 if the arguments are refused
+standard error says that the tool can't tell; 2 if the arguments are refused
 """
 
 
@@ -419,8 +425,11 @@ def add_words(tools: argparse._SubParsersAction[ToolWords]) -> None:
         epilog=EPILOG,
     )
     words.add_argument("file", type=Path, metavar="FILE", help="the office's file, which is only read")
-    words.add_argument("--user", metavar="NAME", help="the user who is to open it")
+    words.add_argument("--user", metavar="NAME", help="the user who needs to open it")
     words.add_argument("--log", action="store_true", help="only check whether the log next to FILE belongs to it")
+    words.add_argument(
+        "--opening", type=Path, metavar="JSON", help="only write when an open that begins now is expected to end"
+    )
     add_program(words)
     words.set_defaults(run=run, tool="doctor", words=words)
 
@@ -444,6 +453,9 @@ def run(chosen: argparse.Namespace) -> int:
     path: Path = chosen.file
     if chosen.log:
         return _looked_at_log(path)
+    if chosen.opening:
+        announce_opening(path, chosen.opening, time.time())
+        return 0
     cpi = Cpi(chosen.program)
     with Progress("cpi-tools doctor") as progress:
         found = cause_of(path, opener_of(path, chosen.user), cpi, progress)

@@ -17,14 +17,14 @@ from collections.abc import Iterator
 from pathlib import Path
 from typing import NamedTuple, Optional
 
-from ..office.anew import Computed, Months, differing
+from ..office.frozen_quotes import Computed, Months, differing
 from ..office.copying import has_frames, log_beside, private_copy
 from ..office.program import LAST_MOMENT, Cpi, CpiFailed, Reply, add_program, record
-from ..office.rooms import new_room
+from ..office.folders import new_room
 from ..office.stored import Level, Release, StoredOffice, stored_office
-from ..text.terminal import Fault, Progress, ToolWords, because_of, counted, month_text, time_text
+from ..text.terminal import Fault, Progress, ToolWords, because_of, month_text, time_text, write_count
 from .backup import BackupFailed, Note, hash_of, note_beside, read_note, remove_log
-from .copies.desk_backup import desk_beside, read_desk
+from .copies.desk_files import desk_beside, read_desk
 
 MOST_TOLD = 20
 """The most faults that are printed, each on a line; the others are only counted."""
@@ -69,11 +69,11 @@ def drill(cpi: Cpi, path: Path, progress: Optional[Progress] = None) -> Drilled:
         faults += desk_faults_of(path, note.desk)
     with private_copy(path) as copy:
         now("cpi opens a copy")
-        printed = _printed(cpi, copy, faults)
+        printed = _print_tables(cpi, copy, faults)
         now("the C library looks at it")
         try:
             with stored_office(copy) as office:
-                faults += office.broken()
+                faults += office.find_faults()
                 faults += _stored_faults(office, counts)
                 for each in computed_faults(office, printed, counts):
                     now(f"computing tables anew ({counts.tables})")
@@ -134,7 +134,7 @@ def desk_faults_of(path: Path, wanted: str) -> list[str]:
 # ---- the program
 
 
-def _printed(cpi: Cpi, copy: Path, faults: list[str]) -> Optional[Printed]:
+def _print_tables(cpi: Cpi, copy: Path, faults: list[str]) -> Optional[Printed]:
     """Each listed table as the program prints it; None, and a fault, if the program doesn't open the file.
 
     The tables are read as of the last possible moment, which includes those under embargo. They are compared, never
@@ -196,19 +196,19 @@ def _stored_faults(office: StoredOffice, counts: Counts) -> Iterator[str]:
     counts.quotes = office.count_of_quotes()
     lost, counts.other_quotes = office.quotes_beside_frozen()
     if lost:
-        yield f"{counted(lost, 'quote')} that a month was frozen with and that no slot has"
+        yield f"{write_count(lost, 'quote')} that a month was frozen with and that no slot has"
 
 
 def computed_faults(office: StoredOffice, printed: Optional[Printed], counts: Counts) -> Iterator[list[str]]:
     """Recomputes each release, compares it, and yields its faults."""
     releases, months = office.releases(), Months(office)
     if printed is not None and [*printed] != [release[:2] for release in releases]:
-        yield [f"{counted(len(releases), 'release')} stored, {counted(len(printed), 'table')} listed by cpi"]
+        yield [f"{write_count(len(releases), 'release')} stored, {write_count(len(printed), 'table')} listed by cpi"]
     for turn, release in enumerate(releases):
         is_latest = turn + 1 == len(releases) or releases[turn + 1].month != release.month
         frozen = office.frozen(release)
         try:
-            wanted = months.computed(release, frozen, is_latest)
+            wanted = months.compute(release, frozen, is_latest)
         except (ArithmeticError, LookupError, TypeError, ValueError) as fault:
             yield [f"{_name_of(release)}: can't be computed from what is stored ({type(fault).__name__}: {fault})"]
             return
@@ -225,12 +225,12 @@ def _name_of(release: Release) -> str:
 def differences(office: StoredOffice, wanted: Computed, printed: Optional[Printed]) -> Iterator[str]:
     """The stored and printed figures of a release that differ from the computed ones."""
     release = wanted.release
-    if found := differing(office.carried(release), wanted.carried):
+    if found := differing(office.read_carried(release), wanted.carried):
         series = f"{found[0][0]}/{found[0][1]}"
-        yield f"{counted(len(found), 'carried price')} other than its quotes give, the first of series {series}"
+        yield f"{write_count(len(found), 'carried price')} other than its quotes give, the first of series {series}"
     stored = office.levels(release)
     if found := differing(stored, wanted.levels):
-        yield f"{counted(len(found), 'row')} of its table other than its quotes give, the first at {found[0]}"
+        yield f"{write_count(len(found), 'row')} of its table other than its quotes give, the first at {found[0]}"
     titles = office.titles(release)
     if wanted.levels and titles != office.planned_titles(release.month // 100):
         yield "the titles aren't those of the year's plan"
@@ -289,12 +289,14 @@ def add_words(tools: argparse._SubParsersAction[ToolWords]) -> None:
 
 def told_line(path: Path, found: Drilled) -> str:
     """The line that reports a drill."""
-    counts = [counted(len(each), one) for each, one in ((found.faults, "fault"), (found.warnings, "warning")) if each]
+    counts = [
+        write_count(len(each), one) for each, one in ((found.faults, "fault"), (found.warnings, "warning")) if each
+    ]
     state = " and ".join(counts) or "nothing is wrong"
     of_note = f"copied {time_text(found.note.copied)}" if found.note else "no note of its SHA-256"
     looked = (
-        f"{counted(found.tables, 'table')} with {counted(found.rows, 'row')} and"
-        f" {counted(found.carried, 'carried price')} computed anew, {counted(found.quotes, 'quote')}"
+        f"{write_count(found.tables, 'table')} with {write_count(found.rows, 'row')} and"
+        f" {write_count(found.carried, 'carried price')} computed anew, {write_count(found.quotes, 'quote')}"
     )
     if found.other_quotes:
         looked += f" ({found.other_quotes:,} of them not as frozen last)"

@@ -16,11 +16,10 @@ from pathlib import Path
 from typing import Optional
 
 from ..office.copying import PATIENCE
-from ..text.terminal import Fault, Progress, ToolWords, at_least, because_of, counted
-from ..text.whole_files import write_whole
-from .copies.desk_follow import DeskFollower
-from .copies.mirrors import Taken
-from .copies.office_marks import NotCarried
+from ..text.terminal import Fault, Progress, ToolWords, at_least, because_of, write_count
+from ..text.text_files import write_whole
+from .copies.desk_copies import DeskFollower
+from .copies.mirrors import NotCarried, Taken
 from .copies.places import Place, kept_for_one, place_of
 from .copies.second_copies import REFUSED, CopyNote, Promotion, State, second_text, write_refusal
 
@@ -47,7 +46,7 @@ def mark_beside(office: Path) -> Path:
 
 def restoring_beside(office: Path) -> Path:
     """The file that says of an office's file that a restore isn't done: `office.db.restoring`. `cpi-serve` starts no
-    office meanwhile."""
+    office while it exists."""
     return office.with_name(f"{office.name}.restoring")
 
 
@@ -97,7 +96,7 @@ class Follower:
         desk: Optional[Path] = None,
     ):
         """`is_anew` lets the first round carry an office that doesn't go on from the copy; `desk` is the desk's folder,
-        if it goes along."""
+        if rounds include it."""
         self._office, self._place, self._patience, self._is_anew = office, place, patience, is_anew
         self._has_told = False
         self._of_office = Causes()
@@ -118,7 +117,7 @@ class Follower:
             if state.promotion:
                 return mark_as_former(self._office, state.promotion)
             try:
-                note, taken = self._carried(state)
+                note, taken = self._carry_copy(state)
             except NotCarried as fault:
                 # (if its disk is full, a probe sees the age of the copy)
                 with contextlib.suppress(OSError):
@@ -129,7 +128,7 @@ class Follower:
             raise Fault(because_of(fault)) from fault
         self._is_anew = False
         if self._of_office.is_said or not self._has_told:
-            size = counted(note.file.size + note.log.size, "byte")
+            size = write_count(note.file.size + note.log.size, "byte")
             print(
                 f"{self._place.name}: copied {second_text(note.copied)}, {size}, {taken.written:,} of them new",
                 flush=True,
@@ -153,7 +152,7 @@ class Follower:
             print(f"cpi-tools follow: {self._place.name}: {said}", file=sys.stderr, flush=True)
         return True
 
-    def _carried(self, state: State) -> tuple[CopyNote, Taken]:
+    def _carry_copy(self, state: State) -> tuple[CopyNote, Taken]:
         """The note of a round. Raises NotCarried with a line that names the office and the place, other Faults, and
         OSError."""
         if (whose := state.of_another(self._office)) and not self._is_anew:
@@ -267,7 +266,7 @@ def _end_line(follower: Follower, chosen: argparse.Namespace) -> str:
 
 
 def _ended_desk(follower: Follower, chosen: argparse.Namespace) -> int:
-    """The exit status after the rounds that were asked for: the desk's folder goes along with a round."""
+    """The exit status after the rounds that were asked for: a round includes the desk's folder."""
     return 0 if chosen.ask or follower.desk_round() else 1
 
 

@@ -1,12 +1,4 @@
-"""`cpi-tools gaps FILE --receipts LIST`: which prices somebody has a receipt for, and the office doesn't have. With
-`--records` it checks the desk's sent records in the same way (`gaps_of_records`), with `--office` the whole content of
-the office's old file (`gaps_of_offices`).
-
-After a copy was promoted, or a backup restored, the office knows less than those who sent to it. A receipt counts for
-each collector from 1, so the office gives the same numbers again: a receipt that is there may be of another price. So a
-row is there if its slot and month have this mark and value, or a receipt that is later than the row's under which the
-price was put right in the meantime.
-"""
+"""`cpi-tools gaps FILE (--receipts LIST | --records LIST)`: which prices or records an office doesn't have."""
 
 from __future__ import annotations
 
@@ -21,13 +13,116 @@ from typing import NamedTuple, Optional, TypeVar
 
 from ..office.copying import private_copy
 from ..office.program import Cpi, add_program
-from ..office.stored import REASONS, read_copy
-from ..text.csv_files import Writer, add_safe_csv
-from ..text.terminal import Fault, Progress, ToolWords, because_of, counted, month_text
-from .gaps_of_offices import Entry, Lacking, entries_of, lacking
-from .gaps_of_records import missing_records, records_in
-from .gaps_written import HEADS, because_of_entry, lines_of, rows_by_person, write_folder, write_records
-from .other_logs import other_log_of
+from ..office.stored import REASONS, StoredOffice, read_copy
+from ..sheets.cells import Origin
+from ..sheets.judge import moments_of
+from ..sheets.known_rows import Known, known_of
+from ..sheets.record_rows import FIELDS, Sent as SentRow
+from ..text.terminal import Fault, Progress, ToolWords, because_of, month_text, write_count
+from ..text.text_files import Writer, add_safe_csv
+from .gaps_of_offices import (
+    HEADS,
+    Entry,
+    Lacking,
+    because_of_entry,
+    entries_of,
+    lacking,
+    lines_of,
+    rows_by_person,
+    write_folder,
+    write_records,
+)
+from .next_open import other_log_of
+
+
+# ==== `cpi-tools gaps FILE --records LIST`: which records of the desk an office doesn't have
+#
+# The list has the rows of an import, as the desk keeps the files that it sends. After a second copy was promoted, or a
+# backup restored, the records that the desk sent since the moment of that copy are missing. A row that is missing is
+# written as it was sent, in the order of the list, so that the output can be sent as it is.
+
+WORDS = ("item", "outlet", "collector", "assign", "handover", "calendar", "plan", "freeze")
+"""The words of the records that the desk sends."""
+
+WIDTHS = {word: 1 + len(FIELDS[word]) for word in WORDS if word != "plan"} | {"plan": 3, "freeze": 2}
+"""The number of fields of each record, its word included; a freeze can have more."""
+
+LATER_WINS = {"item": 2, "outlet": 2, "collector": 2, "calendar": 2, "plan": 2}
+"""The kinds of records that replace an earlier one, and how many fields they share with it then."""
+
+
+class Record(NamedTuple):
+    """A record of a list: its fields, and the line on which it ends."""
+
+    fields: tuple[str, ...]
+    line: int
+
+    @property
+    def word(self) -> str:
+        """Its word."""
+        return self.fields[0]
+
+
+def records_in(text: str, name: str) -> list[Record]:
+    """The records of a list, without moment and caller. Raises Fault, which names the line, if one is none of the
+    desk."""
+    rows = csv.reader(io.StringIO(text.lstrip("\ufeff"), newline=""), strict=True)
+    found = [Record(tuple(row), rows.line_num) for row in rows if row]
+    for record in found:
+        if fault := _form_fault(record):
+            raise Fault(f"{name}, line {record.line}: {fault}")
+    if not found:
+        raise Fault(f"{name} has no record")
+    return found
+
+
+def _form_fault(record: Record) -> str:
+    """Why the desk can't have sent a record; empty if it can."""
+    if record.word not in WORDS:
+        return f"the record is {record.word!r}: wanted is one of {', '.join(WORDS)}"
+    has, wanted = len(record.fields), WIDTHS[record.word]
+    if has < wanted or (has > wanted and record.word != "freeze"):
+        return f"the record {record.word} has {has} fields, and {wanted} are wanted"
+    return ""
+
+
+def missing_records(cpi: Cpi, records: Iterable[Record], stored: StoredOffice, zone: str) -> list[Record]:
+    """The records that an office lacks, in their order. Civil times of a calendar are read by the program, with the
+    clock of a zone."""
+    last = {_place_of(record): record for record in records}
+    times = [cell for record in last.values() if record.word == "calendar" for cell in record.fields[2:]]
+    moments, known = moments_of(cpi, times, zone), known_of(stored)
+    return [record for record in last.values() if not _is_there(record, known, moments)]
+
+
+def _place_of(record: Record) -> tuple[str, ...]:
+    """The shared fields of two records, only the later one of which counts."""
+    return record.fields[: LATER_WINS.get(record.word, len(record.fields))]
+
+
+def _is_there(record: Record, known: Known, moments: Mapping[str, int]) -> bool:
+    """Whether an office has a record exactly so."""
+    first, *others = record.fields[1:]
+    if record.word == "calendar":
+        return known.windows.get(first) == tuple(str(moments.get(cell, cell)) for cell in others)
+    if record.word == "handover":
+        return (first, *others) in known.handovers
+    if record.word == "plan":
+        rows = csv.reader(io.StringIO(others[0].lstrip("\ufeff"), newline=""))
+        return known.plans.get(first) == frozenset(tuple(row) for row in rows if row)
+    if record.word == "freeze":
+        return any(month == first and it.carry == {*others} for (month, _), it in known.releases.items())
+    return known.has(SentRow([*record.fields], Origin("", record.line), ()))
+
+
+# ==== `cpi-tools gaps FILE --receipts LIST`: which prices somebody has a receipt for, and the office doesn't have. With
+# `--records` it checks the desk's sent records in the same way, with `--office` the whole content
+# of the office's old file (`gaps_of_offices`).
+#
+# After a copy was promoted, or a backup restored, the office knows less than those who sent to it. A receipt counts for
+# each collector from 1, so the office gives the same numbers again: an existing receipt may belong to another price. So
+# a row isn't missing if its slot and month have this mark and value, or a receipt that is later than the row's under
+# which the price has been corrected since.
 
 MISSING = 3
 """The exit status if anything is missing. A fault has 1, and so has Python if a module isn't there."""
@@ -79,13 +174,13 @@ def sent_in(text: str, name: str) -> list[Sent]:
     for row in rows:
         if row:
             cells = [row[each].strip() if each < len(row) else "" for each in at]
-            found.append(_sent(cells, f"{name}, line {rows.line_num}"))
+            found.append(_read_sent(cells, f"{name}, line {rows.line_num}"))
     if not found:
         raise Fault(f"{name} has no row below its heads")
     return found
 
 
-def _sent(cells: list[str], where: str) -> Sent:
+def _read_sent(cells: list[str], where: str) -> Sent:
     """A row. Raises Fault if it is none."""
     collector, slot, month, mark, value, receipt = cells
     for head, cell in (("collector", collector), ("slot", slot), ("receipt", receipt)):
@@ -222,13 +317,13 @@ def run(chosen: argparse.Namespace) -> int:
     for row in rows:
         out.writerow(row)
     found = len(rows) if chosen.records else max(0, len(rows) - 1)
-    text = f"{found:,} of {counted(wanted, 'row')}" if found else f"nothing of {counted(wanted, 'row')}"
+    text = f"{found:,} of {write_count(wanted, 'row')}" if found else f"nothing of {write_count(wanted, 'row')}"
     print(f"cpi-tools gaps: {text} {'are' if found > 1 else 'is'} missing in {chosen.file}", file=sys.stderr)
     return MISSING if found else 0
 
 
 def _compared_prices(chosen: argparse.Namespace) -> tuple[int, list[tuple[object, ...]]]:
-    """How many prices a list has, and the lines on those that are missing, with their heads. Raises Fault."""
+    """The number of prices in a list, and the lines about those that are missing, with their heads. Raises Fault."""
     sent = read_list(chosen.receipts, sent_in)
     with Progress("cpi-tools gaps") as progress:
         progress.now(f"reading {chosen.file}")
@@ -240,7 +335,7 @@ def _compared_prices(chosen: argparse.Namespace) -> tuple[int, list[tuple[object
 
 
 def _compared_records(chosen: argparse.Namespace) -> tuple[int, list[tuple[object, ...]]]:
-    """How many records a list has, and those that are missing. Raises Fault."""
+    """The number of records in a list, and those that are missing. Raises Fault."""
     sent = read_list(chosen.records, records_in)
     with Progress("cpi-tools gaps") as progress:
         progress.now(f"reading {chosen.file}")

@@ -1,32 +1,37 @@
-"""`cpi-tools gaps NEW --office OLD`: the rows that only the old file of an office contains, as rows to send.
-
-After a promotion, a restore or a cut line two files go on from one office. OLD contains answered commands that NEW
-lacks: its prices, and its records of the desk.
-
-**Which of two prices is the later one.** No file has moments of prices. But a collector's receipts count on from those
-that both files have. So every difference between the files came after the last common receipt, which is taken to be the
-greatest number that all differences leave for it. A price of OLD is missing if only its own receipt is greater; if only
-NEW's receipt is, NEW has corrected it since. If both are greater nobody knows, and a person decides. So it is with
-records of the desk that both have and that differ, which have no receipts.
-
-A slot that both gave to different series, or a number to different persons, is one too: nothing is sent for it.
-"""
+"""`cpi-tools gaps NEW --office OLD`: the rows that only the old file of an office contains, written as rows to send."""
 
 from __future__ import annotations
 
 import csv
 import io
+import os
 from collections import defaultdict
 from collections.abc import Collection, Iterable, Iterator, Mapping, Sequence
-from typing import NamedTuple, Optional
+from itertools import groupby
+from pathlib import Path
+from typing import NamedTuple, Optional, TextIO
 
+from ..office.folders import new_room, private_file, write_rows
 from ..office.stored import REASONS, StoredOffice
-from ..sheets.known_rows import Known
-from ..sheets.known_sheets import known_of, rows_of_plan
+from ..sheets.known_rows import Known, known_of, rows_of_plan
 from ..sheets.price_cells import COMPARABLE, PRICE
 from ..sheets.record_rows import DESK
 from ..sheets.take_out import held_by, rows_of_handovers, rows_of_series
-from ..text.terminal import Fault, counted, month_text
+from ..text.terminal import Fault, month_text, write_count
+
+
+# ==== `cpi-tools gaps NEW --office OLD`: the rows that only the old file of an office contains, as rows to send
+#
+# After a promotion, a restore or a cut line two files go on from one office. OLD contains answered commands that NEW
+# lacks: its prices, and its records of the desk.
+#
+# **Which of two prices is the later one.** No file has moments of prices. But a collector's receipts count on from
+# those that both files have. So every difference between the files came after the last common receipt, which is taken
+# to be the greatest number that all differences leave for it. A price of OLD is missing if only its own receipt is
+# greater; if only NEW's receipt is, NEW has corrected it since. If both are greater nobody knows, and a person decides.
+# So it is with records of the desk that both have and that differ, which have no receipts.
+#
+# A slot that both gave to different series, or a number to different persons, is one too: nothing is sent for it.
 
 OTHER_PERSON = "this number is another collector"
 """Why nothing is sent for a number that NEW gave to another person."""
@@ -88,7 +93,7 @@ class Lacking(NamedTuple):
 
     @property
     def to_send(self) -> int:
-        """How many rows are to be sent."""
+        """The number of rows to send."""
         return len(self.records) + len(self.prices) + len(self.freezes)
 
 
@@ -101,7 +106,7 @@ def lacking(old: StoredOffice, new: StoredOffice) -> Lacking:
     different = list[Different]()
     records = [*_records(old, Registered(knows), others, different)]
     freezes = [*_freezes(old, new, different)]
-    prices, put_right = _prices(old, new, _barred(old, new, others), different)
+    prices, put_right = _prices(old, new, _find_barred(old, new, others), different)
     return Lacking(records, prices, freezes, different, put_right)
 
 
@@ -112,16 +117,16 @@ def _records(
     old: StoredOffice, registered: Registered, others: Collection[str], different: list[Different]
 ) -> Iterator[Fields]:
     """The records that NEW lacks. `others` are the numbers that it gave to other persons."""
-    for fields in _registered(old):
+    for fields in _list_records(old):
         here = registered.here(fields)
         numbers = {"assign": fields[1:2], "handover": fields[1:4:2]}.get(fields[0], ())
         if here is None and not {*numbers} & {*others}:
             yield fields
         elif here != fields:
-            different.append(Different(DESK, *_compared(fields, here)))
+            different.append(Different(DESK, *_compare(fields, here)))
 
 
-def _registered(old: StoredOffice) -> Iterator[Fields]:
+def _list_records(old: StoredOffice) -> Iterator[Fields]:
     """All records of the desk but the freezes, in the order in which an office takes them."""
     held = held_by(old)
     yield from (("item", *map(str, it)) for it in old.items())
@@ -177,7 +182,7 @@ class Registered:
 
 
 def _same_or_first(fields: Fields, others: Sequence[Fields]) -> Optional[Fields]:
-    """The fields if they are among others, else the first of these; None if there are none."""
+    """The fields if they are among others, or else the first of these; None if there are none."""
     return fields if fields in others else others[0] if others else None
 
 
@@ -186,14 +191,14 @@ def _after(fields: Fields, others: Optional[Fields]) -> Optional[Fields]:
     return None if others is None else (*fields, *others)
 
 
-def _compared(fields: Fields, here: Optional[Fields]) -> tuple[str, str, str]:
+def _compare(fields: Fields, here: Optional[Fields]) -> tuple[str, str, str]:
     """A record's kind, and OLD's and NEW's content, None if NEW has another collector. A key is in no text."""
     word, first = fields[:2]
     if word == "collector" or here is None:
         what = f"{word} {first}" if word == "collector" else f"{word} {first}/{fields[2]}"
         return what, "its key" if word == "collector" else ",".join(fields[3:]), OTHER_PERSON
     if word == "plan":
-        return f"plan {first}", counted(fields[2].count("\n"), "row"), counted(here[2].count("\n"), "row")
+        return f"plan {first}", write_count(fields[2].count("\n"), "row"), write_count(here[2].count("\n"), "row")
     own = 3 if word in ("assign", "handover") else 2
     return f"{word} {'/'.join(fields[1:own])}", ",".join(fields[own:]), ",".join(here[own:])
 
@@ -228,7 +233,7 @@ def entries_of(office: StoredOffice) -> dict[At, Entry]:
     }
 
 
-def _barred(old: StoredOffice, new: StoredOffice, others: Collection[str]) -> dict[tuple[int, int], str]:
+def _find_barred(old: StoredOffice, new: StoredOffice, others: Collection[str]) -> dict[tuple[int, int], str]:
     """The slots for which nothing can be sent, and why: NEW gave the number to another person, or the slot to another
     series."""
     of_new = {(it.collector, it.slot): (it.outlet, it.item) for it in new.assignments()}
@@ -274,3 +279,98 @@ def _prices(
         else:
             different.append(Different(str(at[0]), what, entry.text, here.text))
     return missing, put_right
+
+
+# ==== the written gaps between an office and its old file: rows to send, by the person who sends them, in the order in
+# which an office takes them; and each difference between both, a line each
+#
+#     1-desk.csv           records of the desk: rows of an import
+#     2-collector-7.csv    prices of a collector: rows of an import under that collector's key
+#     3-freezes.csv        freezes, which come after the prices
+#     prices.csv           all of these prices with their receipts, as `gaps --receipts` writes them
+#     different.csv        what both have, but not the same: a person decides
+
+HEADS = ("collector", "slot", "month", "mark", "value", "receipt")
+"""The columns of a list of prices."""
+
+DIFFERENT = ("by", "record", "old", "new")
+"""The columns of differences."""
+
+
+def rows_by_person(lacks: Lacking) -> Iterator[tuple[str, ...]]:
+    """All rows to send, each after the person who sends it: `desk`, or the number of a collector."""
+    yield from ((DESK, *fields) for fields in lacks.records)
+    yield from ((str(it.at[0]), *it.fields) for it in lacks.prices)
+    yield from ((DESK, *fields) for fields in lacks.freezes)
+
+
+def write_records(file: TextIO, rows: Iterable[Sequence[str]]) -> None:
+    """Writes records, which a program reads: each text as it is."""
+    csv.writer(file, lineterminator="\n").writerows(rows)
+
+
+def because_of_entry(here: Optional[Entry]) -> str:
+    """Why a price is missing: the office's row in its place."""
+    if here is None:
+        return "nothing is stored for this slot and month"
+    return f"{here.mark} {here.value} is stored, with receipt {here.receipt}"
+
+
+def write_folder(folder: Path, lacks: Lacking) -> None:
+    """Writes the files of mode 0600 into a new folder, whole or not at all. Raises Fault and OSError."""
+    if os.path.lexists(folder):
+        raise Fault(f"{folder} is there already: name a folder that isn't")
+    folder.parent.mkdir(parents=True, exist_ok=True)
+    with new_room(".cpi-gaps-", folder.parent) as room:
+        made = room / "files"
+        made.mkdir(mode=0o700)
+        for name, rows in _files(lacks):
+            with private_file(made / name) as file:
+                write_records(file, rows)
+        if lacks.prices:
+            prices = ((*it.at[:2], month_text(it.at[2]), *it.entry, because_of_entry(it.here)) for it in lacks.prices)
+            write_rows(made / "prices.csv", (*HEADS, "because"), prices)
+        if lacks.different:
+            write_rows(made / "different.csv", DIFFERENT, lacks.different)
+        made.rename(folder)
+
+
+def _files(lacks: Lacking) -> Iterator[tuple[str, list[Fields]]]:
+    """The files of rows to send, by their names."""
+    if lacks.records:
+        yield "1-desk.csv", lacks.records
+    for collector, own in groupby(lacks.prices, key=lambda it: it.at[0]):
+        yield f"2-collector-{collector}.csv", [it.fields for it in own]
+    if lacks.freezes:
+        yield "3-freezes.csv", lacks.freezes
+
+
+def lines_of(lacks: Lacking, old: Path, new: Path) -> Iterator[str]:
+    """The report for a person besides the rows: the differences, a line each, and the sum."""
+    for it in lacks.different:
+        yield f"{it.what} differs, so a person decides: old {it.old}; new {it.new}"
+    for each in lacks.prices:
+        if each.here:
+            what = f"quote {each.at[0]}/{each.at[1]} {month_text(each.at[2])}"
+            yield f"{what} is later in the old file: old {each.entry.text}; new {each.here.text}"
+    if any(fields[0] == "collector" for fields in lacks.records):
+        yield "the rows of new collectors have their keys"
+    yield f"{new} lacks {_sum(lacks)} of {old}{_rest(lacks)}"
+
+
+def _sum(lacks: Lacking) -> str:
+    """The sentence with the number of prices and records that an office lacks."""
+    collectors = len({it.at[0] for it in lacks.prices})
+    parts = [write_count(len(lacks.records), "record")] if lacks.records else []
+    parts += (
+        [f"{write_count(len(lacks.prices), 'price')} of {write_count(collectors, 'collector')}"] if lacks.prices else []
+    )
+    parts += [write_count(len(lacks.freezes), "freeze")] if lacks.freezes else []
+    return ", ".join(parts) or "nothing"
+
+
+def _rest(lacks: Lacking) -> str:
+    """The sentence with the number of those that differ, or have been corrected since."""
+    count = len(lacks.different)
+    rest = f"; {count:,} {'differs' if count == 1 else 'differ'}" if count else ""
+    return rest + (f"; {write_count(lacks.put_right, 'price')} put right since" if lacks.put_right else "")

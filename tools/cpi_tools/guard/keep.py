@@ -1,11 +1,11 @@
 """`cpi-tools keep DEST FOLDER`: keeps a generation of the second copy at DEST, once it has passed its drill.
 
 Root opens the two copies, which belong to the user who gets them. Everything else is done by the user to whom FOLDER
-belongs, in a process that can't become root again: the newest whole copy goes into the repository, is taken out again,
-and drilled. So neither the first machine's key nor the user of the copies can change what was kept, and a user who may
-do nothing else reads the carried files. Root last writes next to the copies which generation passed.
+belongs, in a process that can't become root again: the tool puts the newest whole copy into the repository, extracts it
+again, and drills it. So neither the first machine's key nor the user of the copies can change what was kept, and a user
+who may do nothing else reads the carried files. Root last writes next to the copies which generation passed.
 
-The desk's folder goes along. One that isn't whole keeps no generation of the office away: a line says it.
+The desk's folder is included. One that isn't whole keeps no generation of the office away: a line says it.
 """
 
 from __future__ import annotations
@@ -21,11 +21,10 @@ from functools import partial
 from pathlib import Path
 from typing import Any, NamedTuple
 
-from ..office.access import user_of
-from ..office.done_as import done_as
+from ..office.access import done_as, user_of
 from ..office.program import Cpi, add_program
-from ..office.rooms import new_room
-from ..text.terminal import Fault, Progress, ToolWords, because_of, counted, is_line
+from ..office.folders import new_room
+from ..text.terminal import Fault, Progress, ToolWords, because_of, is_line, write_count
 from .copies.borg import Repository
 from .copies.generations import (
     CHECK_DAYS,
@@ -37,18 +36,21 @@ from .copies.generations import (
     NEW,
     PASSED,
     Damaged,
+    KeptDesk,
     LastDrill,
+    OpenDesk,
     drilled_in,
     generation_of,
     is_generation,
+    kept_desk_in,
     last_drill_of,
+    open_desk,
     repository_of,
+    take_desk,
     taken_generation,
     write_last_drill,
 )
-from .copies.kept_desk import KeptDesk, OpenDesk, kept_desk_in, open_desk, take_desk
-from .copies.open_copies import NotWhole, OpenCopy, open_copies, take_newest
-from .copies.second_copies import DESK, OFFICE, Sum, second_text
+from .copies.second_copies import DESK, OFFICE, NotWhole, OpenCopy, Sum, open_copies, second_text, take_newest
 from .drill import drill
 
 FAILED_DRILL = 6
@@ -158,14 +160,14 @@ def _answer(cpi: Cpi, opened: Opened, folder: Path) -> dict[str, Any]:
         failed = "" if same else _drilled_anew(cpi, repository, name, opened.now, room, desk)
         faults = [desk.fault, "" if same else _prune(repository, bool(failed))]
         passed = len(drilled_in(names if same else repository.names()))
-        checks = _checked(repository, opened, faults, is_made=not names)
+        checks = _check_repository(repository, opened, faults, is_made=not names)
         left = "; ".join(fault for fault in faults if fault)
         answer = {"again": "", "generation": name, "is_new": not same, "failed": failed, "left": left, "passed": passed}
         answer.update(checks, removed=removed, desk=desk.sum)
         return {**answer, "copied": note.copied, "file": note.file, "log": note.log}
 
 
-def _checked(repository: Repository, opened: Opened, faults: list[str], is_made: bool) -> dict[str, Any]:
+def _check_repository(repository: Repository, opened: Opened, faults: list[str], is_made: bool) -> dict[str, Any]:
     """Checks a repository if the last check is some days old, or a day if that check found a fault or wasn't done; the
     record of checks then. If it can't be done, the reason is one more fault. A repository made now was just drilled as
     a whole."""
@@ -228,8 +230,8 @@ def _drilled_anew(cpi: Cpi, repository: Repository, name: str, now: int, room: P
 
 
 def _prune(repository: Repository, is_failed: bool) -> str:
-    """Removes older generations if the new one passed its drill, else older ones that failed; why it couldn't, or
-    nothing: the new one is kept all the same."""
+    """Removes older generations if the new one passed its drill, and otherwise older ones that failed; why it couldn't,
+    or nothing: the new one is kept all the same."""
     try:
         repository.prune(*((FAILED, KEEP_FAILED) if is_failed else (PASSED, KEEP)))
     except Fault as fault:
@@ -303,7 +305,7 @@ def run(chosen: argparse.Namespace) -> int:
         kept = keep(Cpi(chosen.program), chosen.dest, chosen.folder)
     for line in kept.removed:
         print(f"{chosen.folder}: {line}")
-    count = counted(kept.passed, "generation")
+    count = write_count(kept.passed, "generation")
     damaged = f"the repository is damaged: {kept.last.damaged}" if kept.last.damaged else ""
     for fault in filter(None, (kept.last.fault, damaged)):
         print(f"cpi-tools keep: {chosen.folder}: {fault}", file=sys.stderr)

@@ -1,23 +1,183 @@
-"""The share of the memory and time, allowed by its unit and this machine, that the next open of an office's file takes.
-
-`cpi` tests each row of a file as it opens it. It holds the rows of one table after the other, so the largest table
-decides how much memory it needs, and all rows decide how long it takes. A running office shows nothing of that: it
-holds the memory that its last open left. `bench/age` measures both for files of one to ten years.
-"""
+"""The next open of an office's file: what it takes of what the unit allows, whether the log is its own, its end."""
 
 from __future__ import annotations
 
 import contextlib
+import json
 import os
+import re
 import resource
+import shutil
 import sqlite3
-from collections.abc import Iterator
+import subprocess
+from collections.abc import Iterator, Mapping, Sequence
 from pathlib import Path
-from typing import NamedTuple, Optional
+from typing import Any, NamedTuple, Optional
 
-from ..office.copying import private_copy
-from ..text.terminal import Fault
-from .units import bytes_of, properties, seconds_of
+from ..office.copying import has_frames, log_beside, private_copy
+from ..office.stored import stored_office, unchanged_office
+from ..text.terminal import Fault, because_of
+from ..text.text_files import write_whole
+from .copies.mirrors import Known, NotCarried, known_of
+
+
+# ==== systemd's facts about a unit of this machine
+
+SECONDS = 60
+"""The seconds that a program of systemd can take."""
+
+SPANS = {
+    "us": 1e-6,
+    "ms": 1e-3,
+    "s": 1,
+    "min": 60,
+    "h": 3600,
+    "d": 86_400,
+    "w": 604_800,
+    "month": 2_629_800,
+    "y": 31_557_600,
+}
+"""By unit of systemd.time(7), its seconds."""
+
+
+def run_systemd(words: Sequence[str]) -> subprocess.CompletedProcess[str]:
+    """Runs a program of systemd. Raises Fault if there is none, or it doesn't end."""
+    if not shutil.which(words[0]):
+        raise Fault(f"there is no {words[0]} on this machine")
+    try:
+        return subprocess.run(
+            words,
+            env={**os.environ, "LC_ALL": "C.UTF-8"},
+            stdin=subprocess.DEVNULL,
+            capture_output=True,
+            text=True,
+            errors="replace",
+            timeout=SECONDS,
+            check=False,
+        )
+    except subprocess.TimeoutExpired as fault:
+        raise Fault(f"{words[0]} didn't end within {SECONDS} seconds") from fault
+    except OSError as fault:
+        raise Fault(f"{words[0]} couldn't be started: {because_of(fault)}") from fault
+
+
+def properties(unit: str, *names: str) -> Mapping[str, str]:
+    """The values of some properties of a unit, by name; none of them if systemd doesn't know the unit. Raises Fault if
+    it can't be asked."""
+    words = ["systemctl", "show", f"--property={','.join(('LoadState', *names))}", unit]
+    lines = (line.partition("=") for line in run_systemd(words).stdout.splitlines())
+    values = {name: value for name, _, value in lines}
+    return values if values.pop("LoadState", "") == "loaded" else {}
+
+
+def seconds_of(span: str) -> Optional[float]:
+    """The seconds of a span as `systemctl show` prints it, such as `1h 30min`; None for `infinity`, or another text."""
+    parts = re.findall(r"([0-9.]+)([a-z]+)", span)
+    if not parts or any(name not in SPANS for _, name in parts):
+        return None
+    return sum(float(number) * SPANS[name] for number, name in parts)
+
+
+def bytes_of(value: str) -> Optional[int]:
+    """A bound of memory as `systemctl show` prints it; None for `infinity`, or another text."""
+    return int(value) if value.isdecimal() else None
+
+
+# ==== whether the log next to an office's file belongs to it, before a program puts it into the file
+#
+# SQLite's format doesn't tie them: salts and sums of a log are its own, and `cpi` leaves the change counter of the file
+# as it is. So they are judged by their content, in a private copy.
+#
+# **What is sure.** Without its log, the file is the office as it was when the log had been copied into it. So if it is
+# whole without its log, it is whole with it too, is the same office, and has all that it had (`mirrors`): also
+# each item, outlet and collector, whose rows never change. If it isn't, the log belongs to another file. A file that
+# isn't whole by itself may have been written when the machine stopped: of its log nothing is known here, and `cpi`
+# judges both.
+#
+# **What isn't sure.** A backup next to the log that came after it may be whole together with it: it is the office at
+# the time before it, and nothing of that is lost. `cpi` writes the file first and the log afterwards, so a file that is
+# younger than the last write of its log was perhaps put there: that is a warning.
+
+FIXED = ("collector", "outlet", "item")
+"""Tables whose rows are never changed."""
+
+
+class OtherLog(NamedTuple):
+    """Why a log seems to belong to another file than the one next to it, and whether that is sure."""
+
+    because: str
+    is_sure: bool
+
+
+def other_log_of(path: Path) -> Optional[OtherLog]:
+    """Why the log next to an office's file seems to belong to another one; None if nothing shows that. Neither is
+    opened or locked. Raises CopyFailed and OSError."""
+    if not path.exists() or not path.stat().st_size or not has_frames(path):
+        return None
+    with private_copy(path) as copy:
+        if because := _fault_with_log(copy):
+            return OtherLog(because, True)
+    if path.stat().st_mtime_ns > log_beside(path).stat().st_mtime_ns:
+        return OtherLog("the file was put there, or written, after the last write of its log", False)
+    return None
+
+
+def _fault_with_log(copy: Path) -> str:
+    """The fault of a copy with its log, although it is whole without the log; empty if there is none, or if it isn't
+    whole."""
+    log, away = log_beside(copy), copy.with_name("log-of-the-copy")
+    log.rename(away)
+    # (the C library reads no file without any log)
+    log.touch(mode=0o600)
+    by_itself = _whole(copy)
+    fixed = _fixed_rows(copy) if by_itself else set()
+    away.replace(log)
+    if not by_itself:
+        return ""
+    try:
+        known_of(copy, by_itself)
+    except NotCarried as fault:
+        return str(fault).replace("the copy", "the file by itself")
+    if not _whole(copy):
+        return "with it rows and keys of the file don't fit together"
+    if lost := sorted(fixed - _fixed_rows(copy)):
+        table, key, *_ = lost[0]
+        return f"with it the file's {table} {key} is another one"
+    return _other_size(copy)
+
+
+def _fixed_rows(copy: Path) -> set[tuple[Any, ...]]:
+    """The rows that never change, each after its table."""
+    with unchanged_office(copy) as office:
+        return {(table, *row) for table in FIXED for row in office.ask(f"SELECT * FROM {table}")}
+
+
+def _other_size(copy: Path) -> str:
+    """Whether a log says that its file has another number of pages than the file's first page says, with the log put
+    into the copy; empty if both say the same. Each change of that number writes both."""
+    with stored_office(copy) as office:
+        ((size, count),) = office.ask("SELECT page_size, page_count FROM pragma_page_size, pragma_page_count")
+        office.ask("PRAGMA wal_checkpoint(TRUNCATE)")
+    pages = copy.stat().st_size // size
+    return "" if pages == count else f"it is the log of a file of {pages:,} pages, and the file has {count:,}"
+
+
+def _whole(copy: Path) -> Optional[Known]:
+    """The record of a whole office; None if it isn't whole."""
+    try:
+        known = known_of(copy, None)
+        with unchanged_office(copy) as office:
+            return None if next(office.find_faults(), "") else known
+    except (NotCarried, sqlite3.Error):
+        return None
+
+
+# ==== the share of the memory and time, allowed by its unit and this machine, that the next open of an office's file
+# takes
+#
+# `cpi` tests each row of a file as it opens it. It holds the rows of one table after the other, so the largest table
+# decides how much memory it needs, and all rows decide how long it takes. A running office shows nothing of that: it
+# holds the memory that its last open left. `bench/files --part age` measures both for files of one to ten years.
 
 BYTES = 300
 """Bytes of memory that an open takes for each row of the largest table (282 to 296 were measured)."""
@@ -79,7 +239,7 @@ class NextOpen(NamedTuple):
 
     @property
     def months_left(self) -> Optional[int]:
-        """How many more months go in before it takes all of the memory; None if no month was frozen yet."""
+        """The number of further months until the open takes all of the memory; None if no month has been frozen yet."""
         if not self.rows.monthly:
             return None
         return max(0, self.allowed.memory // BYTES - self.rows.largest) // self.rows.monthly
@@ -171,3 +331,28 @@ def in_words(opening: NextOpen) -> str:
     if allowed.seconds:
         text += f"; and some {rows.seconds:,} of the {allowed.seconds:,} s of its start (TimeoutStartSec)"
     return text
+
+
+# ==== when an open of an office's file that begins now is expected to end, for the front, which shows it to phones and
+# pages
+#
+# The front answers `/opening.json` with this file while `cpi` opens a large office, and with 404 at any other time.
+
+SHORT = 5
+"""A shorter open, in seconds, isn't announced: the front tries a message again for longer than that."""
+
+
+def announce_opening(office: Path, to: Path, now: float) -> None:
+    """Writes since when and until when an office is opened, as JSON with `began` and `until`, in seconds since 1970 UTC.
+
+    Nothing is written if the open takes less than SHORT seconds. Raises Fault if the rows of the office can't be counted,
+    or if the file can't be written.
+    """
+    seconds = rows_of(office).seconds
+    if seconds < SHORT:
+        return
+    times = {"began": int(now), "until": int(now) + seconds}
+    try:
+        write_whole(to, f"{json.dumps(times)}\n".encode(), 0o644)
+    except OSError as fault:
+        raise Fault(f"{to} can't be written: {because_of(fault)}") from fault

@@ -4,7 +4,7 @@ The copy is taken to a folder that only this user can change, and compared with 
 then DEST gets the mark that makes the first machine's follower stop that office, and last the copy gets its name.
 
 Root runs it, but both folders belong to others: DEST to the user who carries, and the office's to the one who serves.
-So below them each file is opened by its plain name from the folder's descriptor (`held_folders`), and the office's user
+So below them each file is opened by its plain name from the folder's descriptor (`folders`), and the office's user
 gets the file that was drilled, whatever has its name by then.
 """
 
@@ -26,20 +26,18 @@ from collections.abc import Mapping
 from pathlib import Path
 from typing import IO, NamedTuple, Optional
 
-from ..office.access import acting_as, this_user, user_of
+from ..office.access import acting_as, is_held, this_user, user_of
 from ..office.copying import log_beside
-from ..office.held_folders import HeldFolder, NotPlain, held
-from ..office.holders import is_held
+from ..office.folders import HeldFolder, NotPlain, hold_folder, new_room, refuse_without_room
 from ..office.program import Cpi, add_program
-from ..office.rooms import new_room, refuse_without_room
 from ..office.stored import unchanged_office
-from ..text.terminal import Fault, Progress, ToolWords, a_file, because_of, counted
+from ..text.terminal import Fault, Progress, ToolWords, a_file, because_of, write_count
 from .backup import log_of
 from .copies.desk_files import HERE as DESK
-from .copies.desk_places import add_desk, promoted_desk, refuse_held
+from .copies.desk_copies import add_desk, promoted_desk, refuse_held
 from .copies.generations import KEPT, PASSED, Damaged, drilled_in, repository_of, taken_generation
 from .copies.mirrors import sync
-from .copies.page_changes import drop_changes
+from .copies.carriers import drop_changes
 from .copies.second_copies import (
     DESK as DESK_COPY,
     NAMES,
@@ -59,12 +57,12 @@ HERE = Path("/var/lib/cpi/office.db")
 """The office's file of the package."""
 
 UNITS = ("cpi.service", "cpi-backup.timer")
-"""What `--start` starts."""
+"""The units that `--start` starts."""
 
 START = ("systemctl", "enable", "--now", *UNITS)
 
 SYSTEMD = Path("/run/systemd/system")
-"""It is there where systemd runs the machine."""
+"""It exists if systemd runs the machine."""
 
 
 class Wanted(NamedTuple):
@@ -107,13 +105,13 @@ def promote(
         _look_at(office, is_replacing)
         if not is_again and (promotion := promotion_of(dest)):
             raise Fault(f"{dest}: {_told_before(promotion)} (--again promotes a copy once more)")
-        with new_room(".cpi-promote-", _place_of_room(office)) as room, held(office.parent) as home:
+        with new_room(".cpi-promote-", _place_of_room(office)) as room, hold_folder(office.parent) as home:
             now(f"copying {dest}")
-            name, note, of = _taken(dest, wanted, room)
+            name, note, of = _take_copy(dest, wanted, room)
             if is_replacing and not is_again:
                 _compare(room / OFFICE, office, note)
             now("drilling it")
-            drilled = _drilled(cpi, room / OFFICE, of)
+            drilled = _drill_copy(cpi, room / OFFICE, of)
             if wanted.desk and (room / DESK_COPY).is_dir():
                 shutil.move(room / DESK_COPY, wanted.desk / DESK_COPY)
             drop_changes(dest)
@@ -186,12 +184,12 @@ def _last_receipts(office: Path) -> Mapping[int, int]:
 # ---- the copy
 
 
-def _taken(dest: Path, wanted: Wanted, room: Path) -> tuple[str, CopyNote, Path]:
+def _take_copy(dest: Path, wanted: Wanted, room: Path) -> tuple[str, CopyNote, Path]:
     """Takes the wanted copy to a room: its name, its note, and its place. Raises Fault and OSError."""
     if wanted.generation is not None:
         note = _taken_generation(wanted.kept, wanted.generation, room)
         return f"generation {wanted.generation}", note, wanted.kept / wanted.generation
-    name, note = _copied(dest, wanted.copy, room / OFFICE)
+    name, note = _copy_wanted(dest, wanted.copy, room / OFFICE)
     return name, note, dest / name
 
 
@@ -215,9 +213,9 @@ def _taken_generation(kept: Path, name: str, room: Path) -> CopyNote:
     return note
 
 
-def _copied(dest: Path, wanted: Optional[str], to: Path) -> tuple[str, CopyNote]:
+def _copy_wanted(dest: Path, wanted: Optional[str], to: Path) -> tuple[str, CopyNote]:
     """Copies one of the two copies; its folder and its note. A follower may be writing to the place: it may get to this
-    copy while it is read, so it is read again if a newer note is there afterwards."""
+    copy while it is read, so it is read again if there is a newer note afterwards."""
     while True:
         state = state_of(dest)
         name = wanted or state.newest()
@@ -238,15 +236,15 @@ def _copied(dest: Path, wanted: Optional[str], to: Path) -> tuple[str, CopyNote]
 
 def _copy(path: Path, to: Path, note: CopyNote) -> None:
     """Copies a file of a copy and its log, with mode 0600 and onto the disk, and at most one byte more of them than its
-    note says. A log without a byte is none. Raises Fault if there is no room for the sizes in the note."""
+    note says. A log without a byte is none. Raises Fault if the disk has no room for the sizes in the note."""
     size, log = note.file.size, note.log.size
     for target in (to, log_beside(to)):
         target.unlink(missing_ok=True)
     refuse_without_room(f"{path.parent} has, by its note,", size + log, to.parent)
-    with held(path.parent.parent) as place, place.folder(path.parent.name) as copy:
+    with hold_folder(path.parent.parent) as place, place.folder(path.parent.name) as copy:
         for name, target, most in ((path.name, to, size), (f"{path.name}-wal", log_beside(to), log)):
             with contextlib.suppress(FileNotFoundError):
-                _copy_file(copy.opened(name, links=1), target, most + 1, name == path.name)
+                _copy_file(copy.open_file(name, links=1), target, most + 1, name == path.name)
 
 
 def _copy_file(number: int, target: Path, most: int, is_needed: bool) -> None:
@@ -273,7 +271,7 @@ def _other(dest: Path, name: str, to: Path) -> str:
     return ""
 
 
-def _drilled(cpi: Cpi, copy: Path, of: Path) -> Drilled:
+def _drill_copy(cpi: Cpi, copy: Path, of: Path) -> Drilled:
     """The findings of the copy's drill. Raises Fault if there is a fault."""
     found = drill(cpi, copy)
     for line in found.faults[1:MOST_TOLD]:
@@ -287,7 +285,7 @@ def _drilled(cpi: Cpi, copy: Path, of: Path) -> Drilled:
 
 
 def _put_aside(office: Path, home: HeldFolder) -> Optional[Path]:
-    """Moves a file that is there, its log and its mark to a folder next to it; which one, or None."""
+    """Moves an existing file, its log and its mark to a folder next to it; which one, or None."""
     there = [path.name for path in (office, log_of(office), mark_beside(office)) if home.has(path.name)]
     if not there:
         return None
@@ -308,7 +306,7 @@ def _place(copy: Path, office: Path, home: HeldFolder) -> None:
     """Gives a copy its name, its log first, and the owner of the folder. A mark that another machine was promoted goes,
     since now it is this one, and that of a restore that was cut off."""
     owner = os.fstat(home.number)
-    with held(copy.parent) as room:
+    with hold_folder(copy.parent) as room:
         for name, to in ((log_beside(copy).name, log_of(office).name), (copy.name, office.name)):
             if room.has(name):
                 _hand_over(room, name, home, to, owner)
@@ -320,7 +318,7 @@ def _place(copy: Path, office: Path, home: HeldFolder) -> None:
 def _hand_over(room: HeldFolder, name: str, home: HeldFolder, to: str, owner: os.stat_result) -> None:
     """Moves a file out of the room to a place where nobody else can change it, and gives it to an owner: the open file
     itself, so nothing else can be given away in its place."""
-    opened = room.opened(name, os.O_RDWR, links=1)
+    opened = room.open_file(name, os.O_RDWR, links=1)
     with os.fdopen(opened, "r+b") as file:
         _give(opened, owner)
         try:
@@ -335,7 +333,7 @@ def _write_over(file: IO[bytes], home: HeldFolder, to: str, owner: os.stat_resul
     """Copies an open file from another disk, and gives the new one to an owner before it has its name."""
     beside = f".{to}-{secrets.token_hex(8)}"
     try:
-        with os.fdopen(home.opened(beside, os.O_WRONLY | os.O_CREAT | os.O_EXCL), "wb") as written:
+        with os.fdopen(home.open_file(beside, os.O_WRONLY | os.O_CREAT | os.O_EXCL), "wb") as written:
             shutil.copyfileobj(file, written, 1 << 20)
             written.flush()
             _give(written.fileno(), owner)
@@ -420,7 +418,7 @@ def run(chosen: argparse.Namespace) -> int:
             refuse_held(desk)
         # (next to the copy's room, so that the desk's folder gets there by its name, and needs no further room)
         with new_room(".cpi-promote-desk-", _place_of_room(chosen.office)) as room:
-            found = _promoted(chosen, room)
+            found = _promote_copy(chosen, room)
             _place_desk(chosen, found, room)
     except OSError as fault:
         raise Fault(because_of(fault)) from fault
@@ -433,7 +431,7 @@ def run(chosen: argparse.Namespace) -> int:
     return 0
 
 
-def _promoted(chosen: argparse.Namespace, room: Path) -> Promoted:
+def _promote_copy(chosen: argparse.Namespace, room: Path) -> Promoted:
     """Promotes the chosen copy, and starts it if asked to; the promotion. The desk's folder of a generation is in a
     room then."""
     with Progress("cpi-tools promote") as progress:
@@ -472,7 +470,7 @@ def _place_desk(chosen: argparse.Namespace, found: Promoted, room: Path) -> None
 
 def _summary(found: Promoted) -> str:
     """The line on the copy that was promoted."""
-    quotes, tables = counted(found.drilled.quotes, "quote"), counted(found.drilled.tables, "table")
+    quotes, tables = write_count(found.drilled.quotes, "quote"), write_count(found.drilled.tables, "table")
     return f"{found.name} of {found.note.machine} is the office now, with {quotes} and {tables}"
 
 

@@ -13,14 +13,14 @@ from pathlib import Path
 
 from ..text.terminal import ToolWords
 from .copies.desk_changes import CARRIED_DESK, desk_received_text, put_in_desk
-from .copies.page_changes import CAME, CARRIED, put_in, received_text
+from .copies.carriers import CAME, CARRIED, put_in, received_text
 
 DESCRIPTION = """\
-Puts the changed pages that a follower on another machine carried to FOLDER into their copy there,
-and the changes of the desk's folder into its copy, whose logs are only appended to. cpi-receive
-runs this tool after each transfer; nobody else has to. Anything that doesn't belong to that copy
-is refused, and changes nothing. If the tool is stopped, that copy doesn't count until the follower
-carries a whole one, but the other copy does.
+Puts the changed pages that a follower on another machine carried to FOLDER into FOLDER's copy of
+the office. Puts the changes of the desk's folder into the copy of that folder; its logs are only
+appended to. cpi-receive runs this tool after each transfer, so nobody else has to. The tool
+refuses anything that doesn't belong to that copy, and then changes nothing. If the tool is
+stopped, that copy doesn't count until the follower carries a whole one, but the other copy does.
 """
 
 EPILOG = """\

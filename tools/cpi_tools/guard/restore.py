@@ -18,31 +18,28 @@ from collections.abc import Iterator
 from pathlib import Path
 from typing import IO, NamedTuple, Optional
 
-from ..office.access import acting_as, user_of
+from ..office.access import acting_as, holders_of, is_held, user_of
 from ..office.copying import BLOCK, has_frames, right_copy
-from ..office.held_folders import first_line
-from ..office.holders import holders_of, is_held
+from ..office.folders import first_line, new_room
 from ..office.program import Cpi, add_program
-from ..office.rooms import new_room
-from ..text.terminal import Fault, Progress, ToolWords, a_file, because_of, counted
-from ..text.whole_files import write_whole
+from ..text.terminal import Fault, Progress, ToolWords, a_file, because_of, write_count
+from ..text.text_files import write_whole
 from .backup import WITHOUT_DESK, log_of, note_beside, read_note, settle
-from .copies.desk_backup import desk_beside, read_desk
-from .copies.desk_places import add_desk, place_desk, refuse_desk
-from .copies.mirrors import sync
-from .copies.office_marks import Known, NotCarried, known_of
+from .copies.desk_files import desk_beside, read_desk
+from .copies.desk_copies import add_desk, place_desk, refuse_desk
+from .copies.mirrors import Known, NotCarried, known_of, sync
 from .copies.places import LOCK
 from .copies.second_copies import CopyNote, second_text, state_of
 from .drill import MOST_TOLD, Drilled, drill, told_line
 from .follow import mark_beside, restoring_beside
-from .other_logs import other_log_of
+from .next_open import other_log_of
 from .promote import HERE, SYSTEMD, desk_of
 
 ROOM = Path("/var/lib/cpi-follow")
 """The room of the follower of the package."""
 
 UNITS = ("cpi.service", "cpi-follow.service")
-"""The units of the package that may not run meanwhile."""
+"""The units of the package that may not run during a restore."""
 
 START = "systemctl start cpi.service"
 
@@ -94,7 +91,7 @@ def _refuse_units(office: Path) -> None:
 
 @contextlib.contextmanager
 def without_follower(folders: list[Path]) -> Iterator[None]:
-    """Meanwhile no follower of this machine writes to these folders, or begins to. Raises Fault if one does."""
+    """While it lasts, no follower of this machine writes to these folders. Raises Fault if one does."""
     with contextlib.ExitStack() as locks:
         for folder in folders:
             if (folder / LOCK).exists():
@@ -131,7 +128,7 @@ def looked_at(cpi: Cpi, backup: Path, room: Path) -> Looked:
     if has_frames(copy) or not drilled.note:
         settle(cpi, copy, backup)
     desk = _desk_in(backup, room) if drilled.note and drilled.note.desk else None
-    return Looked(copy, drilled, _known(cpi, copy, backup), desk)
+    return Looked(copy, drilled, _record_copy(cpi, copy, backup), desk)
 
 
 def _desk_in(backup: Path, room: Path) -> Path:
@@ -142,7 +139,7 @@ def _desk_in(backup: Path, room: Path) -> Path:
     return made
 
 
-def _known(cpi: Cpi, copy: Path, backup: Path) -> Known:
+def _record_copy(cpi: Cpi, copy: Path, backup: Path) -> Known:
     """The record of a copy without a log. The tables of an earlier version are brought to this one first."""
     for is_settled in (False, True):
         # (the C library reads no file without any log)
@@ -157,18 +154,19 @@ def _known(cpi: Cpi, copy: Path, backup: Path) -> Known:
 
 
 def newer_lines(backup: Path, looked: Looked, folders: list[Path]) -> Iterator[str]:
-    """Which is newer, the backup or a second copy, for each folder that has a note of one."""
+    """A line for each folder with a note of a second copy, which says whether the backup or that copy is newer."""
     for folder in folders:
         if folder.is_dir() and (last := state_of(folder).last()):
             yield f"{folder}: {_newer(backup, looked, last)}"
 
 
 def _newer(backup: Path, looked: Looked, last: CopyNote) -> str:
-    """Whether the backup or a second copy with this note is newer: by their content, or else by their moments."""
+    """Whether the backup or a second copy with this note is newer: by their content, or by their times if that doesn't
+    decide."""
     of_copy = f"the second copy of {second_text(last.copied)}"
     if last.marks:
         try:
-            known_of(looked.copy, last.known)
+            known_of(looked.copy, last.record_of_office)
         except NotCarried as fault:
             text = str(fault).replace("it would take back what the copy has", "the backup hasn't what it has")
             return f"{of_copy} is newer than {backup.name}: {text}. cpi-tools promote takes it"
@@ -244,7 +242,7 @@ def _new_folder(office: Path) -> Path:
 
 
 def _put_back(office: Path, aside: Optional[Path]) -> None:
-    """Moves back the files that were put aside, the log first, and takes the mark away."""
+    """Moves back the files that were put aside, the log first, and removes the mark."""
     if aside:
         for path in reversed(_files_of(office)):
             if os.path.lexists(aside / path.name):
@@ -263,13 +261,13 @@ FILE and its log aside together, to a folder next to FILE that is named after th
 BACKUP in their place, with the folder's owner and mode 0600: all of this or nothing. If the
 machine stops meanwhile, cpi-serve starts no office until the restore has been run again.
 
-If BACKUP includes the desk's folder, it is restored too, and the present one is put aside in a
-folder inside it. The present one stays if its logs continue those of BACKUP.
+If BACKUP includes the desk's folder, the tool restores that folder too, and moves the present one
+into a folder inside the restored one. The present one stays if its logs continue those of BACKUP.
 
-BACKUP doesn't contain what was answered after it was made. The files put aside contain it, if they
-can be read. A follower doesn't replace a newer copy with an older office: promote that copy
-instead, or run cpi-tools follow --anew. The last line shows the command that starts the office:
-{START}
+BACKUP doesn't contain what was answered after it was made. The files that were moved aside contain
+it, if they can be read. A follower doesn't replace a newer copy with an older office: promote that
+copy instead, or run cpi-tools follow --anew. The last line shows the command that starts the
+office: {START}
 """
 
 EPILOG = """\
@@ -289,7 +287,10 @@ def add_words(tools: argparse._SubParsersAction[ToolWords]) -> None:
     add = words.add_argument
     add("backup", type=Path, metavar="BACKUP", help="the backup, with its note if there is one")
     add("--office", type=a_file, default=HERE, metavar="FILE", help="the office's file on this machine (%(default)s)")
-    text = "where cpi-tools follow keeps a second copy, or its room, to find which is newer (the known rooms)"
+    text = (
+        "the folder where cpi-tools follow keeps a second copy, or prepares its rounds, to find which office is newer"
+        " (by default, the known folders)"
+    )
     add("--copy", type=Path, metavar="FOLDER", help=text)
     add_desk(words)
     add("--yes", action="store_true", help="don't ask")
@@ -323,8 +324,8 @@ def run(chosen: argparse.Namespace) -> int:
 
 
 def _tell_restored(office: Path, backup: Path, found: Drilled, aside: Optional[Path]) -> None:
-    """What was done."""
-    quotes, tables = counted(found.quotes, "quote"), counted(found.tables, "table")
+    """Prints what was done."""
+    quotes, tables = write_count(found.quotes, "quote"), write_count(found.tables, "table")
     print(f"{office}: restored from {backup}, with {quotes} and {tables}")
     if aside:
         print(f"{aside}: what was at that place before")

@@ -18,8 +18,8 @@ from typing import Optional
 
 from ..text.clocks import UTC, Clock, clock_of
 from ..text.report_language import ZONE_VARIABLE
-from ..text.terminal import Fault, Progress, ToolWords, a_file, a_month, because_of, counted, month_text
-from ..text.whole_files import write_whole
+from ..text.terminal import Fault, Progress, ToolWords, a_file, a_month, because_of, month_text, write_count
+from ..text.text_files import write_whole
 from .copying import private_copy
 from .stored import Window, read_copy
 
@@ -149,5 +149,5 @@ def run(chosen: argparse.Namespace) -> int:
         progress.now("copying the office")
         windows = write_calendar(chosen.file, chosen.out, chosen.since, clock)
     span = f", {month_text(windows[0].month)} to {month_text(windows[-1].month)}" if windows else ""
-    print(f"{chosen.out}: {counted(len(windows), 'month')}{span}")
+    print(f"{chosen.out}: {write_count(len(windows), 'month')}{span}")
     return 0

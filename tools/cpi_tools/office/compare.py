@@ -14,12 +14,12 @@ from pathlib import Path
 from typing import NamedTuple, Optional
 
 from ..text.exact import decimal, points
-from ..text.terminal import Fault, Progress, ToolWords, a_month, because_of, counted, month_text
+from ..text.terminal import Fault, Progress, ToolWords, a_month, because_of, month_text, write_count
 from . import recompute
-from .anew import Computed, Months, differing
+from .frozen_quotes import Computed, Months, differing
 from .copying import private_copy
-from .formulas import FORMULAS, ONE, Pairs
-from .private_files import write_rows
+from .price_rules import FORMULAS, ONE, Pairs
+from .folders import write_rows
 from .program import Cpi, add_program
 from .stored import Level, Release, Series, StoredOffice, read_copy
 
@@ -29,7 +29,7 @@ WHOLE: Series = (0, 0)
 """The one series of an aggregate whose index is known: it moves by this index."""
 
 SHOWN = 10
-"""How many aggregates the text has."""
+"""The number of aggregates in the text."""
 
 Table = dict[str, Level]
 """The figures of a month by node."""
@@ -52,7 +52,7 @@ def pairs_of(computed: Computed, code: str) -> Pairs:
 
 
 def table_of(computed: Computed, formula: str, levels: recompute.Levels) -> Table:
-    """The table of a release by a formula, which goes on from that formula's own levels."""
+    """The table of a release by a formula, which continues that formula's own levels."""
     indices = {code: FORMULAS[formula](pairs_of(computed, code)) for code in computed.weights}
     bases: dict[str, recompute.Kept] = {code: {WHOLE: (ONE, 1, 1, 0)} for code in indices}
     moved: dict[str, recompute.Kept] = {code: {WHOLE: (index, 1, 1, 0)} for code, index in indices.items()}
@@ -73,7 +73,7 @@ def compare(office: StoredOffice, month: int, revision: Optional[int] = None) ->
     months = Months(office)
     for release in releases:
         latest = max(each.revision for each in releases if each.month == release.month)
-        computed = months.computed(release, office.frozen(release), release.revision == latest)
+        computed = months.compute(release, office.frozen(release), release.revision == latest)
         tables = {name: table_of(computed, name, levels[name]) for name in FORMULAS}
         if release[:2] == wanted:
             return _comparison(office, computed, tables)
@@ -98,7 +98,7 @@ def _comparison(office: StoredOffice, computed: Computed, tables: dict[str, Tabl
 # ---- telling
 
 
-def changed(level: Level) -> str:
+def write_change(level: Level) -> str:
     """The annual change in percent, as it is printed; empty if there is none."""
     return "" if level.year_change is None else decimal(level.year_change, 10, 1)
 
@@ -117,16 +117,16 @@ def rows_of(comparison: Comparison) -> Iterator[list[object]]:
     for code, title in sorted(comparison.titles.items()):
         rows = [table[code] for table in comparison.tables.values()]
         figures = [points(row.within) for row in rows] + [points(row.chained) for row in rows]
-        yield [code, title, rows[0].weight, comparison.sizes.get(code, ""), *figures, *map(changed, rows)]
+        yield [code, title, rows[0].weight, comparison.sizes.get(code, ""), *figures, *map(write_change, rows)]
 
 
 def shifts(comparison: Comparison, formula: str) -> list[tuple[int, str]]:
-    """How far each aggregate moves the index of all items if a formula replaces the published one, in millionths of a
-    point within the year, the farthest first."""
+    """The effect of each aggregate on the index of all items if a formula replaces the published one, in millionths of
+    a point within the year, the largest first."""
     total = sum(comparison.weights.values())
     own, other = comparison.tables[PUBLISHED], comparison.tables[formula]
     moves = [
-        (recompute.rounded(weight * abs(gap), total) * (1 if gap > 0 else -1), code)
+        (recompute.round_ratio(weight * abs(gap), total) * (1 if gap > 0 else -1), code)
         for code, weight in comparison.weights.items()
         if (gap := other[code].within - own[code].within)
     ]
@@ -141,7 +141,7 @@ def lines_of(comparison: Comparison) -> Iterator[str]:
     yield f"{'all items':12} {'index':>12} {'level':>12} {'on the year':>12}"
     for name, table in comparison.tables.items():
         row = table["00"]
-        yield f"{name:12} {points(row.within):>12} {points(row.chained):>12} {changed(row) and changed(row) + ' %':>12}"
+        yield f"{name:12} {points(row.within):>12} {points(row.chained):>12} {write_change(row) and write_change(row) + ' %':>12}"
     for name in FORMULAS:
         moves = shifts(comparison, name)
         if moves:
@@ -203,5 +203,5 @@ def run(chosen: argparse.Namespace) -> int:
             raise Fault(because_of(fault)) from fault
     sys.stdout.writelines(f"{line}\n" for line in lines_of(comparison))
     if chosen.out:
-        print(f"{chosen.out}: {counted(len(comparison.titles), 'node')}")
+        print(f"{chosen.out}: {write_count(len(comparison.titles), 'node')}")
     return 0

@@ -10,10 +10,11 @@ library's `.backup` and `VACUUM INTO` find the file locked, and leave an empty f
 earlier file and the later log. Answered commands are then missing, and no check of the file tells.
 
 **Why this copy is right.** The file is copied, then the log from front to back, and the log's header is the same before
-and after. So the log wasn't emptied meanwhile: each page that was being written into the file is whole in frames that
-were read afterwards, and these come first when the copy is opened. A transaction that is being written ends the log, or
-is whole: its first byte that counts is written last. So the copy is what a crash could leave at one moment after the
-copy began, and contains each command that was answered before. No lock is taken and nothing is written to the office.
+and after. So the log wasn't emptied in the meantime: each page that was being written into the file is whole in frames
+that were read afterwards, and these come first when the copy is opened. A transaction that is being written ends the
+log, or is whole: its first byte that counts is written last. So the copy is what a crash could leave at one moment
+after the copy began, and contains each command that was answered before. No lock is taken and nothing is written to the
+office.
 
 It is true for file systems of this machine, where a read sees every earlier write of another program.
 """
@@ -31,7 +32,7 @@ from pathlib import Path
 from typing import NamedTuple, Optional
 
 from ..text.terminal import Fault, because_of, naming
-from .rooms import new_room
+from .folders import new_room
 
 BLOCK = 1 << 20
 """Bytes that are read at once. The blocks of a file are read in their order, which the log needs."""
@@ -84,10 +85,10 @@ def mark_of(path: Path) -> Mark:
 def right_copy(path: Path, folder: Path, patience: float = PATIENCE, pause: Optional[int] = None) -> Path:
     """Copies an office's file and its log into an existing folder; the path of the file's copy.
 
-    `cpi` may run and write meanwhile. The copies have mode 0600, since the collectors' keys are in them, and the times
-    of now. Files in the folder with the same names are replaced. `patience` is in seconds. `pause` is the number of the
-    process of `cpi`, which then stops while it is copied: its files are those that a crash would leave, whatever their
-    size and however busy it is. Raises CopyFailed, and leaves nothing, if no right copy was made.
+    `cpi` can run and write in the meantime. The copies have mode 0600, since the collectors' keys are in them, and the
+    times of now. Files in the folder with the same names are replaced. `patience` is in seconds. `pause` is the number
+    of the process of `cpi`, which then stops while it is copied: its files are those that a crash would leave, whatever
+    their size and however busy it is. Raises CopyFailed, and leaves nothing, if no right copy was made.
     """
     copy = folder / path.name
     try:
@@ -171,7 +172,7 @@ def _write_all(target: RawIOBase, block: bytes, copy: Path) -> None:
 
 
 def _remove(copy: Path) -> None:
-    """Removes a copy and its log, as far as they are there."""
+    """Removes a copy and its log, if they exist."""
     for each in (copy, log_beside(copy)):
         with contextlib.suppress(OSError):
             each.unlink()
@@ -182,10 +183,10 @@ def _remove(copy: Path) -> None:
 
 @contextlib.contextmanager
 def _standing_still(path: Path, process: int) -> Iterator[None]:
-    """Stops the process that has the file open, and lets it go on at the end, also after a fault.
+    """Stops the process that has the file open, and lets it continue at the end, also after a fault.
 
-    Signals that would end this program are held back meanwhile. (If SIGKILL ends this program, the other one stays
-    stopped until somebody sends it SIGCONT.)
+    Until the end, signals that would stop this program wait. (If SIGKILL ends this program, the other one stays stopped
+    until somebody sends it SIGCONT.)
     """
     if not _has_open(process, path):
         raise CopyFailed(f"process {process} doesn't have {path} open")

@@ -17,7 +17,7 @@ from collections.abc import Iterable, Iterator, Sequence
 from pathlib import Path
 from typing import Any, NoReturn, Optional, Union
 
-from ..text.csv_files import line_of
+from ..text.text_files import line_of
 from ..text.terminal import Fault, because_of
 from .refusals import told_fault
 
@@ -59,7 +59,8 @@ def beside_the_package() -> Optional[Path]:
 
 
 def find_program(given: Optional[PathLike] = None) -> Path:
-    """The program: as given (`--program`), or else from the variable CPI, or the repository's `./cpi`, or on the path.
+    """The program: as given (`--program`); otherwise from the variable CPI, then the repository's `./cpi`, then the
+    path.
 
     Raises CpiFailed if a named one isn't a program, or none is found.
     """
@@ -182,6 +183,10 @@ class Session:
 
     def ask(self, one: str) -> Reply:
         """The reply to one record. Raises CpiFailed if the program ends without it."""
+        return reply_of(self.ask_line(one))
+
+    def ask_line(self, one: str) -> bytes:
+        """The same as its line."""
         try:
             self._input.write(one.encode() + (b"" if one.endswith("\n") else b"\n"))
             self._input.flush()
@@ -190,7 +195,7 @@ class Session:
         line = self._output.readline()
         if not line.endswith(b"\n"):
             self._fail()
-        return reply_of(line)
+        return line
 
     def close(self) -> None:
         """Ends the input, and waits until the program has ended. Raises CpiFailed if it ends with a fault."""

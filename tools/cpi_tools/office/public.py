@@ -1,8 +1,8 @@
 """The published tables, read only as the public reads them.
 
-Only the records `tables` and `table,MONTH,csv,REVISION` of the caller `public` are sent, by one replay over a private
-copy; or the same two pages are got. A table under embargo is never answered, so nothing that is written from here can
-hold one. Of the modules of `cpi-tools publish`, only this one reaches an office.
+The module sends only the records `tables` and `table,MONTH,csv,REVISION` of the caller `public`, in one replay over a
+private copy, or gets the same two pages from a served office. A table under embargo is never answered, so nothing that
+is written from here can hold one. Of the modules of `cpi-tools publish`, only this one reaches an office.
 """
 
 from __future__ import annotations
@@ -37,7 +37,7 @@ def no_report(_: int, __: int) -> None:
 
 
 class NotPublic(Fault):
-    """The office gave no list of tables, or not a table that it lists; one line."""
+    """The office gave no list of tables, or didn't give a table that it lists; the message is one line."""
 
 
 class Listed(NamedTuple):
@@ -104,7 +104,7 @@ class Sources:
         self._file: IO[bytes] = tempfile.SpooledTemporaryFile(IN_MEMORY)
 
     def add(self, published: Published, its_sum: str) -> Source:
-        """Keeps those of one, which have a sum."""
+        """Keeps the bytes of one table, which have a sum."""
         begin = self._file.seek(0, os.SEEK_END)
         self._file.write(published.table)
         return Source(published.listed, its_sum, self._file, begin, len(published.table))

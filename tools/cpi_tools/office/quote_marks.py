@@ -6,7 +6,7 @@ from collections import Counter
 from collections.abc import Iterable, Mapping
 from typing import Optional
 
-from ..text.message import Price, Message, row, message, whole
+from ..text.message import Message, Price, message, row, whole
 from .stored import OBSERVED, Frozen, Series
 
 SILENT = "silent"

@@ -34,18 +34,20 @@ Levels = dict[int, dict[str, int]]
 """The chained levels of a month by node, in millionths of a point."""
 
 
-def rounded(a: int, b: int) -> int:
+def round_ratio(a: int, b: int) -> int:
+    """a / b to the nearest whole number, halves upwards (a not below 0, b > 0)."""
     return (2 * a + b) // (2 * b)
 
 
 def change(before: Optional[int], now: int) -> Optional[int]:
+    """The change between two levels in tenths of a percent; None without an earlier level."""
     if not before:
         return before
-    size = rounded(1000 * abs(now - before), before)
+    size = round_ratio(1000 * abs(now - before), before)
     return size if now >= before else -size
 
 
-def begun(ask: Ask, year: int, now: Quotes, kept: Kept) -> tuple[dict[str, int], dict[str, Kept]]:
+def begin_year(ask: Ask, year: int, now: Quotes, kept: Kept) -> tuple[dict[str, int], dict[str, Kept]]:
     """The weights of a year, and the base of each series by aggregate: ticks, scale, imputed."""
     weights: dict[str, int] = dict(ask("SELECT code, weight FROM node WHERE year = ? AND code LIKE '%-__'", year))
     bases: dict[str, Kept] = {code: {} for code in weights}
@@ -63,19 +65,19 @@ def in_use(ask: Ask, year: int, weights: dict[str, int], levels: Levels) -> dict
     """The weights of a year; with a reference month, prices move the plan's weights from there to the link month."""
     for (reference,) in ask("SELECT month FROM plan_ref WHERE year = ?", year):
         now, then = levels[year * 100 - 88], levels[reference]
-        return {code: rounded(weight * now[code], then[code]) for code, weight in weights.items()}
+        return {code: round_ratio(weight * now[code], then[code]) for code, weight in weights.items()}
     return weights
 
 
-def moved(kept: Kept, now: Quotes, before: Quotes, is_carried: bool) -> Kept:
+def carry_prices(kept: Kept, now: Quotes, before: Quotes, is_carried: bool) -> Kept:
     """The carried prices of one aggregate."""
     found = {it: now[it][1] for it in kept if it in now and now[it][0] in ("price", "comparable")}
-    carried = {it: (rounded(price * kept[it][1], kept[it][2]), *kept[it][1:3], 0) for it, price in found.items()}
+    carried = {it: (round_ratio(price * kept[it][1], kept[it][2]), *kept[it][1:3], 0) for it, price in found.items()}
     matched = [it for it in found if before.get(it, ("", 0))[1]]
     up, down = (sum(prices[it][0] for it in matched) for prices in (carried, kept))
     up, down = (1, 1) if not matched and is_carried else (up, down)
     for it in kept.keys() - found.keys():
-        ticks, price = rounded(kept[it][0] * up, down), now.get(it, ("", 0))[1]
+        ticks, price = round_ratio(kept[it][0] * up, down), now.get(it, ("", 0))[1]
         carried[it] = (ticks, ticks, price, 1) if price else (ticks, *kept[it][1:3], 1)
     return carried
 
@@ -88,13 +90,15 @@ def table(
     sums: dict[str, list[int]] = {}
     rows: dict[str, tuple[Any, ...]] = {}
     for code, weight in weights.items():
-        index = rounded(10**8 * sum(it[0] for it in kept[code].values()), sum(it[0] for it in bases[code].values()))
+        index = round_ratio(
+            10**8 * sum(it[0] for it in kept[code].values()), sum(it[0] for it in bases[code].values())
+        )
         for node in {"00", *(code[:end] for end in (2, 4, 6, 8, 11))}:
             whole = sums.setdefault(node, [0, 0, 0])
             whole[:] = whole[0] + weight, whole[1] + weight * index, whole[2] | any(it[3] for it in kept[code].values())
     for node, (weight, total, is_imputed) in sums.items():
-        within, base = rounded(total, weight), link.get(node, 10**8)
-        level, year = rounded(base * rounded(total, weight), 10**8), levels.get(month - 100, {}).get(node)
+        within, base = round_ratio(total, weight), link.get(node, 10**8)
+        level, year = round_ratio(base * round_ratio(total, weight), 10**8), levels.get(month - 100, {}).get(node)
         earlier = base if month % 100 == 1 else levels[month - 1][node]
         annual = change(base if month % 100 == 12 else year, level)
         rows[node] = (weight, within, level, change(earlier, level), annual, is_imputed)
@@ -127,10 +131,10 @@ def main(file: str, last: int, revision: Optional[int] = None) -> int:
         before, now = now, {(collector, slot): (mark, value) for collector, slot, mark, value in quotes}
         if month % 100 == 1:
             old = {series: it for own in kept.values() for series, it in own.items()}
-            weights, bases = begun(ask, month // 100, before, old)
+            weights, bases = begin_year(ask, month // 100, before, old)
             weights = in_use(ask, month // 100, weights, levels)
             kept = {code: {series: (*it[:3], 0) for series, it in own.items()} for code, own in bases.items()}
-        kept = {code: moved(own, now, before, code in carry.split()) for code, own in kept.items()}
+        kept = {code: carry_prices(own, now, before, code in carry.split()) for code, own in kept.items()}
         rows = table(month, weights, bases, kept, levels) if weights else {}
         levels[month] = {node: row[2] for node, row in rows.items()}
     text = "SELECT code, weight, within, chained, month_change, year_change, imputed FROM level_2"

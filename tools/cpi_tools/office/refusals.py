@@ -45,65 +45,65 @@ REFUSALS: tuple[Refusal, ...] = (
     desk(
         10,
         because="the record's form is wrong, or a number is outside its limits",
-        do="look at FORMATS; nothing was done",
+        do="check it against FORMATS; nothing was done",
     ),
-    desk(12, because="this word isn't the desk's", do="quotes and work lists are a collector's"),
+    desk(12, because="the desk can't use this command", do="quotes and work lists are for collectors"),
     desk(
         20,
         word="handover",
         because="the former collector has no such slot",
-        do="look at the collector and the slot",
+        do="check the collector and the slot",
     ),
     desk(21, because="the month has no calendar row", do="send that row, then this record again"),
     desk(
         22,
         word="handover",
-        because="the month is the first of the former slot or before it, or after its last",
+        because="the month isn't after the first month of the former slot, or is after its last month",
         do="take a month after the first; if the series ends before that, there is nothing to hand over",
     ),
     desk(
         30,
-        because="no such table or revision is published by then",
-        do="wait for the publishing moment",
+        because="no such table or revision is published at that time",
+        do="wait until the release time",
     ),
     desk(
         40,
         because="the code, number, key or slot exists with other content; for a hand-over, the new slot is taken; for an"
         " assignment, the slot has been handed over since",
-        do="take the next free one",
+        do="use the next free one",
     ),
     desk(
         41,
         42,
         43,
-        because="the item, outlet or collector isn't known; of a hand-over, 43: one of the two collectors isn't",
+        because="the item, outlet or collector isn't registered; for a hand-over, 43: one of the two collectors isn't",
         do="register it first",
     ),
     desk(
         44,
-        because="the plan has a fault, given by its number (OFFICE has the list)",
-        do="correct it and send all of it again",
+        because="the plan has the fault with this number (OFFICE lists the faults)",
+        do="correct it, and send the whole plan again",
     ),
     desk(
         44,
         fault=8,
         word="freeze",
-        because="a code of the carry list has no weight this year",
-        do="leave it out",
+        because="a code on the carry list has no weight this year",
+        do="remove the code",
     ),
-    desk(45, because="a month of that year is frozen", do="the plan stays; change the next year's"),
+    desk(45, because="a month of that year is frozen", do="this plan stays as it is; change next year's plan"),
     desk(
         46,
-        because="the month is neither the last frozen one nor the next, or the first isn't a December",
-        do="freeze month by month",
+        because="the month is neither the last frozen month nor the next one, or the first month isn't a December",
+        do="freeze the months in order",
     ),
-    desk(47, because="the window hasn't closed", do="wait until it has"),
-    desk(48, because="the year has no plan", do="send it"),
+    desk(47, because="the window hasn't closed yet", do="wait until it closes"),
+    desk(48, because="the year has no plan", do="send the plan"),
     desk(
         49,
         fault=1,
-        because="an aggregate has no series with a base",
-        do="place items there that were priced in December, or give it no weight",
+        because="an aggregate has no series with a base price",
+        do="place items in it that were priced in December, or remove its weight",
     ),
     desk(
         49,
@@ -114,32 +114,32 @@ REFUSALS: tuple[Refusal, ...] = (
     desk(
         49,
         fault=3,
-        because="a price, an index, a level or a weight moved by prices is outside its limits",
-        do="look for a slip in that aggregate's prices, or in its weight",
+        because="a price, an index, a level or a price-updated weight is outside its limits",
+        do="look for an error in that aggregate's prices or weight",
     ),
     desk(
         49,
         fault=5,
-        because="the plan has a reference month, and that aggregate has no row in its table, or in December's",
-        do="send the plan with another reference month, or with weights that you moved and without one",
+        because="the plan has a reference month, but an aggregate has no row in that month's table or in December's",
+        do="send the plan with another reference month, or price-update the weights yourself and send it without one",
     ),
     desk(
         50,
         word="freeze",
         because="the month is frozen",
-        do="nothing more to do for it; if it has an error and is the last one, reopen it",
+        do="there is nothing more to do for this month; if it has an error and is the last frozen one, reopen it",
     ),
     desk(
         50,
         word="calendar",
-        because="the month is frozen, and a later one is too, or it has nine revisions, or the publishing moment isn't"
-        " later than the last",
-        do="give a later publishing moment, or leave the month as it is",
+        because="the month is frozen, and a later one is too, or it has nine revisions, or the new"
+        " release time isn't later than the last one",
+        do="set a later release time, or leave the month as it is",
     ),
     desk(
         50,
         word="handover",
-        because="that month is frozen, or a later one is",
+        because="that month or a later one is frozen",
         do="take the month after the last frozen one",
     ),
     desk(
@@ -147,14 +147,14 @@ REFUSALS: tuple[Refusal, ...] = (
         because="the former slot has a quote of that month or of a later one",
         do="take the month after its last quote",
     ),
-    desk(90, because="memory or the disk failed", do="nothing was changed; run it again"),
+    desk(90, because="memory ran out, or the disk failed", do="nothing was changed; try again"),
     collector(
         10,
         because="the record's form is wrong, or a price or number is outside its limits",
         do="check the fields and send it again",
     ),
-    collector(11, because="nobody has this key", do="check the key; if it is right, ask the desk"),
-    collector(12, because="only the desk may ask for that", do="ask the desk"),
+    collector(11, because="this key isn't registered", do="check the key; if it is right, ask the desk"),
+    collector(12, because="only the desk can do that", do="ask the desk"),
     collector(20, because="you have no such slot", do="check the work list"),
     collector(21, because="the month has no window yet", do="ask the desk"),
     collector(
@@ -166,9 +166,9 @@ REFUSALS: tuple[Refusal, ...] = (
     collector(
         24,
         because="the window has closed",
-        do="tell the desk; the month goes without the price unless the desk opens the window again",
+        do="tell the desk; the price won't count this month unless the desk opens the window again",
     ),
-    collector(25, because="a replacement in a slot without a price", do="send it as `price`"),
+    collector(25, because="the entry is a replacement, but the slot has no price to replace", do="send it as `price`"),
     collector(
         26,
         because="the price is far from the last one",
@@ -179,56 +179,57 @@ REFUSALS: tuple[Refusal, ...] = (
         because="your receipts are used up",
         do="the desk registers a new number with slots of its own",
     ),
-    collector(90, because="memory or the disk failed", do="nothing was stored; send it again"),
+    collector(90, because="memory ran out, or the disk failed", do="nothing was stored; send it again"),
 )
 
 PLAN_FAULTS: Mapping[int, Words] = {
     1: Words(
-        "a code comes twice among the titles, or twice among the weights",
-        "take one of the two rows out",
+        "a code appears twice among the titles, or twice among the weights",
+        "remove one of the two rows",
     ),
     2: Words(
-        "a weight, or the place of an item, at a code that is no elementary aggregate",
+        "a weight or an item is at a code that isn't an elementary aggregate",
         "use a code like 01.1.1.1-01",
     ),
-    3: Words("a weight of 0", "leave the aggregate out, or give it a weight"),
-    4: Words("the weights don't add up to 1,000,000", "mend the weights"),
+    3: Words("a weight is 0", "omit the aggregate, or give it a weight"),
+    4: Words("the weights don't add up to 1,000,000", "correct the weights"),
     5: Words("a node has no title", "give it a title"),
-    6: Words("an item is placed that isn't known", "register the item first, or take its place out"),
-    7: Words("an item is placed twice", "take one of the two places out"),
+    6: Words("the plan places an item that isn't registered", "register the item first, or remove its place"),
+    7: Words("the plan places an item twice", "remove one of the two places"),
     8: Words(
-        "an item is placed at an elementary aggregate without weight",
+        "the plan places an item at an elementary aggregate without a weight",
         "place it elsewhere, or give the aggregate a weight",
     ),
     10: Words(
-        "there are two reference months, or one that comes after December of the year before",
-        "give one month, and none after that December",
+        "there are two reference months, or one that is after December of the previous year",
+        "give only one month, and none after that December",
     ),
 }
 """The faults of a plan, refusal 44, by `docs/reference/OFFICE.md`."""
 
 FAULTS: Mapping[str, Words] = {
-    "bad zone": Words("the zone is no rule of a clock as POSIX writes it", "write it like CET-1CEST,M3.5.0,M10.5.0/3"),
-    "bad key": Words("the desk's key isn't 32 characters 0-9 and a-f", "draw one by `openssl rand -hex 16`"),
-    "bad month": Words("the month isn't one like 2026-01, from 2000-01 to 2199-12", "mend the month"),
+    "bad zone": Words("the time zone isn't a POSIX rule", "write it like CET-1CEST,M3.5.0,M10.5.0/3"),
+    "bad key": Words("the desk's key isn't 32 characters 0-9 and a-f", "make one with `openssl rand -hex 16`"),
+    "bad month": Words("the month isn't like 2026-01, or isn't from 2000-01 to 2199-12", "correct the month"),
     "unknown schema": Words(
-        "the file is of a later version of the program, or of another one", "open it with the version that wrote it"
+        "a later version of the program, or another program, wrote the file", "open it with the program that wrote it"
     ),
     "database failed": Words(
-        "the file is no office, another program holds it, or the disk failed",
-        "`cpi-tools doctor FILE` says which; every command that was answered stands",
+        "the file isn't an office, another program holds it, or the disk failed",
+        "`cpi-tools doctor FILE` says which; no answered command is lost",
     ),
-    "no port": Words("the port can't be listened at", "see what listens there, or take another port"),
+    "no port": Words("cpi can't listen on the port", "check what listens there, or choose another port"),
     "read failed": Words(
-        "the input can't be read, or has more than 1,000,000 records", "send the records that have no line yet"
+        "the input can't be read, or contains more than 1,000,000 records", "send the records that have no reply yet"
     ),
-    "write failed": Words("a line can't be written", "see where the output goes; what was answered stands"),
-    "out of memory": Words("the system refused memory", "give it more; what was answered stands"),
-    "no table": Words("no such table is published by that moment", "wait for the publishing moment"),
+    "write failed": Words("a line can't be written", "check where the output goes; no answered command is lost"),
+    "out of memory": Words("the system refused memory", "give cpi more memory; no answered command is lost"),
+    "no table": Words("no such table is published at that time", "wait until the release time"),
     "no clock": Words(
-        "the machine's clock can't be read, or shows no moment of an office", "set the clock, and start it again"
+        "the machine's clock can't be read, or shows a time that an office can't have",
+        "set the clock, and start cpi again",
     ),
-    "a word isn't UTF-8": Words("a word of the command line isn't UTF-8", "write it in UTF-8"),
+    "a word isn't UTF-8": Words("an argument isn't UTF-8", "write it in UTF-8"),
 }
 """The lines of the program on standard error, without `cpi: ` before them."""
 
@@ -244,7 +245,7 @@ def refusal_words(reply: Mapping[str, Any], to: str = DESK, word: Optional[str] 
         return PLAN_FAULTS[fault]
     rows = [row for row in REFUSALS if number in row.numbers and row.fault in (None, fault)]
     if not rows:
-        return Words(f"refusal {number}", "look at OFFICE")
+        return Words(f"refusal {number}", "see OFFICE")
     return max(
         rows, key=lambda row: (row.word in (None, word), row.to == to, row.word == word, row.fault == fault)
     ).words

@@ -1,5 +1,5 @@
 """The content of an office's file, as Python values: the only module with SQL, except `stored_pages`.
-`docs/reference/FORMATS.md` has the tables.
+`docs/reference/FORMATS.md` describes the tables.
 
 A file is read with Python's sqlite3, and so with the C library; it is always a copy, never a file that `cpi` has open.
 """
@@ -148,7 +148,7 @@ class StoredOffice:
 
     # ---- whether the file is sound
 
-    def broken(self) -> Iterator[str]:
+    def find_faults(self) -> Iterator[str]:
         """The faults that the C library finds in the file, and the rows that lack the row that they name; a line
         each."""
         for (text,) in self.ask("PRAGMA integrity_check"):
@@ -176,7 +176,7 @@ class StoredOffice:
         text = "SELECT collector, slot, item, last_month, mark, value FROM frozen_2 WHERE month = ? AND revision = ?"
         return {(row[0], row[1]): Frozen(*row[2:]) for row in self.ask(text, *release[:2])}
 
-    def carried(self, release: Release) -> dict[Series, Carried]:
+    def read_carried(self, release: Release) -> dict[Series, Carried]:
         """The carried prices of a release."""
         text = (
             "SELECT collector, slot, item, last_month, ticks, knum, kden, observed, imputed FROM carried_2"
@@ -210,6 +210,10 @@ class StoredOffice:
     def keys(self) -> dict[int, str]:
         """The key of each collector; it is never printed."""
         return dict(self.ask("SELECT number, key FROM collector ORDER BY number"))  # type: ignore[arg-type]
+
+    def collectors(self) -> list[int]:
+        """The numbers of the collectors."""
+        return [int(row[0]) for row in self.ask("SELECT number FROM collector ORDER BY number")]
 
     def collector_of(self, key: str) -> Optional[int]:
         """The number of the collector who bears a key, if there is one."""
@@ -273,7 +277,7 @@ class StoredOffice:
         return {(collector, slot): (item, last) for collector, slot, item, last in rows}
 
     def count_of_quotes(self) -> int:
-        """How many quotes are stored."""
+        """The number of stored quotes."""
         return int(self.ask("SELECT count(*) FROM quote_2")[0][0])
 
     def quotes_beside_frozen(self) -> tuple[int, int]:
@@ -302,7 +306,7 @@ class StoredOffice:
         return {(collector, slot): receipt for collector, slot, receipt in self.ask(text, month)}
 
     def response(self, month: int) -> list[tuple[int, int, str, str, int]]:
-        """How many slots of a month there are by collector, outlet, item and mark, which is empty if nothing was sent."""
+        """The number of a month's slots by collector, outlet, item and mark, which is empty if nothing was sent."""
         rows = self.ask(
             "SELECT a.collector, a.outlet, a.item, coalesce(q.mark, ''), count(*) FROM assignment_2 AS a"
             " LEFT JOIN quote_2 AS q ON q.collector = a.collector AND q.slot = a.slot AND q.month = ?"
@@ -312,7 +316,7 @@ class StoredOffice:
         return [(collector, outlet, item, mark, count) for collector, outlet, item, mark, count in rows]
 
     def last_sent(self) -> dict[int, tuple[int, int]]:
-        """By collector the latest month that has a quote, and the greatest receipt."""
+        """By collector: the latest month with a quote, and the greatest receipt."""
         rows = self.ask("SELECT collector, max(month), max(receipt) FROM quote_2 GROUP BY collector")
         return {collector: (month, receipt) for collector, month, receipt in rows}
 
@@ -400,7 +404,7 @@ class StoredOffice:
         text = "SELECT collector, slot, month, receipt FROM quote_2 ORDER BY rowid DESC LIMIT ? OFFSET ?"
         return [(collector, slot, month, receipt) for collector, slot, month, receipt in self.ask(text, most, newer)]
 
-    def grown(self) -> tuple[int, ...]:
+    def count_growing(self) -> tuple[int, ...]:
         """The figures that only grow: how many collectors, outlets, items, slots, months of the calendar, releases and
         quotes there are, and the sum of the receipts."""
         tables = ("collector", "outlet", "item", "assignment_2", "calendar", "release_2", "quote_2")

@@ -2,7 +2,7 @@
 from a copy, as in `stored`, and quickly for 200,000 series: the text of an outlet or an item is read once, and not for
 each of its slots.
 
-No row here has a collector's key.
+No row here contains a collector's key.
 """
 
 from __future__ import annotations
@@ -18,8 +18,8 @@ Cells = tuple[Any, ...]
 
 
 class Listing(NamedTuple):
-    """A list: its columns, the SQL of its rows without an order, the order, the condition in SQL that a row has a word, and
-    the columns by which the list can be cut down to one value."""
+    """A list: its columns, the SQL of its rows without an order, the order, the condition in SQL that a row contains a
+    word, and the columns by which the list can be cut down to one value."""
 
     columns: tuple[str, ...]
     rows: str

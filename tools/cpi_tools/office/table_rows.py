@@ -57,8 +57,8 @@ class Row(NamedTuple):
 
 
 class Named(NamedTuple):
-    """Which rows a table has: their codes in order, their titles, the place of each code, and the titles as they are written
-    in a line."""
+    """The rows of a table: their codes in order, their titles, the place of each code, and the titles as they are
+    written in a line."""
 
     codes: tuple[str, ...]
     titles: tuple[str, ...]
@@ -151,7 +151,7 @@ def rows_of(text: str, last: Rows = NO_ROWS) -> Rows:
 def _of_lines(text: str, last: Named) -> Columns:
     """The columns of a table each of whose rows is a line, as the program prints them; none if it isn't such a table.
     The codes are tested only if they differ from the codes of the last one."""
-    columns = _parted(text)
+    columns = _part_fields(text)
     if not columns:
         return []
     codes, weights, within, chained, monthly, annual, imputed, _ = columns
@@ -162,7 +162,7 @@ def _of_lines(text: str, last: Named) -> Columns:
     return columns if is_table else []
 
 
-def _parted(text: str) -> Columns:
+def _part_fields(text: str) -> Columns:
     """The eight fields of each line, column by column; none if a line has more or less, or the text has other ends of
     lines. (All fields are parted at once, which is far quicker than line by line.)"""
     titled = QUOTED.findall(text) if '"' in text else []
@@ -184,8 +184,8 @@ def _is_column(form: re.Pattern[str], texts: Iterable[str]) -> bool:
 
 
 def _of_fields(text: str) -> Columns:
-    """The same field by field, of a table that has a title with an end of line, or another end of its lines. Raises
-    ValueError or csv.Error if it isn't a table."""
+    """Reads the columns field by field, for a table whose titles contain an end of line, or whose lines end otherwise.
+    Raises ValueError or csv.Error if it isn't a table."""
     return [*zip(*map(_fields, csv.reader(io.StringIO(text, newline=""), strict=True)))]
 
 
@@ -200,7 +200,7 @@ def _fields(fields: Sequence[str]) -> Sequence[str]:
 def _in_columns(columns: Columns, last: Rows) -> Rows:
     """The rows of the texts of each column."""
     codes, weights, within, chained, monthly, annual, imputed, titles = columns
-    named = _named(codes, titles, last.named)
+    named = _share_names(codes, titles, last.named)
     try:
         weight = array("q", map(int, weights))
         numbers = [array("q", map(int, "\n".join(each).replace(".", "").split("\n"))) for each in (within, chained)]
@@ -211,7 +211,7 @@ def _in_columns(columns: Columns, last: Rows) -> Rows:
     return Rows(named, [shared, *numbers, *changes], "".join(imputed).encode().translate(IS_IMPUTED))
 
 
-def _named(codes: tuple[str, ...], written: tuple[str, ...], last: Named) -> Named:
+def _share_names(codes: tuple[str, ...], written: tuple[str, ...], last: Named) -> Named:
     """Codes and titles, shared with the table before if they are the same. Raises ValueError if they aren't in
     order."""
     if codes == last.codes and written == last.written:

@@ -16,7 +16,7 @@ from datetime import datetime, timezone
 from itertools import groupby
 from typing import NamedTuple, Optional
 
-from ..text.exact import ALL_ITEMS, HUNDRED, at_and_above, depth_of, parent_of, rounded, tenths
+from ..text.exact import ALL_ITEMS, HUNDRED, at_and_above, depth_of, parent_of, points, round_ratio, tenths
 from ..text.terminal import Fault
 from .public import Published, Sources
 from .table_rows import NO_CHANGE, NO_ROWS, Row as Row, Rows, rows_of
@@ -92,7 +92,7 @@ class Aggregated(NamedTuple):
     cover: list[str]
 
     def part(self, last: str) -> Aggregated:
-        """The same up to a month, except for the greatest nodes in it, which later tables affect."""
+        """These tables up to a month, except for the greatest nodes, which later tables affect."""
         return Aggregated(
             self.title,
             {month: row for month, row in self.rows.items() if month <= last},
@@ -128,9 +128,33 @@ class CoreMeasure(NamedTuple):
     changes: list[str]
 
     def part(self, first: str, last: str) -> CoreMeasure:
-        """The same in some months."""
+        """This measure in the months from `first` to `last`."""
         rows = {month: row for month, row in self.rows.items() if first <= month <= last}
         return self._replace(rows=rows, changes=[month for month in self.changes if month in rows])
+
+
+class SeasonalRow(NamedTuple):
+    """A month of an adjusted series: its level and the adjusted one in millionths of a point, and the change of the latter on
+    the month before in tenths of a percent, None in the first month."""
+
+    level: int
+    adjusted: int
+    month_change: Optional[int]
+
+    @property
+    def texts(self) -> tuple[str, str]:
+        """The adjusted level and its change."""
+        return points(self.adjusted), tenths(self.month_change)
+
+
+class SeasonalSeries(NamedTuple):
+    """A seasonally adjusted series, which no table contains: its title, what it was made by (method, software, version,
+    settings, window), how many of the last months the office revises as a rule, and its figures by month."""
+
+    title: str
+    made_by: tuple[str, ...]
+    window: int
+    rows: dict[str, SeasonalRow]
 
 
 # ---- all tables
@@ -149,7 +173,7 @@ Group = tuple[Mapping[str, int], list[Sequence[int]]]
 
 
 def _groups(rows: Mapping[str, Rows], months: Sequence[str], name: str) -> list[Group]:
-    """A figure of some months in groups of these; of a month without a table no node has a place."""
+    """A figure of some months in groups of these; for a month without a table, no node has a place."""
     named = groupby((rows.get(month, NO_ROWS) for month in months), key=lambda it: it.named.places)
     return [(places, [getattr(it, name) for it in found]) for places, found in named]
 
@@ -160,7 +184,8 @@ class Series:
     `vintages` are all of them by month and revision, `latest` the latest revision by month, `every` the months whose
     table has rows, `titles` each code of any of these with its latest title, in the order of codes, `specials` the
     special aggregates by id, which `aggregated` computes. A question about a code below can be asked about such an id
-    too. `core` are the measures of core inflation by id, which `core_measures` computes. `months` are those whose
+    too. `core` are the measures of core inflation by id, which `aggregated` computes, and `seasonal` the adjusted series
+    by code, which the office's programs make. `months` are those whose
     figures are written: all of them, but of a `part`. Raises NotATable if none has rows.
     """
 
@@ -177,6 +202,7 @@ class Series:
         self._rows = {month: table.rows for month, table in self.latest.items()}
         self.specials: dict[str, Aggregated] = {}
         self.core: dict[str, CoreMeasure] = {}
+        self.seasonal: dict[str, SeasonalSeries] = {}
         self.other_titles: Mapping[str, str] = {}
         self._starts = _starts(self.latest[month] for month in self.months)
         self._twelve: dict[str, dict[str, int]] = {}
@@ -229,7 +255,7 @@ class Series:
         return max(table.moment for table in self.vintages)
 
     @functools.cached_property
-    def revised(self) -> list[tuple[Table, Table]]:
+    def revisions(self) -> list[tuple[Table, Table]]:
         """Each further revision, after the one before."""
         return [pair for pair in zip(self.vintages, self.vintages[1:]) if pair[0].month == pair[1].month]
 
@@ -246,14 +272,14 @@ class Series:
         rows, specials = self._rows.get(month, NO_ROWS), self.specials
         places, weight, within = rows.named.places, rows.weight, rows.within
 
-        def weighed(code: str) -> Optional[tuple[int, int]]:
+        def find_weight(code: str) -> Optional[tuple[int, int]]:
             place = places.get(code)
             if place is not None:
                 return weight[place], within[place]
             row = specials[code].rows.get(month) if code in specials else None
             return (row.weight, row.within) if row else None
 
-        return weighed
+        return find_weight
 
     def level(self, month: str, code: str) -> Optional[int]:
         """The level of a node in the latest revision of a month, in millionths of a point."""
@@ -270,13 +296,13 @@ class Series:
             rows = self.specials[code].rows
             return [getattr(rows[month], name) if month in rows else None for month in months]
         found: list[Optional[int]] = []
-        for places, columns in self._grouped((*months,), name):
+        for places, columns in self._group_months((*months,), name):
             place = places.get(code)
             found += [None] * len(columns) if place is None else [column[place] for column in columns]
         return [None if it == NO_CHANGE else it for it in found] if name == "year_change" else found
 
     @functools.cached_property
-    def _grouped(self) -> Callable[[tuple[str, ...], str], list[Group]]:
+    def _group_months(self) -> Callable[[tuple[str, ...], str], list[Group]]:
         """The groups of some months for a figure: thousands of nodes are asked for the same ones."""
         return functools.lru_cache(maxsize=256)(functools.partial(_groups, self._rows))
 
@@ -305,17 +331,17 @@ class Series:
     def all_titles(self) -> dict[str, str]:
         """The titles of all nodes by code, and then those of special aggregates by id."""
         found = {**self.titles, **{name: it.title for name, it in self.specials.items()}}
-        return {code: self.called(code, title) for code, title in found.items()} if self.other_titles else found
+        return {code: self.name_node(code, title) for code, title in found.items()} if self.other_titles else found
 
     def title(self, code: str) -> str:
         """The title of a node."""
-        return self.called(code, self.specials[code].title if code in self.specials else self.titles[code])
+        return self.name_node(code, self.specials[code].title if code in self.specials else self.titles[code])
 
-    def called(self, code: str, title: str) -> str:
-        """The title of a node for readers, of that which a table has."""
+    def name_node(self, code: str, title: str) -> str:
+        """The title of a node for readers, from its title in a table."""
         return self.other_titles.get(code, title)
 
-    def titled(self, titles: Mapping[str, str]) -> Series:
+    def with_titles(self, titles: Mapping[str, str]) -> Series:
         """The same tables for readers of another language: with its titles by code and, for codes without one, the
         tables' titles."""
         found = copy.copy(self)
@@ -352,7 +378,8 @@ class Series:
     def base_of(self, month: str, code: str) -> str:
         """The December in which the level of a node is 100, for a level of this month.
 
-        A month in which the node has no level has the base of the run before it, or else of the first one.
+        A month in which the node has no level has the base of the run before it, or of the first run if there is none
+        before.
         """
         starts = self.starts(code) or [month]
         if len(starts) == 1:
@@ -430,7 +457,7 @@ class Series:
 
     def is_row_linked(self, month: str, row: Row) -> bool:
         """Whether a row's level is its index within the year on the published level of December before."""
-        return row.chained == rounded(self.link_level(month, row.code) * row.within, HUNDRED)
+        return row.chained == round_ratio(self.link_level(month, row.code) * row.within, HUNDRED)
 
     def is_linked(self, month: str) -> bool:
         """Whether each level of a month is its index within the year on the published level of December before."""
@@ -441,7 +468,7 @@ class Series:
                 return False
         return True
 
-    def unexplained(self, months: Optional[Iterable[str]] = None) -> Iterator[Unexplained]:
+    def find_unexplained(self, months: Optional[Iterable[str]] = None) -> Iterator[Unexplained]:
         """The months among some whose changes don't come from the published levels; among all months, if none are
         named."""
         for month in self.every if months is None else months:
@@ -484,5 +511,5 @@ def _starts(tables: Iterable[Table]) -> dict[str, list[str]]:
 
 def rounded_change(then: int, now: int) -> int:
     """The change between two levels in tenths of a percent, a fall rounded as a rise of its size."""
-    size = rounded(1000 * abs(now - then), then)
+    size = round_ratio(1000 * abs(now - then), then)
     return size if now >= then else -size

@@ -67,7 +67,7 @@ class Frozen(NamedTuple):
 
 
 def state_of(office: StoredOffice, month: int) -> State:
-    """Where a month stands. Raises Refused if the calendar has no row for it."""
+    """The state of a month. Raises Refused if the calendar has no row for it."""
     calendar = {each.month: each for each in office.calendar()}
     if month not in calendar:
         last = f", which ends with {month_text(max(calendar))}" if calendar else ""
@@ -78,7 +78,7 @@ def state_of(office: StoredOffice, month: int) -> State:
     return State(month, window, revision, is_reopened)
 
 
-def reopened(state: State) -> tuple[State, Record]:
+def reopen(state: State) -> tuple[State, Record]:
     """A frozen month as if it were reopened for a revision that is published a second later, and the record of it."""
     window = state.window._replace(publishes=state.window.publishes + 1)
     return state._replace(window=window, is_reopened=True), calendar_record(window)
@@ -155,7 +155,7 @@ def tables_around(session: Session, month: str, revision: int) -> list[Published
     listed = listed_in(session.ask(record(LAST_MOMENT, "public", "tables")))
     latest = {each.month: each for each in listed if each.month in earlier}
     (own,) = [each for each in listed if (each.month, each.revision) == (month, revision)]
-    return [Published(each, printed(session, each)) for each in [*sorted(latest.values()), own]]
+    return [Published(each, print_table(session, each)) for each in [*sorted(latest.values()), own]]
 
 
 def other_tables_in(session: Session, month: str, known: Sequence[Published]) -> list[Published]:
@@ -165,10 +165,12 @@ def other_tables_in(session: Session, month: str, known: Sequence[Published]) ->
     listed = listed_in(session.ask(record(LAST_MOMENT, "public", "tables")))
     latest = {each.month: each for each in sorted(listed) if each.month != month}
     # (the table of the first December is empty)
-    return [Published(each, had[each[:2]] if each[:2] in had else printed(session, each)) for each in latest.values()]
+    return [
+        Published(each, had[each[:2]] if each[:2] in had else print_table(session, each)) for each in latest.values()
+    ]
 
 
-def printed(session: Session, listed: Listed) -> bytes:
+def print_table(session: Session, listed: Listed) -> bytes:
     """A table as the program prints it for the public once it is published."""
     reply = session.ask(record(LAST_MOMENT, "public", "table", listed.month, "csv", listed.revision))
     if "table" not in reply:

@@ -1,1 +1,1 @@
-"""`cpi-tools publish`: everything that a user of the index takes home."""
+"""`cpi-tools publish`: everything that a user of the index downloads."""

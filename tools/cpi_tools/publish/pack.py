@@ -1,6 +1,6 @@
 """`cpi-tools publish`: everything that a user of the index takes home, as data files and as a website.
 
-The tables come by the public way alone (`office/public.py`), so no file that is written here can hold a figure under
+The tables come only by the public way (`office/public.py`), so no file that is written here can hold a figure under
 embargo. Nothing depends on the clock: the same published tables give the same bytes.
 """
 
@@ -14,58 +14,81 @@ from functools import partial
 from pathlib import Path
 from typing import NamedTuple, Optional
 
-from ..office.folders import behind_link, refuse_shared, written_folder
+from ..office.folders import behind_link, new_room, refuse_shared, written_folder
 from ..office.public import Published
-from ..office.rooms import new_room
 from ..office.tables import Series
-from ..text.csv_files import add_safe_csv, compared_only
-from ..text.terminal import Fault, Progress, ToolWords, because_of, counted, needs, time_text
+from ..text.text_files import add_safe_csv, compared_only
+from ..text.terminal import Fault, Progress, ToolWords, because_of, needs, time_text, write_count
 from .figures.aggregated import series_of
-from .figures.announced import Earlier as EarlierMoments, announced_after, announced_in, write_announced
-from .figures.config import Config, read_config
-from .figures.figures import Known
+from .figures.announcements import (
+    Earlier as EarlierMoments,
+    Reasons,
+    announced_after,
+    announced_in,
+    given_reasons,
+    write_announced,
+)
+from .figures.config import PDF, Config, read_config
+from .figures.figures import Known, Notes
 from .figures.measures import Contributions
-from .figures.notes import Notes
-from .figures.reasons import Reasons, given_reasons
+from .figures.seasonal_series import lines_of_lag, series_of_office
 from .figures.shown_figures import Shown
 from .figures.specials import Sets
-from .forms.artefact_versions import Versions, versions_after
+from .forms.artefacts import Versions, versions_after
 from .forms.manifest import (
     MANIFEST,
     Change,
     Manifest,
+    NewFiles,
+    Sign,
+    Signature,
     changed_since,
     differences,
+    is_signed,
+    keep_signature,
     manifest_text,
     previous_of,
     read_manifest,
+    sign_nothing,
+    signed_by,
     write_sums,
 )
-from .forms.new_files import NewFiles
-from .forms.pack_before import Before, KeptLines
-from .forms.pack_changes import Earlier as EarlierChanges, Made, earlier_changes, joined, write_changes
-from .forms.part import Now, known_of, write_part
-from .forms.profile_files import write_profiles
+from .forms.pack_before import Before, KeptLines, added_reasons, write_reasons
+from .forms.pack_changes import Earlier as EarlierChanges, Made, earlier_changes, join_changes, write_changes
+from .forms.years import Archives, Now, Span, earlier_years, first_of, known_of, sdmx_slices, write_part, write_slices
+from .forms.structure import structure_of, write_profiles
 from .forms.published_core import NO_CORE, KeptCore, core_lines, kept_core, refuse_changed_core, write_core
-from .forms.published_sets import NO_SETS, KeptSets, changed_sets, kept_sets, refuse_changed
-from .forms.reason_files import added_reasons, write_reasons
+from .forms.published_sets import (
+    NO_SEASONAL,
+    NO_SETS,
+    KeptSeasonal,
+    KeptSets,
+    changed_sets,
+    kept_seasonal,
+    kept_sets,
+    refuse_changed,
+    refuse_changed_seasonal,
+    set_lines,
+    write_seasonal,
+)
 from .forms.sdmx import KNOWN_IDS
-from .forms.set_vintages import set_lines
-from .forms.signature import Sign, Signature, is_signed, unsigned
-from .forms.signing import kept, signed_by
-from .forms.slices import sdmx_slices, write_slices
-from .forms.structure import structure_of
 from .forms.tidy import write_whole
-from .forms.years import Archives, Span, earlier_years, first_of
-from .releases.card_drawing import NOT_DRAWN, cards_after, cards_like
-from .releases.cards import NO_CARDS, Cards, has_cards
-from .releases.published_quality import KeptQuality, kept_quality
-from .releases.standing_pages import Earlier, changed_pages
-from .site.item_files import ItemFiles
+from .typeset.pdf_writing import NOT_MADE, Pdfs, need_writer, pdfs_like
+from .releases.cards import NOT_DRAWN, NO_CARDS, Cards, cards_after, cards_like, has_cards
+from .releases.published_before import (
+    Earlier,
+    KeptAverages,
+    KeptQuality,
+    changed_pages,
+    kept_quality,
+    read_kept_averages,
+    write_averages,
+)
+from .site.chooser import ItemFiles
 from .sources import add_source, read_source, test_source
 
 SHOWN_DIFFERENCES = 20
-"""Files that --check names at most."""
+"""The largest number of files that --check names."""
 
 
 class CannotPublish(Fault):
@@ -77,10 +100,11 @@ Previous = Callable[[Sequence[Change]], Optional[str]]
 
 
 class Pack(NamedTuple):
-    """What a pack is made of: its tables, who publishes, and of the pack before, if there is one, the SHA-256 of its manifest,
-    what packs changed, the versions of artefacts of SDMX, and the moments that were announced; what signs a manifest and what
-    draws cards, if anything does, and the special aggregates, the quality in figures and the core measures that packs before
-    have."""
+    """The sources of a pack: its tables, who publishes, and of the pack before, if there is one, the SHA-256 of its
+    manifest, what packs changed, the versions of artefacts of SDMX, and the moments that were announced; what signs
+    a manifest and what draws cards, if anything does, and the special aggregates, the quality in figures, the core
+    measures, the average prices and the adjusted series that packs before have, and how PDFs of releases are
+    written."""
 
     series: Series
     config: Config
@@ -88,47 +112,56 @@ class Pack(NamedTuple):
     changes: EarlierChanges
     versions: Versions
     moments: EarlierMoments
-    sign: Sign = unsigned
+    sign: Sign = sign_nothing
     cards: Cards = NO_CARDS
     sets: KeptSets = NO_SETS
     quality: Sequence[KeptQuality] = ()
     core: KeptCore = NO_CORE
+    averages: Sequence[KeptAverages] = ()
+    seasonal: KeptSeasonal = NO_SEASONAL
+    pdfs: Pdfs = Pdfs()
 
 
 class Last(NamedTuple):
-    """A pack that is replaced, or that the new one follows: its folder, its manifest, its special aggregates, and its core
-    measures. A manifest may be kept without its pack."""
+    """A pack that is replaced, or that the new one follows: its folder, its manifest, its special aggregates, its core
+    measures, and its adjusted series. A manifest may be kept without its pack."""
 
     folder: Path
     manifest: Manifest
     sets: KeptSets
     core: KeptCore
+    seasonal: KeptSeasonal
 
     def refuse_changes(self, series: Series, config: Config, reasons: Reasons) -> Earlier:
-        """Raises Fault if a table, a figure of a special aggregate or of a core measure, or a reason that it has is another
-        one now, or isn't there any more; else what its pages of releases are compared with."""
+        """Raises Fault if a table, a figure of a special aggregate, of a core measure or of an adjusted series that may
+        not change, or one of its reasons, differs or is missing now; otherwise returns what its pages of releases are
+        compared with.
+        """
         changed = next(changed_since(self.manifest, series), None)
         if changed:
             raise CannotPublish(changed)
         refuse_changed(changed_sets(self.manifest, series, self.sets), reasons, self.sets)
         refuse_changed_core(self.manifest, series, config.core, reasons, self.core)
+        refuse_changed_seasonal(series, reasons, self.seasonal)
         return Earlier(self.folder, self.manifest.tables, added_reasons(self.folder, self.manifest.tables, reasons))
 
 
 def _read_last(path: Path) -> Last:
     """The pack of a manifest. Raises Fault."""
-    return Last(path.parent, read_manifest(path), kept_sets(path.parent), kept_core(path.parent))
+    pack, manifest = path.parent, read_manifest(path)
+    return Last(pack, manifest, kept_sets(pack), kept_core(pack), kept_seasonal(pack, manifest))
 
 
 # ---- writing
 
 
 def write_pack(pack: Pack, folder: Path, now: Now, before: Before) -> None:
-    """Writes all files of a pack into an empty folder; those that are the same in the pack before are taken from it."""
+    """Writes all files of a pack into an empty folder; files that are the same in the previous pack are taken from
+    it."""
     # (here, since the packages of its pages needn't be there for the other tools)
-    from .releases.quality_files import write_quality
+    from .releases.quality_figures import write_quality
     from .site.sites import Shared, write_sites
-    from .site.sqlite_file import write_sqlite
+    from .site.csvw import write_sqlite
 
     series = pack.series
     announced = announced_after(pack.moments, pack.config.planned, series)
@@ -151,11 +184,13 @@ def write_pack(pack: Pack, folder: Path, now: Now, before: Before) -> None:
     )
     write_whole(series, shown, data, kept, superseded)
     write_core(series, data)
+    write_seasonal(series, data, reasons, pack.seasonal)
     write_reasons(reasons, data)
     recent = known_of(series.part(*span), archives.unexplained, shown)
     pack.versions.write(data)
     write_announced(announced, data)
     write_quality(series, config, data, pack.quality, reasons)
+    write_averages(series, config, data, pack.averages)
     files.sums.update({**sums, **before.taken})
     with sdmx_slices(recent, structure, config, files) as also:
         write_part(recent, structure, config, data, now, kept, also)
@@ -167,18 +202,18 @@ def write_pack(pack: Pack, folder: Path, now: Now, before: Before) -> None:
     signature = _write_manifest(pack, made, files)
     known = Known(series, contributions, shown, recent)
     items = ItemFiles(known, Notes(shown, config.provisional), before, archives.same_to, files)
-    write_sites(known, recent, config, Shared(items, signature, pack.cards, files), now)
+    write_sites(known, recent, config, Shared(items, signature, pack.cards, files, pack.pdfs), now)
     now("sums")
     write_sums(folder, {**before.taken, **files.sums})
 
 
 def joined_lines(one: Mapping[str, Sequence[str]], other: Mapping[str, Sequence[str]]) -> dict[str, list[str]]:
-    """Lines of two kinds by month, those of the first kind first."""
+    """Lines of two kinds by month, the first kind first."""
     return {month: [*one.get(month, ()), *other.get(month, ())] for month in {**one, **other}}
 
 
 def _write_tables(series: Series, folder: Path, before: Before) -> dict[str, str]:
-    """Writes the bytes of the program, or takes those that are there; their sums by their names in the pack."""
+    """Writes the bytes of the program, or takes existing ones; returns their sums by their names in the pack."""
     folder.mkdir(parents=True)
     sums = {}
     for source in series.sources:
@@ -211,15 +246,15 @@ def publish(
     key: Optional[Path] = None,
     tell: Callable[[str], None] = lambda _: None,
 ) -> Series:
-    """Writes a pack beside the folder `out` and puts it in its place; its tables.
+    """Writes a pack next to the folder `out` and puts it in its place; its tables.
 
-    A draft is readable for its owner alone, and takes the place of no pack that others can read. `before` is the
-    manifest before, else that of `out` where a pack stands there. `key` signs the manifest. `tell` is handed a line if
-    pages of earlier releases don't say what they said. Raises Fault, and leaves `out` as it is, if a table, a figure of
-    a special aggregate or a reason that was published is another one now or isn't there any more, or if a pack that is
-    signed would be replaced by one that isn't.
+    A draft is readable only for its owner, and takes the place of no pack that others can read. `before` is the
+    previous manifest, by default the manifest of an existing pack in `out`. `key` signs the manifest. `tell` gets a
+    line if pages of earlier releases no longer say the same. Raises Fault, and leaves `out` as it is, if a table, a
+    figure of a special aggregate or a reason that was published differs or is missing now, or if a pack that is signed
+    would be replaced by one that isn't.
     """
-    series = series_of(published, config.specials, config.core)
+    series = _add_adjusted(series_of(published, config.specials, config.core), config)
     if is_draft:
         refuse_shared(out, "a draft")
     with written_folder(out, MANIFEST, is_private=is_draft) as new:
@@ -236,20 +271,31 @@ def publish(
         chain = partial(previous_of, manifest, series), _changes_after(standing, last), versions_after(earlier)
         sets = next((it.sets for it in (last, standing) if it and it.sets.rows), NO_SETS)
         core = next((it.core for it in (last, standing) if it and it.core.rows), NO_CORE)
+        seasonal = next((it.seasonal for it in (last, standing) if it and it.seasonal.is_there), NO_SEASONAL)
         pack = Pack(
             series, config, *chain, announced_in(earlier), signed_by(key, config.agency), cards, sets,
-            [*map(kept_quality, earlier)], core,
+            [*map(kept_quality, earlier)], core, [read_kept_averages(it, config.minor_digits) for it in earlier], seasonal,
+            Pdfs(pack=out),
         )  # fmt: skip
         write_pack(pack, new, now, Before(behind_link(out) if standing else None))
         _tell_uncounted(series, config, tell)
+        for line in lines_of_lag(series):
+            tell(line)
         if out in earlier:
             _tell_changes(changed_pages(earlier[out], new, series), tell)
     return series
 
 
+def _add_adjusted(series: Series, config: Config) -> Series:
+    """The tables with the adjusted series of the office's folder, if it has one. Raises BadSeasonal."""
+    if config.seasonal:
+        series.seasonal = series_of_office(config.seasonal, series, Shown(series, config.reference))
+    return series
+
+
 def _refuse_older(last: Last, standing: Last) -> None:
-    """Raises CannotPublish if the pack that is replaced has tables that the manifest before hasn't: the new one would leave
-    a manifest out that readers have."""
+    """Raises CannotPublish if the pack that is replaced contains tables that the previous manifest lacks: the new
+    pack would leave out a manifest that readers have."""
     for month, revision in standing.manifest.tables:
         if (month, revision) not in last.manifest.tables:
             raise CannotPublish(
@@ -265,37 +311,38 @@ def _tell_uncounted(series: Series, config: Config, tell: Callable[[str], None])
     if config.counts and lacking:
         last = lacking[-1]
         tell(
-            f"the counts of quality lack {counted(len(lacking), 'release')}, such as {last.month}, revision"
+            f"the counts of quality lack {write_count(len(lacking), 'release')}, such as {last.month}, revision"
             f" {last.revision}: cpi-tools quality writes them anew"
         )
 
 
 def _changes_after(standing: Optional[Last], last: Optional[Last]) -> EarlierChanges:
-    """What packs before changed: that which is replaced, and that of the manifest before, which the new one follows."""
+    """The changes of earlier packs: of the pack that is replaced, and of the previous manifest, which the new one
+    follows."""
     replaced = EarlierChanges()
     if standing:
         replaced = earlier_changes(behind_link(standing.folder), standing.manifest)
     if last is None or last is standing:
         return replaced
-    return joined(earlier_changes(last.folder, last.manifest, is_whole=False), replaced)
+    return join_changes(earlier_changes(last.folder, last.manifest, is_whole=False), replaced)
 
 
 def _tell_changes(changed: Sequence[str], tell: Callable[[str], None]) -> None:
     if changed:
         tell(
-            f"{counted(len(changed), 'page')} of earlier releases, such as {changed[0]}, no longer"
+            f"{write_count(len(changed), 'page')} of earlier releases, such as {changed[0]}, no longer"
             f" {'says' if len(changed) == 1 else 'say'} the same: the configuration or the tool is another one"
         )
 
 
 def check(published: Iterable[Published], config: Config, out: Path, before: Optional[Path], now: Now) -> list[str]:
-    """A line for each file of a pack that isn't what is written now.
+    """A line for each file of a pack that would differ now.
 
-    Which manifest was before it is taken from the pack itself, or is `before`; versions
-    are those of the pack. A signature can't be made anew without
-    the key: that of the pack is taken, and has to hold for the manifest that is written now.
+    The previous manifest is taken from the pack itself, or is `before`; versions are those of the pack. A signature
+    can't be made again without the key: the pack's signature is taken, and has to hold for the manifest that is written
+    now.
     """
-    series = series_of(published, config.specials, config.core)
+    series = _add_adjusted(series_of(published, config.specials, config.core), config)
     standing = read_manifest(out / MANIFEST)
     changes = earlier_changes(out, standing)._replace(pack=None)
 
@@ -310,7 +357,18 @@ def check(published: Iterable[Published], config: Config, out: Path, before: Opt
                 chain = previous, changes, versions_after([out]), announced_in([out])
                 # (other figures than those of the pack are differences, and need no reason)
                 quality = [kept_quality(out)._replace(figures=())]
-                pack = Pack(series, config, *chain, kept(out), cards_like(out), kept_sets(out), quality, kept_core(out))
+                pack = Pack(
+                    series,
+                    config,
+                    *chain,
+                    keep_signature(out),
+                    cards_like(out),
+                    kept_sets(out),
+                    quality,
+                    kept_core(out),
+                    seasonal=kept_seasonal(out, standing),
+                    pdfs=pdfs_like(out),
+                )
                 write_pack(pack, new, now, Before())
             now(f"comparing with {out}")
             return list(differences(out, new))
@@ -331,8 +389,8 @@ refused, except with --draft. A pack that is already in FOLDER is replaced as a 
 of its tables has changed or is gone. If FOLDER is a symbolic link, the tool replaces the folder to
 which it leads, and the link stays. manifest.json contains the SHA-256 of each table and of the
 previous manifest: the one in FOLDER, or --previous. With --sign, ssh-keygen signs the manifest,
-and a page says how anybody can check that; KEY is a private key, or a public one whose private key
-an agent holds.
+and a page says how anybody can check the signature; KEY is a private key, or a public one whose
+private key an agent holds.
 """
 
 EPILOG = """\
@@ -367,7 +425,7 @@ def add_words(tools: argparse._SubParsersAction[ToolWords]) -> None:
 
 
 def run(chosen: argparse.Namespace) -> int:
-    """Runs the tool by its words; its exit status."""
+    """Runs the tool with its arguments; returns its exit status."""
     test_source(chosen)
     if chosen.sign and chosen.check:
         chosen.words.error("--sign goes with --out; --check tests the signature that is there")
@@ -375,6 +433,8 @@ def run(chosen: argparse.Namespace) -> int:
         _refuse_what_is_to_come(chosen)
     needs("jinja2", "python3-jinja2")
     config = read_config(chosen.config, KNOWN_IDS)
+    if PDF in config.also and not chosen.check:
+        need_writer()
     lines: list[str] = []
     with Progress("cpi-tools publish") as progress:
         published = read_source(chosen, progress)
@@ -384,12 +444,13 @@ def run(chosen: argparse.Namespace) -> int:
             words = chosen.out, chosen.previous, progress.now, chosen.draft, chosen.sign
             series = publish(published, config, *words, lines.append)
     if chosen.check:
-        return _check_status(chosen.check, found)
-    of = f"{counted(len(series.vintages), 'table')} up to {series.months[-1]}, {counted(len(series.titles), 'item')}"
+        return _check_status(chosen.check, found, PDF in config.also)
+    of = f"{write_count(len(series.vintages), 'table')} up to {series.months[-1]}, {write_count(len(series.titles), 'item')}"
     print(f"{chosen.out}: {of}")
     for line in lines:
         print(f"cpi-tools publish: {line}", file=sys.stderr)
     _tell_unknown(config, series)
+    _tell_unsaid(config, series)
     for line in config.about.lacking():
         print(f"cpi-tools publish: {line}", file=sys.stderr)
     if config.address and not has_cards(chosen.out):
@@ -398,14 +459,25 @@ def run(chosen: argparse.Namespace) -> int:
 
 
 def _tell_unknown(config: Config, series: Series) -> None:
-    """A line on standard error for what special aggregates name and no table has: it may come, or be a slip."""
+    """A line on standard error for each code that special aggregates name and no table contains: it may come later,
+    or be a mistake."""
     unknown = Sets(config.specials).unknown(series.titles)
     if unknown:
         print(f"cpi-tools publish: special aggregates name what no table has: {', '.join(unknown)}", file=sys.stderr)
 
 
+def _tell_unsaid(config: Config, series: Series) -> None:
+    """A line on standard error for each name in the sentences of the newest month that has no figures in it."""
+    month = series.months[-1]
+    rows = {name: it.rows for name, it in series.specials.items()} | {name: it.rows for name, it in series.core.items()}
+    unsaid = [name for name in config.press if month not in rows.get(name, ())]
+    if unsaid and config.press_since <= month:
+        print(f"cpi-tools publish: press names what has no figures in {month}: {', '.join(unsaid)}", file=sys.stderr)
+
+
 def _refuse_what_is_to_come(chosen: argparse.Namespace) -> None:
-    """A slip in the moment would write what is under embargo now; a draft says that it is meant."""
+    """Refuses a time in the future: a mistake in it would write tables that are under embargo now; with --draft it
+    is meant."""
     if chosen.at > time.time() and not chosen.draft:
         raise CannotPublish(
             f"--at {chosen.at} is {time_text(chosen.at)}, which is still to come: its tables may be under embargo now"
@@ -413,13 +485,15 @@ def _refuse_what_is_to_come(chosen: argparse.Namespace) -> None:
         )
 
 
-def _check_status(folder: Path, found: list[str]) -> int:
-    """Tells what --check found."""
+def _check_status(folder: Path, found: list[str], has_pdfs: bool = False) -> int:
+    """Reports the findings of --check."""
     for line in found[:SHOWN_DIFFERENCES]:
         print(f"{folder}: {line}")
     if cards_like(folder) == Cards(None, folder):
         print(f"{folder}: cards of releases weren't compared: {NOT_DRAWN}")
+    if has_pdfs and not pdfs_like(folder).has_writer:
+        print(f"{folder}: PDFs of releases weren't compared: {NOT_MADE}")
     if not found:
         print(f"{folder}: every file is as it is written now")
         return 0
-    raise CannotPublish(f"{folder}: {counted(len(found), 'file')} not as written now")
+    raise CannotPublish(f"{folder}: {write_count(len(found), 'file')} not as written now")

@@ -1,6 +1,6 @@
 """`cpi-tools quality`: who answered, as counts of each published release by division, from a copy of an office's file.
 
-What is written has no price, no outlet and no collector in it, and the rule of `figures/survey_counts.py` holds: it can be
+What is written has no price, no outlet and no collector in it, and the rule of `figures/survey_rows.py` holds: it can be
 published. `cpi-tools publish` takes the file, which the configuration names.
 """
 
@@ -21,11 +21,10 @@ from ..office.program import Cpi, add_program, record
 from ..office.public import Listed, listed_in
 from ..office.stored import COMPARABLE, OBSERVED, REASONS, Assignment, Release, StoredOffice, read_copy
 from ..text.exact import ALL_ITEMS
-from ..text.terminal import Fault, Progress, ToolWords, at_least, because_of, counted, month_text, time_text
-from ..text.whole_files import write_whole
+from ..text.terminal import Fault, Progress, ToolWords, at_least, because_of, month_text, time_text, write_count
+from ..text.text_files import read_rows, write_whole
 from .figures.config import read_least_outlets
-from .figures.office_rows import read_rows
-from .figures.survey_counts import HEAD, LEAST_OUTLETS, BadCounts, Cell, Choice, Figures, choice_of, read_counts
+from .figures.survey_rows import COUNTS, LEAST_OUTLETS, BadCounts, Cell, Choice, Figures, choice_of, read_counts
 
 
 REPLACED = tuple(mark for mark in OBSERVED if mark != COMPARABLE[0])
@@ -33,7 +32,8 @@ REPLACED = tuple(mark for mark in OBSERVED if mark != COMPARABLE[0])
 
 
 class Seen(NamedTuple):
-    """A slot or a series of a release: its division and outlet, and a count for each figure but that of outlets."""
+    """A slot or a series of a release: its division and outlet, and a count for each figure except the number of
+    outlets."""
 
     division: str
     outlet: int
@@ -41,7 +41,7 @@ class Seen(NamedTuple):
 
 
 Choices = Mapping[tuple[str, int], Choice]
-"""What releases show, by month and revision."""
+"""The figures that releases show, by month and revision."""
 
 
 # ---- a release
@@ -75,7 +75,7 @@ def counts_of_release(
 ) -> Counts:
     """The counts of a release by its slots and the aggregates of items."""
     outlets, sums = defaultdict[str, set[int]](set), dict[str, list[int]]()
-    for seen in _seen(office, release, slots, places):
+    for seen in _list_seen(office, release, slots, places):
         outlets[seen.division].add(seen.outlet)
         for division in (ALL_ITEMS, seen.division):
             before = sums.get(division, [0] * len(seen.counts))
@@ -84,11 +84,11 @@ def counts_of_release(
     return Counts(month_text(release.month), release.revision, own, sums)
 
 
-def _seen(
+def _list_seen(
     office: StoredOffice, release: Release, slots: Iterable[Assignment], places: dict[str, str]
 ) -> Iterator[Seen]:
-    """The slots of a release whose items are in the index, with what was frozen, and what the index counts with."""
-    frozen, carried = office.frozen(release), office.carried(release)
+    """The slots of a release whose items are in the index, with their frozen quotes, and the prices in the index."""
+    frozen, carried = office.frozen(release), office.read_carried(release)
     for slot in slots:
         if slot.item in places:
             mark = frozen[slot.series].mark if slot.series in frozen else ""
@@ -112,8 +112,8 @@ def counts_of_office(office: StoredOffice, published: Sequence[Listed]) -> Itera
 
 
 def shown_cells(found: Iterable[Counts], least: int, known: Choices) -> list[Cell]:
-    """The rows of releases in the order in which they were published, by month and revision; those that are known show what
-    they did."""
+    """The rows of releases in the order in which they were published, by month and revision; known releases show the
+    same figures as before."""
     choices = dict(known)
     cells = list[Cell]()
     for it in found:
@@ -136,8 +136,8 @@ def read_office(cpi: Cpi, path: Path, at: int, least: int, known: Choices = {}) 
 
 
 def read_known(to: Path, least: int) -> dict[tuple[str, int], Choice]:
-    """What the releases of the file at a place show; nothing if there is none. Raises Fault if it isn't a file of counts, or
-    shows divisions with fewer outlets."""
+    """The figures that the releases of an existing file show; none if there is no file. Raises Fault if it isn't a
+    file of counts, or shows divisions with fewer outlets."""
     if not to.exists():
         return {}
     _rows_of(to)
@@ -153,27 +153,27 @@ def read_known(to: Path, least: int) -> dict[tuple[str, int], Choice]:
 
 
 def _rows_of(to: Path) -> list[tuple[str, ...]]:
-    """The rows of the file at a place, the first with the names. Raises Fault if it isn't a file of counts."""
+    """The rows of a file, the first with the column names. Raises Fault if it isn't a file of counts."""
     rows = read_rows(to, lambda lines: [tuple(line) for line in lines], BadCounts)
-    if rows[:1] != [HEAD]:
+    if rows[:1] != [COUNTS]:
         raise Fault(f"{to} is there already, and is no file of counts: give the counts a name of their own")
     return rows
 
 
 def _choice(cells: Sequence[Cell]) -> Choice:
-    """What the rows of a release show."""
+    """The figures that the rows of a release show."""
     divisions = frozenset(cell.division for cell in cells) - {ALL_ITEMS}
     shown = {cell.division for cell in cells if cell.figures}
     return Choice(divisions, divisions - shown, ALL_ITEMS in shown)
 
 
 def write_counts(cells: Sequence[Cell], to: Path) -> None:
-    """Writes a file of counts, whole or not at all, with mode 0644. Raises Fault, and leaves what is there, if that isn't
-    such a file, or has other rows of a release than the new one."""
+    """Writes a file of counts, whole or not at all, with mode 0644. Raises Fault, and leaves an existing file, if
+    that isn't such a file, or if its rows of a release differ from the new ones."""
     rows = [cell.texts for cell in cells]
     _refuse_others(to, rows)
     text = io.StringIO()
-    csv.writer(text, lineterminator="\n").writerows([HEAD, *rows])
+    csv.writer(text, lineterminator="\n").writerows([COUNTS, *rows])
     try:
         write_whole(to, text.getvalue().encode(), 0o644)
     except OSError as fault:
@@ -181,7 +181,7 @@ def write_counts(cells: Sequence[Cell], to: Path) -> None:
 
 
 def _refuse_others(to: Path, rows: Sequence[Sequence[str]]) -> None:
-    """Raises Fault if the file at a place isn't one that the new rows go on from."""
+    """Raises Fault if the new rows don't continue an existing file."""
     if not to.exists():
         return
     before = {row: None for row in _rows_of(to)[1:]}
@@ -197,7 +197,7 @@ def _refuse_others(to: Path, rows: Sequence[Sequence[str]]) -> None:
 
 
 def untold(cells: Iterable[Cell]) -> Iterator[str]:
-    """A line if the newest release shows nothing of all items, so that nobody wonders why."""
+    """A line that says why, if the newest release shows no figures of all items."""
     totals = [cell for cell in cells if cell.division == ALL_ITEMS]
     if totals and not totals[-1].figures:
         last = totals[-1]
@@ -215,8 +215,8 @@ were due, collected, replaced, missing and imputed. The file goes into the pack 
 publish if the configuration contains quality = FILE. It contains no price, outlet or collector,
 and nothing from a table that isn't published at the time of --at.
 
-A division with fewer outlets than least_outlets in the configuration (else {LEAST_OUTLETS}) has no
-figures. So that nobody can derive them by subtraction, even between releases, some other
+A division with fewer outlets than least_outlets in the configuration (by default {LEAST_OUTLETS})
+has no figures. So that nobody can derive them by subtraction, even between releases, some other
 divisions, always the same, have none either. If another division later has too few outlets, the
 total of all items has no figures in that release.
 
@@ -244,7 +244,7 @@ def add_words(tools: argparse._SubParsersAction[ToolWords]) -> None:
         type=at_least(0),
         required=True,
         metavar="SECONDS",
-        help="the time, in seconds since 1970: what is published by then",
+        help="use the tables published by this time, in seconds since 1970",
     )
     add("--config", type=Path, metavar="FILE", help="the configuration of cpi-tools publish, for its least_outlets")
     add("--out", type=Path, required=True, metavar="FILE", help="where to write the counts")
@@ -253,7 +253,7 @@ def add_words(tools: argparse._SubParsersAction[ToolWords]) -> None:
 
 
 def run(chosen: argparse.Namespace) -> int:
-    """Runs the tool by its words; its exit status."""
+    """Runs the tool with its arguments; returns its exit status."""
     if chosen.at > time.time():
         raise Fault(
             f"--at {chosen.at} is {time_text(chosen.at)}, which is still to come: its tables may be under embargo now"
@@ -266,7 +266,7 @@ def run(chosen: argparse.Namespace) -> int:
         write_counts(cells, chosen.out)
     releases = len({cell.of for cell in cells})
     hidden = sum(cell.figures is None for cell in cells)
-    print(f"{chosen.out}: {counted(releases, 'release')}, {counted(hidden, 'row')} of {len(cells)} hidden")
+    print(f"{chosen.out}: {write_count(releases, 'release')}, {write_count(hidden, 'row')} of {len(cells)} hidden")
     for line in untold(cells):
         print(f"cpi-tools quality: {line}", file=sys.stderr)
     return 0

@@ -1,4 +1,4 @@
-"""Where a tool reads published tables: an office's file at a moment, or an office that is served."""
+"""The sources from which a tool reads published tables: an office's file at a moment, or an office that is served."""
 
 from __future__ import annotations
 
@@ -15,9 +15,9 @@ from ..text.terminal import Progress, ToolWords, at_least
 def add_source(words: ToolWords) -> None:
     """The words `--url`, `--db`, `--at` and `--program` of a tool."""
     source = words.add_mutually_exclusive_group(required=True)
-    source.add_argument("--url", type=address, help="the address of a served office: what is published now")
+    source.add_argument("--url", type=address, help="the address of a served office, to read the tables published now")
     source.add_argument("--db", type=Path, metavar="FILE", help="an office's file, which is only read")
-    at = "with --db: what is published by this time, in seconds since 1970"
+    at = "with --db: read the tables published by this time, in seconds since 1970"
     words.add_argument("--at", type=at_least(0), metavar="SECONDS", help=at)
     add_program(words)
 

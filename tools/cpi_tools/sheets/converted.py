@@ -1,4 +1,4 @@
-"""Spreadsheets of other kinds, which LibreOffice makes workbooks of, if it is installed."""
+"""Spreadsheets of other kinds, which LibreOffice converts to workbooks if it is installed."""
 
 from __future__ import annotations
 
@@ -8,7 +8,7 @@ import subprocess
 from collections.abc import Iterator, Sequence
 from pathlib import Path
 
-from ..office.rooms import new_room
+from ..office.folders import new_room
 from ..text.terminal import Fault, because_of
 from .cells import label_of
 
@@ -25,10 +25,10 @@ ADVICE = "save it as .xlsx or CSV, or install libreoffice-calc-nogui"
 
 
 @contextlib.contextmanager
-def converted(files: Sequence[Path]) -> Iterator[dict[Path, Path]]:
-    """The workbook that each file becomes, in a folder of its own that goes at the end; none without LibreOffice.
+def convert(files: Sequence[Path]) -> Iterator[dict[Path, Path]]:
+    """The workbook that each file becomes, in its own folder, which is deleted at the end; none without LibreOffice.
 
-    Raises Fault if LibreOffice makes no workbook of a file, or takes too long.
+    Raises Fault if LibreOffice makes no workbook from a file, or takes too long.
     """
     wanted = [file for file in files if file.suffix.lower() in KINDS and file.is_file()]
     if not wanted or not shutil.which(PROGRAM):

@@ -1,14 +1,14 @@
-"""Prices that may be none: a code that another program writes if there is no price, or a price in another unit.
+"""Values that might not be prices: a code that another program writes if there is no price, or a price in another unit.
 
-The program can't see such a price if it is the first one of its series, since it judges by the last one. So these are
-looked at here, by the other prices of the sheet:
+The program can't detect such a value if it is the first one of its series, since it compares with the last price. So
+this module compares these with the other prices of the sheet:
 
 - a first price more than ten times away from the median of the other first prices of its item, or of its aggregate if
   the item has no others;
 - a price of nines, and one value in series of many items, if it is as far away from the median of its item's prices, or
   of its aggregate's, or if there are no others.
 
-Nothing of it is taken in until a person says of the value what it is.
+Nothing is taken in until a person says what the value is.
 """
 
 from __future__ import annotations
@@ -26,16 +26,16 @@ from .cells import Capped, SheetFault, cut
 from .price_store import PriceStore
 
 FAR = 10
-"""A price is far from another if it is more than so many times as high or as low."""
+"""A price is far from another if it is more than this many times as high or as low."""
 
 MANY_ITEMS = 5
-"""A value in the series of so many items may be a code."""
+"""A value in the series of this many items may be a code."""
 
 NINES = re.compile("9{4,}")
 
 
 class Doubts(NamedTuple):
-    """The cells in doubt, and the slots that have them: collector and slot."""
+    """The cells in doubt, and their slots: collector and slot."""
 
     cells: list[SheetFault]
     slots: frozenset[tuple[str, str]]
@@ -45,15 +45,15 @@ NO_DOUBTS = Doubts([], frozenset())
 
 
 class Doubted(NamedTuple):
-    """A price in doubt: its number in the store, and why."""
+    """A price in doubt: its number in the store, and the reason."""
 
     number: int
     because: Message
 
 
 def doubts_of(store: PriceStore, minor: int, priced: Collection[int]) -> Doubts:
-    """What is in doubt of a store whose series are known; `priced` are the values, in minor units, of which a person says
-    that they are prices."""
+    """The prices in doubt of a store whose series are known; `priced` are the values, in minor units, that a person has
+    declared to be prices."""
     odd = _odd_values(store, minor)
     medians = _Medians(store, odd)
     found = {it.number: it for it in _far_firsts(store, medians)}
@@ -62,7 +62,7 @@ def doubts_of(store: PriceStore, minor: int, priced: Collection[int]) -> Doubts:
     for cell in store.cells(sorted(found)):
         if cell.minor not in priced:
             because = found[cell.number].because
-            says = message('"{text}" may be no price: {because}', text=cut(cell.given), because=because)
+            says = message('"{text}" might not be a price: {because}', text=cut(cell.given), because=because)
             faults.add(SheetFault(cell.origin, says, _what_to_do(cell.given)))
             slots.add((cell.collector, cell.slot))
     return Doubts(faults.all(), frozenset(slots))
@@ -71,19 +71,19 @@ def doubts_of(store: PriceStore, minor: int, priced: Collection[int]) -> Doubts:
 def _what_to_do(text: str) -> Message:
     value = text.split()[-1] if text.split() else text
     return message(
-        "if it says that there is no price, name it: {missing}; if it is a price: {price}",
+        "if it means that there is no price, name it with {missing}; if it is a price, with {price}",
         missing=of_others(f'--missing "{value}=stock"'),
         price=of_others(f'--price "{value}"'),
     )
 
 
 def _odd_values(store: PriceStore, minor: int) -> Mapping[int, Message]:
-    """The values that codes have, and why each is one of them."""
+    """The values that may be codes, and the reason for each."""
     found = {
-        value: message("it is in series of {count} items", count=whole(count))
+        value: message("it occurs in series of {count} items", count=whole(count))
         for value, count in store.values_of_many(MANY_ITEMS)
     }
-    nines = message("it has nothing but nines")
+    nines = message("it consists only of nines")
     return {**found, **{value: nines for value in store.values() if is_nines(value, minor)}}
 
 
@@ -100,7 +100,7 @@ def is_far(value: int, other: int) -> bool:
 
 
 class Counted:
-    """Values in their order, each with how often it is there."""
+    """Values in their order, each with its number of occurrences."""
 
     def __init__(self, values: Sequence[tuple[int, int]]):
         self._values = [value for value, _ in values]
@@ -110,15 +110,15 @@ class Counted:
         return iter(self._values)
 
     def _at(self, place: int) -> int:
-        """The value at a place, as if each were there as often as it is."""
+        """The value at a place, with each value repeated as often as it occurs."""
         return self._values[bisect_right(self._ends, place)]
 
     def median(self) -> int:
-        """The lower one of the two in the middle."""
+        """The median; the lower one of two in the middle."""
         return self._at((self._ends[-1] - 1) // 2)
 
     def median_without(self, value: int) -> Optional[int]:
-        """The same of those that aren't a value that is there; None if there are none."""
+        """The median of the other values than one that occurs; None if there are none."""
         own = bisect_left(self._values, value)
         first, after = self._ends[own - 1] if own else 0, self._ends[own]
         left = self._ends[-1] - (after - first)
@@ -127,14 +127,15 @@ class Counted:
 
 
 class _Medians:
-    """The medians of items, and which odd values are far from the other prices of their item, or of their aggregate."""
+    """The medians of items, and the odd values that are far from the other prices of their item, or of their
+    aggregate."""
 
     def __init__(self, store: PriceStore, odd: Collection[int]):
         self._by_aggregate: dict[str, dict[str, int]] = {}
         self.far: set[tuple[str, int]] = set()
         """Items with such a value."""
         alone: list[tuple[str, str, int]] = []
-        for (item, aggregate), own in groupby(store.counted(), key=lambda it: (it.item, it.aggregate)):
+        for (item, aggregate), own in groupby(store.list_values(), key=lambda it: (it.item, it.aggregate)):
             values = Counted([(it.minor, it.times) for it in own])
             self._by_aggregate.setdefault(aggregate, {})[item] = values.median()
             for value in (it for it in values if it in odd):
@@ -156,7 +157,7 @@ class _Medians:
 
 
 def median(values: Sequence[int]) -> int:
-    """The lower one of the two in the middle, of values in their order."""
+    """The median of sorted values; the lower one of two in the middle."""
     return values[(len(values) - 1) // 2]
 
 
@@ -167,8 +168,8 @@ def _far_odd(store: PriceStore, odd: Mapping[int, Message], medians: _Medians) -
 
 
 def _far_firsts(store: PriceStore, medians: _Medians) -> Iterator[Doubted]:
-    """The first prices of new series that are far from the first prices of their item, or if it has no others, from the
-    other items of their aggregate."""
+    """The first prices of new series that are far from the first prices of their item, or, if it has no others, from
+    the other items of their aggregate."""
     for (item, aggregate), found in groupby(store.firsts(), key=lambda it: (it.item, it.aggregate)):
         firsts = [*found]
         values = sorted(it.minor for it in firsts)
@@ -180,7 +181,7 @@ def _far_firsts(store: PriceStore, medians: _Medians) -> Iterator[Doubted]:
             other = median(others) if others else medians.of_others(item, aggregate)
             if it.is_new and other is not None and is_far(it.minor, other):
                 because = message(
-                    "it is a first price, and more than ten times away from the median of {of}",
+                    "it is a first price that differs from the median of {of} by a factor of more than ten",
                     of=of_others(item if others else aggregate),
                 )
                 yield Doubted(it.number, because)

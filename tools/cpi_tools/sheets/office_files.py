@@ -1,45 +1,61 @@
-"""An office's sheets, whose rows are put in the order in which an office would have sent them.
+"""Reads an office's sheets, and puts their rows in the order in which an office would have sent them.
 
-Nothing is judged here: texts go to the program as they are, and only what it can't be asked is reported, such as a file
-that is missing, or a column from which no price is read.
+This module judges nothing: it passes texts unchanged to the program, and reports only the problems about which the
+program can't be asked, such as a missing file, or a column from which no price is read.
 """
 
 from __future__ import annotations
 
+import itertools
 import secrets
+from array import array
 from collections import Counter, defaultdict
 from collections.abc import Callable, Collection, Iterable, Iterator, Mapping, Sequence
 from dataclasses import dataclass, field
 from fractions import Fraction
 from typing import NamedTuple, Optional, Union
 
-from ..text.message import Message, row as row_of, message, message_of, whole
+from ..text.message import Message, message, message_of, row as row_of, whole
 from ..text.others import of_others
 from .cells import BadSheet, Columns, Dated, MonthRead, Origin, Row, Sheet, SheetFault, cut
 from .doubts import NO_DOUBTS, Doubts, doubts_of
 from .known_rows import Known, Window
-from .months_of_texts import month_of
-from .numbers_of_texts import Numbers
-from .office_sheets import DATES, MONTHS, MOVED, NEEDED, SHEETS, WINDOW
+from .sheet_numbers import Differ, Numbers, Rule, month_of
+from .record_rows import (
+    DATES,
+    DESK,
+    FIELDS,
+    MONTHS,
+    MOVED,
+    NEEDED,
+    SHEETS,
+    WINDOW,
+    Bundle,
+    KeptLines,
+    Problem,
+    Sent,
+    SentRows,
+    make_bundles,
+    problem_of,
+    slot_of,
+)
 from .plan_rows import PlanRows, Weighed
 from .price_cells import NO_CODES, Place, PriceCells
 from .price_store import PriceStore, Series
-from .record_rows import DESK, FIELDS, Bundle, Problem, Sent, bundled, problem_of, slot_of
-from .several_prices import Differ, Rule
 from .sheet_files import Sheets
 
 LAST_TURN = 10
-"""The revision after the last one: quotes that no freeze took."""
+"""The revision after the last one, for quotes that no freeze took."""
 
 Clock = Callable[[Iterable[str]], dict[str, int]]
-"""Tells civil times in seconds since 1970 UTC; what is no civil time isn't among them."""
+"""Converts civil times to seconds since 1970 UTC; other texts aren't among them."""
 
 
 class Options(NamedTuple):
-    """How texts are read: minor units in a unit of the prices, the decimal sign, what the weights are given in (`ppm`
-    aren't scaled), whether prices outside the tolerance are confirmed, the names of files, sheets and columns of prices
-    that aren't read on purpose, in small letters; the values that stand for a reason why there is no price, and those
-    of which a person says that they are prices; and what becomes of several prices of a month."""
+    """The options for reading texts: minor units in a unit of the prices, the decimal sign, the unit of the weights
+    (`ppm` aren't scaled), whether prices outside the tolerance are confirmed, the names of files, sheets and columns of
+    prices that aren't read on purpose, in small letters; the values that mean a reason why there is no price, and the
+    values that a person has declared to be prices; and the rule for several prices in a month."""
 
     minor: int = 1
     decimal: str = "."
@@ -52,21 +68,27 @@ class Options(NamedTuple):
 
 
 class Bundles:
-    """What is sent, in its order, made anew whenever it is asked for; `most` is at least how many these are."""
+    """The records to send, in their order, made anew whenever it is asked for; `most` is at least how many these
+    are. `kept` has their lines once they were judged, if these are kept."""
 
     def __init__(self, make: Callable[[], Iterator[Bundle]], most: int):
         self._make, self.most = make, most
+        self.kept: Optional[KeptLines] = None
 
     def __iter__(self) -> Iterator[Bundle]:
         return self._make()
 
+    def lines(self) -> Iterator[str]:
+        """The records as lines without their ends."""
+        return iter(self.kept) if self.kept else (bundle.line() for bundle in self)
+
 
 @dataclass
 class Taken:
-    """What the files say: what is sent, in its order; what is wrong with the files themselves, and what else a reader
-    should look at; the months that were read from other spellings; drawn keys by the collector's number; scaled
-    weights; how many rows of each sheet the office has already; the prices; and those of which it is in doubt whether
-    they are prices."""
+    """The contents of the files: the records to send, in their order; problems of the files themselves, and warnings
+    for a reader; the months that were read from other spellings; drawn keys by the collector's number; scaled weights;
+    the number of rows of each sheet that the office already has; the prices; and the values that might not be
+    prices."""
 
     bundles: Bundles
     problems: list[Problem] = field(default_factory=list)
@@ -101,11 +123,11 @@ class OfficeFiles:
     def in_order(self) -> Taken:
         """All rows, as an office would have sent them."""
         before = self._before
-        before += bundled(0, DESK, self._new("items", self._registered("item", "items")))
-        before += bundled(0, DESK, self._new("outlets", self._registered("outlet", "outlets")))
-        before += bundled(0, DESK, self._new("collectors", self._collectors()))
+        before += make_bundles(0, DESK, self._new("items", self._register("item", "items")))
+        before += make_bundles(0, DESK, self._new("outlets", self._register("outlet", "outlets")))
+        before += make_bundles(0, DESK, self._new("collectors", self._collectors()))
         slots = self._slots()
-        before += bundled(0, DESK, self._new("series", self._assigned(slots)))
+        before += make_bundles(0, DESK, self._assign(slots))
         before += self._plans()
         self._read_prices(slots)
         self.taken.problems += map(problem_of, self._source.unread)
@@ -127,7 +149,7 @@ class OfficeFiles:
     # ---- sheets
 
     def _read(self, name: str, is_new: bool) -> Optional[Sheet]:
-        """A sheet that has all its columns; what is wrong with it is told."""
+        """A sheet with all its columns; its problems are reported."""
         try:
             sheet = self._source.sheet(name)
         except BadSheet as bad:
@@ -145,7 +167,7 @@ class OfficeFiles:
         return None if faults else sheet
 
     def _missing(self, name: str) -> list[SheetFault]:
-        """A sheet that isn't there and has to be; items may tell themselves where they are placed."""
+        """The problem of a needed sheet that is missing; places aren't needed if the items give their own codes."""
         items = self._sheets.get("items")
         if name not in NEEDED and (name != "places" or not items or "code" in items.columns):
             return []
@@ -154,7 +176,7 @@ class OfficeFiles:
         return [SheetFault(Origin(file, 0), message("the file {file} is missing", file=of_others(file)), do)]
 
     def _read_months(self, sheet: Sheet, columns: Collection[str]) -> None:
-        """Reads the months of a sheet; what is none is left to the program, which refuses it."""
+        """Reads the months of a sheet; other texts are left to the program, which refuses them."""
         found = {}
         for column in columns:
             for row in sheet.rows:
@@ -166,18 +188,19 @@ class OfficeFiles:
         self.taken.readings += [MonthRead(sheet.file, *it, month) for it, month in found.items()]
 
     def _look_for_dates(self, sheet: Sheet, columns: Collection[str]) -> None:
-        """Tells cells that are dates in columns that take none: a spreadsheet takes `SEP1` for one."""
+        """Reports cells that are dates in columns that accept none: a spreadsheet turns `SEP1` into a date."""
         for row in sheet.rows:
             for column in columns:
                 cell = row[column]
                 if isinstance(cell, Dated):
                     because = message(
-                        "the cell is the date {date}, as a spreadsheet takes {one} and {other} for one",
+                        "the cell contains the date {date}: a spreadsheet turns texts like {one} and {other} into"
+                        " dates",
                         date=of_others(cell),
                         one=of_others("SEP1"),
                         other=of_others("1-2"),
                     )
-                    do = message("give the column the format of text, and write the cell again")
+                    do = message("format the column as text, and write the cell again")
                     self.taken.problems.append(problem_of(SheetFault(row.at(column), because, do)))
 
     def _rows(self, name: str) -> Sequence[Row]:
@@ -185,12 +208,12 @@ class OfficeFiles:
         return tuple(sheet.rows) if sheet else ()
 
     def _look_for_revisions(self) -> None:
-        """Tells releases whose revision is none."""
+        """Reports releases whose revision isn't valid."""
         for row in self._rows("releases"):
             text = row["revision"]
             if text and not is_revision(text):
-                because = message('"{text}" is no revision', text=cut(text))
-                do = message("give 1 to 9, or leave it empty")
+                because = message('"{text}" isn\'t a revision', text=cut(text))
+                do = message("write 1 to 9, or leave it empty")
                 self.taken.problems.append(problem_of(SheetFault(row.at("revision"), because, do)))
 
     def _by_month(self, name: str) -> dict[str, list[Row]]:
@@ -200,7 +223,7 @@ class OfficeFiles:
         return found
 
     def _calendar_rows(self) -> dict[str, Row]:
-        """The row of each month; two that differ are a problem."""
+        """The calendar's row for each month; two rows that differ are a problem."""
         found: dict[str, Row] = {}
         for row in self._rows("calendar"):
             above = found.setdefault(row["month"], row)
@@ -208,18 +231,18 @@ class OfficeFiles:
                 origin = row.at("month")
                 named = {"row": above.origin.row, "month": of_others(row["month"])}
                 if above.cells == row.cells:
-                    because = message("row {row} has the month {month} too, and the same window", **named)
-                    self.taken.warnings.append(SheetFault(origin, because, message("take one out")))
+                    because = message("row {row} also has the month {month}, with the same window", **named)
+                    self.taken.warnings.append(SheetFault(origin, because, message("delete one of the two")))
                 else:
-                    because = message("row {row} has the month {month} too, and another window", **named)
-                    fault = SheetFault(origin, because, message("leave the one that holds"))
+                    because = message("row {row} also has the month {month}, but with another window", **named)
+                    fault = SheetFault(origin, because, message("keep the one that applies"))
                     self.taken.problems.append(problem_of(fault))
         return found
 
     # ---- what an office has already
 
     def _new(self, name: str, rows: Iterable[Sent]) -> Iterator[Sent]:
-        """The rows that the office doesn't have already; the others are counted."""
+        """The rows that the office doesn't have yet; the others are counted."""
         for row in rows:
             if self._known.has(row):
                 self.taken.passed_over[name] += 1
@@ -227,7 +250,7 @@ class OfficeFiles:
                 yield row
 
     def _count_passed_over(self) -> None:
-        """Counts the months' rows that the office has already."""
+        """Counts the months' rows that the office already has."""
         count = self.taken.passed_over
         count["handovers"] = sum(map(self._known.has_handover, self._rows("handovers")))
         for own in self._releases.values():
@@ -236,7 +259,7 @@ class OfficeFiles:
             count["calendar"] += self._is_same(self._window(month, row), self._known.windows.get(month))
 
     def _is_frozen(self, release: Row, turn: int) -> bool:
-        """Whether a release was frozen so, as far as its row tells it."""
+        """Whether the office froze a release with the values in its row."""
         known = self._known.releases.get((release["month"], str(turn)))
         if known is None or {*release["carry"].split()} != known.carry:
             return False
@@ -245,12 +268,15 @@ class OfficeFiles:
 
     # ---- what is registered
 
-    def _registered(self, word: str, name: str) -> Iterator[Sent]:
+    def _register(self, word: str, name: str) -> Iterator[Sent]:
         columns = FIELDS[word]
-        return (Sent([word, *(row[it] for it in columns)], row.origin, row.named(columns)) for row in self._rows(name))
+        return (
+            Sent([word, *(row[it] for it in columns)], row.origin, row.name_columns(columns))
+            for row in self._rows(name)
+        )
 
     def _collectors(self) -> Iterator[Sent]:
-        """The collectors; a key that isn't given is the one that the office has, or is drawn."""
+        """The collectors; a missing key is taken from the office, or drawn."""
         for row in self._rows("collectors"):
             number = row["collector"]
             key = row["key"] or self._known.keys.get(number, "")
@@ -258,10 +284,11 @@ class OfficeFiles:
                 key = secrets.token_hex(16)
                 self.taken.drawn.setdefault(number, key)
             self._keys.setdefault(number, key)
-            yield Sent(["collector", number, key], row.origin, row.named(FIELDS["collector"]))
+            yield Sent(["collector", number, key], row.origin, row.name_columns(FIELDS["collector"]))
 
     def _slots(self) -> list[str]:
-        """The slot of each row of `series`: as given; or that which has the same already; or the next that is free."""
+        """The slot of each row of `series`: the given one, the slot that already has the same series, or the next free
+        one."""
         named = {(row["collector"], row["slot"]) for row in self._rows("series")}
         named |= {(row["to"], row["to_slot"]) for row in self._rows("handovers")}
         named |= {(it.collector, it.slot) for it in self._known.places}
@@ -282,14 +309,22 @@ class OfficeFiles:
             found.append(str(last[collector]))
         return found
 
-    def _assigned(self, slots: Sequence[str]) -> Iterator[Sent]:
-        for row, slot in zip(self._rows("series"), slots):
+    def _assign(self, slots: Sequence[str]) -> SentRows:
+        """The series that the office doesn't have already; the others are counted."""
+        rows = self._rows("series")
+
+        def make(number: int) -> Sent:
+            row, slot = rows[number], slots[number]
             fields = [slot if it == "slot" else row[it] for it in FIELDS["assign"]]
             columns = [it if it != "slot" or row["slot"] else "collector" for it in FIELDS["assign"]]
-            yield Sent(["assign", *fields], row.origin, row.named(columns))
+            return Sent(["assign", *fields], row.origin, row.name_columns(columns))
+
+        new = array("L", (number for number in range(len(rows)) if not self._known.has(make(number))))
+        self.taken.passed_over["series"] += len(rows) - len(new)
+        return SentRows(new, make)
 
     def _plans(self) -> Iterator[Bundle]:
-        """The plan of each year, but for those that the office has."""
+        """The plan of each year, except the plans that the office has."""
         rows = PlanRows(self._numbers, self._options.weights)
         places = self._rows("places") if self._sheets["places"] else None
         by_year = rows.by_year(self._rows("classification"), places, self._rows("items"), self._rows("plans"))
@@ -305,10 +340,10 @@ class OfficeFiles:
     # ---- prices
 
     def _read_prices(self, slots: Sequence[str]) -> None:
-        """Stores what was priced, and reports what is wrong with the sheet."""
+        """Stores the prices, and reports the problems of the sheet."""
         sheet, faults = None, []
         try:
-            sheet = self._source.streamed("prices")
+            sheet = self._source.stream("prices")
             faults = self._store_prices(sheet, slots) if sheet else []
         except BadSheet as bad:
             faults = [bad.fault]
@@ -318,7 +353,7 @@ class OfficeFiles:
         self.taken.problems += map(problem_of, faults)
 
     def _store_prices(self, sheet: Sheet, slots: Sequence[str]) -> list[SheetFault]:
-        """Stores the prices of a sheet, but for those that the office has; what is wrong with them."""
+        """Stores the prices of a sheet, except those that the office has; returns their problems."""
         options = self._options
         cells = PriceCells(sheet, SHEETS["prices"], self._numbers, options.minor, options.ignored, options.codes)
         cells.keeps_fractions = options.rule.is_any
@@ -334,24 +369,24 @@ class OfficeFiles:
         places = [*self._known.places, *series]
         cells.place(places, [it for it in handed if not self._known.has_handover(it)])
         store = self._store
-        store.fill(cells.prices())
+        store.fill_rows(itertools.chain.from_iterable(cells.make_rows(store)))
         if options.rule.is_any:
             for origin, it in store.settle(options.rule):
-                cells.faults.add(SheetFault(origin, told_marks(it), message("leave the prices of one mark")))
+                cells.faults.add(SheetFault(origin, told_marks(it), message("keep only the prices of one mark")))
         same = self._tell_repeated(cells)
         for month in store.months():
             self.taken.passed_over["prices"] += store.take_stored(self._known.prices_of(month))
         self._look_for_codes(cells)
         if not cells.count and not cells.faults.all():
-            do = message("write its prices below the columns, or take the sheet out")
-            cells.faults.add(SheetFault(cells.heading, message("the sheet has no price"), do))
+            do = message("write its prices below the columns, or remove the sheet")
+            cells.faults.add(SheetFault(cells.heading, message("the sheet contains no price"), do))
         self.taken.readings += [*cells.readings(), *self._source.readings]
-        self.taken.warnings += same
+        self.taken.warnings = [*cells.unmet_codes(), *self.taken.warnings, *same]
         return cells.faults.all()
 
     def _look_for_codes(self, cells: PriceCells) -> None:
-        """Notes the prices that may be none. A series of the office, and one that was handed over, has a last price, by
-        which the program judges."""
+        """Notes the values that might not be prices. A series of the office, or one that was handed over, has a last
+        price, with which the program compares."""
         old = {(it.collector, it.slot) for it in (*self._known.places, *self._known.given)}
         old |= {(row["to"], row["to_slot"]) for row in self._rows("handovers")}
         codes = {row["item"]: row["code"] for row in self._rows("places")}
@@ -364,7 +399,8 @@ class OfficeFiles:
         self.taken.doubts = doubts_of(self._store, minor, priced)
 
     def _tell_repeated(self, cells: PriceCells) -> list[SheetFault]:
-        """Tells rows of one series and month: each that differs from the first; of those that don't, how many."""
+        """Reports several rows for one series and month: each row that differs from the first, and the number of those
+        that don't."""
         same: list[tuple[Origin, dict[str, object]]] = []
         count = 0
         for it in self._store.take_repeated():
@@ -381,21 +417,21 @@ class OfficeFiles:
                 same = same or [(origin, named)]
             else:
                 because = message(
-                    'the price of slot {slot} in {month} is "{text}" here, and "{first}" in row {row}',
+                    'the price of slot {slot} in {month} is "{text}" here, but "{first}" in row {row}',
                     text=cut(it.text),
                     first=cut(it.first),
                     **named,
                 )
-                do = message("leave the one that is right; the correction of a frozen month has its revision")
+                do = message("keep the correct one; a correction of a frozen month needs its revision")
                 cells.faults.add(SheetFault(origin, because, do))
         return [SheetFault(origin, told_again(count, named), LEAVE_ONE) for origin, named in same]
 
     # ---- months
 
     def _month(self, month: str, handed: Sequence[Row], releases: Sequence[Row]) -> Iterator[Bundle]:
-        """A month's windows, hand-overs, quotes and freezes, revision by revision, and then what came later."""
+        """A month's windows, hand-overs, quotes and freezes, revision by revision, and then the later quotes."""
         new = [it for it in handed if not self._known.has_handover(it)]
-        moved = bundled(0, DESK, (sent_handover(row) for row in new))
+        moved = make_bundles(0, DESK, (sent_handover(row) for row in new))
         own, now = self._windows.get(month), self._known.windows.get(month)
         first = 1
         for turn, release in by_revision(releases):
@@ -403,21 +439,21 @@ class OfficeFiles:
             quoted, first = (first, turn), turn + 1
             if self._is_frozen(release, turn):
                 self._warn_of_late(month, *quoted)
-                yield from self._quoted(window, month, *quoted)
+                yield from self._bundle_quotes(window, month, *quoted)
                 continue
             if not self._is_same(window, now):
                 yield self._calendar(month, release, window)
                 now = window
             yield from moved
             moved = []
-            yield from self._quoted(window, month, *quoted)
+            yield from self._bundle_quotes(window, month, *quoted)
             yield self._freeze(release, window)
         if own is not None and not self._is_same(self._window(month, own), now):
             now = self._window(month, own)
             yield self._calendar(month, own, now)
         yield from moved
         self._warn_of_late(month, first, self._known.revision_of(month))
-        yield from self._quoted(now, month, first, LAST_TURN)
+        yield from self._bundle_quotes(now, month, first, LAST_TURN)
 
     def _warn_of_late(self, month: str, first: int, last: int) -> None:
         """Warns of prices that differ from those with which the office froze these revisions of a month."""
@@ -425,16 +461,16 @@ class OfficeFiles:
         if late is None:
             return
         because = message_of(
-            "{month} is frozen: {count} price of it, from here on, changes no table by itself",
-            "{month} is frozen: {count} prices of it, from here on, changes no table by itself",
+            "{month} is frozen, so {count} of its prices, from this row on, changes no table until it is frozen again",
+            "{month} is frozen, so {count} of its prices, from this row on, change no table until it is frozen again",
             late.number,
             month=of_others(month),
         )
-        do = message("reopen the month and freeze it again, with a row of releases, or take the price out")
+        do = message("reopen the month and freeze it again, with a row in releases, or delete the price")
         self.taken.warnings.append(SheetFault(late.first.origin, because, do))
 
     def _window(self, month: str, row: Row) -> Window:
-        """The window that a row tells; what a release doesn't tell is the calendar's, or the office's."""
+        """The window that a row gives; the calendar's if a release doesn't give one, or the office's."""
         own, known = self._windows.get(month), self._known.windows.get(month, ("", "", ""))
         return tuple(row[it] or (own[it] if own else "") or stored for it, stored in zip(WINDOW, known))
 
@@ -442,26 +478,26 @@ class OfficeFiles:
         return other is not None and [*map(self._moment, window)] == [*map(self._moment, other)]
 
     def _calendar(self, month: str, row: Row, window: Window) -> Bundle:
-        sent = Sent(["calendar", month, *window], row.origin, row.named(FIELDS["calendar"]))
+        sent = Sent(["calendar", month, *window], row.origin, row.name_columns(FIELDS["calendar"]))
         return Bundle(0, DESK, [sent], is_single=True)
 
     def _freeze(self, release: Row, window: Window) -> Bundle:
-        """A freeze at its moment, which is the end of the window if none is given."""
+        """A freeze at its time, which is the end of the window if none is given."""
         own = release.name("frozen_at" if release["frozen_at"] else "month")
         carry = release["carry"].split()
         fields = ["freeze", release["month"], *carry]
-        sent = Sent(fields, release.origin, release.named(FIELDS["freeze"]), own, given=release["frozen_at"])
+        sent = Sent(fields, release.origin, release.name_columns(FIELDS["freeze"]), own, given=release["frozen_at"])
         return Bundle(self._moment(release["frozen_at"] or window[1]), DESK, [sent], is_single=True)
 
-    def _quoted(self, window: Optional[Window], month: str, first: int, last: int) -> Iterator[Bundle]:
+    def _bundle_quotes(self, window: Optional[Window], month: str, first: int, last: int) -> Iterator[Bundle]:
         """Quotes of some revisions as imports of their collectors, as the window opens. No import has a slot twice."""
         at = self._moment(window[0]) if window else 0
         nobody = secrets.token_hex(16)
         for key, rows in self._store.imports(month, first, last, lambda collector: self._keys.get(collector, nobody)):
-            yield from bundled(at if isinstance(at, int) else 0, key, rows)
+            yield from make_bundles(at if isinstance(at, int) else 0, key, rows)
 
     def _moment(self, text: str) -> Union[int, str]:
-        """A moment in seconds; a text that is none goes to the program as it is."""
+        """A moment in seconds; another text goes to the program unchanged."""
         if text.isascii() and text.isdigit() and len(text) <= 10:
             return int(text)
         return self._seconds.get(text, text)
@@ -469,11 +505,11 @@ class OfficeFiles:
 
 def sent_handover(row: Row) -> Sent:
     """A hand-over as it is sent."""
-    return Sent(["handover", *(row[it] for it in MOVED)], row.origin, row.named(MOVED))
+    return Sent(["handover", *(row[it] for it in MOVED)], row.origin, row.name_columns(MOVED))
 
 
 def by_revision(releases: Sequence[Row]) -> list[tuple[int, Row]]:
-    """The releases of a month in their order, each with its revision: as its row has it, or else the next one."""
+    """The releases of a month in their order, each with its revision: the one in its row, or else the next one."""
     found: list[tuple[int, Row]] = []
     for row in sorted(releases, key=lambda it: it["revision"]):
         turn = found[-1][0] + 1 if found else 1
@@ -482,21 +518,22 @@ def by_revision(releases: Sequence[Row]) -> list[tuple[int, Row]]:
 
 
 def told_marks(differ: Differ) -> Message:
-    """That a mean has prices of two marks."""
+    """The text about a mean of prices with two marks."""
     return message(
-        'the price has the mark "{other}", and another one of its month "{one}": they have no mean',
+        'the price has the mark "{other}", but another price of its month has "{one}": prices with two marks have no'
+        " mean",
         one=of_others(differ.one),
         other=of_others(differ.other),
     )
 
 
-LEAVE_ONE = message("leave one of the two rows")
+LEAVE_ONE = message("keep only one of the two rows")
 
 
 def told_again(count: int, named: dict[str, object]) -> Message:
-    """The first price that a row above has too, and how many such prices there are."""
+    """The text about the first price that a row above also contains, with the number of such prices."""
     return message(
-        "the price of slot {slot} in {month} is in row {row} too; prices that are there again: {count}",
+        "the price of slot {slot} in {month} is also in row {row}; number of repeated prices: {count}",
         count=whole(count),
         **named,
     )
@@ -508,19 +545,21 @@ def is_revision(text: str) -> bool:
 
 
 def missing_columns(sheet: Sheet, needed: Iterable[str]) -> Iterator[SheetFault]:
-    """The columns that a sheet lacks."""
+    """The problems of missing columns."""
     has = row_of([message('"{text}"', text=of_others(head)) for head in sheet.written if head])
     for column in needed:
         if column not in sheet.columns:
-            because = message("the column {column} is missing: row 1 has {names}", column=of_others(column), names=has)
+            because = message(
+                "the column {column} is missing: row 1 contains {names}", column=of_others(column), names=has
+            )
             do = message("name a column {column}", column=of_others(column))
             yield SheetFault(Origin(sheet.file, 1, column), because, do)
 
 
 def unread_columns(sheet: Sheet, columns: Columns) -> Iterator[SheetFault]:
-    """The columns of a sheet that nothing is read from."""
+    """The warnings about columns that aren't read."""
     for column, written in zip(sheet.columns, sheet.written):
         if column and column not in columns.needed and column not in columns.others:
             names = row_of([*map(of_others, (*columns.needed, *columns.others))])
-            do = message("nothing, if it isn't one of {columns}", columns=names)
+            do = message("nothing, unless it should be one of {columns}", columns=names)
             yield SheetFault(Origin(sheet.file, 1, written), message("the column isn't read"), do)

@@ -11,16 +11,15 @@ from typing import NamedTuple, Optional
 from ..text.message import Figure, message, message_of
 from ..text.others import of_others
 from .cells import Origin, Row, SheetFault
-from .numbers_of_texts import Numbers, decimal
+from .sheet_numbers import Numbers, decimal, scale_weights
 from .record_rows import FIELDS, Sent
-from .weights import scaled
 
 WHOLE = {"percent": Fraction(100), "permille": Fraction(1000)}
-"""What weights add up to by their unit; money has no such sum."""
+"""The sum of weights in each unit; money has no such sum."""
 
 MOST_AWAY = Fraction(1, 100)
-"""Weights in percent or per mille may add up to this much more or less than all, as a part of all: rounding makes a few
-tenths of a percent of it. More than that is a slip in a weight."""
+"""Weights in percent or per mille may add up to this much more or less than the whole, as a part of the whole: rounding
+causes a few tenths of a percent. A larger difference is a mistake in a weight."""
 
 OPTION = of_others("--weights")
 
@@ -28,7 +27,7 @@ DATE = re.compile(r"[0-9]{4}-[0-9]{2}(-[0-9]{2}(T.*)?)?")
 
 
 class Weighed(NamedTuple):
-    """A weight as it was given and as it is sent, in parts per million; `share` is the exact one."""
+    """A weight as it was given and as it is sent, in parts per million; `share` is the exact weight."""
 
     origin: Origin
     year: str
@@ -39,10 +38,10 @@ class Weighed(NamedTuple):
 
 
 class PlanRows:
-    """What the sheets say of plans, by year."""
+    """The plans in the sheets, by year."""
 
     def __init__(self, numbers: Numbers, unit: str):
-        """`unit` is what the weights are given in: ppm, permille, percent or money."""
+        """`unit` is the unit of the weights: ppm, permille, percent or money."""
         self._numbers, self._unit = numbers, unit
         self._mended: dict[Origin, str] = {}
         """Codes without their first zero, by their cells."""
@@ -57,35 +56,36 @@ class PlanRows:
         items: Sequence[Row],
         plans: Sequence[Row],
     ) -> dict[str, list[Sent]]:
-        """The rows of each year's plan; without a sheet of places each item tells its own code."""
+        """The rows of each year's plan; without a sheet of places, each item gives its own code."""
         rows: dict[str, list[Sent]] = defaultdict(list)
         weights = self._weights(classification)
         years: dict[str, list[str]] = defaultdict(list)
         for row in classification:
             year, code, hint = row["year"], self._code(row), hint_of_code(row["code"])
             rows[year].append(
-                Sent(["T", code, row["title"]], row.origin, row.named(FIELDS["T"]), row.name("year"), hint)
+                Sent(["T", code, row["title"]], row.origin, row.name_columns(FIELDS["T"]), row.name("year"), hint)
             )
             if row["weight"]:
                 years[code].append(year)
                 weight, hint = weights.get(row.origin, row["weight"]), hint or self._hint_of_weight(row["weight"])
-                own = row.named(FIELDS["W"]), row.name("year")
+                own = row.name_columns(FIELDS["W"]), row.name("year")
                 rows[year].append(Sent(["W", code, weight], row.origin, *own, hint, row["weight"]))
-        for year, row in self._placed(years, places, items):
+        for year, row in self._place(years, places, items):
             fields = ["I", row["item"], self._code(row)]
-            own = row.named(FIELDS["I"]), row.name("year")
+            own = row.name_columns(FIELDS["I"]), row.name("year")
             rows[year].append(Sent(fields, row.origin, *own, hint_of_code(row["code"])))
         for row in plans:
             if row["reference"]:
-                own = row.named(FIELDS["R"]), row.name("year")
+                own = row.name_columns(FIELDS["R"]), row.name("year")
                 rows[row["year"]].append(Sent(["R", row["reference"]], row.origin, *own))
         self._tell_mended()
         return {year: rows[year] for year in sorted(rows)}
 
-    def _placed(
+    def _place(
         self, years: dict[str, list[str]], places: Optional[Sequence[Row]], items: Sequence[Row]
     ) -> Iterator[tuple[str, Row]]:
-        """The year and the row of each place: those of `places`; without it, each item's code in all its years."""
+        """The year and the row of each place: the rows of `places`; without that sheet, each item's code in all its
+        years."""
         if places is not None:
             yield from ((row["year"], row) for row in places)
         elif years:
@@ -108,13 +108,13 @@ class PlanRows:
         if self._mended:
             origin, code = next(iter(self._mended.items()))
             because = message_of(
-                "{count} code of the classification lacked the first zero, as {code} here",
-                "{count} codes of the classification lacked the first zero, as {code} here",
+                "{count} code of the classification lacked the first zero, like {code} here",
+                "{count} codes of the classification lacked the first zero, like {code} here",
                 len(self._mended),
                 code=of_others(code),
             )
             do = message(
-                "nothing, if {code} is {mended}: it is read so; the format of text keeps the zero",
+                "nothing, if {code} means {mended}, as it is read; a column formatted as text keeps the zero",
                 code=of_others(code),
                 mended=of_others(f"0{code}"),
             )
@@ -123,13 +123,13 @@ class PlanRows:
     # ---- weights
 
     def _number(self, text: str) -> Optional[Fraction]:
-        """The number of a weight; one in percent may have the sign of it."""
+        """The number of a weight; a weight in percent may have a percent sign."""
         if self._unit == "percent" and text.endswith("%"):
             return self._numbers.of(type(text)(text[:-1]) if type(text) is not str else text[:-1])
         return self._numbers.of(text)
 
     def _hint_of_weight(self, text: str) -> str:
-        """What is known of a weight that the program can't read."""
+        """Hints about a weight that the program can't read."""
         number = self._number(text)
         if number is None:
             return self._numbers.told_none(text)
@@ -139,7 +139,8 @@ class PlanRows:
         return message("{text} isn't whole in parts per million ({option})", text=of_others(text), option=OPTION)
 
     def _weights(self, classification: Sequence[Row]) -> dict[Origin, str]:
-        """Weights in parts per million, by their rows; what is no number, or isn't whole then, isn't among them."""
+        """Weights in parts per million, by their rows; a text that isn't a number, or not a whole one then, isn't among
+        them."""
         given: dict[str, list[tuple[Row, Fraction]]] = defaultdict(list)
         unread = set()
         for row in classification:
@@ -157,29 +158,30 @@ class PlanRows:
             total = sum((number for _, number in rows), Fraction(0)) or Fraction(1)
             if year not in unread:
                 self._look_at_sum(year, rows, total)
-            for (row, number), weight in zip(rows, scaled([number for _, number in rows])):
+            for (row, number), weight in zip(rows, scale_weights([number for _, number in rows])):
                 share = number * 1_000_000 / total
                 self.weighed.append(Weighed(row.origin, year, self._code(row), row["weight"], share, weight))
         return {it.origin: str(it.weight) for it in self.weighed}
 
     def _look_at_signs(self, rows: Sequence[Row]) -> None:
-        """Tells a cell with a percent sign among plain numbers, or one without among those: its unit isn't theirs."""
+        """Reports a cell with a percent sign among plain numbers, or a plain number among percentages: its unit
+        differs."""
         signed = [row for row in rows if row["weight"].endswith("%")]
         plain = [row for row in rows if not row["weight"].endswith("%")]
         if signed and plain:
             odd, others = (signed, plain) if len(signed) <= len(plain) else (plain, signed)
             for row in odd:
                 because = message(
-                    'the weight is "{weight}", and that of row {row} is "{other}"',
+                    'the weight is "{weight}", but the weight in row {row} is "{other}"',
                     weight=of_others(row["weight"]),
                     row=others[0].origin.row,
                     other=of_others(others[0]["weight"]),
                 )
-                do = message("give all weights of the year one format")
+                do = message("write all weights of the year in one format")
                 self.faults.append(SheetFault(row.at("weight"), because, do))
 
     def _look_at_thousands(self, rows: Sequence[Row]) -> None:
-        """Tells `1.250` among whole amounts of money, which have no sum that could tell: it may be 1250."""
+        """Reports `1.250` among whole amounts of money, which have no sum that could show it: it may be 1250."""
         whole = [row for row in rows if row["weight"].isdigit()]
         for row in rows if whole and self._unit == "money" else ():
             if doubt := self._numbers.told_thousands(row["weight"]):
@@ -189,11 +191,11 @@ class PlanRows:
                     row=whole[0].origin.row,
                     weight=of_others(whole[0]["weight"]),
                 )
-                do = message("write it without a mark of thousands, or all weights with their decimals")
+                do = message("write it without a thousands separator, or write all weights with their decimals")
                 self.faults.append(SheetFault(row.at("weight"), because, do))
 
     def _look_at_sum(self, year: str, rows: Sequence[tuple[Row, Fraction]], total: Fraction) -> None:
-        """Tells weights that don't add up to all: a fault if they are far from it."""
+        """Reports weights that don't add up to the whole: a fault if they are far from it."""
         wanted = WHOLE.get(self._unit, total)
         origin = rows[-1][0].at("weight")
         because = message(
@@ -203,21 +205,23 @@ class PlanRows:
             all=Figure(wanted),
         )
         if abs(total - wanted) > MOST_AWAY * wanted:
-            do = message("find the lost digit, the total, or the unit ({option})", option=OPTION)
+            do = message("look for a lost digit, a row with the total, or another unit ({option})", option=OPTION)
             self.faults.append(SheetFault(origin, because, do))
         elif total != wanted:
             do = message(
-                "nothing, if that is rounding: they are scaled, and {file} has each", file=of_others("weights.csv")
+                "nothing, if rounding is the reason: the weights are scaled, and {file} lists each of them",
+                file=of_others("weights.csv"),
             )
             self.warnings.append(SheetFault(origin, because, do))
 
 
 def hint_of_code(code: str) -> str:
-    """What is known of a code of the classification that the program can't read."""
+    """Hints about a code of the classification that the program can't read."""
     if not DATE.fullmatch(code):
         return ""
     return message(
-        "the cell is the date {date}, as a spreadsheet takes {code} for one: give the column the format of text",
+        "the cell contains the date {date}: a spreadsheet turns codes like {code} into dates unless the column is"
+        " formatted as text",
         date=of_others(code),
         code=of_others("01.1.1"),
     )

@@ -1,34 +1,49 @@
-"""The sheet of prices: a row a price, or a column a month. Each cell becomes the quote of a slot in a month."""
+"""The sheet of prices, with a row for each price, or a column for each month. Each cell becomes the quote of a slot in
+a month."""
 
 from __future__ import annotations
 
 import re
-from collections import defaultdict
 from collections.abc import Collection, Iterator, Mapping, Sequence
 from fractions import Fraction
 from typing import NamedTuple, Optional, Union
 
 from ..text.message import Message, message
 from ..text.others import of_others
-from .cells import Capped, Columns, MonthRead, Numeral, Origin, Row, Sheet, SheetFault, cut
-from .months_of_texts import month_of, told_no_month
-from .numbers_of_texts import Numbers
-from .price_store import Form, Price
+from .cells import (
+    Capped,
+    Columns,
+    MonthRead,
+    Numeral,
+    Origin,
+    Quote,
+    Quotes,
+    Row,
+    SentNumbers,
+    Sheet,
+    SheetFault,
+    SlotNumbers,
+    cut,
+    row_of_quote,
+)
+from .sheet_numbers import Numbers, month_of, told_no_month
+from .price_store import Form, Price, PriceStore, StoreRow
 from .record_rows import slot_of
 
 REASONS = ("stock", "closed", "gone", "refused")
-"""Why there is no price."""
+"""The reasons why there is no price."""
 
 MISSING, PRICE, COMPARABLE, OTHER = "missing", "price", "comparable", "other"
 MARKS = (MISSING, PRICE, COMPARABLE, OTHER)
 EMPTY = ("", ".")
-"""Cells of a wide sheet that are no quote."""
+"""Cells of a wide sheet that aren't quotes."""
 
 DAY, SHARE = "day", "share"
-"""What a map tells of a row besides its columns: the day of a price, `2026-01-15`; and by what a price is multiplied, so
-that it is one of the item's unit, such as `1000/450`."""
+"""The facts that a map gives about a row besides its columns: the day of a price, `2026-01-15`; and the factor that
+converts a price to the item's unit, such as `1000/450`."""
 
 VALUE = of_others("value")
+NAMES_CODES = of_others("--missing")
 
 OF_A_ROW = ("month", "value")
 """The columns that only a sheet with a row for each price has."""
@@ -41,7 +56,7 @@ NO_CODES: Mapping[str, str] = {}
 
 
 class Place(NamedTuple):
-    """What a slot prices from its first to its last month; all as texts."""
+    """The outlet and item of a slot from its first to its last month; all as texts."""
 
     collector: str
     slot: str
@@ -51,8 +66,12 @@ class Place(NamedTuple):
     last: str
 
 
+AFTER_ALL = "~"
+"""After each month, as a text."""
+
+
 class Held(NamedTuple):
-    """A place, and the month from which on another slot has its series, empty if none has."""
+    """A place, and the month from which another slot has its series, empty if none has."""
 
     place: Place
     until: str = ""
@@ -73,8 +92,8 @@ class Cell(NamedTuple):
 
 
 class Quoted(NamedTuple):
-    """What a cell is sent as: its mark and value, what is known of a value that is no price, and whether it is the code of a
-    reason."""
+    """The form in which a cell is sent: its mark and value, hints about an invalid price, and whether it is the code of
+    a reason."""
 
     mark: str
     value: str
@@ -83,25 +102,34 @@ class Quoted(NamedTuple):
 
 
 MOST_KNOWN = 50_000
-"""Different cells whose mark and value are kept."""
+"""The most different cells whose mark and value are kept."""
 
 
 class Codes:
-    """The values that stand for a reason why there is no price."""
+    """The values that mean a reason why there is no price."""
 
     def __init__(self, codes: Mapping[str, str], numbers: Numbers):
-        self._numbers = numbers
+        self._numbers, self._codes = numbers, [*codes]
         self._texts = {text.strip().lower(): reason for text, reason in codes.items()}
         found = ((numbers.of(text), reason) for text, reason in codes.items())
         self._values: dict[Fraction, str] = {value: reason for value, reason in found if value is not None}
+        self._met = set[Union[str, Fraction, None]]()
 
     def reason(self, text: str) -> str:
-        """The reason that a text stands for, whatever its form is (`9999.99`, `9,999.990`); empty if it is no code."""
-        reason = self._texts.get(text.strip().lower(), "")
-        if reason or not self._values:
-            return reason
+        """The reason that a text means, whatever its form (`9999.99`, `9,999.990`); empty if it isn't a code."""
+        key = text.strip().lower()
+        reason = self._texts.get(key, "")
+        if not reason and not self._values:
+            return ""
         value = self._numbers.of(text)
-        return "" if value is None else self._values.get(value, "")
+        reason = reason or ("" if value is None else self._values.get(value, ""))
+        if reason:
+            self._met |= {key, value} - {None}
+        return reason
+
+    def unmet(self) -> list[str]:
+        """The codes, as they were given, that haven't occurred so far."""
+        return [code for code in self._codes if self._met.isdisjoint({code.strip().lower(), self._numbers.of(code)})]
 
 
 class PriceCells:
@@ -116,11 +144,11 @@ class PriceCells:
         ignored: Collection[str],
         codes: Mapping[str, str] = NO_CODES,
     ):
-        """`minor` is how many minor units are in a unit of the prices; `ignored` are columns in small letters that
-        aren't read on purpose; `codes` are the texts that stand for a reason."""
+        """`minor` is the number of minor units in a unit of the prices; `ignored` are columns, in small letters, that
+        aren't read on purpose; `codes` are the texts that mean a reason."""
         self._sheet, self._numbers, self._minor = sheet, numbers, minor
         self._codes = Codes(codes, numbers)
-        self._places: dict[tuple[str, str], list[Held]] = {}
+        self._places: dict[tuple[str, str], tuple[Held, ...]] = {}
         self._of_slots: dict[tuple[str, str], Place] = {}
         self._read: dict[str, str] = {}
         self._currency: Optional[tuple[str, Cell]] = None
@@ -138,14 +166,16 @@ class PriceCells:
         self.needed: tuple[str, ...] = slot if self.is_wide else (*slot, *OF_A_ROW)
         if self.is_wide and not self._months:
             because = message("no column is a month, and there is no column {column}", column=VALUE)
-            do = message("write a month like {month} above prices, or give a row to each price", month=MONTH)
+            do = message(
+                "write a month like {month} above the prices, or write each price in a row of its own", month=MONTH
+            )
             self.faults.add(SheetFault(self.heading, because, do))
 
     # ---- the form of the sheet
 
     def _months_of_columns(self, columns: Columns, ignored: Collection[str]) -> list[tuple[str, str, str]]:
-        """The columns of a wide sheet that are a month: their name, their name as it is written, and the month. What is
-        neither such a column nor a known one is a problem."""
+        """The columns of a wide sheet that are months: name, name as written, and month. A column that is neither a
+        month nor a known column is a problem."""
         found: dict[str, tuple[str, str, str]] = {}
         known = {*columns.needed, *columns.others}
         for column, written in zip(self._sheet.columns, self._sheet.written):
@@ -155,16 +185,16 @@ class PriceCells:
             if month and self.is_wide and month in found:
                 two = {"one": of_others(found[month][1]), "other": of_others(written)}
                 both = message('"{one}" and "{other}" are both the month {month}', **two, month=of_others(month))
-                self._tell_column(written, both, message("leave one of the two columns"))
+                self._tell_column(written, both, message("keep only one of the two columns"))
             elif month and self.is_wide:
                 found[month] = (column, written, month)
             elif month:
                 because = message(
-                    "{text} is a month, and a sheet with a column {column} has a row for each price",
+                    "{text} is a month, but a sheet with a column {column} has a row for each price",
                     text=of_others(written),
                     column=VALUE,
                 )
-                do = message("take out the column {column}, or those that are months", column=VALUE)
+                do = message("delete the column {column}, or the columns that are months", column=VALUE)
                 self._tell_column(written, because, do)
             elif column not in known:
                 do = message(
@@ -175,8 +205,8 @@ class PriceCells:
                 self._tell_column(written, told_no_month(written), do)
         if found and "month" in self._sheet.columns and "month" not in ignored:
             column = of_others("month")
-            because = message("a sheet with a column for each month has no column {column}", column=column)
-            do = message("take out the column {column}, or give a row to each price", column=column)
+            because = message("a sheet with a column for each month can't have a column {column}", column=column)
+            do = message("delete the column {column}, or write each price in a row of its own", column=column)
             self._tell_column("month", because, do)
         return [*found.values()]
 
@@ -189,22 +219,22 @@ class PriceCells:
         return Origin(self._sheet.file, 1)
 
     def readings(self) -> list[MonthRead]:
-        """Each text of a month that was read, once for each column, but for those like `2026-01`."""
+        """Each text that was read as a month, once for each column, except texts like `2026-01`."""
         of_heads = [MonthRead(self._sheet.file, written, written, month) for _, written, month in self._months]
         of_rows = [MonthRead(self._sheet.file, "month", text, month) for text, month in self._read.items()]
         return [it for it in (*of_heads, *of_rows) if it.month not in ("", it.text)]
 
-    def _cells(self) -> Iterator[Cell]:
-        for row in self._sheet.rows:
-            if self.is_wide:
-                cells = ((month, written, row[column]) for column, written, month in self._months)
-                yield from (Cell(row, it, text, name, name) for it, name, text in cells if text.strip() not in EMPTY)
-            elif month := self._month(row):
-                names = row.names
-                yield Cell(row, month, row["value"], names.get("month", "month"), names.get("value", "value"))
+    def _cells(self, row: Row) -> Iterator[Cell]:
+        """The cells of a row that have a price or a reason."""
+        if self.is_wide:
+            cells = ((month, written, row[column]) for column, written, month in self._months)
+            yield from (Cell(row, it, text, name, name) for it, name, text in cells if text.strip() not in EMPTY)
+        elif month := self._month(row):
+            names = row.names
+            yield Cell(row, month, row["value"], names.get("month", "month"), names.get("value", "value"))
 
     def _month(self, row: Row) -> str:
-        """The month of a row; empty, and told, if it can't be read."""
+        """The month of a row; empty, and reported, if it can't be read."""
         text = row["month"]
         month = self._read.get(text)
         if month is None:
@@ -216,7 +246,7 @@ class PriceCells:
     # ---- whose price it is
 
     def place(self, places: Sequence[Place], handed: Sequence[Row]) -> None:
-        """Notes what each slot prices, and from when on another does by a hand-over."""
+        """Notes the outlet and item of each slot, and the months from which other slots take over by hand-overs."""
         held = {(it.collector, it.slot): Held(it) for it in places}
         for row in handed:
             former = held.get((row["collector"], row["slot"]))
@@ -225,22 +255,23 @@ class PriceCells:
                 held[row["collector"], row["slot"]] = former._replace(until=row["month"])
                 held[row["to"], row["to_slot"]] = Held(new)
         self._of_slots = {slot: it.place for slot, it in held.items()}
-        self._places = defaultdict(list)
         for it in held.values():
-            self._places[it.place.outlet, it.place.item].append(it)
+            of = it.place.outlet, it.place.item
+            self._places[of] = (*self._places.get(of, ()), it)
 
     @property
     def slots(self) -> Mapping[tuple[str, str], Place]:
-        """What each slot prices, by collector and slot."""
+        """The outlet and item of each slot, by collector and slot."""
         return self._of_slots
 
     def _slot(self, cell: Cell) -> Optional[tuple[str, str, str]]:
-        """Collector and slot of a price, as told or by its outlet and item; and the column that tells."""
+        """The collector and slot of a price, as given, or found from its outlet and item; and the column that gives
+        them."""
         row, cells = cell.row, cell.row.cells
         collector = cells.get("collector", "")
         if collector and row["slot"] or not self._has_items:
             return None if self._is_of_another(row) else (collector, row["slot"], "slot")
-        of_series = self._places.get((cells.get("outlet", ""), cells.get("item", "")), [])
+        of_series = self._places.get((cells.get("outlet", ""), cells.get("item", "")), ())
         places = [it.place for it in of_series if it.is_in(cell.month) and collector in ("", it.place.collector)]
         if len(places) == 1:
             return places[0].collector, places[0].slot, "item"
@@ -248,7 +279,7 @@ class PriceCells:
         return None
 
     def _is_of_another(self, row: Row) -> bool:
-        """Tells a row whose slot prices another item, or in another outlet, than the row names too."""
+        """Reports a row whose slot has another item or outlet than the row names."""
         of = self._of_slots.get((row["collector"], row["slot"]))
         for name in ("outlet", "item") if of else ():
             if row[name] and row[name] != getattr(of, name):
@@ -257,7 +288,7 @@ class PriceCells:
         return False
 
     def _told_no_slot(self, cell: Cell, has_series: bool, has_several: bool) -> SheetFault:
-        """Why a price isn't that of one slot: once for a row if that is so in each of its months."""
+        """The reason why a price doesn't belong to one slot; once for a row if this holds in all its months."""
         row = cell.row
         if not row["outlet"] or not row["item"]:
             return told_unnamed(row)
@@ -275,28 +306,83 @@ class PriceCells:
 
     # ---- quotes
 
-    def prices(self) -> Iterator[Price]:
-        """All cells as they are sent, in the order of the sheet."""
-        for cell in self._cells():
+    def unmet_codes(self) -> Iterator[SheetFault]:
+        """Reports each code of a reason that hasn't occurred so far: the sheet may write it in another way."""
+        sign = of_others(self._numbers.decimal)
+        for code in self._codes.unmet():
+            because = message('no price is "{text}", which {option} names', text=cut(code), option=NAMES_CODES)
+            do = message(
+                'write it as it is in a cell of the sheet, whose numbers have the decimal sign "{sign}"', sign=sign
+            )
+            yield SheetFault(self.heading, because, do)
+
+    def make_rows(self, store: PriceStore) -> Iterator[Sequence[StoreRow]]:
+        """All cells as rows of a store, some at a time, in the order of the sheet."""
+        for row in self._sheet.rows if self._sheet.quotes is None else self._sheet.quotes:
+            if isinstance(row, Quotes):
+                yield self._rows_of_quotes(row, store)
+            else:
+                yield [store.number(price) for price in self._prices_of(row)]
+
+    def _prices_of(self, row: Row) -> Iterator[Price]:
+        """The cells of a row as they are sent."""
+        for cell in self._cells(row):
             self.count += 1
             slot, turn = self._slot(cell), self._turn(cell.row)
             if slot is not None and turn is not None:
                 yield self._price_of(cell, turn, *slot)
+
+    def _rows_of_quotes(self, quotes: Quotes, store: PriceStore) -> Sequence[StoreRow]:
+        """Quotes as rows of a store; those of which not all is known, or there may be something to tell, are read as
+        rows of the sheet."""
+        rows: list[StoreRow] = []
+        add = rows.append
+        for quote in quotes:
+            number, series, month, text, place = quote
+            slot, sent, at = series.slot, text.sent, month.text
+            form = place.marked if text.mark else place.plain
+            if slot is not None and sent is not None and form >= 0 and month.number:
+                collector, slot_number, first, last, until = slot
+                if first <= at <= last and at < until:
+                    mark, value, said = sent
+                    self.count += 1
+                    add((month.number, 1, collector, slot_number, mark, value, "", number, form, said, month.day))
+                    continue
+            rows += self._learn_quote(quote, store)
+        return rows
+
+    def _learn_quote(self, quote: Quote, store: PriceStore) -> list[StoreRow]:
+        """The row of a store that a quote is, none if it has a problem; notes what its texts are in the store."""
+        _, series, month, text, place = quote
+        rows = [store.number(price) for price in self._prices_of(row_of_quote(quote))]
+        for month_number, _, collector, slot, mark, value, _, _, form, said, _ in rows:
+            held = self._places.get((series.outlet, series.item), ())
+            if len(held) == 1:
+                of_series, until = held[0]
+                series.slot = SlotNumbers(collector, slot, of_series.first, of_series.last, until or AFTER_ALL)
+            if self._read.get(month.text) == month.text:
+                month.number = month_number
+            text.sent = SentNumbers(mark, value, said)
+            if text.mark:
+                place.marked = form
+            else:
+                place.plain = form
+        return rows
 
     def _turn(self, row: Row) -> Optional[int]:
         revision = row["revision"]
         if not revision:
             return 1
         if not re.fullmatch("[1-9]|10", revision):
-            because, do = message('"{text}" is no revision', text=of_others(revision)), message(
-                "give 1 to 9, or leave it empty"
+            because, do = message('"{text}" isn\'t a revision', text=of_others(revision)), message(
+                "write 1 to 9, or leave it empty"
             )
             self.faults.add(SheetFault(row.at("revision"), because, do))
             return None
         return int(revision)
 
     def _price_of(self, cell: Cell, turn: int, collector: str, slot: str, column: str) -> Price:
-        """The quote of a cell: a reason, or a price by itself or behind its mark; `confirm` as the row has it."""
+        """The quote of a cell: a reason, or a price by itself or after its mark; `confirm` as in the row."""
         row, text = cell.row, cell.text
         cells = row.cells
         own = cells.get("mark", "")
@@ -313,7 +399,7 @@ class PriceCells:
         return Price(*sent, row.origin.row, form, str(text), hint, cells.get(DAY, ""))
 
     def _read_cell(self, cell: Cell, mark: str) -> Quoted:
-        """The mark and the value of a cell; `mark` is that of its row."""
+        """The mark and the value of a cell; `mark` is the mark of its row."""
         value = cell.text
         if not mark:
             first, *others = value.split() or [""]
@@ -331,7 +417,7 @@ class PriceCells:
         return Quoted(mark, minor.strip(), hint)
 
     def _form(self, cell: Cell, has_mark: bool, column: str) -> Form:
-        """Where the fields of a cell come from; few cells differ in it."""
+        """The origin of a cell's fields; few cells differ in it."""
         row, file = cell.row, cell.row.origin.file
         key = (id(row.names), file, cell.text_column, has_mark, column)
         known = self._forms.get(key)
@@ -344,22 +430,21 @@ class PriceCells:
         return known[1]
 
     def _look_at_currency(self, cell: Cell, currency: str) -> None:
-        """Tells a price that its cell shows in another currency than the first price that has one."""
+        """Reports a price whose cell shows another currency than the first price with a currency."""
         first = self._currency = self._currency or (currency, cell)
         if first[0] != currency:
             because = message(
-                'the price is shown in "{currency}", and that of row {row}, {column} in "{other}"',
+                'the price is shown in "{currency}", but the price in row {row}, {column} in "{other}"',
                 currency=cut(currency),
                 row=first[1].row.origin.row,
                 column=of_others(first[1].text_column),
                 other=cut(first[0]),
             )
-            do = message("give all prices in one currency, and all cells its format")
+            do = message("write all prices in one currency, and give all cells its format")
             self.faults.add(SheetFault(cell.row.origin.at(cell.text_column), because, do))
 
     def _minor_units(self, cell: Cell, text: str) -> tuple[str, Union[Message, str]]:
-        """A price in minor units; what is no whole number of them goes to the program as it is, which refuses it, with
-        what is known of it."""
+        """A price in minor units; another text goes unchanged to the program, which refuses it, with hints about it."""
         number = self._numbers.of(text)
         if isinstance(text, Numeral) and text.currency:
             self._look_at_currency(cell, text.currency)
@@ -382,22 +467,22 @@ class PriceCells:
 
 
 def told_of_another(row: Row, name: str, other: str) -> SheetFault:
-    """A row whose slot prices another outlet or item, `name`, than the row has."""
+    """The problem of a row whose slot has another outlet or item, `name`, than the row."""
     named = {"text": cut(row[name]), "slot": slot_of(row["collector"], row["slot"]), "other": cut(other)}
     if name == "outlet":
-        because = message('the row has the outlet "{text}", and slot {slot} prices "{other}"', **named)
-        do = message("mend the slot or the outlet, or leave one of the two out")
+        because = message('the row names the outlet "{text}", but slot {slot} is in "{other}"', **named)
+        do = message("correct the slot or the outlet, or leave one of the two out")
     else:
-        because = message('the row has the item "{text}", and slot {slot} prices "{other}"', **named)
-        do = message("mend the slot or the item, or leave one of the two out")
+        because = message('the row names the item "{text}", but slot {slot} prices "{other}"', **named)
+        do = message("correct the slot or the item, or leave one of the two out")
     return SheetFault(row.at(name), because, do)
 
 
 def told_unnamed(row: Row) -> SheetFault:
-    """A row that has prices and no outlet, no item or neither."""
-    do = message("write it in each row with a price; a unit, a total or a note isn't read: take it out")
+    """The problem of a row that has prices, but no outlet, no item or neither."""
+    do = message("write it in each row with a price; rows with a unit, a total or a note aren't read, so delete them")
     if row["outlet"]:
-        return SheetFault(row.at("item"), message("the row has prices and names no item"), do)
+        return SheetFault(row.at("item"), message("the row has prices, but names no item"), do)
     if row["item"]:
-        return SheetFault(row.at("outlet"), message("the row has prices and names no outlet"), do)
-    return SheetFault(row.at("outlet"), message("the row has prices and names no outlet and item"), do)
+        return SheetFault(row.at("outlet"), message("the row has prices, but names no outlet"), do)
+    return SheetFault(row.at("outlet"), message("the row has prices, but names neither an outlet nor an item"), do)

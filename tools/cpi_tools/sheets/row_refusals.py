@@ -1,7 +1,7 @@
-"""The words to the desk about a row that the program refused: what was read, and what is wanted instead.
+"""The texts for the desk about a row that the program refused: what was read, and the form that is wanted instead.
 
-The numbers are the program's; `words.py` has what its guides say of them. Here are the words for a reader who has the
-sheet open: no slot is "yours", and what has no form is named by its column.
+The numbers are the program's; `office/refusals.py` contains the texts of the guides about them. This module contains
+the texts for a reader who has the sheet open: no slot is "yours", and a field without a form is named by its column.
 """
 
 from __future__ import annotations
@@ -10,23 +10,22 @@ from collections.abc import Callable
 
 from ..office.program import Reply
 from ..office.refusals import Words, refusal_words, sentence
-from ..text.message import Code, Message, said_as, message
+from ..text.message import Code, Message, message, said_as
 from ..text.others import Worded, of_others
 from .cells import cut
-from .hints import unpacked
-from .months_of_texts import month_of, told_no_month
+from .sheet_numbers import month_of, told_no_month, unpack_hint
 from .record_rows import DESK, Sent, slot_of
 
 GUIDE = of_others("docs/decide/MIGRATING-AN-OFFICE.md")
-"""The guide that has the columns of sheets."""
+"""The guide that describes the columns of sheets."""
 
 MONTH = of_others("2026-01"), of_others("2000-01"), of_others("2199-12")
 
 
 def number(least: int, most: int) -> Message:
-    """A whole number in its limits."""
+    """The text that asks for a whole number within limits."""
     return message(
-        "write a whole number from {least} to {most}, without zeros before it ({guide})",
+        "write a whole number from {least} to {most}, without leading zeros ({guide})",
         least=Code(least),
         most=Code(most),
         guide=GUIDE,
@@ -43,7 +42,7 @@ A_MONTH = message(
     guide=GUIDE,
 )
 A_LAST_MONTH = message(
-    "write a month like {month}, from {first} to {last}, and not before the first ({guide})",
+    "write a month like {month}, from {first} to {last}, and not before the first month ({guide})",
     month=MONTH[0],
     first=MONTH[1],
     last=MONTH[2],
@@ -52,26 +51,26 @@ A_LAST_MONTH = message(
 A_TIME = of_others("2026-01-01T06:00")
 MOMENT = message(
     "write a time like {time}, or seconds since 1970 UTC; a window opens before it closes, and its table is published"
-    " then or later ({guide})",
+    " when it closes or later ({guide})",
     time=A_TIME,
     guide=GUIDE,
 )
-CODE = message("write a code like {code} of the classification ({guide})", code=of_others("01.1.1"), guide=GUIDE)
+CODE = message("write a code of the classification, like {code} ({guide})", code=of_others("01.1.1"), guide=GUIDE)
 
 WANTED: dict[tuple[str, str], Message] = {
     ("item", "item"): message("write 1 to 12 characters of A-Z and 0-9 ({guide})", guide=GUIDE),
     ("item", "text"): TEXT,
     ("item", "unit"): TEXT,
     ("item", "low"): message(
-        "write a whole number from {least} to {most}, without zeros before it: the lowest price inside, in thousandths of"
-        " the last one ({guide})",
+        "write a whole number from {least} to {most}, without leading zeros: the lowest price that needs no second"
+        " look, in thousandths of the last one ({guide})",
         least=Code(1),
         most=Code(1000),
         guide=GUIDE,
     ),
     ("item", "high"): message(
-        "write a whole number from {least} to {most}, without zeros before it: the highest price inside, in thousandths"
-        " of the last one ({guide})",
+        "write a whole number from {least} to {most}, without leading zeros: the highest price that needs no second"
+        " look, in thousandths of the last one ({guide})",
         least=Code(1000),
         most=Code(10000),
         guide=GUIDE,
@@ -80,12 +79,12 @@ WANTED: dict[tuple[str, str], Message] = {
     ("outlet", "name"): TEXT,
     ("collector", "collector"): number(1, 9999),
     ("collector", "key"): message(
-        "write 32 characters of 0-9 and a-f; an empty cell has one drawn ({guide})", guide=GUIDE
+        "write 32 characters of 0-9 and a-f, or leave the cell empty to have a key drawn ({guide})", guide=GUIDE
     ),
     ("assign", "collector"): number(1, 9999),
     ("assign", "slot"): message(
-        "write a whole number from {least} to {most}, without zeros before it; an empty cell takes the next free one"
-        " ({guide})",
+        "write a whole number from {least} to {most}, without leading zeros, or leave the cell empty to take the next"
+        " free one ({guide})",
         least=Code(1),
         most=Code(400),
         guide=GUIDE,
@@ -113,13 +112,15 @@ WANTED: dict[tuple[str, str], Message] = {
         missing=of_others("missing"),
         guide=GUIDE,
     ),
-    ("quote", "confirm"): message("write {word}, or an empty cell ({guide})", word=of_others("confirm"), guide=GUIDE),
+    ("quote", "confirm"): message(
+        "write {word}, or leave the cell empty ({guide})", word=of_others("confirm"), guide=GUIDE
+    ),
     ("freeze", "month"): A_MONTH,
     ("freeze", "frozen_at"): message(
         "write a time like {time}, or seconds since 1970 UTC ({guide})", time=A_TIME, guide=GUIDE
     ),
     ("freeze", "carry"): message(
-        "write codes of elementary aggregates like {code}, blanks between them ({guide})",
+        "write codes of elementary aggregates like {code}, with blanks between them ({guide})",
         code=of_others("01.1.1.1-01"),
         guide=GUIDE,
     ),
@@ -127,7 +128,7 @@ WANTED: dict[tuple[str, str], Message] = {
     ("T", "title"): TEXT,
     ("W", "code"): CODE,
     ("W", "weight"): message(
-        "write a whole number from 1 to 1,000,000 in parts per million, or another unit by {option} ({guide})",
+        "write a whole number from 1 to 1,000,000 in parts per million, or name another unit with {option} ({guide})",
         option=of_others("--weights"),
         guide=GUIDE,
     ),
@@ -135,7 +136,8 @@ WANTED: dict[tuple[str, str], Message] = {
     ("I", "code"): CODE,
     ("R", "reference"): A_MONTH,
 }
-"""What a field takes, by the word of its record and the field's name. The limits are those of docs/reference/OFFICE.md."""
+"""The texts that a field accepts, by the word of its record and the field's name. The limits come from
+docs/reference/OFFICE.md."""
 
 REASONS = {name: of_others(name) for name in ("stock", "closed", "gone", "refused")}
 REASON = message("write {stock}, {closed}, {gone} or {refused} ({guide})", **REASONS, guide=GUIDE)
@@ -154,18 +156,18 @@ PRICE = message(
 
 
 def words_of(row: Sent, reply: Reply, column: str) -> Words:
-    """Why a row was refused at a column, with what else the reply has, and what to do."""
+    """The reason why a row was refused at a column, with the rest of the reply, and what to do."""
     own = OWN.get((row.word, reply["refused"]))
     if reply["refused"] == 10:
         return unread(row, column)
     if reply["refused"] == 26:
         because = message(
-            "the price is far from the last one: {price} after {last}, where {low} to {high} are inside",
+            "the price is far from the last one: {price} after {last}, outside the range from {low} to {high}",
             price=of_others(row.fields[4]),
             **{name: Code(reply[name]) for name in ("last", "low", "high")},
         )
         do = message(
-            "look again; mend it, or confirm it: by a column {column}, or all that are outside by {option}",
+            "look again; correct it, or confirm it with a column {column}, or all prices outside with {option}",
             column=of_others("confirm"),
             option=of_others("--confirm-history"),
         )
@@ -174,7 +176,7 @@ def words_of(row: Sent, reply: Reply, column: str) -> Words:
 
 
 def said_words(reply: Reply, word: str) -> Words:
-    """The words of the desk's guide about a refusal, with the code that the reply has; a page has them as sentences."""
+    """The words of the desk's guide about a refusal, with the code in the reply; a page shows them as sentences."""
     because, do = refusal_words(reply, DESK, word)
     why = message(sentence(because))
     if "code" in reply:
@@ -184,34 +186,34 @@ def said_words(reply: Reply, word: str) -> Words:
 
 
 def said_do(do: str) -> Message:
-    """What to do, which a page has as a sentence."""
+    """The instruction, which a page shows as a sentence."""
     return said_as(do, message(sentence(do)))
 
 
 def unread(row: Sent, column: str) -> Words:
-    """The words about a cell that the program can't read."""
+    """The texts about a cell that the program can't read."""
     names = [name for name, it in row.sources() if it == column]
     # (a cell of prices has no other column for its mark, and in a wide sheet none for its month)
     name = "value" if row.word == "quote" and "value" in names else names[0] if names else column
     text, wanted = row.text_of(name), wanted_of(row, name)
     because: str
     if row.hint and name in ("value", "weight", "code"):
-        because = unpacked(row.hint)
+        because = unpack_hint(row.hint)
     elif wanted in (A_MONTH, A_LAST_MONTH) and not month_of(text):
         because = told_no_month(text)
     elif name == "value" and row.fields[3] == "missing":
-        because = message('"{text}" is no reason', text=cut(text))
+        because = message('"{text}" isn\'t a reason', text=cut(text))
     elif name == "value":
-        because = message('"{text}" is no price', text=cut(text))
+        because = message('"{text}" isn\'t a price', text=cut(text))
     elif text:
-        because = message('the column {column} has "{text}"', column=of_others(column), text=cut(text))
+        because = message('the column {column} contains "{text}"', column=of_others(column), text=cut(text))
     else:
         because = message("the cell in the column {column} is empty", column=of_others(column))
     return Words(because, wanted)
 
 
 def wanted_of(row: Sent, name: str) -> Message:
-    """What to write into a field."""
+    """The instruction what to write into a field."""
     if row.word == "quote" and name == "value":
         return REASON if row.fields[3] == "missing" else PRICE
     takes = message("write what the column {column} takes ({guide})", column=of_others(name), guide=GUIDE)
@@ -227,7 +229,7 @@ def _field(row: Sent, at: int) -> Worded:
 
 
 def _slot(row: Sent, collector: int, slot: int) -> Worded:
-    """The slot that two fields of a row are."""
+    """The slot that two fields of a row give."""
     return slot_of(row.fields[collector], row.fields[slot])
 
 
@@ -250,10 +252,10 @@ OWN: dict[tuple[str, int], Callable[[Sent], Words]] = {
     ),
     ("collector", 40): lambda row: Words(
         message("the collector {number} has another key, or the key is another collector's", number=_field(row, 1)),
-        message("write the key that it has, or leave it empty; a new collector takes the next free number"),
+        message("write the collector's own key, or leave it empty; give a new collector the next free number"),
     ),
     ("assign", 40): lambda row: Words(
-        message("slot {slot} has another series, or was handed over since", slot=_slot(row, 1, 2)),
+        message("slot {slot} has another series, or has been handed over since", slot=_slot(row, 1, 2)),
         message("take the next free slot, or leave the slot empty"),
     ),
     ("assign", 41): lambda row: Words(
@@ -280,11 +282,11 @@ OWN: dict[tuple[str, int], Callable[[Sent], Words]] = {
     ),
     ("quote", 11): lambda row: Words(
         message("the collector {number} isn't known", number=of_others(row.collector)),
-        message("add it to the sheet {sheet}, or mend its key there", sheet=of_others("collectors")),
+        message("add it to the sheet {sheet}, or correct its key there", sheet=of_others("collectors")),
     ),
     ("quote", 20): lambda row: Words(
         message("no series has slot {slot}", slot=_own(row)),
-        message("check the sheet {sheet}, or mend the slot", sheet=of_others("series")),
+        message("check the sheet {sheet}, or correct the slot", sheet=of_others("series")),
     ),
     ("quote", 21): lambda row: Words(
         message("{month} has no window", month=_field(row, 2)),
@@ -311,4 +313,4 @@ OWN: dict[tuple[str, int], Callable[[Sent], Words]] = {
     ),
     ("quote", 90): lambda _: Words(message("memory or the disk failed"), message("nothing was changed; run it again")),
 }
-"""The words of refusals that the guides say otherwise, by the record's word and the number."""
+"""The texts of refusals that the guides describe in other words, by the record's word and the number."""

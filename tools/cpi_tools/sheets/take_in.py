@@ -1,7 +1,7 @@
-"""An office's spreadsheets become the records of `cpi`: read, judged by the program, and written.
+"""Turns an office's spreadsheets into records of `cpi`: reads them, lets the program judge them, and writes them.
 
-What would be refused is told by the program, over an office in memory or over a private copy of another one. No office
-is written: files of records are made, and the desk sends them. `maps/take_in_words` has the tool.
+The program says which records it would refuse, over an office in memory or over a private copy of another one. No
+office is written: files of records are made, and the desk sends them. `maps/take_in_words` contains the tool.
 """
 
 from __future__ import annotations
@@ -11,34 +11,33 @@ import itertools
 import shlex
 from collections.abc import Callable, Iterable, Iterator, Mapping, Sequence
 from pathlib import Path
-from typing import NamedTuple, Optional
+from typing import NamedTuple, Optional, TypeVar
 
 from ..office.copying import private_copy
-from ..office.private_files import private_file, write_rows
+from ..office.folders import new_room, private_file, write_rows
 from ..office.program import Cpi
-from ..office.rooms import new_room
 from ..office.stored import stored_office
 from ..text.report_language import ENGLISH, Teller
 from ..text.terminal import Progress
-from .converted import converted
+from .converted import convert
 from .judge import Judge, Judged, moments_of
-from .known_rows import NOTHING, Known
-from .known_sheets import known_of
-from .numbers_of_texts import decimal
+from .known_rows import NOTHING, Known, known_of
+from .sheet_numbers import decimal
 from .office_files import OfficeFiles, Options, Taken
-from .office_sheets import SHEETS
-from .record_rows import MOST_RECORDS, Bundle
+from .record_rows import MOST_RECORDS, SHEETS, KeptLines
 from .sheet_files import Sheets, Source, files_of
 from .taken_page import page
 
 
+Part = TypeVar("Part")
+
 Opener = Callable[[Mapping[Path, Path], Known], Sheets]
-"""Opens the sheets of an office; handed in are the workbooks that files of other kinds became, and what the office to
-which the sheets are added has already."""
+"""Opens the sheets of an office, given the workbooks that files of other kinds became, and the rows of the office to
+which the sheets are added."""
 
 
 class TakenIn(NamedTuple):
-    """What the files say, and what the program says to it."""
+    """The contents of the files, and the program's verdict on them."""
 
     taken: Taken
     judged: Judged
@@ -54,31 +53,35 @@ def taken_in(
     own: Sequence[Path] = (),
     progress: Optional[Progress] = None,
     opener: Optional[Opener] = None,
+    keeps: bool = False,
 ) -> Iterator[TakenIn]:
     """Reads the files of a folder or a workbook, and lets the program judge them.
 
     `onto` is the file of an office to which they are to be added: it is copied, and not a byte of it changes. `own` are
-    folders that this tool writes, and doesn't read; `opener` opens sheets of other forms. What was
-    taken is kept as long as the context is. Raises Fault if
-    the folder can't be read, no right copy can be made, or the program fails.
+    folders that this tool writes, and doesn't read; `opener` opens sheets of other forms. The records
+    taken in are kept as long as the context is, and if it `keeps` them, their lines too, so that they are quick to
+    write. Raises Fault if the folder can't be read, no right copy can be made, or the program fails.
     """
     now = progress.now if progress else lambda _: None
     now(f"reading {folder}")
     with contextlib.ExitStack() as stack:
         copy = stack.enter_context(private_copy(onto)) if onto else None
-        with converted(files_of(folder)) as workbooks, known_from(cpi, copy, onto) as known:
+        with convert(files_of(folder)) as workbooks, known_from(cpi, copy, onto) as known:
             opened = opener or (lambda books, _: Source(folder, SHEETS, options.ignored, own, books))
             with contextlib.closing(opened(workbooks, known)) as source:
                 files = OfficeFiles(source, options, known, lambda texts: moments_of(cpi, texts, zone), onto is None)
                 taken = files.in_order()
         stack.callback(taken.store.close)
+        if keeps:
+            taken.bundles.kept = stack.enter_context(contextlib.closing(KeptLines()))
         now("cpi judges what was read")
         yield TakenIn(taken, Judge(cpi, zone, options.is_confirmed, known.items).judge(taken, copy))
 
 
 @contextlib.contextmanager
 def known_from(cpi: Cpi, copy: Optional[Path], onto: Optional[Path]) -> Iterator[Known]:
-    """What the copy of an office has, once the program has opened it: so its schema is the one that is read here."""
+    """The rows in the copy of an office, once the program has opened it, so that its schema is the one that is read
+    here."""
     if copy is None or onto is None:
         yield NOTHING
         return
@@ -111,26 +114,27 @@ def write_check(out: Path, name: str, onto: Optional[Path], result: TakenIn, tel
 
 
 def write_records(out: Path, taken: Taken, most: int = MOST_RECORDS) -> list[Path]:
-    """Writes a new folder of records, `most` a file, whole or not at all; the files, none if nothing is to be sent.
+    """Writes a new folder of records, `most` a file, completely or not at all; returns the files, none if there is
+    nothing to send.
 
-    A key that was drawn is in `keys.csv` next to them, and in no other place but the records.
+    A drawn key is only in the records, and in `keys.csv` next to them.
     """
     out.parent.mkdir(parents=True, exist_ok=True)
     with new_room(".cpi-take-in-", out.parent) as room:
         made = room / "records"
         made.mkdir(mode=0o700)
         names = []
-        for number, part in enumerate(parted(taken.bundles, most), 1):
+        for number, part in enumerate(part_bundles(taken.bundles.lines(), most), 1):
             names.append(f"records-{number:02}.csv")
             with private_file(made / names[-1]) as file:
-                file.writelines(f"{it.line()}\n" for it in part)
+                file.writelines(f"{line}\n" for line in part)
         if taken.drawn:
             write_rows(made / "keys.csv", ("collector", "key"), taken.drawn.items())
         made.rename(out)
     return [out / name for name in names]
 
 
-def parted(bundles: Iterable[Bundle], most: int) -> Iterator[Iterator[Bundle]]:
+def part_bundles(bundles: Iterable[Part], most: int) -> Iterator[Iterator[Part]]:
     """What is sent in parts of at most so many, each to be read before the next one."""
     left = iter(bundles)
     for first in left:

@@ -1,7 +1,8 @@
-"""`cpi-tools take-out FILE FOLDER`: an office's file as the spreadsheets that `take-in` reads. Nobody is locked in.
+"""`cpi-tools take-out FILE FOLDER`: writes an office's file as the spreadsheets that `take-in` reads, so that no office
+is locked in.
 
-Prices are in minor units, weights in parts per million, moments in seconds since 1970 UTC. Each quote says the first
-revision whose freeze took it; one that came after the last freeze says the revision after that. All prices that could
+Prices are in minor units, weights in parts per million, moments in seconds since 1970 UTC. Each quote names the first
+revision whose freeze took it; a quote that came after the last freeze names the next revision. All prices that could
 have been outside the tolerance are confirmed: they were accepted once.
 """
 
@@ -15,12 +16,11 @@ from collections.abc import Iterable, Iterator, Sequence
 from pathlib import Path
 
 from ..office.copying import private_copy
-from ..office.private_files import write_rows
+from ..office.folders import new_room, write_rows
 from ..office.program import Cpi, add_program
-from ..office.rooms import new_room
 from ..office.stored import Assignment, Quote, Release, Series, Slot, StoredOffice, Window, stored_office
 from ..text.terminal import Fault, Progress, ToolWords, because_of, month_text
-from .office_sheets import SHEETS
+from .record_rows import SHEETS
 from .price_cells import COMPARABLE, MISSING, PRICE, REASONS
 
 Line = Sequence[object]
@@ -29,7 +29,7 @@ Held = dict[Series, list[Assignment]]
 
 
 def held_by(stored: StoredOffice) -> Held:
-    """Who has each series, one after the other."""
+    """The holder of each series, one after the other."""
     found: Held = {}
     for it in stored.assignments():
         found.setdefault(it.series, []).append(it)
@@ -40,7 +40,7 @@ def held_by(stored: StoredOffice) -> Held:
 
 
 def rows_of_series(held: Held) -> Iterator[Line]:
-    """What each slot was first given: up to the last month of all who have the series."""
+    """The series that each slot was first given, up to the last month of all collectors who have the series."""
     rows = [
         (first.collector, first.slot, first.outlet, first.item, first.first_month, own[-1].last_month)
         for own in held.values()
@@ -57,7 +57,7 @@ def rows_of_handovers(held: Held) -> Iterator[Line]:
 
 
 def rows_of_classification(stored: StoredOffice) -> Iterator[Line]:
-    """Titles and weights as they were sent; a node above has no weight of its own."""
+    """Titles and weights as they were sent; a node above has no own weight."""
     for plan in stored.plans():
         weights = plan.aggregates()
         yield from ((plan.year, code, title, weights.get(code, "")) for code, title in plan.titles.items())
@@ -74,7 +74,7 @@ def rows_of_plans(stored: StoredOffice) -> Iterator[Line]:
 
 
 def rows_of_calendar(stored: StoredOffice) -> Iterator[Line]:
-    """The windows as they stand."""
+    """The current windows."""
     return ((month_text(it.month), *it[1:]) for it in stored.calendar())
 
 
@@ -82,8 +82,9 @@ def rows_of_calendar(stored: StoredOffice) -> Iterator[Line]:
 
 
 def window_of(frozen_at: int, publishes: int, now: Window) -> tuple[int, int]:
-    """When the window of a revision opens and closes, so that it is frozen at its moment: as the calendar has it now,
-    or sooner where the revision was frozen or published sooner. What the calendar had then isn't stored."""
+    """The times at which the window of a revision opens and closes, so that it is frozen at its time: the calendar's
+    current times, or earlier ones if the revision was frozen or published earlier. The calendar of that time isn't
+    stored."""
     closes = min(now.closes, frozen_at, publishes)
     return min(now.opens, closes - 1), closes
 
@@ -118,8 +119,8 @@ def told_quote(quote: Quote) -> tuple[str, object]:
 def quotes_of(
     stored: StoredOffice, month: int, releases: Sequence[Release], held: Held, series: dict[Slot, Series]
 ) -> Iterator[tuple[int, Slot, Quote]]:
-    """Revision, slot and quote: what each freeze took that the one before hadn't, and then what stands and no freeze
-    took."""
+    """Revision, slot and quote: the quotes that each freeze took and the freeze before didn't, and then the stored
+    quotes that no freeze took."""
     before: dict[Series, Quote] = {}
     for release in releases:
         for own, frozen in sorted(stored.frozen(release).items()):
@@ -133,7 +134,7 @@ def quotes_of(
 
 
 def slot_in(own: Sequence[Assignment], month: int) -> Slot:
-    """The slot that has a series in a month."""
+    """The slot of a series in a month."""
     (it,) = [it for it in own if it.first_month <= month <= it.last_month]
     return it.collector, it.slot
 
@@ -173,7 +174,7 @@ COLUMNS: dict[str, Sequence[str]] = {
 
 
 def write_files(stored: StoredOffice, folder: Path) -> dict[str, int]:
-    """Writes the files of mode 0600 into a folder; how many rows each has."""
+    """Writes the files of mode 0600 into a folder; returns the number of rows in each."""
     counts = {}
     for name, columns, rows in tables(stored):
         counts[name] = 0
@@ -188,9 +189,9 @@ def write_files(stored: StoredOffice, folder: Path) -> dict[str, int]:
 
 
 def take_out(cpi: Cpi, file: Path, folder: Path) -> dict[str, int]:
-    """Writes a new folder of an office's files, whole or not at all; how many rows each has.
+    """Writes a new folder of an office's files, completely or not at all; returns the number of rows in each.
 
-    FILE is copied, and not a byte of it changes. Raises Fault where no right copy can be made or it is no office.
+    FILE is copied, and not a byte of it changes. Raises Fault if no right copy can be made, or if it isn't an office.
     """
     if os.path.lexists(folder):
         raise Fault(f"{folder} is there already: name a folder that isn't")
@@ -227,7 +228,7 @@ why); 2 if the arguments are refused
 
 
 def add_words(tools: argparse._SubParsersAction[ToolWords]) -> None:
-    """The tool `take-out`."""
+    """Adds the tool `take-out`."""
     says = "Write an office's file as the spreadsheets that take-in reads"
     words = tools.add_parser("take-out", help=says, description=DESCRIPTION, epilog=EPILOG)
     words.add_argument("file", type=Path, metavar="FILE", help="the office's file, which is only read")
@@ -237,7 +238,7 @@ def add_words(tools: argparse._SubParsersAction[ToolWords]) -> None:
 
 
 def run(chosen: argparse.Namespace) -> int:
-    """Runs the tool by its words; its exit status."""
+    """Runs the tool with its arguments; returns its exit status."""
     try:
         with Progress("cpi-tools take-out") as progress:
             progress.now(f"writing {chosen.folder}")

@@ -1,5 +1,6 @@
-"""The page of a check: what would be done, month by month, and what is refused. Plain HTML; each text is escaped, and
-those of others, and messages that cite them, turn nothing next to them. A teller says it in the office's language."""
+"""The page of a check: the changes that would be made, month by month, and the refused rows. It is plain HTML; every
+text is escaped, and texts of others, and messages that cite them, turn nothing next to them. A teller writes it in the
+office's language."""
 
 from __future__ import annotations
 
@@ -8,19 +9,19 @@ from html import escape
 from pathlib import Path
 from typing import Optional
 
-from ..text.message import Code, Figure, Message, parted, row, message, message_of, whole
-from ..text.others import cited, isolated, of_others, others
+from ..text.message import Code, Figure, Message, message, message_of, part_texts, row, whole
+from ..text.others import cite, isolate, of_others, others
 from ..text.report_language import ENGLISH, Teller
 from .cells import Origin, SheetFault
 from .judge import Judged
-from .numbers_of_texts import decimal
+from .sheet_numbers import decimal
 from .office_files import Taken
 
 MOST_SHOWN = 200
-"""Rows of a list that the page shows; the files beside it have all."""
+"""Rows of a list that the page shows; the files next to it contain all."""
 
 LONG = 25
-"""Characters of a text that has a column of some width, also on a phone."""
+"""The length from which a text needs a column of some width, also on a phone."""
 
 STYLE = """\
 body { font: 16px/1.5 system-ui, sans-serif; color: #1b1b1b; margin: 0 auto; padding: 1rem; max-width: 75rem; }
@@ -46,7 +47,7 @@ MARKS = ("price", "comparable", "other", "missing")
 
 
 def counts(judged: Judged) -> Iterable[Message]:
-    """How many rows of each kind are taken, by the words of records."""
+    """The number of accepted rows of each kind, by the words of records."""
     number = judged.taken
     found = {
         "item": message_of("{count} item", "{count} items", number["item"]),
@@ -63,7 +64,7 @@ def counts(judged: Judged) -> Iterable[Message]:
 
 
 def summary(taken: Taken, judged: Judged) -> Message:
-    """How many rows of each kind are taken, and how many the office has already, in one line."""
+    """The numbers of accepted rows of each kind, and of rows that the office already has, in one line."""
     new = [*counts(judged)]
     count = sum(taken.passed_over.values())
     if not count:
@@ -73,11 +74,11 @@ def summary(taken: Taken, judged: Judged) -> Message:
 
 
 def page(name: str, onto: Optional[Path], taken: Taken, judged: Judged, teller: Teller = ENGLISH) -> str:
-    """The page of a check of `name`, in the language of a teller; `onto` is the office over a copy of which it was
-    judged, if there is one."""
+    """The page of a check of `name`, in the language of a teller; `onto` is the office whose copy was used for the
+    check, if there is one."""
     sheet = Page(teller)
     css = ' class="refused"' if judged.problems or taken.doubts.cells else ""
-    taken_of_it = message("What cpi takes of it: {rows}.", rows=summary(taken, judged))
+    taken_of_it = message("cpi accepts: {rows}.", rows=summary(taken, judged))
     parts = [
         f"<h1>{others(name)}</h1>",
         f"<p>{sheet.text(judged_over(onto))}</p>",
@@ -89,10 +90,10 @@ def page(name: str, onto: Optional[Path], taken: Taken, judged: Judged, teller: 
         *sheet.readings(taken),
         *sheet.months(judged),
         *sheet.weights(taken),
-        *sheet.confirmed(judged),
+        *sheet.list_confirmed(judged),
     ]
     head = '<meta charset="utf-8"><meta name="viewport" content="width=device-width">'
-    head += f"<title>{escape(isolated(name))}</title>"
+    head += f"<title>{escape(isolate(name))}</title>"
     language = teller.speech.language
     way = ' dir="rtl"' if language.dir == "rtl" else ""
     style, body = f"<style>\n{STYLE}</style>", "\n".join(parts)
@@ -101,15 +102,15 @@ def page(name: str, onto: Optional[Path], taken: Taken, judged: Judged, teller: 
 
 
 def judged_over(onto: Optional[Path]) -> Message:
-    """What the files were judged over."""
+    """The sentence about the office over which the files were judged."""
     if onto is None:
-        return message("Judged by cpi over an office in memory that was empty. Nothing was written to an office.")
+        return message("Judged by cpi over an empty office in memory. Nothing was written to an office.")
     file = of_others(str(onto))
     return message("Judged by cpi over a copy of {file}. Nothing was written to an office.", file=file)
 
 
 def verdict(refused: int, doubted: int = 0) -> Message:
-    """Whether all of it is taken."""
+    """The sentence that says whether everything is accepted."""
     if doubted and not refused:
         return message_of(
             "{count} price in doubt; nothing is taken in.", "{count} prices in doubt; nothing is taken in.", doubted
@@ -120,7 +121,7 @@ def verdict(refused: int, doubted: int = 0) -> Message:
 
 
 def place(origin: Origin) -> Message:
-    """`prices.csv, row 5, value` of a cell."""
+    """The place of a cell, `prices.csv, row 5, value`."""
     at = {"file": of_others(origin.file), "row": origin.row, "column": of_others(origin.column)}
     if origin.row and origin.column:
         # t: a cell of a sheet; {row} is the number of a row, {column} the name of a column
@@ -138,16 +139,16 @@ class Page:
         self._teller = teller
 
     def text(self, text: str) -> str:
-        """A text of ours as markup; a message of others is an element of its own."""
-        return cited(self._teller.cell(text))
+        """A text of ours as markup; a message of others is in its own element."""
+        return cite(self._teller.cell(text))
 
     def cell(self, value: object) -> str:
-        """What a cell has: a text of ours, a figure or a code, else a text of others."""
+        """The markup of a cell: a text of ours, a figure, a code, or a text of others."""
         if isinstance(value, Message):
             return self.text(value)
         if isinstance(value, (Figure, Code)):
             return escape(str(self._teller.render(value)))
-        return cited(value) if value else ""
+        return cite(value) if value else ""
 
     def table(
         self,
@@ -157,8 +158,8 @@ class Page:
         numbers: Iterable[int] = (),
         css: str = "plain",
     ) -> str:
-        """A table that scrolls by itself if it is wide. `numbers` are the columns of numbers. With the class `stacked`
-        its cells are below each other on a phone."""
+        """A table that scrolls by itself if it is wide. `numbers` are the columns of numbers. With the class `stacked`,
+        its cells are stacked on a phone."""
         right = {*numbers}
 
         def cell(at: int, value: object) -> str:
@@ -178,16 +179,18 @@ class Page:
         )
 
     def caption(self, count: int) -> str:
-        """How many rows the table leaves to the files, if it does."""
+        """The caption that says how many of the rows the table shows; empty if it shows all."""
         if count <= MOST_SHOWN:
             return ""
-        first = message("The first {shown} of {count}.", shown=whole(MOST_SHOWN), count=whole(count))
+        first = message(
+            "The table shows the first {shown} of {count} rows.", shown=whole(MOST_SHOWN), count=whole(count)
+        )
         return f"<caption>{self.text(first)}</caption>"
 
     # ---- tables
 
     def problems(self, judged: Judged) -> Iterable[str]:
-        """What is refused; all of it is in problems.csv."""
+        """The table of refused rows; problems.csv contains all of them."""
         rows = [(it.origin, it.number, it.because, it.do) for it in judged.problems]
         # t: the heading of a column: what to do
         heads = (message("where"), message("number"), message("because"), message("do"))
@@ -195,28 +198,28 @@ class Page:
             yield self.table(message("Problems"), heads, rows, css="stacked")
 
     def faults(self, title: Message, found: Sequence[SheetFault]) -> Iterable[str]:
-        """What should be looked at; all of it is in problems.csv."""
+        """The table of warnings; problems.csv contains all of them."""
         rows = [(it.origin, it.because, it.do) for it in found]
         if rows:
             heads = (message("where"), message("because"), message("do"))
             yield self.table(title, heads, rows, css="stacked")
 
     def readings(self, taken: Taken) -> Iterable[str]:
-        """Texts in other spellings, and the months that they were read as."""
+        """The table of texts in other spellings, with the months as which they were read."""
         rows = [(it.file, it.column, it.text, Code(it.month)) for it in taken.readings]
         if rows:
             heads = (message("file"), message("column"), message("text"), message("month"))
-            yield self.table(message("Months, as they were read"), heads, rows)
+            yield self.table(message("Months as they were read"), heads, rows)
 
     def months(self, judged: Judged) -> Iterable[str]:
-        """What would be done in each month."""
+        """The table of the changes in each month."""
         rows = [
             (
                 Code(month),
                 *(whole(it.quotes[mark]) for mark in MARKS),
                 whole(it.refused),
                 whole(it.handed),
-                parted(it.freezes),
+                part_texts(it.freezes),
                 Figure(it.level or ""),
             )
             for month, it in sorted(judged.months.items())
@@ -234,7 +237,7 @@ class Page:
             yield self.table(message("Month by month"), heads, rows, (1, 2, 3, 4, 5, 6, 8))
 
     def weights(self, taken: Taken) -> Iterable[str]:
-        """Weights that were scaled, each with its change."""
+        """The table of scaled weights, each with its change."""
         rows = [
             (
                 it.year,
@@ -257,15 +260,15 @@ class Page:
             title = message("Weights, scaled to 1,000,000")
             yield self.table(title, [*heads, message("change")], rows, (2, 3, 4, 5))
 
-    def confirmed(self, judged: Judged) -> Iterable[str]:
-        """Prices outside the tolerance that were confirmed."""
+    def list_confirmed(self, judged: Judged) -> Iterable[str]:
+        """The table of confirmed prices outside the tolerance."""
         rows = [(it.origin, *map(Figure, it[1:])) for it in judged.confirmed]
         if rows:
             heads = [
                 message("where"),
                 message("price"),
                 message("last price"),
-                message("lowest inside"),
-                message("highest inside"),
+                message("lowest in range"),
+                message("highest in range"),
             ]
-            yield self.table(message("Confirmed outside the tolerance"), heads, rows, (1, 2, 3, 4))
+            yield self.table(message("Confirmed prices outside the tolerance"), heads, rows, (1, 2, 3, 4))

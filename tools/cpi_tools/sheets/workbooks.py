@@ -1,4 +1,4 @@
-"""Workbooks, `.xlsx` and `.xlsm`, as cells: read by openpyxl, after a look whether they are what they say."""
+"""Workbooks, `.xlsx` and `.xlsm`, as cells: read by openpyxl, after a look whether their parts are what they say."""
 
 from __future__ import annotations
 
@@ -7,26 +7,174 @@ import functools
 import re
 import unicodedata
 import warnings
+import zipfile
 from collections.abc import Iterator, Sequence
+from dataclasses import dataclass, field
 from datetime import date, datetime, time, timedelta
 from decimal import Decimal
 from pathlib import Path
 from typing import Any, NamedTuple
+from xml.parsers import expat
 
-from ..text.message import Code, Message, row as row_of, message, message_of
+from ..text.message import Code, Message, message, message_of, row as row_of
 from ..text.others import of_others
 from ..text.terminal import Fault, needs
-from .cells import Alike, Dated, Numeral, Origin, SheetFault, Texts
-from .workbook_parts import Part, looked_through
+from .cells import MOST_TOLD, Alike, Dated, Numeral, Origin, SheetFault, Texts
+
+
+# ==== the parts of a workbook, unpacked once before openpyxl sees them: whether they are what they claim to be
+#
+# A workbook is a ZIP archive of XML, and openpyxl keeps some parts in memory completely. An archive of a few bytes may
+# unpack to any size, so an archive that claims more than `MOST_UNPACKED`, or contains more than it claims, is refused
+# before it takes memory. The same pass finds what openpyxl doesn't say about a sheet.
+
+MOST_UNPACKED = 256 * 2**20
+"""The most bytes of all parts of a workbook, unpacked; a sheet of 400,000 prices, one per row, has some 140 million."""
+
+MOST_TEXT = 1_000_000
+"""The most characters of one text in a part; spreadsheet programs allow at most 32,767 in a cell."""
+
+MOST_CELLS = 16_384
+"""The most cells of a row in spreadsheet programs; openpyxl keeps a whole row in memory."""
+
+HELD = frozenset(("xf", "font", "fill", "border", "dxf", "numFmt", "cellStyle", "definedName"))
+"""Elements of styles and names, each of which openpyxl keeps in some 1.5 KB."""
+
+MOST_HELD = 100_000
+"""The most of these elements in a part; spreadsheet programs allow at most 65,490 cell formats."""
+
+MOST_SHEET_ROWS = 1_048_576
+"""The most rows of a sheet in spreadsheet programs."""
+
+BLOCK = 1 << 20
+"""The number of bytes that are unpacked at once."""
+
+
+@dataclass
+class Part:
+    """The facts about a part that openpyxl doesn't give: the numbers of its hidden rows, its hidden columns from the
+    first to the last, the first cells with a formula and no value, its merged ranges, and whether a font of it is
+    struck out."""
+
+    hidden_rows: set[int] = field(default_factory=set)
+    hidden_columns: list[tuple[int, int]] = field(default_factory=list)
+    without_value: list[str] = field(default_factory=list)
+    merged: list[str] = field(default_factory=list)
+    has_strike: bool = False
+
+
+def looked_through(path: Path, label: str) -> dict[str, Part]:
+    """The parts of a workbook that are XML, by their names; nothing else of them is kept.
+
+    Raises Fault, with the label, if the workbook unpacks to too much, or contains something that no spreadsheet program
+    writes; a broken part raises the exceptions of its readers.
+    """
+    found: dict[str, Part] = {}
+    with zipfile.ZipFile(path) as parts:
+        infos = parts.infolist()
+        size = sum(info.file_size for info in infos)
+        if size > MOST_UNPACKED:
+            raise Fault(f"{label} unpacks to {size:,} bytes, and {MOST_UNPACKED:,} are the most")
+        for info in infos:
+            with parts.open(info) as part:
+                # (what is longer than it says ends in a fault of its sum here)
+                if is_xml(info.filename):
+                    found[info.filename] = _Look(label).read(part)
+                else:
+                    while part.read(BLOCK):
+                        pass
+    return found
+
+
+def is_xml(part: str) -> bool:
+    """Whether a part is XML that openpyxl may read."""
+    return part.lower().endswith((".xml", ".rels")) or part.startswith("xl/worksheets/")
+
+
+class _Look:
+    """Reads the XML of a part piece by piece."""
+
+    def __init__(self, label: str):
+        self._found, self._label, self._length, self._row = Part(), label, 0, 0
+        self._cell, self._kind, self._has_formula, self._has_value = "", "", False, False
+        self._held = self._cells = 0
+
+    def read(self, part: Any) -> Part:
+        """The facts about a part."""
+        parser = expat.ParserCreate()
+        parser.buffer_text, parser.buffer_size = True, BLOCK
+        parser.StartDoctypeDeclHandler = self._refuse
+        parser.StartElementHandler, parser.EndElementHandler = self._start, self._end
+        parser.CharacterDataHandler = self._text
+        while block := part.read(BLOCK):
+            parser.Parse(block)
+        return self._found
+
+    def _refuse(self, *_: object) -> None:
+        """Refuses a document type: it may declare entities, and no spreadsheet program writes one."""
+        raise Fault(f"{self._label} can't be read as a workbook: a part of it declares a document type")
+
+    def _start(self, name: str, given: dict[str, str]) -> None:
+        name, self._length = name.rpartition(":")[2], 0
+        if name == "c":
+            self._cell, self._kind = given.get("r", ""), given.get("t", "")
+            self._has_formula = self._has_value = False
+            self._cells += 1
+            if self._cells > MOST_CELLS:
+                raise Fault(f"{self._label} has a row of more than {MOST_CELLS:,} cells, which are the most")
+        elif name == "v":
+            # (a formula whose value is an empty text has an empty value)
+            self._has_value = self._kind == "str"
+        elif name == "f":
+            self._has_formula = True
+        elif name == "row":
+            self._start_row(given)
+        elif name == "col" and (is_true(given.get("hidden")) or given.get("width") in ("0", "0.0")):
+            self._found.hidden_columns.append((int(given["min"]), int(given["max"])))
+        elif name == "mergeCell" and len(self._found.merged) < MOST_TOLD:
+            self._found.merged.append(given.get("ref", ""))
+        elif name == "strike":
+            self._found.has_strike = self._found.has_strike or given.get("val") not in ("0", "false")
+        elif name in HELD:
+            self._held += 1
+            if self._held > MOST_HELD:
+                raise Fault(f"{self._label} has more styles and names than {MOST_HELD:,}, which are the most")
+
+    def _start_row(self, given: dict[str, str]) -> None:
+        self._row, self._cells = int(float(given.get("r", self._row + 1))), 0
+        if self._row > MOST_SHEET_ROWS:
+            raise Fault(f"{self._label} has more rows than {MOST_SHEET_ROWS:,}, which are the most")
+        if is_true(given.get("hidden")):
+            self._found.hidden_rows.add(self._row)
+
+    def _text(self, more: str) -> None:
+        self._length += len(more)
+        if self._length > MOST_TEXT:
+            raise Fault(f"{self._label} has a text of more than {MOST_TEXT:,} characters, which are the most")
+
+    def _end(self, name: str) -> None:
+        name = name.rpartition(":")[2]
+        if name == "v":
+            self._has_value = self._has_value or self._length > 0
+        elif name == "c" and self._has_formula and not self._has_value and len(self._found.without_value) < MOST_TOLD:
+            self._found.without_value.append(self._cell)
+
+
+def is_true(text: object) -> bool:
+    """Whether an attribute means yes."""
+    return text in ("1", "true")
+
+
+# ==== Workbooks, `.xlsx` and `.xlsm`, as cells: openpyxl reads them, after a check that they are what they claim to be
 
 MOST_DIGITS = 10**15
 """The least whole number that a spreadsheet may have changed, such as a key whose characters are all digits."""
 
 OLDER = bytes.fromhex("d0cf11e0a1b11ae1")
-"""The first bytes of Microsoft's compound file, by [MS-CFB]."""
+"""The first bytes of Microsoft's compound file, from [MS-CFB]."""
 
 MOST_NAMED = 5
-"""Hidden rows and columns that a line names; the others are counted."""
+"""The most hidden rows and columns that a line names; the others are counted."""
 
 
 class Title(NamedTuple):
@@ -38,9 +186,10 @@ class Title(NamedTuple):
 
 @contextlib.contextmanager
 def reading(label: str) -> Iterator[None]:
-    """Meanwhile what openpyxl meets in a broken workbook is a Fault, and what it doesn't know of a whole one is silent.
+    """Within this context, an exception of openpyxl about a broken workbook becomes a Fault, and its warnings about a
+    sound one are silent.
 
-    Its exceptions are those of its parsers, of many kinds.
+    Its parsers raise exceptions of many kinds.
     """
     needs("openpyxl", "python3-openpyxl")
     with warnings.catch_warnings():
@@ -58,7 +207,7 @@ class Workbook:
     """A workbook that openpyxl has open, with the values of its formulas."""
 
     def __init__(self, path: Path, label: str):
-        """`label` names the file if it can't be read. Raises Fault then."""
+        """`label` names the file. Raises Fault if it can't be read."""
         self._label = label
         with reading(label):
             from openpyxl import load_workbook
@@ -77,13 +226,13 @@ class Workbook:
         return [Title(sheet.title, sheet.sheet_state != "visible") for sheet in self._book.worksheets]
 
     def texts(self, title: str, label: str) -> Texts:
-        """The cells of a sheet, in which `label` names it. The rows raise Fault if it can't be read."""
+        """The cells of a sheet, which `label` names. The rows raise Fault if it can't be read."""
         found = Texts(iter(()))
         found.rows = self._rows(title, label, found)
         return found
 
     def _rows(self, title: str, label: str, found: Texts) -> Iterator[Sequence[str]]:
-        """The rows of a sheet, from the first on, also if the file has its size wrongly."""
+        """The rows of a sheet, from the first on, even if the file gives a wrong size."""
         with reading(self._label):
             sheet = self._book[title]
             # (the only name that openpyxl has for the part of a sheet; a part that wasn't looked through isn't read)
@@ -102,7 +251,7 @@ class Workbook:
 
 
 def refuse_container(path: Path, label: str) -> None:
-    """Raises Fault for the container of older programs, in which a workbook with a password is too."""
+    """Raises Fault for the container of older programs, which also holds workbooks with a password."""
     with path.open("rb") as file:
         if file.read(len(OLDER)) == OLDER:
             do = "save it as .xlsx without a password"
@@ -110,7 +259,7 @@ def refuse_container(path: Path, label: str) -> None:
 
 
 class _Unlike:
-    """Cells with texts that a reader of the sheet doesn't see, or takes for gone."""
+    """Cells whose texts a reader of the sheet doesn't see, or considers deleted."""
 
     def __init__(self, part: Part, has_strike: bool):
         self._part, self._has_strike = part, has_strike
@@ -121,7 +270,7 @@ class _Unlike:
         self._filled: list[str] = []
 
     def see(self, number: int, row: Sequence[Any], texts: Sequence[str]) -> None:
-        """A row of the sheet."""
+        """Notes a row of the sheet."""
         if number in self._part.hidden_rows and any(texts):
             self._rows.append(number)
         for first, last in self._part.hidden_columns:
@@ -143,66 +292,66 @@ class _Unlike:
             yield SheetFault(Origin(label, *place_of(self._struck[0])), struck_out(self._struck), LOOK)
         if self._filled:
             do = message("write the text into each cell that it is meant for; the other cells are empty here")
-            yield SheetFault(Origin(label, *place_of(self._filled[0].partition(":")[0])), merged(self._filled), do)
+            yield SheetFault(Origin(label, *place_of(self._filled[0].partition(":")[0])), name_merged(self._filled), do)
 
 
-LOOK = message("see whether they belong there, and take them out if they don't")
-"""What to do with rows, columns or cells that are read although they look otherwise."""
+LOOK = message("see whether they belong there, and delete them if they don't")
+"""The instruction for rows, columns or cells that are read although they look deleted."""
 
 
 def hidden_rows(rows: Sequence[int]) -> Message:
-    """Rows that a reader of the sheet doesn't see."""
+    """The text about rows that a reader of the sheet doesn't see."""
     return message_of(
-        "{count} hidden row read like the others: {names}",
-        "{count} hidden rows read like the others: {names}",
+        "{count} hidden row is read like any other row: {names}",
+        "{count} hidden rows are read like any other row: {names}",
         len(rows),
-        names=listed([*map(str, rows)]),
+        names=list_names([*map(str, rows)]),
     )
 
 
 def hidden_columns(columns: Sequence[str]) -> Message:
-    """Columns that a reader of the sheet doesn't see."""
+    """The text about columns that a reader of the sheet doesn't see."""
     return message_of(
-        "{count} hidden column read like the others: {names}",
-        "{count} hidden columns read like the others: {names}",
+        "{count} hidden column is read like any other column: {names}",
+        "{count} hidden columns are read like any other column: {names}",
         len(columns),
-        names=listed(columns),
+        names=list_names(columns),
     )
 
 
 def struck_out(cells: Sequence[str]) -> Message:
-    """Cells that a reader of the sheet takes for gone."""
+    """The text about cells that a reader of the sheet considers deleted."""
     return message_of(
-        "{count} struck-out cell read like the others: {names}",
-        "{count} struck-out cells read like the others: {names}",
+        "{count} struck-out cell is read like any other cell: {names}",
+        "{count} struck-out cells are read like any other cell: {names}",
         len(cells),
-        names=listed(cells),
+        names=list_names(cells),
     )
 
 
-def merged(ranges: Sequence[str]) -> Message:
-    """Ranges of cells that are one to a reader of the sheet."""
+def name_merged(ranges: Sequence[str]) -> Message:
+    """The text about ranges of cells that a reader of the sheet sees as one."""
     return message_of(
-        "{count} merged range, first cell only: {names}",
-        "{count} merged ranges, first cell only: {names}",
+        "only the first cell of {count} merged range is read: {names}",
+        "only the first cell of each of {count} merged ranges is read: {names}",
         len(ranges),
-        names=listed(ranges),
+        names=list_names(ranges),
     )
 
 
-def listed(names: Sequence[str]) -> Message:
-    """Some names, and a sign if there are more."""
+def list_names(names: Sequence[str]) -> Message:
+    """Some names, and `..` if there are more."""
     return row_of([*map(of_others, names[:MOST_NAMED]), *([Code("..")] if len(names) > MOST_NAMED else [])])
 
 
 def place_of(cell: str) -> tuple[int, str]:
-    """Row and column of `AB12`."""
+    """The row and the column of `AB12`."""
     found = re.fullmatch(r"([A-Z]+)([0-9]+)", cell)
     return (int(found[2]), found[1]) if found else (0, cell)
 
 
 def letters_of(column: int) -> str:
-    """`AB` of 28."""
+    """The letters of a column, `AB` for 28."""
     letters = ""
     while column:
         column, at = divmod(column - 1, 26)
@@ -214,7 +363,7 @@ def letters_of(column: int) -> str:
 
 
 def text_of_cell(cell: Any, label: str, odd: Alike) -> str:
-    """A cell as the text that a CSV file would have: dates as days or times, and numbers with the 15 digits that a
+    """A cell as the text that a CSV file would contain: dates as days or times, and numbers with the 15 digits that a
     spreadsheet keeps, so that 2.4 * 1.05 is 2.52 there and here."""
     value = cell.value
     if value is None:
@@ -225,8 +374,8 @@ def text_of_cell(cell: Any, label: str, odd: Alike) -> str:
             odd.add(
                 SheetFault(
                     origin,
-                    message("the cell has the error {error} for a value", error=of_others(value)),
-                    message("mend its formula, or empty it"),
+                    message("the value of the cell is the error {error}", error=of_others(value)),
+                    message("correct its formula, or empty the cell"),
                 )
             )
             return ""
@@ -247,9 +396,10 @@ def number_of_cell(cell: Any, label: str, odd: Alike) -> str:
     value = cell.value
     if abs(value) >= MOST_DIGITS:
         because = message(
-            "the cell is the number {number}, and a spreadsheet keeps 15 digits of it", number=Code(repr(value))
+            "the cell contains the number {number}, and a spreadsheet keeps only 15 digits of a number",
+            number=Code(repr(value)),
         )
-        do = message("give the column the format of text, and write the cell again")
+        do = message("format the column as text, and write the cell again")
         odd.add(SheetFault(Origin(label, cell.row, cell.column_letter), because, do))
         return ""
     text, number_format = f"{value:.15g}", cell.number_format
@@ -264,7 +414,8 @@ def number_of_cell(cell: Any, label: str, odd: Alike) -> str:
 
 @functools.lru_cache(maxsize=1000)
 def currency_of(number_format: str) -> str:
-    """What a cell of a format shows next to a number that isn't negative: `EUR` of `"EUR" 0.00`, `$` of `[$$-409]0`."""
+    """The text that a cell of a format shows next to a number that isn't negative: `EUR` for `"EUR" 0.00`, `$` for
+    `[$$-409]0`."""
     first = number_format.partition(";")[0]
     named = [quoted or of_place for quoted, of_place in re.findall(r'"([^"]*)"|\[\$([^]-]+)[^]]*\]', first)]
     signs = [sign for sign in signs_of(first) if unicodedata.category(sign) == "Sc"]
@@ -273,8 +424,8 @@ def currency_of(number_format: str) -> str:
 
 @functools.lru_cache(maxsize=1000)
 def signs_of(number_format: str) -> str:
-    """A number format without the texts in it and the parts in brackets, and without blanks as wide as a sign (`_€`) and
-    what fills a cell (`*-`)."""
+    """A number format without the texts in it and the parts in brackets, and without blanks as wide as a sign (`_€`)
+    and signs that fill a cell (`*-`)."""
     return re.sub(r'"[^"]*"|\\.|_.|[*].|\[[^]]*\]', "", number_format)
 
 

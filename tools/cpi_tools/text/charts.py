@@ -1,9 +1,9 @@
-"""Pictures as SVG, and bars for the rows of a table. Only this module makes floats, and no figure is read off a
-picture.
+"""Pictures as SVG, and bars for the rows of a table. Only this module computes with floats, and no figure is read from
+a picture.
 
 Each picture has a title and a description, which a screen reader reads out. It is 400 units wide and is shown at 300 to
-560 pixels, so that its letters stay readable on a telephone. Names of things stand outside of the picture, in the page:
-so none can cross an axis. A month is a text like `2026-01`; colours and letters are those of `templates/style.css`.
+560 pixels, so that its letters stay readable on a phone. Names are outside the picture, in the page, so none can cross
+an axis. A month is a text like `2026-01`; colours and letters come from `templates/style.css`.
 """
 
 from __future__ import annotations
@@ -15,36 +15,36 @@ from typing import NamedTuple, Optional
 
 from markupsafe import Markup, escape
 
-from .speech import SPEAKS_ENGLISH, Speech
+from .languages import SPEAKS_ENGLISH, Speech
 
 WIDTH, HEIGHT = 400, 224
 LEFT, RIGHT, TOP, FOOT = 40, 14, 16, 41
 
 MOST_MONTHS = 61
-"""Months that a picture shows at most: the last ones, five years and the month that they are against."""
+"""The most months that a picture shows: the last five years, and the month with which they are compared."""
 
 LEAST_POINTS, LEAST_PERCENT = 1.0, 0.5
-"""What the axis of lines and that of columns span at least, so that an axis doesn't make much of a tenth."""
+"""The least range of the axis of lines and of the axis of columns, so that an axis doesn't exaggerate a tenth."""
 
 VALUE_WIDE = 44
-"""How wide the value at the end of a line is at most, on a telephone too."""
+"""The greatest width of the value at the end of a line, also on a phone."""
 
 WIDEST = 24
-"""How wide a column is at most, however few there are."""
+"""The greatest width of a column, however few columns there are."""
 
 OWN, OTHER = "own", "other"
 """The classes of a line: the item's own, and the compared one, which is broken."""
 
 
-def signed(value: float) -> str:
-    """`+0.3`, `0.0` or `−0.3`."""
+def write_signed(value: float) -> str:
+    """A number with its sign, `+0.3`, `0.0` or `−0.3`."""
     text = f"{value:.1f}".replace("-", "\u2212")
     return text.replace("\u22120.0", "0.0") if value <= 0 or text == "0.0" else f"+{text}"
 
 
 class Picture(NamedTuple):
-    """What a picture is: a key that no other picture of the page has, its title, what it shows in words, and how it says
-    figures and months."""
+    """The frame of a picture: a key that no other picture on the page has, its title, its description in words, and the
+    language in which it writes figures and months."""
 
     key: str
     title: str
@@ -54,7 +54,7 @@ class Picture(NamedTuple):
 
 class Line(NamedTuple):
     """A line of a picture: OWN or OTHER, and a value for each month, None for a gap. `last` is its last value as a
-    text, which is written next to it: a float could be rounded to another one."""
+    text, which is written next to it, since a float could be rounded to another value."""
 
     kind: str
     values: Sequence[Optional[float]]
@@ -75,7 +75,7 @@ def steps(low: float, high: float, most: int = 6) -> list[float]:
     return [size * at for at in range(first, max(last, first + 1) + 1)]
 
 
-def ticked(value: float) -> str:
+def write_tick(value: float) -> str:
     """The number next to a mark of an axis: `0`, `2.5`, `−1`."""
     text = f"{value:.1f}".replace("-", "\u2212")
     text = text[:-2] if text.endswith(".0") else text
@@ -83,8 +83,8 @@ def ticked(value: float) -> str:
 
 
 class Frame(NamedTuple):
-    """The axes of a picture: months from left to right, the marks of the values from below to above, and how both are
-    said."""
+    """The axes of a picture: months from left to right, the marks of the values from bottom to top, and the language of
+    both."""
 
     months: Sequence[str]
     marks: Sequence[float]
@@ -95,7 +95,7 @@ class Frame(NamedTuple):
         return _x(at, len(self.months))
 
     def y(self, value: float) -> float:
-        """Where a value is."""
+        """The vertical place of a value."""
         low, high = self.marks[0], self.marks[-1]
         return TOP + (HEIGHT - TOP - FOOT) * (high - value) / (high - low)
 
@@ -113,7 +113,7 @@ def _axes(months: tuple[str, ...], marks: tuple[float, ...], speech: Speech) -> 
     for mark in marks:
         lines["zero" if abs(mark) < 1e-9 else "grid"] += f"M{LEFT} {frame.y(mark):.1f}H{WIDTH - RIGHT}"
         parts.append(
-            f'<text class="end" x="{LEFT - 6}" y="{frame.y(mark) + 4:.1f}">{speech.figure(ticked(mark))}</text>'
+            f'<text class="end" x="{LEFT - 6}" y="{frame.y(mark) + 4:.1f}">{speech.figure(write_tick(mark))}</text>'
         )
     strokes, texts = _below(months, speech)
     lines["grid"] += strokes
@@ -127,13 +127,13 @@ def _x(at: float, count: int) -> float:
 
 @lru_cache(maxsize=64)
 def _xs(count: int) -> Sequence[str]:
-    """The middle of each of so many months, as it is written."""
+    """The middle of each of so many months, as it is written in the SVG."""
     return [f"{_x(at, count):.1f}" for at in range(count)]
 
 
 @lru_cache(maxsize=64)
 def _below(months: tuple[str, ...], speech: Speech) -> tuple[str, str]:
-    """The strokes at the months that are named below, and their names."""
+    """The strokes at the months that are named below the axis, and the names."""
     count, strokes, texts = len(months), "", ""
     every = 1 if count <= 3 else 3 if count <= 14 else 6 if count <= 36 else 12
     for x, month in zip(_xs(count), months):
@@ -147,7 +147,7 @@ def _below(months: tuple[str, ...], speech: Speech) -> tuple[str, str]:
 
 
 def svg(picture: Picture, parts: Iterable[str], height: float = HEIGHT, months: Sequence[str] = ()) -> Markup:
-    """A picture of its parts, with its title and its description, and its first and its last month for scripts."""
+    """The SVG of a picture's parts, with its title and description, and its first and last month for scripts."""
     key, over = escape(picture.key), f' data-months="{months[0]} {months[-1]}"' if months else ""
     return Markup(
         f'<svg viewBox="0 0 {WIDTH} {height:g}" role="img" aria-labelledby="{key}-title {key}-says"{over}>'
@@ -169,8 +169,8 @@ def lines(
 ) -> Markup:
     """Lines over months, the last value of the picture's own written next to it.
 
-    `has_zero` begins the axis at zero, or crosses it there. There is a mark before each month
-    of `breaks` and of `marks`; at a break all lines begin anew. At least one value has to be known.
+    `has_zero` begins the axis at zero, or crosses it there. There is a mark before each month of `breaks` and of
+    `marks`; at a break all lines start again. At least one value must be known.
     """
     months = months[-MOST_MONTHS:]
     drawn = [it._replace(values=it.values[-MOST_MONTHS:]) for it in drawn]
@@ -191,28 +191,29 @@ def lines(
 
 
 def _path(frame: Frame, line: Line, begins: Collection[int]) -> str:
-    """The path of a line, parted at its gaps and at the months with which it begins anew."""
+    """The path of a line, divided at its gaps and at the months at which it starts again."""
     values = tuple([value for value in line.values if value is not None])
     if begins or len(values) < len(line.values) or len(values) == 1:
         return "".join(_part(frame, part) for part in _parts(line.values, begins))
     ends = frame.marks[0], frame.marks[-1]
-    return _beside(*ends, values) if line.kind == OTHER else _joined(*ends, values)
+    return _beside(*ends, values) if line.kind == OTHER else _join_values(*ends, values)
 
 
-def _joined(low: float, high: float, values: tuple[float, ...]) -> str:
-    """The path of a line without a gap, a value for each month, between the lowest mark and the highest."""
+def _join_values(low: float, high: float, values: tuple[float, ...]) -> str:
+    """The path of a line without a gap, with a value for each month, between the lowest and the highest mark."""
     tall, span = HEIGHT - TOP - FOOT, high - low
     # (Frame.y, written out: there are hundreds of thousands of values)
     found = zip(_xs(len(values)), values)
     return "M" + "L".join([f"{x} {TOP + tall * (high - value) / span:.1f}" for x, value in found])
 
 
-_beside = lru_cache(maxsize=1024)(_joined)
-"""The same for the compared line, which is one line in thousands of pictures; many of them have the same marks."""
+_beside = lru_cache(maxsize=1024)(_join_values)
+"""The path of the compared line, cached: thousands of pictures contain this line, many of them with the same marks."""
 
 
 def _last(frame: Frame, line: Line, places: Collection[float]) -> Iterator[str]:
-    """A dot at the last value of a line, and the value; `places` are those of marks, which no value is written across."""
+    """A dot at the last value of a line, and the value; `places` are the places of marks, across which no value is
+    written."""
     at, value = _last_of(line.values)
     earlier = (it for it in reversed(line.values[:at]) if it is not None)
     before = next((it for it in earlier if it != value), value)
@@ -227,12 +228,12 @@ def _last(frame: Frame, line: Line, places: Collection[float]) -> Iterator[str]:
 
 
 def _last_of(values: Sequence[Optional[float]]) -> tuple[int, float]:
-    """The last value that is known, and its place; at least one is."""
+    """The last known value, and its place; at least one value is known."""
     return next((at, it) for at in range(len(values) - 1, -1, -1) if (it := values[at]) is not None)
 
 
 def _parts(values: Sequence[Optional[float]], begins: Collection[int]) -> Iterator[list[tuple[int, float]]]:
-    """The parts of a line that are joined, each a list of months and values: a gap or a break ends one."""
+    """The joined parts of a line, each a list of months and values: a gap or a break ends a part."""
     part: list[tuple[int, float]] = []
     for at, value in enumerate(values):
         if part and (value is None or at in begins):
@@ -245,7 +246,7 @@ def _parts(values: Sequence[Optional[float]], begins: Collection[int]) -> Iterat
 
 
 def _part(frame: Frame, part: Sequence[tuple[int, float]]) -> str:
-    """The path of a part; one month by itself is a short stroke, since a line to nowhere isn't drawn."""
+    """The path of a part; a single month is a short stroke, since a line needs two points."""
     if len(part) == 1:
         at, value = part[0]
         return f"M{frame.x(at) - 3:.1f} {frame.y(value):.1f}h6"
@@ -254,7 +255,7 @@ def _part(frame: Frame, part: Sequence[tuple[int, float]]) -> str:
 
 
 def columns(picture: Picture, months: Sequence[str], values: Sequence[Optional[float]]) -> Markup:
-    """A column for each month, from zero up or down, the last one darker. At least one value has to be known."""
+    """A column for each month, from zero up or down, the last one darker. At least one value must be known."""
     months, values = months[-MOST_MONTHS:], values[-MOST_MONTHS:]
     known = [value for value in values if value is not None]
     low, high = min(0.0, *known, 0.0), max(0.0, *known, 0.0)
@@ -283,8 +284,8 @@ def _lefts(count: int, wide: float) -> Sequence[str]:
 
 
 class _Sizes(dict[float, str]):
-    """Columns of some width between the lowest mark and the highest, by their values, from the place at which each begins:
-    thousands of pictures have changes of few different sizes."""
+    """Columns of some width between the lowest and the highest mark, cached by value: the changes in thousands of
+    pictures have few different sizes."""
 
     def __init__(self, low: float, high: float, wide: float):
         super().__init__()
@@ -312,7 +313,7 @@ class Bar(NamedTuple):
 
 
 class Track(NamedTuple):
-    """The bars of a table's rows, in their order, and where zero is, in percent of the track."""
+    """The bars of a table's rows, in their order, and the place of zero, in percent of the track."""
 
     zero: str
     bars: list[Bar]
@@ -348,13 +349,13 @@ class Labelled(NamedTuple):
 
 
 def bars_high(rows: Sequence[Labelled]) -> int:
-    """How high a picture of bars is."""
+    """The height of a picture of bars."""
     return BARS_TOP + sum(LABEL_LINE * len(it.label) + BAR_HIGH + BAR_ROOM for it in rows)
 
 
 def bars(picture: Picture, rows: Sequence[Labelled]) -> Markup:
-    """Bars on one scale, each below its label and its value, so that no word crosses a bar. A picture in a language that
-    is read from the right is the other way round."""
+    """Bars on one scale, each below its label and its value, so that no word crosses a bar. In a language that is read
+    from right to left, the picture is mirrored."""
     scale, top, parts = track([it.value for it in rows]), BARS_TOP, list[str]()
     is_turned = picture.speech.language.dir == "rtl"
     begin, end = (WIDTH, 0) if is_turned else (0, WIDTH)

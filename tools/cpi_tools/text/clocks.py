@@ -1,7 +1,7 @@
-"""The clock of an office: what a civil time of its calendar is as a moment, and how a moment is written.
+"""The clock of an office: it converts civil times of the calendar to moments, and writes moments as texts.
 
-A zone is a place such as `Europe/Prague`, or a rule as POSIX writes it, such as `CET-1CEST,M3.5.0,M10.5.0/3`: what
-CPI_ZONE of the office's settings is too. Moments are in seconds since 1970 UTC.
+A zone is a place such as `Europe/Prague`, or a POSIX rule such as `CET-1CEST,M3.5.0,M10.5.0/3`, like CPI_ZONE in the
+office's settings. Moments are in seconds since 1970 UTC.
 """
 
 from __future__ import annotations
@@ -14,7 +14,7 @@ import zoneinfo
 from datetime import date, datetime, timezone, tzinfo
 from typing import NamedTuple, Optional
 
-from .speech import SPEAKS_ENGLISH, Speech
+from .languages import SPEAKS_ENGLISH, Speech
 from .terminal import Fault
 
 CIVIL = "%Y-%m-%dT%H:%M"
@@ -23,29 +23,30 @@ RULE = re.compile(r"([A-Za-z]{3,}|<[A-Za-z0-9+-]{3,}>)[+-]?[0-9].*")
 LETTERS = re.compile(r"[A-Z][A-Za-z]+")
 
 WINTER, SUMMER = 1_893_456_000, 1_909_094_400
-"""January and July 2030, in which a clock may show another time of the year each."""
+"""January and July 2030, at which a clock may show winter time and summer time."""
 
 
 class NoZone(Fault):
-    """A text that is neither a place nor a rule; one line."""
+    """A text is neither a place nor a rule; the message is one line."""
 
 
 class Clock(NamedTuple):
-    """A zone by its name; without one it is UTC."""
+    """The clock of a zone, given by its name; without a name it is UTC."""
 
     name: str = ""
     zone: Optional[tzinfo] = None
 
     @property
-    def said(self) -> str:
-        """What people call it: a place by its name, and a rule by what it calls its times, such as `CET/CEST`."""
+    def spoken_name(self) -> str:
+        """The name that people use for the clock: the name of a place, or the names of a rule's times, such as
+        `CET/CEST`."""
         if not RULE.fullmatch(self.name):
             return self.name or "UTC"
         return "/".join(dict.fromkeys(self.zone_at(at)[0] for at in (WINTER, SUMMER)))
 
     def moment(self, civil: str) -> int:
-        """The moment at which the clock shows a time like `2026-01-28T09:30`: of two such moments the earlier, and of a
-        time that the clock leaves out the moment that is as much later as the clock is moved forward. Raises
+        """The moment at which the clock shows a time like `2026-01-28T09:30`: the earlier one of two such moments; for
+        a time that the clock skips, the moment that is later by as much as the clock moves forward. Raises
         ValueError."""
         return int(datetime.strptime(civil, CIVIL).replace(tzinfo=self.zone or timezone.utc).timestamp())
 
@@ -70,14 +71,15 @@ class Clock(NamedTuple):
         return datetime.fromtimestamp(moment, self.zone or timezone.utc).date()
 
     def zone_at(self, moment: int) -> tuple[str, int]:
-        """What the zone calls its time at a moment, such as CET, and by how many seconds that is ahead of UTC."""
+        """The zone's name for its time at a moment, such as CET, and the number of seconds by which it is ahead of
+        UTC."""
         at = datetime.fromtimestamp(moment, self.zone or timezone.utc)
         ahead = at.utcoffset()
         return self._zone_name(at), int(ahead.total_seconds()) if ahead else 0
 
     @staticmethod
     def _zone_name(at: datetime) -> str:
-        """What the zone calls its time, such as CET, or how far it is from UTC."""
+        """The zone's name for its time, such as CET, or its distance from UTC."""
         name = at.tzname() or "UTC"
         if LETTERS.fullmatch(name):
             return name
@@ -89,7 +91,7 @@ UTC = Clock()
 
 
 def clock_of(name: str) -> Clock:
-    """The clock of a place or of a rule; UTC of an empty text. Raises NoZone."""
+    """The clock of a place or of a rule; UTC for an empty text. Raises NoZone."""
     if not name:
         return UTC
     for form, read in ((PLACE, zoneinfo.ZoneInfo), (RULE, _of_rule)):
@@ -100,7 +102,8 @@ def clock_of(name: str) -> Clock:
 
 
 def _of_rule(rule: str) -> tzinfo:
-    """The zone of a rule, by a table (TZif, RFC 8536) that has nothing but it: UTC up to 1970, and then the rule."""
+    """The zone of a rule, from a table (TZif, RFC 8536) that contains only the rule: UTC up to 1970, and then the
+    rule."""
     head = struct.pack(">4sc15x6l", b"TZif", b"2", 0, 0, 0, 0, 1, 4)
     body = struct.pack(">lbb", 0, 0, 0) + b"UTC\0"
     table = io.BytesIO(2 * (head + body) + b"\n" + rule.encode() + b"\n")

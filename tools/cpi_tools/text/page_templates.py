@@ -1,12 +1,12 @@
 """HTML pages from templates: every text is escaped, and a page needs no network.
 
-`templates/base.html` is what all pages stand on, with `templates/style.css`. A tool with templates of its own names
-their folder, which is searched first.
+All pages extend `templates/base.html`, with `templates/style.css`. A tool with templates of its own names their folder,
+which is searched first.
 
-Texts of a template in the language of its environment, put into the template when it is compiled.
+The texts of a template, in the language of its environment, are put into it when it is compiled.
 
-A pack has thousands of pages, each with dozens of texts, and all of an environment's pages speak one language. So a text
-costs nothing when a page is written; only one with plural forms is chosen then.
+A pack contains thousands of pages, each with dozens of texts, and all pages of an environment are in one language. So a
+text costs nothing when a page is written; only plural forms are chosen then.
 """
 
 from __future__ import annotations
@@ -25,12 +25,10 @@ from jinja2.ext import InternationalizationExtension
 from markupsafe import Markup
 
 from . import exact
-from .elided import OF, begun, is_begun, of, plain_name
-from .languages import ENGLISH, Language
-from .others import apart, isolated, others
-from .speech import LATIN
+from .others import OF, apart, begin_line, is_begun, isolate, of, others, plain_name
+from .languages import ENGLISH, LATIN, Language
 from .terminal import Fault, because_of, month_name
-from .whole_files import in_place_of
+from .text_files import in_place_of
 
 TEMPLATES = Path(__file__).resolve().parent / "templates"
 
@@ -44,7 +42,7 @@ def percent(change: Optional[int]) -> str:
 
 
 def size(change: int) -> str:
-    """How great a change in tenths of a percent is, as `0.3`, whatever its sign."""
+    """The size of a change in tenths of a percent, such as `0.3`, without its sign."""
     return exact.tenths(abs(change))
 
 
@@ -54,15 +52,15 @@ FILTERS: Mapping[str, Callable[..., Any]] = {
     "points": exact.points,
     "month_name": month_name,
     "others": others,
-    "isolated": isolated,
+    "isolated": isolate,
     "of": of,
-    "begun": begun,
+    "begun": begin_line,
 }
-"""What a template of any tool can write figures, and texts of others, with."""
+"""The filters with which the templates of any tool write figures and texts of others."""
 
 
 def style() -> Markup:
-    """The style of all pages as one text, for a page in a file of its own."""
+    """The style of all pages as one text, for a page that is a single file."""
     return Markup((TEMPLATES / "style.css").read_text(encoding="utf-8"))
 
 
@@ -74,7 +72,7 @@ class Compiled(jinja2.BytecodeCache):
         self._codes: dict[tuple[str, str], CodeType] = {}
 
     def load_bytecode(self, bucket: Bucket) -> None:
-        """Gives a template its code, if it is known."""
+        """Gives a template its code, if the code is known."""
         bucket.code = self._codes.get((bucket.key, bucket.checksum))
 
     def dump_bytecode(self, bucket: Bucket) -> None:
@@ -85,8 +83,8 @@ class Compiled(jinja2.BytecodeCache):
 
 @lru_cache(maxsize=16)
 def compiled_in(language: Language, digits: str) -> Compiled:
-    """The code of templates whose texts are in a language, and their figures in a system of digits. It has both: a text
-    is put into it, and so is what a filter gives for a constant."""
+    """The code of templates whose texts are in a language, and their figures in a system of digits. The code contains
+    both: texts, and the results of filters for constants."""
     return Compiled()
 
 
@@ -95,14 +93,14 @@ class Templates(jinja2.Environment):
     two mappings costs each of them as much as all of its texts."""
 
     def make_globals(self, d: Optional[MutableMapping[str, Any]]) -> MutableMapping[str, Any]:
-        """Those of a template."""
+        """The globals of a template."""
         return {**self.globals, **(d or {})}
 
 
 def environment(own: Sequence[Path] = (), language: Language = ENGLISH, digits: str = LATIN) -> jinja2.Environment:
-    """The templates of a tool, whose own are in folders that are searched first; a name that isn't handed in is a fault.
-    What a template has in `{% trans %}` or `_()` is a text of the language. A filter that is added must give the same for a
-    constant in all environments of a language and a system of digits."""
+    """The templates of a tool, whose own are in folders that are searched first; a name that isn't passed in is a
+    fault. A text in `{% trans %}` or `_()` is translated to the language. An added filter must give the same result for
+    a constant in all environments of a language and a system of digits."""
     folders = [*own, TEMPLATES]
     made = Templates(
         loader=jinja2.FileSystemLoader([str(folder) for folder in folders]),
@@ -127,7 +125,7 @@ PAGE_BEGINS = b"<!DOCTYPE html>"
 
 
 def refuse_other_files(to: Path) -> None:
-    """Raises Fault if another file than a page is there, so that a slip in a name doesn't cost it."""
+    """Raises Fault if a file other than a page exists at that place, so that a mistyped name doesn't overwrite it."""
     try:
         with to.open("rb") as file:
             is_page = file.read(len(PAGE_BEGINS)) == PAGE_BEGINS
@@ -163,7 +161,7 @@ class Inlined(InternationalizationExtension):
         vars_referenced: bool,
         num_called_num: bool,
     ) -> nodes.Output:
-        """The parts of a text: what the catalogue has, and the expressions of its places."""
+        """The parts of a text: the texts in the catalogue, and the expressions of its places."""
         if plural_expr is not None:
             return super()._make_node(
                 singular, plural, context, variables, plural_expr, vars_referenced, num_called_num
@@ -175,16 +173,16 @@ class Inlined(InternationalizationExtension):
         text = language.gettext(source) if context is None else language.pgettext(context, source)
         parts = PLACE.split(text) if vars_referenced else [text]
         return nodes.Output([
-            _placed(variables, part) if at % 2 else nodes.TemplateData(part.replace("%%", "%") if vars_referenced else part)
+            _place(variables, part) if at % 2 else nodes.TemplateData(part.replace("%%", "%") if vars_referenced else part)
             for at, part in enumerate(parts)
         ])  # fmt: skip
 
 
-def _placed(variables: Mapping[str, nodes.Expr], name: str) -> nodes.Expr:
+def _place(variables: Mapping[str, nodes.Expr], name: str) -> nodes.Expr:
     """The value of a place in a text; with the word before it, if the language joins the two, and with a capital
     letter, if the text begins with it."""
     if name in variables:
         return variables[name]
     if is_begun(name):
-        return nodes.Filter(_placed(variables, plain_name(name)), "begun", [], [], None, None)
+        return nodes.Filter(_place(variables, plain_name(name)), "begun", [], [], None, None)
     return nodes.Filter(variables[name.removeprefix(OF)], "of", [], [], None, None)

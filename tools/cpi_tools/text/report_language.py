@@ -1,5 +1,5 @@
-"""How the page of a report says its texts, figures, months and moments: in the language that its tool was asked for, and
-by the office's clock. `speech` has what a language says."""
+"""Writes the texts, figures, months and moments of a report's page in the language that was given to its tool, with the
+office's clock. `speech` contains the wording of each language."""
 
 from __future__ import annotations
 
@@ -11,11 +11,9 @@ from typing import Any, Optional
 
 from .clocks import UTC, Clock, clock_of
 from .exact import with_sign
-from .languages import SOURCE, a_language, known
-from .message import Code, Figure, Moment, Month, MonthName, Price, Ticks, Message
-from .money import TICKS, Money
-from .others import CLOSES, LEFT_TO_RIGHT, Worded, worded
-from .speech import DIGITS, LATIN, MINUS, SPEAKS_ENGLISH, Speech, speech_of
+from .languages import DIGITS, LATIN, MINUS, SOURCE, SPEAKS_ENGLISH, Speech, a_language, list_known, speech_of
+from .message import TICKS, Code, Figure, Message, Moment, Money, Month, MonthName, Price, Ticks
+from .others import CLOSES, LEFT_TO_RIGHT, Worded, word_text
 from .terminal import Fault
 
 VARIABLE, DIGITS_VARIABLE, ZONE_VARIABLE = "CPI_LANGUAGE", "CPI_DIGITS", "CPI_ZONE"
@@ -23,13 +21,13 @@ VARIABLE, DIGITS_VARIABLE, ZONE_VARIABLE = "CPI_LANGUAGE", "CPI_DIGITS", "CPI_ZO
 English, and the clock."""
 
 KINDS = (Code, Figure, Moment, Month, MonthName, Price, Ticks)
-"""What a place or a cell holds besides texts."""
+"""The kinds of values, besides texts, in a place or a cell."""
 
 FIGURE = re.compile(r"[+\u2212-]?[0-9][0-9,]*(\.[0-9]+)?([ \u202f]?%)?")
 
 
 def add_speech(words: argparse.ArgumentParser, what: str) -> None:
-    """The words `--language` and `--digits` of a tool: how its page is written."""
+    """Adds the options `--language` and `--digits` of a tool, with which its page is written."""
     add = words.add_argument
     says = f"the language of {what}, such as fr: one that has a catalogue (else from {VARIABLE}, or en)"
     add("--language", type=a_language, metavar="LANG", help=says)
@@ -38,20 +36,20 @@ def add_speech(words: argparse.ArgumentParser, what: str) -> None:
 
 
 def add_language(words: argparse.ArgumentParser, what: str) -> None:
-    """The same, and `--zone`, for a page with moments."""
+    """Adds `--language`, `--digits`, and `--zone` for a page with moments."""
     add_speech(words, what)
     says = f"the clock of {what}: a place, or a POSIX rule (else from {ZONE_VARIABLE}, or UTC)"
     words.add_argument("--zone", metavar="ZONE", help=says)
 
 
 def no_money() -> Optional[Money]:
-    """That the currency isn't known: prices are in minor units."""
+    """The currency isn't known, so prices are in minor units."""
     return None
 
 
 class Teller:
-    """What says a report: a language, the clock of its moments, and `money`, which gives the office's currency if it is
-    known."""
+    """Writes a report: it has a language, the clock for its moments, and `money`, which gives the office's currency if
+    it is known."""
 
     def __init__(
         self, speech: Speech = SPEAKS_ENGLISH, clock: Clock = UTC, money: Callable[[], Optional[Money]] = no_money
@@ -60,7 +58,7 @@ class Teller:
 
     @property
     def filters(self) -> Mapping[str, Callable[..., Any]]:
-        """What a template says with."""
+        """The filters with which a template writes texts and figures."""
         return {
             "render": self.render,
             "told_cell": self.cell,
@@ -80,13 +78,13 @@ class Teller:
         if isinstance(value, Message):
             if value.is_english and self.speech.language.tag == SOURCE:
                 return value
-            return worded(self._form(value), **{name: self._placed(it) for name, it in value.places.items()})
+            return word_text(self._form(value), **{name: self._place(it) for name, it in value.places.items()})
         if isinstance(value, KINDS):
-            return self._placed(value)
+            return self._place(value)
         return value if isinstance(value, Worded) or not isinstance(value, str) else self.speech.t(value)
 
     def cell(self, value: object) -> object:
-        """A cell of a column of texts, which is of others if it isn't told."""
+        """A cell of a column of texts; one that isn't a message is a text of others."""
         return self.render(value) if isinstance(value, (Message, *KINDS)) else value
 
     def _form(self, text: Message) -> str:
@@ -94,7 +92,7 @@ class Teller:
             return self.speech.t(text.source[0]) if text.source[0] else ""
         return self.speech.language.ngettext(text.source[0], text.source[1], text.number)
 
-    def _placed(self, value: object) -> object:
+    def _place(self, value: object) -> object:
         if isinstance(value, Message):
             return self.render(value)
         if isinstance(value, Moment):
@@ -108,8 +106,8 @@ class Teller:
         return self.figure(value) if isinstance(value, (Figure, int)) else value
 
     def figure(self, value: object) -> object:
-        """A figure, such as `1,626.5` or `+0.3 %`; anything else stays as it is. A whole number is written without marks
-        of thousands, since it may be that of a collector."""
+        """A figure, such as `1,626.5` or `+0.3 %`; anything else stays as it is. A whole number is written without
+        thousands separators, since it may be a collector's number."""
         if isinstance(value, (Price, Ticks)):
             return self.price(value)
         text = str(value) if isinstance(value, int) else value
@@ -121,7 +119,7 @@ class Teller:
         return self.code(self.speech.figure(text.replace("-", MINUS)))
 
     def price(self, value: int) -> object:
-        """A price in minor units, or `Ticks`, as an amount with the currency's digits, `31,116.00`; as it is, if the
+        """A price in minor units, or `Ticks`, as an amount with the currency's digits, `31,116.00`; unchanged if the
         currency isn't known."""
         money = self.money()
         if money is None:
@@ -130,11 +128,11 @@ class Teller:
         return self.code(self.speech.figure(money.amount(ticks)))
 
     def amount(self, value: int) -> object:
-        """The same; nothing, if the currency isn't known."""
+        """A price as an amount with the currency's digits; empty if the currency isn't known."""
         return self.price(value) if self.money() else ""
 
     def whole(self, number: int) -> object:
-        """How many there are, `1,626`."""
+        """A count with separators, `1,626`."""
         return self.code(self.speech.whole(number))
 
     def in_percent(self, text: str) -> object:
@@ -146,37 +144,37 @@ class Teller:
         return self.in_percent(with_sign(text))
 
     def code(self, value: object) -> object:
-        """The code of a node or an item, or a figure, between whose signs nothing turns."""
+        """The code of a node or an item, or a figure, whose characters keep their order."""
         return f"{LEFT_TO_RIGHT}{value}{CLOSES}" if self.speech.language.dir == "rtl" and value else value
 
     def month(self, month: str) -> str:
-        """`January 2026` of `2026-01`."""
+        """`January 2026` for `2026-01`."""
         return self.speech.month(month)
 
     def moment(self, at: int) -> str:
-        """`28 January 2026, 09:30 CET` of seconds since 1970 UTC."""
+        """`28 January 2026, 09:30 CET` for seconds since 1970 UTC."""
         return self.clock.local(at, self.speech)
 
     def day(self, at: int) -> str:
-        """The same with the time in UTC, `28 January 2026, 09:30 CET (08:30 UTC)`."""
+        """A moment also with the time in UTC, `28 January 2026, 09:30 CET (08:30 UTC)`."""
         return self.clock.day(at, self.speech)
 
 
 ENGLISH = Teller()
-"""English, by UTC."""
+"""Writes English, with UTC."""
 
 
 def teller_of(code: str, digits: str = LATIN, clock: Clock = UTC) -> Teller:
-    """What says a report in a language. Raises Fault if its catalogue can't be read."""
+    """The Teller of a language. Raises Fault if its catalogue can't be read."""
     return Teller(speech_of(code, digits), clock)
 
 
 def chosen_speech(chosen: argparse.Namespace) -> Speech:
-    """The language and digits of a tool's words, else those of the office, else English and ASCII. Raises Fault if the
-    office's settings have something else."""
+    """The language and digits of a tool's arguments; by default those of the office, otherwise English and ASCII.
+    Raises Fault if the office's settings contain something else."""
     code = chosen.language or os.environ.get(VARIABLE) or SOURCE
-    if code not in known():
-        raise Fault(f"{VARIABLE} is {code!r}, which has no catalogue: one of {', '.join(known())}")
+    if code not in list_known():
+        raise Fault(f"{VARIABLE} is {code!r}, which has no catalogue: one of {', '.join(list_known())}")
     digits = chosen.digits or os.environ.get(DIGITS_VARIABLE) or LATIN
     if digits not in DIGITS:
         raise Fault(f"{DIGITS_VARIABLE} is {digits!r}: wanted is one of {', '.join(DIGITS)}")
@@ -184,6 +182,7 @@ def chosen_speech(chosen: argparse.Namespace) -> Speech:
 
 
 def chosen_teller(chosen: argparse.Namespace) -> Teller:
-    """The same with the clock of a tool's words, else that of the office, else UTC. Raises Fault as well."""
+    """The Teller of a tool: the language and digits of `chosen_speech`, with the clock of the tool's arguments, by
+    default the office's clock, otherwise UTC. Raises Fault like `chosen_speech`."""
     speech = chosen_speech(chosen)
     return Teller(speech, clock_of(chosen.zone or os.environ.get(ZONE_VARIABLE) or ""))

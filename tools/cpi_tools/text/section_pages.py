@@ -1,8 +1,8 @@
 """Pages of sections: the templates of a tool with those of all pages, and a style for tables and lines.
 
-How a page shows the columns of a report: their names in words, changes with their sign, counts with their separators.
+A page shows the columns of a report with their names in words, changes with their sign, and counts with separators.
 
-Files of a report have the columns' own names and figures without signs of people.
+Files of a report contain the columns' own names, and figures without such additions.
 """
 
 from __future__ import annotations
@@ -16,8 +16,8 @@ from markupsafe import Markup
 
 from . import page_templates
 from .report_language import ENGLISH, FIGURE, Teller
-from .sections import Cell
-from .speech import marked
+from .message import Cell
+from .languages import mark_text
 
 
 def style() -> Markup:
@@ -26,7 +26,7 @@ def style() -> Markup:
 
 
 def environment(own: Sequence[Path], teller: Teller = ENGLISH) -> jinja2.Environment:
-    """The templates of a tool whose pages are made of sections; its own are in folders."""
+    """The templates of a tool whose pages are made of sections; the tool's own templates are in folders."""
     made = page_templates.environment(own, teller.speech.language, teller.speech.digits)
     made.globals["style"] = style
     made.filters.update(teller.filters)
@@ -35,12 +35,12 @@ def environment(own: Sequence[Path], teller: Teller = ENGLISH) -> jinja2.Environ
 
 
 HEADS = {
-    "month %": marked("monthly change, %"),
-    "year %": marked("annual change, %"),
-    "adds, month": marked("contribution to the monthly change, points"),
-    "adds, year": marked("contribution to the annual change, points"),
+    "month %": mark_text("monthly change, %"),
+    "year %": mark_text("annual change, %"),
+    "adds, month": mark_text("contribution to the monthly change, points"),
+    "adds, year": mark_text("contribution to the annual change, points"),
 }
-"""What a page has in the place of a column's own name."""
+"""The names that a page shows in place of the columns' own names."""
 
 CHANGES = frozenset(
     (
@@ -49,7 +49,7 @@ CHANGES = frozenset(
         *("now: month %", "now: year %", "gap, month", "gap, year"),
     )
 )
-"""Columns whose figures are changes: one that goes up has a plus sign."""
+"""Columns whose figures are changes: a rise has a plus sign."""
 
 COUNTS = frozenset(
     (
@@ -57,7 +57,8 @@ COUNTS = frozenset(
         *("weight", "weight in use"),
     )
 )
-"""Columns of whole numbers that count something, or are parts of a million; others may be those of a collector."""
+"""Columns of whole numbers that count something, or are parts of a million; other whole numbers may be a
+collector's."""
 
 
 def head(name: object) -> object:
@@ -66,7 +67,7 @@ def head(name: object) -> object:
 
 
 def with_plus(text: str) -> str:
-    """A figure that is a change: `+0.3` of `0.3`, and nothing of `-0.3` or `0.0` changed."""
+    """A figure that is a change: `+0.3` for `0.3`; `-0.3` and `0.0` stay unchanged."""
     is_up = FIGURE.fullmatch(text) and text[0].isdigit() and text.strip("0.,% \u202f")
     return f"+{text}" if is_up else text
 

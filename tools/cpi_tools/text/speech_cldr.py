@@ -1,4 +1,4 @@
-"""How other languages than English say figures, months and moments: by CLDR, as Babel has it."""
+"""Writes figures, months and moments in languages other than English, with CLDR's data from Babel."""
 
 from __future__ import annotations
 
@@ -12,9 +12,8 @@ from babel.dates import format_date, format_skeleton
 from babel.lists import format_list
 from markupsafe import Markup, escape
 
-from .languages import Language
+from .languages import LATIN, MINUS, Language, Speech
 from .others import CLOSES, LEFT_TO_RIGHT
-from .speech import LATIN, MINUS, Speech
 
 ZEROS: Mapping[str, str] = {"latn": "0", "arab": "\u0660", "deva": "\u0966"}
 """The first digit of each system."""
@@ -22,8 +21,8 @@ ZEROS: Mapping[str, str] = {"latn": "0", "arab": "\u0660", "deva": "\u0966"}
 ARABIC: Mapping[str, str] = {
     "decimal": "\u066b", "group": "\u066c", "percentSign": "\u066a\u061c", "plusSign": "\u061c+", "minusSign": "\u061c-",
 }  # fmt: skip
-"""The signs that go with the digits `arab` by CLDR; Babel has those of a language's Latin digits only. Those that go with
-`deva` are the same as with Latin digits."""
+"""The signs that go with the digits `arab` by CLDR; Babel only provides the signs for a language's Latin digits. The
+signs for `deva` are the same as for Latin digits."""
 
 NUMBER = re.compile(r"[#0,.]+")
 
@@ -31,8 +30,8 @@ WRITTEN = re.compile(
     r"<[^>]*>|\{[a-z_]+\}|%\([a-z_]+\)s|[A-Za-z-]*[A-Z]{2}[A-Za-z-]*\s[0-9]+(?:\.[0-9]+)*|[0-9]+(?:\.[0-9]+){2,}"
     r"|(?:(?<=&nbsp;)|(?<![A-Za-z0-9.,:/#&;_-]))(?P<number>[0-9]+(?:[.,][0-9]+)*)(?![A-Za-z0-9_/-]|[.:][A-Za-z0-9])"
 )
-"""The ignored parts of a catalogue's text, and a number in it. Tags and places are passed by, a name in capitals with
-its number, as COICOP 2018, and a code such as 01.1.1; a number within a name, as SHA-256, is none."""
+"""The ignored parts of a catalogue's text, and a number in it. It ignores tags, places, a name in capitals with its
+number, such as COICOP 2018, and a code such as 01.1.1; a number within a name, such as SHA-256, isn't a number."""
 
 
 class Cldr(Speech):
@@ -55,16 +54,16 @@ class Cldr(Speech):
         self._percent = [part.replace("%", signs["percentSign"]) for part in (before, after)]
         if digits != LATIN:
             self.language = language._replace(
-                gettext=lambda text: self.numbered(language.gettext(text)),
-                ngettext=lambda one, many, count: self.numbered(language.ngettext(one, many, count)),
-                pgettext=lambda context, text: self.numbered(language.pgettext(context, text)),
+                gettext=lambda text: self.write_numbers(language.gettext(text)),
+                ngettext=lambda one, many, count: self.write_numbers(language.ngettext(one, many, count)),
+                pgettext=lambda context, text: self.write_numbers(language.pgettext(context, text)),
             )
 
-    def listed(self, texts: Sequence[str]) -> str:
+    def list_texts(self, texts: Sequence[str]) -> str:
         return str(format_list(texts, locale=self._locale))
 
     def inner(self, title: str) -> str:
-        """A title as it is: CLDR doesn't say which words a language writes with small letters."""
+        """A title unchanged: CLDR doesn't say which words a language writes with small letters."""
         return title
 
     def figure(self, text: str) -> str:
@@ -75,7 +74,7 @@ class Cldr(Speech):
         return {sign: text for sign, text in self._signs.items() if sign != text}
 
     @functools.lru_cache(maxsize=4000)
-    def numbered(self, text: str) -> str:
+    def write_numbers(self, text: str) -> str:
         if self.digits == LATIN:
             return text
         return WRITTEN.sub(lambda it: it[0].translate(self._written) if it["number"] else it[0], text)
@@ -91,7 +90,7 @@ class Cldr(Speech):
 
     @functools.lru_cache(maxsize=2000)
     def month(self, month: str) -> str:
-        return self._dated("yMMMM", _day(month))
+        return self._write_date("yMMMM", _day(month))
 
     def year(self, year: str) -> str:
         return year.translate(self._digits)
@@ -103,7 +102,7 @@ class Cldr(Speech):
 
     @functools.lru_cache(maxsize=2000)
     def month_head(self, month: str) -> str:
-        names = escape(self.month(month)), escape(self._dated("yMMM", _day(month)))
+        names = escape(self.month(month)), escape(self._write_date("yMMM", _day(month)))
         return Markup('<span class="wide">{}</span><span class="narrow">{}</span>').format(*names)
 
     def moment(self, at: datetime, zone: str) -> str:
@@ -111,11 +110,11 @@ class Cldr(Speech):
         return self.t("{day} at {time}", day=day, time=self.time(at, zone))
 
     def time(self, at: datetime, zone: str) -> str:
-        """The time, and what its zone is called: both from left to right, so that no bracket next to them is turned."""
-        text = f"{self._dated('Hm', at)} {zone}"
+        """The time, and the name of its zone, both from left to right, so that no bracket next to them is turned."""
+        text = f"{self._write_date('Hm', at)} {zone}"
         return f"{LEFT_TO_RIGHT}{text}{CLOSES}" if self.language.dir == "rtl" else text
 
-    def _dated(self, skeleton: str, at: date) -> str:
+    def _write_date(self, skeleton: str, at: date) -> str:
         """A date in the form that the language has for some of its parts."""
         return str(format_skeleton(skeleton, at, locale=self._locale)).translate(self._digits)
 

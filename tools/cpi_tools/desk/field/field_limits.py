@@ -1,6 +1,6 @@
 """The limits of a field note, and of a question to a collector.
 
-`web/collect/note-limits.js` has the same names for the phone.
+`web/collect/note-limits.js` contains the same names for the phone.
 """
 
 from __future__ import annotations
@@ -21,7 +21,7 @@ MOST_PHOTO_SIDE = 1_280
 """Pixels of the longer side of a photograph, as it is kept."""
 
 MOST_SENT_SIDE = 4_000
-"""The same as it comes: a longer one isn't opened."""
+"""Pixels of the longer side of a photograph as it arrives: a longer one isn't opened."""
 
 MOST_MESSAGE_BYTES = MOST_PHOTO_BYTES + 20_000
 """Bytes of a message with a note."""
@@ -33,7 +33,7 @@ MOST_OPEN = 50
 """Questions to a collector that wait for an answer."""
 
 MOST_OPEN_IN_ALL = 2_000
-"""The same, to all collectors."""
+"""Questions to all collectors that wait for an answer."""
 
 MOST_ANSWERS = 10
 """Answers to a question."""

@@ -10,13 +10,12 @@ from werkzeug.wrappers import Response
 
 from ...office.quote_marks import mark_text
 from ...office.stored import Frozen, Quote, StoredOffice, read_copy
-from ...text.csv_files import Writer, formulas_told
+from ...text.text_files import Writer, formulas_told
 from ...text.message import Message
 from ...text.others import Worded
 from ...text.terminal import slot_text, time_text
 from ..records.desk_log import REMOVED_NOTE, SAID
-from ..serve.page_versions import changed_by_step
-from ..serve.request_context import csv_file, desk, file_name, month_of, page, session
+from ..serve.request_context import changed_by_step, csv_file, desk, file_name, month_of, page, session
 from .field_notes import FieldNote, FieldNotes
 
 views = flask.Blueprint("field_notes", __name__)
@@ -52,8 +51,8 @@ class Row(NamedTuple):
         return self.receipt > self.note.receipt
 
 
-def kept() -> FieldNotes:
-    """The notes: these views are there only if they are on."""
+def find_notes() -> FieldNotes:
+    """The notes: these views exist only if notes are on."""
     found = desk().field
     assert found is not None
     return found
@@ -86,17 +85,17 @@ def rows_of(office: StoredOffice, month: int, notes: list[FieldNote]) -> list[Ro
 @views.get("/month/<month>/field-notes")
 def show(month: str) -> Response:
     """The notes of a month, the latest first."""
-    return shown(month)
+    return show_result(month)
 
 
-def shown(month: str, status: int = 200, fault: Worded = Worded("")) -> Response:
-    """The same, with the result of a step."""
+def show_result(month: str, status: int = 200, fault: Worded = Worded("")) -> Response:
+    """The page of notes, with the result of a step."""
     number = month_of(month)
-    notes = kept().of_month(number)[::-1]
+    notes = find_notes().of_month(number)[::-1]
     start = flask.request.args.get("from", "0")
     first = int(start) if start.isdecimal() and len(start) < 9 else 0
     rows = rows_now(number, notes[first : first + SHOWN])
-    named = {"count": len(notes), "first": first, "step": SHOWN, "months": kept().months}
+    named = {"count": len(notes), "first": first, "step": SHOWN, "months": find_notes().months}
     return page("field-notes.html", status, month=month, rows=rows, fault=fault, **named)
 
 
@@ -104,7 +103,7 @@ def shown(month: str, status: int = 200, fault: Worded = Worded("")) -> Response
 def file(month: str) -> Response:
     """The notes of a month as a file, without photographs: the last column is the name of each."""
     number = month_of(month)
-    rows = rows_now(number, kept().of_month(number))
+    rows = rows_now(number, find_notes().of_month(number))
     text = io.StringIO()
     with formulas_told("", True):
         out = Writer(text)
@@ -124,7 +123,11 @@ def cells_of(month: str, row: Row) -> list[object]:
 @views.get("/month/<month>/field-notes/<int:number>.jpg")
 def photo(month: str, number: int) -> Response:
     """The photograph of a note."""
-    found = kept().photo(number) if any(it.number == number for it in kept().of_month(month_of(month))) else None
+    found = (
+        find_notes().photo(number)
+        if any(it.number == number for it in find_notes().of_month(month_of(month)))
+        else None
+    )
     if found is None:
         flask.abort(404)
     answer = flask.Response(found, mimetype="image/jpeg")
@@ -136,8 +139,8 @@ def photo(month: str, number: int) -> Response:
 def remove(month: str, number: int) -> Response:
     """Removes a note with its photograph for good."""
     of, text = month_of(month), REMOVED_NOTE.format(number=number, month=month)
-    if number not in {it.number for it in kept().of_month(of)}:
-        return shown(month, 409, changed_by_step(text))
+    if number not in {it.number for it in find_notes().of_month(of)}:
+        return show_result(month, 409, changed_by_step(text))
     desk().log.append(session().person, SAID, text=text)
-    kept().remove(of, number)
+    find_notes().remove(of, number)
     return flask.redirect(flask.url_for("field_notes.show", month=month), 303)

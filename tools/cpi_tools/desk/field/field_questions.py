@@ -3,8 +3,8 @@ office's.
 
 A question is of one price: the collector, the slot, the month and the receipt. At most one of a slot and month is open:
 another one takes its place. Whoever reads questions names whose they are to be, so a collector is never handed
-another's. An answer is kept whenever it comes, also to a question that was withdrawn meanwhile. The desk's log gets
-each change before it is made.
+another's. An answer is kept whenever it comes, even to a question that has been withdrawn. The desk's log gets each
+change before it is made.
 
 The words for what has become of a question to a collector.
 """
@@ -19,9 +19,9 @@ from typing import Any, NamedTuple, Optional
 
 from ...office.quote_marks import mark_text
 from ...office.stored import Frozen
-from ...text.message import Message, moment_of, message as _
+from ...text.message import Message, message as _, moment_of
 from ...text.others import of_others
-from .field_file import FieldFile
+from .field_notes import FieldFile
 from .field_limits import MOST_ANSWERS, MOST_OPEN, MOST_OPEN_IN_ALL
 
 SCHEMA = """
@@ -101,7 +101,7 @@ class Question(NamedTuple):
 
 
 class Changed(Exception):
-    """The latest question of a slot and month isn't the one that a page showed: the one that is."""
+    """The latest question of a slot and month isn't the question that a page showed; `now` is the latest one."""
 
     def __init__(self, now: Optional[Question]):
         super().__init__(now)
@@ -121,7 +121,7 @@ class TooManyAnswers(Exception):
 
 
 class NoQuestion(Exception):
-    """There is no such question of that collector."""
+    """That collector has no such question."""
 
 
 Logged = Callable[[int], object]
@@ -134,10 +134,10 @@ class FieldQuestions(FieldFile):
     SCHEMA = SCHEMA
 
     def _unreadable(self, **places: object) -> Message:
-        return _("{path} can't be read as the questions to collectors: {fault}", **places)
+        return _("The questions to collectors in {path} can't be read: {fault}", **places)
 
     def _unusable(self, **places: object) -> Message:
-        return _("{path} can't be read or written as the questions to collectors: {fault}", **places)
+        return _("The questions to collectors in {path} can't be read or written: {fault}", **places)
 
     # ---- the desk
 
@@ -213,8 +213,8 @@ class FieldQuestions(FieldFile):
         return found
 
     def answer(self, to: Question, said: Said, logged: Logged) -> int:
-        """Keeps an answer; its number. The same one again has the number that it had. Raises NoQuestion if the question was
-        removed, TooManyAnswers or Fault."""
+        """Keeps an answer; its number. An answer that is sent again keeps its number. Raises NoQuestion if the question
+        was removed, TooManyAnswers or Fault."""
         digest = hashlib.sha256(json.dumps([said.what, said.receipt, said.text]).encode()).hexdigest()
         with self._changing() as link:
             now = _one(link, "number = ? AND collector = ?", to.number, to.of.collector)
@@ -276,10 +276,10 @@ def answer_in_words(it: Answer) -> Message:
     places = {"entered": entered, "receipt": said.receipt, "moment": moment_of(it.at)}
     if said.what == CONFIRMED:
         # t: {entered} is a mark with its price, such as price 2.10, or the reason why there is none
-        return _("Answered {moment}: {entered} is right, receipt {receipt}.", **places)
+        return _("Answered {moment}: {entered} is right (receipt {receipt}).", **places)
     if said.what == CORRECTED:
         # t: {entered} is a mark with its price, such as price 2.10, or the reason why there is none
-        return _("Answered {moment}: corrected to {entered}, receipt {receipt}.", **places)
+        return _("Answered {moment}: corrected to {entered} (receipt {receipt}).", **places)
     return _("Answered {moment}.", moment=moment_of(it.at))
 
 
@@ -287,5 +287,5 @@ def gone_in_words(it: Question) -> Message:
     """The message that a question was taken back, and whether another one replaced it."""
     places = {"name": of_others(it.gone_by), "moment": moment_of(it.gone_at)}
     if it.next:
-        return _("{name} asked another question instead, {moment}.", **places)
-    return _("{name} withdrew it, {moment}.", **places)
+        return _("{name} replaced the question with another one, {moment}.", **places)
+    return _("{name} withdrew the question, {moment}.", **places)

@@ -25,7 +25,7 @@ MOST_SECONDS = 8
 """Seconds of a processor that it has: ten times what such a picture takes."""
 
 NICE = 10
-"""How much lower its priority for a processor is than the priority of the desk's pages."""
+"""The niceness of this process, above that of the desk's pages: they get the processor first."""
 
 FORMATS = ("JPEG", "PNG", "WEBP")
 """The formats that are opened; a file of any other format isn't a picture."""
@@ -34,14 +34,14 @@ QUALITIES = (82, 70, 55, 40)
 """Of JPEG, the best first."""
 
 NO_PICTURE, TOO_LARGE, TOO_COSTLY = 3, 4, 5
-"""How it ends without a JPEG: the bytes aren't a picture, it has too many pixels, or it takes too much memory."""
+"""The exit statuses without a JPEG: the bytes aren't a picture, it has too many pixels, or it takes too much memory."""
 
 
 class TooLarge(Exception):
     """A picture has a side that is longer than MOST_SENT_SIDE."""
 
 
-def bound() -> None:
+def limit_process() -> None:
     """Bounds this process."""
     limits = {
         resource.RLIMIT_AS: (MOST_MEMORY, MOST_MEMORY),
@@ -67,10 +67,10 @@ def pixels_of(data: bytes) -> bytes:
     pixels.thumbnail((MOST_PHOTO_SIDE, MOST_PHOTO_SIDE))
     bare = Image.new("RGB", pixels.size)
     bare.paste(pixels)
-    return _written(bare)
+    return _encode(bare)
 
 
-def _written(picture: Image.Image) -> bytes:
+def _encode(picture: Image.Image) -> bytes:
     """A picture in so few bytes as are wanted; smaller and smaller if its pixels are noise."""
     while True:
         for quality in QUALITIES:
@@ -83,7 +83,7 @@ def _written(picture: Image.Image) -> bytes:
 
 def main() -> int:
     """Opens the picture of standard input, and writes its JPEG."""
-    bound()
+    limit_process()
     try:
         made = pixels_of(sys.stdin.buffer.read())
     except TooLarge:

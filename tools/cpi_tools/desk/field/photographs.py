@@ -30,9 +30,9 @@ MOST_WAITING = 3
 threads, and the others are the desk's."""
 
 MESSAGES = {
-    NO_PICTURE: _("It is no picture: JPEG, PNG or WebP is wanted."),
+    NO_PICTURE: _("This isn't a picture: send a JPEG, PNG or WebP file."),
     TOO_LARGE: _("The picture is larger than {most} pixels on a side.", most=whole(MOST_SENT_SIDE)),
-    TOO_COSTLY: _("The picture takes more memory or time than a photograph does."),
+    TOO_COSTLY: _("The picture needs more memory or time than a photograph does."),
 }
 """The message about a refused picture, by the status of its process."""
 
@@ -50,12 +50,12 @@ class NotAPicture(Fault):
 
 
 class Busy(Exception):
-    """A photograph can't be opened now, whatever it is: it is to be sent again. It has a line if that is a fault of the
-    machine, and none if others wait."""
+    """A photograph can't be opened now, whatever it is: it is to be sent again. It has a line if the machine is at
+    fault, and none if others wait."""
 
 
 class Turns:
-    """Whose photograph is opened, and whose wait for it."""
+    """The photograph that is being opened, and those that wait for their turn."""
 
     def __init__(self) -> None:
         self._one, self._door = threading.Lock(), threading.Lock()
@@ -83,7 +83,7 @@ class Turns:
 
 
 def without_traces(data: bytes) -> bytes:
-    """A picture as `one_photograph` writes it anew. Raises NotAPicture or Busy."""
+    """A picture as `one_photograph` writes it again. Raises NotAPicture or Busy."""
     modules = str(Path(__file__).resolve().parents[3])
     command = [sys.executable, "-m", f"{__package__}.one_photograph"]
     kept = {"PATH": os.environ.get("PATH", ""), "PYTHONPATH": modules, "PYTHONDONTWRITEBYTECODE": "1"}
@@ -105,6 +105,6 @@ def without_traces(data: bytes) -> bytes:
 
 
 def _fault_of(status: int) -> Exception:
-    """Why a process wrote no JPEG: it is the picture's fault, or else the machine's."""
+    """The reason why a process wrote no JPEG: the picture is at fault, or the machine."""
     text: Optional[Message] = MESSAGES.get(SIGNALS.get(status, status))
     return NotAPicture(text) if text else Busy(f"status={status}")

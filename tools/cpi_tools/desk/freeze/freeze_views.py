@@ -17,34 +17,39 @@ import flask
 from werkzeug.wrappers import Response
 
 from ...text.languages import in_themselves
-from ...text.message import Message, moment_of, month_of as month_words, message as _, whole
+from ...text.message import Message, message as _, moment_of, month_of as month_words, whole
 from ...text.others import Worded, of_others
 from ...text.terminal import Fault
 from ..looks.looks import Look
-from ..looks.looks_rows import price_of
+from ..looks.looks_views import price_of
 from ..looks.month_trials import Tried
 from ..month.what_if import rows_of
 from ..records.desk_log import CONFIRMED, DONE_ALREADY, DROPPED, PREPARED, SAID
-from ..records.record_names import Names
-from ..records.record_replies import record_reply
-from ..records.record_sentences import sentence_of
+from ..records.record_sentences import Names, sentence_of
+from ..records.sending import record_reply
 from ..serve.faults import says
-from ..serve.page_versions import changed_by
-from ..serve.request_context import after, desk, field, month_of, page, session, what_came
+from ..serve.request_context import after, changed_by, desk, field, month_of, page, session, what_came
 from ..serve.sessions import is_same
-from . import freeze_receipts
-from .freeze_confirmation import Signed, signed_of
-from .freeze_finish import finish, what_differs
-from .freeze_steps import NOTHING, steps_of
-from .freeze_texts import not_prepared, other_prepared, other_trial, said
+from . import freeze_steps
+from .freeze_steps import (
+    NOTHING,
+    Signed,
+    describe_freeze,
+    finish,
+    not_prepared,
+    other_prepared,
+    other_trial,
+    signed_of,
+    steps_of,
+    what_differs,
+)
 from .freezes import Prepared, prepared_of
-from .reason_freezes import reason_refused, reasons_read
-from .reason_views import asked_of, not_written
-from .revision_reasons import EMPTY
+from .reason_views import asked_of, not_written, reason_refused, reasons_read
+from .reason_file import EMPTY
 
 views = flask.Blueprint("freeze", __name__)
 
-NO_TRIAL = _("There is no trial of this month that could be frozen: make one first.")
+NO_TRIAL = _("There is no trial of this month that can be frozen: run one first.")
 MOST_LETTERS = 300
 """Letters of a reason."""
 
@@ -52,10 +57,10 @@ MOST_LETTERS = 300
 @views.get("/month/<month>/freeze")
 def show(month: str) -> Response:
     """The checklist."""
-    return shown(month, **what_came())
+    return show_result(month, **what_came())
 
 
-def shown(
+def show_result(
     month: str, status: int = 200, fault: Worded = NOTHING, typed: Optional[Mapping[str, str]] = None
 ) -> Response:
     """The checklist, with the result of a step; `typed` are the fields of a form that wasn't taken."""
@@ -70,14 +75,14 @@ def shown(
         "prepared": waits,
         "prepared_says": sentence_of(waits.record, Names(titles=titles_of(waits))) if waits else None,
         "is_own": is_own(waits),
-        "signed": signed(waits, trial),
+        "signed": write_confirmation(waits, trial),
         "asked": asked_of(trial.state) if trial else None,
         "reasons": reasons_read(waits),
         "not_written": not_written(),
         "has_second_key": bool(desk().second_key),
         "running": desk().trials.running,
         "trial_fault": desk().trials.fault(number),
-        "receipt": freeze_receipts.kept(desk().log, number, trial.state.revision) if trial else None,
+        "receipt": freeze_steps.find_receipt(desk().log, number, trial.state.revision) if trial else None,
         "now": int(time.time()),
         "most": MOST_LETTERS,
         "typed": typed or {},
@@ -90,7 +95,7 @@ def titles_of(prepared: Prepared) -> dict[str, str]:
     return {code: row[-1] for code, row in rows_of(prepared.text.encode()).items()}
 
 
-def signed(prepared: Optional[Prepared], trial: Optional[Tried]) -> Optional[Signed]:
+def write_confirmation(prepared: Optional[Prepared], trial: Optional[Tried]) -> Optional[Signed]:
     """The text for the person who confirms; None without a trial that shows it."""
     if prepared is None or trial is None:
         return None
@@ -117,7 +122,7 @@ def still_prepared(trial: Optional[Tried]) -> Optional[Prepared]:
         if prepared.confirmed_by:
             finish(prepared)
         else:
-            desk().log.append(session().person, SAID, text=f"{DONE_ALREADY}{said(prepared)}")
+            desk().log.append(session().person, SAID, text=f"{DONE_ALREADY}{describe_freeze(prepared)}")
             desk().prepared.drop()
     finally:
         desk().freezing.release()
@@ -143,37 +148,38 @@ def prepared_now(month: str) -> Response:
     """Prepares it, if nobody was quicker."""
     trial, form, shown_sum = desk().trials.latest(month_of(month)), flask.request.form, field("trial")
     if trial is None or trial.closed is None:
-        return shown(month, 409, NO_TRIAL, form)
+        return show_result(month, 409, NO_TRIAL, form)
     if trial.sum != shown_sum:
-        return shown(month, 409, other_trial(trial), form)
+        return show_result(month, 409, other_trial(trial), form)
     if other := desk().prepared.read():
-        return shown(month, 409, other_prepared(other), form)
+        return show_result(month, 409, other_prepared(other), form)
     window = trial.state.window
     if time.time() < window.closes:
-        text = _("The window is open until {moment}: prepare it then.", moment=moment_of(window.closes))
-        return shown(month, 409, text, form)
+        text = _("The window is open until {moment}: prepare the freeze then.", moment=moment_of(window.closes))
+        return show_result(month, 409, text, form)
     try:
         revised = reason_shown(trial)
         if isinstance(revised, Message):
-            return shown(month, 409, revised, form)
+            return show_result(month, 409, revised, form)
         made = prepared_of(session().person, trial.closed, window.publishes, reasons(trial))
         made = made._replace(reasons=revised)
-        desk().log.append(session().person, SAID, text=f"{PREPARED}{said(made)}")
+        desk().log.append(session().person, SAID, text=f"{PREPARED}{describe_freeze(made)}")
         desk().prepared.keep(made)
     except Fault as fault:
-        return shown(month, 400, says(fault), form)
+        return show_result(month, 400, says(fault), form)
     return flask.redirect(flask.url_for("freeze.show", month=month), 303)
 
 
 def reasons(trial: Tried) -> list[str]:
-    """Why each aggregate on the carry list is carried, by the form; without a field it is no form of this page."""
+    """Why each aggregate on the carry list is carried, by the form; a form that lacks a field isn't a form of this
+    page."""
     names = [f"why-{named.code}" for named in trial.closed.named] if trial.closed else []
     return [field(name)[:MOST_LETTERS] for name in names]
 
 
 def reason_shown(trial: Tried) -> Union[Message, Mapping[str, str]]:
-    """Why the month is revised, by the languages, if the form showed what waits; else who changed it. Nothing if no reason
-    can go to the website's file: that stops no freeze. Raises Fault if the reason has to be said first."""
+    """Why the month is revised, by the languages, if the form showed what waits; else who changed it. Nothing if no
+    reason can go to the website's file: that stops no freeze. Raises Fault if a person has to give the reason first."""
     asked = asked_of(trial.state)
     if asked is None:
         return {}
@@ -197,10 +203,10 @@ def dropped_now(month: str) -> Response:
     """Forgets it, if nobody was quicker."""
     prepared, shown_sum = desk().prepared.read(), field("prepared")
     if prepared is None:
-        return shown(month, 409, not_prepared())
+        return show_result(month, 409, not_prepared())
     if prepared.sum != shown_sum:
-        return shown(month, 409, other_prepared(prepared))
-    desk().log.append(session().person, SAID, text=f"{DROPPED}{said(prepared)}")
+        return show_result(month, 409, other_prepared(prepared))
+    desk().log.append(session().person, SAID, text=f"{DROPPED}{describe_freeze(prepared)}")
     desk().prepared.drop()
     return flask.redirect(flask.url_for("freeze.show", month=month), 303)
 
@@ -220,59 +226,61 @@ def confirmed_now(month: str) -> Response:
     form, number, prepared = flask.request.form, month_of(month), desk().prepared.read()
     shown_sum, shown_trial, seen = field("prepared"), field("trial"), field("seen")
     if prepared is None or prepared.month != number:
-        return shown(month, 409, not_prepared(), form)
+        return show_result(month, 409, not_prepared(), form)
     if is_own(prepared):
         by = of_others(prepared.by)
         # t: name is the person who prepared the freeze
-        text = _("{name} prepared it, so another person confirms it, under a name of their own.", name=by)
-        return shown(month, 403, text, form)
+        text = _("{name} prepared the freeze, so another person has to confirm it, under a different name.", name=by)
+        return show_result(month, 403, text, form)
     if prepared.sum != shown_sum:
-        return shown(month, 409, other_prepared(prepared), form)
+        return show_result(month, 409, other_prepared(prepared), form)
     trial = desk().trials.latest(number)
-    read = signed(prepared, trial)
+    read = write_confirmation(prepared, trial)
     if trial is None or read is None:
-        return shown(month, 409, NO_TRIAL, form)
+        return show_result(month, 409, NO_TRIAL, form)
     if trial.sum != shown_trial:
-        return shown(month, 409, other_trial(trial), form)
+        return show_result(month, 409, other_trial(trial), form)
     if read.seen != seen:
-        return shown(month, 409, changed_by(*desk().marks.last_of(number)), form)
+        return show_result(month, 409, changed_by(*desk().marks.last_of(number)), form)
     because = form.get("because", "").strip()[:MOST_LETTERS]
     if read.weighty and not because:
-        return shown(month, 400, _("Say why the month is frozen with prices that nobody has seen."), form)
+        return show_result(
+            month, 400, _("Give the reason for freezing the month with prices that nobody has seen."), form
+        )
     if refused := refused_key(form):
-        return shown(month, 403, refused, form)
+        return show_result(month, 403, refused, form)
     if differs := what_differs(prepared):
-        return shown(month, 409, differs, form)
+        return show_result(month, 409, differs, form)
     try:
         if prepared.reasons and (other := reason_refused(prepared, field("reasons-file"))):
-            return shown(month, 409, other, form)
+            return show_result(month, 409, other, form)
     except Fault as fault:
-        return shown(month, 503, _("Nothing was sent: {fault}", fault=says(fault)), form)
-    return sent(month, prepared._replace(because=because))
+        return show_result(month, 503, _("Nothing was sent: {fault}", fault=says(fault)), form)
+    return send_freeze(month, prepared._replace(because=because))
 
 
 def refused_key(form: Mapping[str, str]) -> Worded:
-    """Why the second key of a form isn't taken, or nothing."""
+    """The reason why the second key of a form isn't accepted, or nothing."""
     second, typed = desk().second_key, form.get("second-key", "")
-    return second.refused(typed, session().key, flask.request.remote_addr or "") if second else NOTHING
+    return second.find_refusal(typed, session().key, flask.request.remote_addr or "") if second else NOTHING
 
 
-def sent(month: str, prepared: Prepared) -> Response:
+def send_freeze(month: str, prepared: Prepared) -> Response:
     """Sends a freeze that was confirmed, and leads to its receipt."""
     confirmed = prepared._replace(confirmed_by=session().person, confirmed_at=int(time.time()))
     try:
-        desk().log.append(session().person, SAID, text=f"{CONFIRMED}{said(confirmed)}")
+        desk().log.append(session().person, SAID, text=f"{CONFIRMED}{describe_freeze(confirmed)}")
         desk().prepared.keep(confirmed)
         (reply,) = desk().send(session(), [confirmed.record])
     except Fault as fault:
         desk().prepared.keep(prepared)
-        return shown(month, 503, _("Nothing was sent: {fault}", fault=says(fault)), flask.request.form)
+        return show_result(month, 503, _("Nothing was sent: {fault}", fault=says(fault)), flask.request.form)
     answer = record_reply(confirmed.record, reply)
     if not answer.is_done:
         if reply is not None:
             desk().prepared.drop()
             desk().trials.begin(confirmed.month, session().person)
-        return shown(month, 409, answer.answer)
+        return show_result(month, 409, answer.answer)
     return to_receipt(month, confirmed)
 
 
@@ -281,12 +289,12 @@ def to_receipt(month: str, confirmed: Prepared) -> Response:
     try:
         finish(confirmed)
     except Fault as fault:
-        if freeze_receipts.kept(desk().log, confirmed.month, confirmed.revision):
+        if freeze_steps.find_receipt(desk().log, confirmed.month, confirmed.revision):
             # (what failed is the reason of the revision, which the next page of the month tries again)
             came = {"fault": says(fault)}
             return after("freeze.receipt", came, month=month, revision=confirmed.revision)
         places = {"month": month_words(confirmed.month), "revision": whole(confirmed.revision), "fault": says(fault)}
-        text = _("{month} is frozen, revision {revision}. Its receipt can't be written yet: {fault}", **places)
+        text = _("{month} is frozen, revision {revision}. The receipt can't be written yet: {fault}", **places)
         return after("freeze.show", {"fault": text}, month=month)
     desk().trials.begin(confirmed.month, session().person)
     return flask.redirect(flask.url_for("freeze.receipt", month=month, revision=confirmed.revision), 303)
@@ -298,7 +306,7 @@ def to_receipt(month: str, confirmed: Prepared) -> Response:
 @views.get("/month/<month>/freeze/receipt/<int:revision>")
 def receipt(month: str, revision: int) -> Response:
     """The freeze's result, its persons, and the next step: the page stays at its address."""
-    kept = freeze_receipts.kept(desk().log, month_of(month), revision)
+    kept = freeze_steps.find_receipt(desk().log, month_of(month), revision)
     if kept is None:
         flask.abort(404)
     named = {"publisher": desk().publisher, "languages": in_themselves(), "not_written": not_written()}

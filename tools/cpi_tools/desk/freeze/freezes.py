@@ -15,7 +15,7 @@ from typing import NamedTuple, Optional
 
 from ...text.message import message as _
 from ...text.terminal import Fault, because_of, month_text
-from ...text.whole_files import write_whole
+from ...text.text_files import write_whole
 from ..month.closing import Closed
 from ..serve.faults import not_as_written
 
@@ -67,7 +67,8 @@ def prepared_of(by: str, closed: Closed, publishes: int, why: Sequence[str]) -> 
     if lacks := [code for code, each in zip(carry, why) if not each.strip()]:
         # t: codes is a list of elementary aggregates, with commas
         text = _(
-            "Say why {codes} is carried: that is the desk's decision, and the log keeps it.", codes=", ".join(lacks)
+            "Give the reason for carrying {codes}: the desk decides this, and the log records the reason.",
+            codes=", ".join(lacks),
         )
         raise Fault(text)
     reasons, table = [it.strip() for it in why], closed.table
@@ -82,7 +83,7 @@ class PreparedFreeze:
         self._path = path
 
     def read(self) -> Optional[Prepared]:
-        """What is prepared. Raises Fault if the file can't be read."""
+        """The prepared freeze. Raises Fault if the file can't be read."""
         try:
             return Prepared(**json.loads(self._path.read_text(encoding="utf-8")))
         except FileNotFoundError:
@@ -93,7 +94,7 @@ class PreparedFreeze:
             raise Fault(not_as_written(self._path, fault)) from fault
 
     def keep(self, it: Prepared) -> None:
-        """Keeps it in place of one that is there. Raises Fault."""
+        """Keeps it, and replaces an existing one. Raises Fault."""
         try:
             write_whole(self._path, json.dumps(it._asdict()).encode(), 0o600)
         except OSError as fault:

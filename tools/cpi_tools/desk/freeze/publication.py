@@ -1,9 +1,4 @@
-"""The office's website, which `cpi-tools publish` writes in a separate process: now, or when a table is released. No
-table under embargo can be in it, since `publish` reads as the public does.
-
-A file lists the tables that somebody wants to be published at their moments. If the application isn't running at a
-moment, it publishes the table as soon as it runs again.
-"""
+"""The office's website, which `cpi-tools publish` writes in a separate process, and the drafts of releases."""
 
 from __future__ import annotations
 
@@ -19,19 +14,50 @@ from collections.abc import Callable, Sequence
 from pathlib import Path
 from typing import NamedTuple, Optional
 
+from ...office.program import Cpi
 from ...office.stored import StoredOffice
+from ...publish.figures.announcements import page_of_release
 from ...publish.figures.config import read_config
-from ...publish.figures.release_names import page_of_release
 from ...publish.forms.manifest import MANIFEST, TableId, read_manifest
 from ...publish.forms.sdmx import KNOWN_IDS
-from ...text.message import Message, sentences, message as _
+from ...publish.typeset.release_pdf import DraftRelease, draft_on
+from ...text.message import Message, message as _, sentences
 from ...text.others import Worded, own_line
 from ...text.terminal import Fault, because_of, month_text, time_text
-from ...text.whole_files import write_whole
+from ...text.text_files import write_whole
+from ..looks.month_trials import Tried
 from ..records.desk_log import SAID, DeskLog
-from ..serve.durations import Durations
-from ..serve.faults import met, not_as_written, of_system, says
+from ..serve.faults import explain_fault, not_as_written, of_system, says
+from ..serve.watched_office import Durations
 from .freezes import sum_of
+
+
+# ==== The drafts of releases that the trials of the application give: what the public would read at the release's
+# moment. Nothing of them is written to a file.
+
+
+class ReleaseDrafts:
+    """The draft of the trial that was asked for last is kept, so that its pages and PDFs read its tables once."""
+
+    def __init__(self, cpi: Cpi):
+        self._cpi, self._lock = cpi, threading.Lock()
+        self._kept: Optional[tuple[Path, DraftRelease]] = None
+
+    def of(self, found: Tried) -> DraftRelease:
+        """The draft for a month whose trial has a table. Raises Fault."""
+        state = found.state
+        revision = state.revision if state.is_frozen else state.revision + 1
+        with self._lock:
+            if self._kept is None or self._kept[0] != found.copy:
+                self._kept = found.copy, draft_on(self._cpi, found.copy, month_text(state.month), revision)
+            return self._kept[1]
+
+
+# ==== The office's website, which `cpi-tools publish` writes in a separate process: now, or when a table is released.
+# No table under embargo can be in it, since `publish` reads as the public does.
+#
+# A file lists the tables that somebody wants to be published at their moments. If the application isn't running at a
+# moment, it publishes the table as soon as it runs again.
 
 LOOKS_EVERY = 20.0
 """The maximum number of seconds between two checks of the plan."""
@@ -88,7 +114,7 @@ class Release(NamedTuple):
     page: str
 
     @property
-    def shown(self) -> str:
+    def sum_of_page(self) -> str:
         """A sum of what the page shows of a table that is to come, so that nobody plans or drops another thing."""
         return sum_of([self.month, self.revision, self.at, self.planned_by])
 
@@ -118,8 +144,8 @@ class Publisher:
 
     # ---- what there is
 
-    def published(self) -> set[TableId]:
-        """The tables of the website, by month and revision; none if there is no website yet. Raises Fault."""
+    def read_published(self) -> set[TableId]:
+        """The tables of the website, by month and revision; none if the website doesn't exist yet. Raises Fault."""
         manifest = self.site.folder / MANIFEST
         return {*read_manifest(manifest).tables} if manifest.exists() else set()
 
@@ -131,13 +157,13 @@ class Publisher:
             return None
 
     def address(self) -> str:
-        """The address of the website, as its configuration has it; nothing if it names none. Raises Fault."""
+        """The address of the website, from its configuration; nothing if it names none. Raises Fault."""
         return read_config(self.site.config, KNOWN_IDS).address
 
     def releases(self, office: StoredOffice) -> list[Release]:
         """All frozen months, the latest table first. Raises Fault."""
-        there, address, moments = self.published(), self.address(), office.frozen_moments()
-        by = {(it.month, it.revision): it.by for it in self.planned()}
+        there, address, moments = self.read_published(), self.address(), office.frozen_moments()
+        by = {(it.month, it.revision): it.by for it in self.read_planned()}
         found = list[Release]()
         for (number, revision), (__, at) in moments.items():
             table = (month_text(number), revision)
@@ -147,7 +173,7 @@ class Publisher:
 
     # ---- what is planned
 
-    def planned(self) -> list[Planned]:
+    def read_planned(self) -> list[Planned]:
         """The planned publications with their moments, the first one first. Raises Fault if the file can't be read."""
         try:
             found = json.loads(self._plan.read_text(encoding="utf-8"))
@@ -162,18 +188,20 @@ class Publisher:
     def plan(self, one: Planned) -> None:
         """Plans to publish a table at its moment; whoever planned it before did. Raises Fault."""
         with self._lock:
-            others = self.planned()
+            others = self.read_planned()
             if (one.month, one.revision) not in {(it.month, it.revision) for it in others}:
-                self._log.append(one.by, SAID, text=f"to be published at its moment, {time_text(one.at)}: {named(one)}")
+                self._log.append(
+                    one.by, SAID, text=f"to be published at its moment, {time_text(one.at)}: {name_table(one)}"
+                )
                 self._keep([*others, one])
         self._wake.set()
 
     def drop(self, by: str, month: str, revision: int) -> None:
         """Takes a plan back. Raises Fault."""
         with self._lock:
-            rest = self.planned()
+            rest = self.read_planned()
             for it in [it for it in rest if (it.month, it.revision) == (month, revision)]:
-                self._log.append(by, SAID, text=f"not to be published at its moment after all: {named(it)}")
+                self._log.append(by, SAID, text=f"not to be published at its moment after all: {name_table(it)}")
                 rest.remove(it)
             self._keep(rest)
 
@@ -198,16 +226,16 @@ class Publisher:
         try:
             self._prepare()
             at = int(time.time())
-            with self._durations.measured(WRITING):
-                text, errors = self._written(at)
+            with self._durations.measure(WRITING):
+                text, errors = self._write_website(at)
             self.output = own_line(" ".join([text, *errors.splitlines()]))
             self.fault = self.left = self._logged = Worded("")
             self._keep_written(by, at, text)
         except Fault as fault:
-            self._failed(by, says(fault), fault.line if isinstance(fault, NotWritten) else str(fault))
+            self._keep_failure(by, says(fault), fault.line if isinstance(fault, NotWritten) else str(fault))
         except Exception as fault:
             # (a fault of ours: it is on the page too, and the journal has all of it)
-            self._failed(by, met(fault), repr(fault))
+            self._keep_failure(by, explain_fault(fault), repr(fault))
             raise
         finally:
             self.running = None
@@ -222,8 +250,9 @@ class Publisher:
         except Exception:
             traceback.print_exc()
 
-    def _failed(self, by: str, why: Worded, line: str) -> None:
-        """Keeps why the website wasn't written; the log has its line once, however often it is tried again."""
+    def _keep_failure(self, by: str, why: Worded, line: str) -> None:
+        """Keeps why the website wasn't written; the log contains its line only once, however often it is tried
+        again."""
         self.fault, self._failed_at = why, time.monotonic()
         if why != self._logged:
             # (a full disk has no room for the log either: the page tells it, and the log once there is room)
@@ -233,7 +262,7 @@ class Publisher:
 
     def _keep_written(self, by: str, at: int, text: str) -> None:
         """Records that the website was written; if that fails, the page says both."""
-        for step in (lambda: self._log_written(by, at, text), self._done):
+        for step in (lambda: self._log_written(by, at, text), self._drop_done):
             try:
                 step()
             except Fault as fault:
@@ -249,7 +278,7 @@ class Publisher:
             return says(fault)
         return of_system(cause, "" if cause.filename else f"{self._log.path}: {cause.strerror}")
 
-    def _written(self, at: int) -> tuple[str, str]:
+    def _write_website(self, at: int) -> tuple[str, str]:
         """Writes the website as of a moment; returns what `publish` prints and what it warns of. Raises Fault."""
         words = [sys.executable, "-m", "cpi_tools", "publish", "--db", self._file, "--at", at]
         words += ["--program", self._program, "--config", self.site.config, "--out", self.site.folder]
@@ -262,13 +291,13 @@ class Publisher:
         ) as self._process:
             text, errors = self._process.communicate()
         if self._process.returncode:
-            raise _ended(self._process.returncode, errors)
+            raise _explain_end(self._process.returncode, errors)
         return text.strip(), errors.strip()
 
-    def _done(self) -> None:
+    def _drop_done(self) -> None:
         """Removes the planned publications that are now on the website."""
         with self._lock:
-            there, planned = self.published(), self.planned()
+            there, planned = self.read_published(), self.read_planned()
             rest = [it for it in planned if (it.month, it.revision) not in there]
             if len(rest) < len(planned):
                 self._keep(rest)
@@ -280,7 +309,7 @@ class Publisher:
         self._thread.start()
 
     def stop(self) -> None:
-        """Ends the thread, and a process that is writing; the present website stays as it is."""
+        """Ends the thread, and a process that is writing; the present website doesn't change."""
         self._is_over = True
         self._wake.set()
         if self._thread.is_alive():
@@ -297,7 +326,7 @@ class Publisher:
     def _look(self) -> float:
         """Publishes all due tables; returns the seconds until the next check."""
         try:
-            planned = self.planned()
+            planned = self.read_planned()
         except Fault as fault:
             self.fault = says(fault)
             return LOOKS_EVERY
@@ -308,19 +337,20 @@ class Publisher:
         return min(LOOKS_EVERY, wait) if wait > 0 else 1.0
 
 
-def _ended(status: int, errors: str) -> NotWritten:
+def _explain_end(status: int, errors: str) -> NotWritten:
     """Why `cpi-tools publish` ended with a status, read from what it wrote."""
     lines = errors.strip().splitlines()
     if not lines:
-        ended = _("cpi-tools publish ended with the status {status}.", status=status)
+        ended = _("cpi-tools publish ended with status {status}.", status=status)
         return NotWritten(ended, str(ended))
     line = lines[-1].removeprefix(BEGINS)
     says = _(
-        "Mend what cpi-tools publish names in this line, then write the website again: {line}", line=own_line(line)
+        "Correct the fault that this line of cpi-tools publish names, then write the website again: {line}",
+        line=own_line(line),
     )
     return NotWritten(says, line)
 
 
-def named(it: Planned) -> str:
+def name_table(it: Planned) -> str:
     """A table in a line of the log."""
     return f"{it.month}, revision {it.revision}"

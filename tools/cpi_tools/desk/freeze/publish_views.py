@@ -19,8 +19,7 @@ from ...text.others import Worded, of_others
 from ...text.terminal import Fault
 from ..records.desk_log import NOT_PLANNED, PLANNED, WRITTEN
 from ..serve.faults import says
-from ..serve.page_versions import changed_by, changed_by_step
-from ..serve.request_context import desk, field, page, session
+from ..serve.request_context import changed_by, changed_by_step, desk, field, page, session
 from .freezes import sum_of
 from .publication import Planned, Publisher, Release
 from .reason_views import not_written
@@ -33,10 +32,10 @@ NOTHING = Worded("")
 @views.get("/publish")
 def show() -> Response:
     """The state of the website."""
-    return shown()
+    return show_result()
 
 
-def shown(status: int = 200, fault: Worded = NOTHING) -> Response:
+def show_result(status: int = 200, fault: Worded = NOTHING) -> Response:
     """The page, with the result of a step."""
     publisher = desk().publisher
     if publisher is None:
@@ -66,7 +65,7 @@ def due_at(releases: list[Release], now: int) -> list[Release]:
 
 def shown_due(releases: list[Release]) -> str:
     """A sum of the tables that the page shows as due."""
-    return sum_of([it.shown for it in due_at(releases, int(time.time()))])
+    return sum_of([it.sum_of_page for it in due_at(releases, int(time.time()))])
 
 
 def releases_of(publisher: Publisher) -> list[Release]:
@@ -85,9 +84,9 @@ def now() -> Response:
         # (the page said why; `publish` meets it too, and says it again)
         releases = []
     if written != str(publisher.written_at() or 0):
-        return shown(409, changed_by_step(WRITTEN))
+        return show_result(409, changed_by_step(WRITTEN))
     if shown_due(releases) != was:
-        return shown(409, changed_by("", 0))
+        return show_result(409, changed_by("", 0))
     publisher.begin(session().person)
     return flask.redirect(flask.url_for("publish.show"), 303)
 
@@ -101,20 +100,20 @@ def plan() -> Response:
         if not found or what not in ("plan", "drop"):
             places = {"month": of_others(month), "revision": of_others(revision)}
             raise Fault(_("There is nothing to publish: {month} has no revision {revision}.", **places))
-        if field("shown") != found[0].shown:
+        if field("shown") != found[0].sum_of_page:
             says_who = changed_by_step(PLANNED, NOT_PLANNED, has=f"{month}, revision {revision}")
-            return shown(409, says_who)
+            return show_result(409, says_who)
         if what == "drop":
             publisher.drop(session().person, month, found[0].revision)
         else:
             publisher.plan(Planned(session().person, month, found[0].revision, found[0].at))
     except Fault as fault:
-        return shown(400, says(fault))
+        return show_result(400, says(fault))
     return flask.redirect(flask.url_for("publish.show"), 303)
 
 
 def publisher_here() -> Publisher:
-    """The writer of the website; there is no such page if the application has no folder for the website."""
+    """The writer of the website; the page doesn't exist if the application has no folder for the website."""
     found = desk().publisher
     if found is None:
         flask.abort(404)

@@ -1,8 +1,4 @@
-"""Why a month is revised: the desk is asked once the month is reopened, and the second person of the freeze reads it.
-
-The form of `/month/MONTH/reason` has `revision`, `was` (the sum of the reason that the page showed, or nothing) and a field
-`reason-TAG` for each language of the website.
-"""
+"""Why a month is revised: the desk is asked once it is reopened, and the second person reads it in the freeze."""
 
 from __future__ import annotations
 
@@ -15,16 +11,22 @@ from werkzeug.wrappers import Response
 
 from ...office.stored import read_copy
 from ...office.trial import State, state_of
-from ...publish.figures.reasons import MOST_LETTERS
+from ...publish.figures.announcements import MOST_LETTERS
 from ...text.languages import in_themselves
-from ...text.message import Month, Message, sentences, message as _
-from ...text.others import Worded
+from ...text.message import Message, Month, message as _, sentences
+from ...text.others import Worded, of_others
 from ...text.terminal import Fault, month_text
 from ..serve.faults import says
-from ..serve.page_versions import NOTHING_DONE, changed_by
-from ..serve.request_context import desk, field, month_of, page, session
-from .reason_file import NO_SITE, ReasonFile, writable_file
-from .revision_reasons import Reason, in_one_line
+from ..serve.request_context import NOTHING_DONE, changed_by, desk, field, month_of, page, session
+from .freezes import Prepared
+from .reason_file import NO_SITE, Reason, ReasonFile, Row, in_one_line, try_room, writable_file
+
+
+# ==== why a month is revised: the desk is asked once the month is reopened, and the second person of the freeze reads
+# it
+#
+# The form of `/month/MONTH/reason` has `revision`, `was` (the sum of the reason that the page showed, or nothing) and a
+# field `reason-TAG` for each language of the website.
 
 views = flask.Blueprint("reason", __name__)
 
@@ -104,10 +106,10 @@ def state_now(month: int) -> State:
 @views.get("/month/<month>/reason")
 def show(month: str) -> Response:
     """The form."""
-    return shown(month)
+    return show_result(month)
 
 
-def shown(
+def show_result(
     month: str, status: int = 200, fault: Worded = NOTHING, typed: Optional[Mapping[str, str]] = None
 ) -> Response:
     """The form, with the reason why it wasn't taken, and with the typed fields."""
@@ -123,28 +125,69 @@ def keep(month: str) -> Response:
         with desk().freezing:
             asked = asked_of(state_now(number))
             if refused := not_asked(asked, number, revision):
-                return shown(month, 409, refused, form)
+                return show_result(month, 409, refused, form)
             assert asked
             if asked.fault:
-                return shown(month, 503, asked.fault, form)
+                return show_result(month, 503, asked.fault, form)
             texts = {tag: field(f"reason-{tag}") for tag in asked.languages}
             texts = in_one_line(texts, next(iter(asked.languages)))
             reason = Reason(number, asked.revision, texts, session().person, int(time.time()))
             if other := desk().reasons.keep(reason, was):
-                return shown(month, 409, changed_by(other.by, other.at), form)
+                return show_result(month, 409, changed_by(other.by, other.at), form)
     except Fault as fault:
-        return shown(month, 503 if fault.__cause__ else 400, says(fault), form)
+        return show_result(month, 503 if fault.__cause__ else 400, says(fault), form)
     return flask.redirect(flask.url_for("reason.show", month=month), 303)
 
 
 def not_asked(asked: Optional[Asked], month: int, revision: str) -> Optional[Message]:
-    """Why a form about a revision isn't taken, or None."""
+    """The reason why a form about a revision isn't accepted, or None."""
     if asked is None or str(asked.revision) != revision:
         # t: month is a month such as November 2026
         return sentences(
-            _("{month} isn't reopened for that revision any more.", month=Month(month_text(month))), NOTHING_DONE
+            _("{month} is no longer reopened for that revision.", month=Month(month_text(month))), NOTHING_DONE
         )
     prepared = desk().prepared.read()
     if prepared and (prepared.month, prepared.revision) == (month, asked.revision):
-        return sentences(_("The freeze with this reason is prepared: drop that first."), NOTHING_DONE)
+        return sentences(_("A freeze with this reason is already prepared: discard it first."), NOTHING_DONE)
+    return None
+
+
+# ==== the reason of a revision in its freeze: the second person reads it, and whether it could still be kept
+
+
+class Read(NamedTuple):
+    """The second person's text: the reason by the names of the languages; the file that gets it, with a sum of its
+    content; or why that file can't be read."""
+
+    texts: Mapping[str, str]
+    path: str = ""
+    sum: str = ""
+    fault: Worded = NOTHING
+
+
+def reasons_read(prepared: Optional[Prepared]) -> Optional[Read]:
+    """The text for a prepared freeze; nothing for a freeze without a reason."""
+    if prepared is None or not prepared.reasons:
+        return None
+    names = in_themselves()
+    texts = {names.get(tag.replace("-", "_"), tag): text for tag, text in prepared.reasons.items()}
+    try:
+        file = file_here()
+        return Read(texts, str(file.path), file.sum)
+    except Fault as fault:
+        return Read(texts, fault=says(fault))
+
+
+def reason_refused(prepared: Prepared, shown_sum: str) -> Optional[Message]:
+    """Why a revision isn't frozen with its reason now, or None: the website's file isn't the file that the page showed,
+    or contains a reason for the revision. Raises Fault if the file can't be read or written."""
+    file, month = file_here(), month_text(prepared.month)
+    path = of_others(str(file.path))
+    if file.has(month, prepared.revision):
+        return sentences(
+            _("{file} already contains a reason for this revision: discard the freeze.", file=path), NOTHING_DONE
+        )
+    if file.sum != shown_sum:
+        return sentences(_("{file} was changed after your page was loaded.", file=path), NOTHING_DONE)
+    try_room(file, Row(month, prepared.revision, prepared.reasons, int(time.time())))
     return None

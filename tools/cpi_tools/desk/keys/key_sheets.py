@@ -11,8 +11,8 @@ from markupsafe import Markup
 
 from ...text import page_templates
 from ...text.languages import ENGLISH, Language
-from ...text.whole_files import write_whole
-from .sign_in import address_of_page, link_of, typed_key
+from ...text.text_files import write_whole
+from .keys_cli import address_of_page, link_of, typed_key
 
 TEMPLATES = Path(__file__).resolve().parent / "templates"
 

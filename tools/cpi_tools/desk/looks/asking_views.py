@@ -9,18 +9,16 @@ import flask
 from werkzeug.wrappers import Response
 
 from ...office.stored import StoredOffice, read_copy
-from ...text.message import Price as Amount, Message, moment_of, month_of as month_words, sentences, message as _, whole
+from ...text.message import Message, Price as Amount, message as _, moment_of, month_of as month_words, sentences, whole
 from ...text.others import of_others
 from ...text.terminal import Fault, slot_text
 from ..field.field_limits import MOST_LETTERS
 from ..field.field_questions import OPEN, Changed, FieldQuestions, Logged, Of, Question, TooManyOpen
 from ..records.desk_log import ASKED, REMOVED_QUESTION, SAID, WITHDREW
 from ..serve.faults import says
-from ..serve.page_versions import NOTHING_DONE, changed_by, changed_by_step
-from ..serve.request_context import desk, field, month_of, page, session
-from .look_filters import chosen_of
-from .looks_views import back, changed_since, shown, shown_price
-from .price_marks import Price
+from ..serve.request_context import NOTHING_DONE, changed_by, changed_by_step, desk, field, month_of, page, session
+from .looks import Price, chosen_of
+from .looks_views import back, changed_since, show_result, shown_price
 
 views = flask.Blueprint("asking", __name__)
 
@@ -28,14 +26,14 @@ SHOWN = 50
 """Questions of a page."""
 
 
-def kept() -> FieldQuestions:
-    """The questions: these views are there only if notes of the field are on."""
+def find_questions() -> FieldQuestions:
+    """The questions: these views exist only if field notes are on."""
     found = desk().questions
     assert found is not None
     return found
 
 
-def logged(text: str, **places: object) -> Logged:
+def log_step(text: str, **places: object) -> Logged:
     """Writes a step with a question into the log, as this session's person."""
     person = session().person
     return lambda number: desk().log.append(person, SAID, text=text.format(number=number, **places))
@@ -53,27 +51,30 @@ def ask(month: str) -> Response:
     text = " ".join(field("text").split())
     typed: dict[str, Any] = {"of": price[1:3], "question": text}
     if changed := changed_since(number, [price]):
-        return shown(month, form, 409, refused=changed, **typed)
+        return show_result(month, form, 409, refused=changed, **typed)
     if wrong := fault_of(text):
-        return shown(month, form, 400, refused=wrong, **typed)
-    if number < (first := kept().first_month()):
+        return show_result(month, form, 400, refused=wrong, **typed)
+    if number < (first := find_questions().first_month()):
         # (it would go by itself within the hour, before anybody has read it)
-        past = _("Questions about prices before {month} aren't kept, so nothing was asked.", month=month_words(first))
-        return shown(month, form, 409, refused=past, **typed)
+        past = _(
+            "Questions about prices before {month} are no longer kept, so nothing was asked.", month=month_words(first)
+        )
+        return show_result(month, form, 409, refused=past, **typed)
     try:
         places = {"collector": price.collector, "slot": price.slot, "month": month}
-        kept().ask(of_price(price), session().person, text, before, logged(ASKED, **places))
+        find_questions().ask(of_price(price), session().person, text, before, log_step(ASKED, **places))
     except Changed as fault:
-        return shown(month, form, 409, refused=changed_question(fault.now), **typed)
+        return show_result(month, form, 409, refused=changed_question(fault.now), **typed)
     except TooManyOpen as fault:
-        return shown(month, form, 409, refused=too_many(fault), **typed)
+        return show_result(month, form, 409, refused=too_many(fault), **typed)
     except Fault as fault:
-        return shown(month, form, 503, refused=says(fault), **typed)
+        return show_result(month, form, 503, refused=says(fault), **typed)
     return back(month, chosen_of(form), f"{price.collector}-{price.slot}")
 
 
 def number_in(text: str) -> int:
-    """The number of a question that a page showed, 0 for none; another text is no form of these pages (400)."""
+    """The number of a question that a page showed, 0 for none; a form with another text isn't a form of these pages
+    (400)."""
     if not (text.isascii() and text.isdigit() and len(text) < 10):
         flask.abort(400)
     return int(text)
@@ -92,11 +93,11 @@ def of_price(price: Price) -> Of:
 def fault_of(text: str) -> Optional[Message]:
     """The fault of a question, if it has one."""
     if not text:
-        return _("The question is empty, so nothing was asked: write what the collector is to look at.")
+        return _("The question is empty, so nothing was asked: write what the collector should check.")
     if len(text) <= MOST_LETTERS:
         return None
     places = {"most": whole(MOST_LETTERS), "count": whole(len(text))}
-    return _("A question has {most} letters at most, and this one has {count}. Nothing was asked.", **places)
+    return _("A question can have at most {most} characters, and this one has {count}. Nothing was asked.", **places)
 
 
 def changed_question(now: Optional[Question]) -> Message:
@@ -106,16 +107,16 @@ def changed_question(now: Optional[Question]) -> Message:
     if now.gone_at:
         return changed_by(now.gone_by, now.gone_at)
     places = {"name": of_others(now.by), "moment": moment_of(now.at), "text": of_others(now.text)}
-    return sentences(_("{name} asked this meanwhile, {moment}: {text}", **places), NOTHING_DONE)
+    return sentences(_("{name} asked this in the meantime ({moment}): {text}", **places), NOTHING_DONE)
 
 
 def too_many(fault: TooManyOpen) -> Message:
     """The message that so many questions wait for an answer."""
     most = whole(fault.most)
     if fault.is_of_all:
-        wait = _("{most} questions to collectors wait for an answer, and there can't be more.", most=most)
+        wait = _("{most} questions to collectors are waiting for an answer, and no more are possible.", most=most)
     else:
-        wait = _("{most} questions to this collector wait for an answer, and there can't be more.", most=most)
+        wait = _("{most} questions to this collector are waiting for an answer, and no more are possible.", most=most)
     return sentences(wait, _("Nothing was asked: withdraw a question that you no longer need."))
 
 
@@ -125,14 +126,16 @@ def withdraw(month: str, number: int) -> Response:
     form, row = flask.request.form, flask.request.form.get("row", "")
     collector = row.partition("-")[0] if row else ""
     try:
-        question = next((it for it in kept().of_month(month_of(month)) if it.number == number), None)
+        question = next((it for it in find_questions().of_month(month_of(month)) if it.number == number), None)
         collector = str(question.of.collector) if question else collector
-        kept().withdraw(month_of(month), number, session().person, logged(WITHDREW, collector=collector, month=month))
+        find_questions().withdraw(
+            month_of(month), number, session().person, log_step(WITHDREW, collector=collector, month=month)
+        )
     except Changed as fault:
         text = answered_meanwhile(fault.now) or changed_question(fault.now)
-        return shown(month, form, 409, refused=text) if row else listed(month, 409, text)
+        return show_result(month, form, 409, refused=text) if row else show_list(month, 409, text)
     except Fault as fault:
-        return shown(month, form, 503, refused=says(fault)) if row else listed(month, 503, says(fault))
+        return show_result(month, form, 503, refused=says(fault)) if row else show_list(month, 503, says(fault))
     return back(month, chosen_of(form), row) if row else _to_list(month)
 
 
@@ -141,7 +144,7 @@ def answered_meanwhile(now: Optional[Question]) -> Optional[Message]:
     if now is None or not now.answers:
         return None
     places = {"number": now.of.collector, "moment": moment_of(now.answers[-1].at)}
-    return sentences(_("Collector {number} answered this meanwhile, {moment}.", **places), NOTHING_DONE)
+    return sentences(_("Collector {number} answered this in the meantime ({moment}).", **places), NOTHING_DONE)
 
 
 # ---- the list of a month
@@ -175,18 +178,18 @@ def rows_of(office: StoredOffice, questions: list[Question]) -> list[Row]:
 @views.get("/month/<month>/questions")
 def show(month: str) -> Response:
     """The questions of a month: first those that wait for an answer, of the others the latest ones first."""
-    return listed(month)
+    return show_list(month)
 
 
-def listed(month: str, status: int = 200, fault: object = "") -> Response:
-    """The same, with the result of a step."""
-    questions = sorted(kept().of_month(month_of(month)), key=lambda it: (it.state != OPEN, -it.number))
+def show_list(month: str, status: int = 200, fault: object = "") -> Response:
+    """The page of questions, with the result of a step."""
+    questions = sorted(find_questions().of_month(month_of(month)), key=lambda it: (it.state != OPEN, -it.number))
     start = flask.request.args.get("from", "0")
     first = int(start) if start.isdecimal() and len(start) < 9 else 0
     with desk().copies.latest() as copy, read_copy(copy.path) as office:
         rows = rows_of(office, questions[first : first + SHOWN])
     counts = {"count": len(questions), "waiting": sum(it.state == OPEN for it in questions)}
-    named = {**counts, "first": first, "step": SHOWN, "months": kept().months, "amount": Amount}
+    named = {**counts, "first": first, "step": SHOWN, "months": find_questions().months, "amount": Amount}
     return page("questions.html", status, month=month, rows=rows, fault=fault, **named)
 
 
@@ -198,9 +201,9 @@ def _to_list(month: str) -> Response:
 def remove(month: str, number: int) -> Response:
     """Removes a question with its answers for good."""
     try:
-        kept().remove(month_of(month), number, logged(REMOVED_QUESTION, month=month))
+        find_questions().remove(month_of(month), number, log_step(REMOVED_QUESTION, month=month))
     except Changed:
-        return listed(month, 409, changed_by_step(REMOVED_QUESTION.format(number=number, month=month)))
+        return show_list(month, 409, changed_by_step(REMOVED_QUESTION.format(number=number, month=month)))
     except Fault as fault:
-        return listed(month, 503, says(fault))
+        return show_list(month, 503, says(fault))
     return _to_list(month)

@@ -7,18 +7,17 @@ UTC, months numbers like 202601.
 from __future__ import annotations
 
 from collections import defaultdict
-from collections.abc import Callable, Iterable, Mapping, Sequence
+from collections.abc import Callable, Iterable, Iterator, Mapping, Sequence
 from typing import NamedTuple, Optional, TypeVar
 
 from ...office.quote_marks import SILENT
 from ...office.stored import StoredOffice
 from ...office.trial import State, state_of
-from ...text.message import moment_of, month_of, message
-from ...text.sections import Cell, Section, columns
+from ...text.message import Cell, Section, columns, message, moment_of, month_of
 from ...text.terminal import month_text
 from ..month.facts import NOT_IN_PLAN, NO_PLACE, NO_PLAN
 from ..month.response import RESPONSE, Count, most_silent, percent, weighted_by
-from ..serve.observations import Heard
+from ..serve.watched_office import Heard
 
 Key = TypeVar("Key", int, str)
 
@@ -35,8 +34,39 @@ class Share(NamedTuple):
     weighed: Optional[int]
 
 
+class CollectorShare(NamedTuple):
+    """How far a collector is in a month: the slots by their entries, the last month with an entry (None if there is none),
+    and when the application first saw the last entry, if it knows."""
+
+    number: int
+    entries: Count
+    last_month: Optional[int]
+    seen_at: Optional[int]
+
+    @property
+    def slots(self) -> int:
+        """All slots."""
+        return self.entries.slots
+
+    @property
+    def missing(self) -> int:
+        """Slots that were sent as missing, with a reason."""
+        return self.entries.missing
+
+    @property
+    def silent(self) -> int:
+        """Slots for which nothing was sent."""
+        return self.entries.marks[SILENT]
+
+    @property
+    def answers(self) -> int:
+        """Slots with an entry."""
+        return self.slots - self.silent
+
+
 class Glance(NamedTuple):
-    """The content of a month's page: the moment of the copy, the month's state, its entries, and its tables."""
+    """The content of a month's page: the moment of the copy, the month's state, its entries, its tables, and its
+    collectors by number."""
 
     at: int
     state: State
@@ -44,6 +74,7 @@ class Glance(NamedTuple):
     missing: int
     silent: int
     sections: list[Section]
+    collectors: Sequence[CollectorShare] = ()
 
     @property
     def month(self) -> str:
@@ -71,48 +102,57 @@ class Slots:
             found[key(collector, outlet, item)].add_many(mark or SILENT, count)
         return dict(sorted(found.items()))
 
-    def weighed(self, by_code: Mapping[str, Count], codes: Iterable[str]) -> tuple[int, int]:
+    def weigh(self, by_code: Mapping[str, Count], codes: Iterable[str]) -> tuple[int, int]:
         """Parts of the plan's weight that are priced, in millionths, and the weight in all."""
         return weighted_by(by_code, self.plan.weights if self.plan else {}, codes)
 
 
 def glance_at(office: StoredOffice, month: int, at: int, heard: Mapping[int, Heard]) -> Glance:
-    """The month as a copy of the moment `at` has it. Raises Refused if the calendar has no row of it."""
+    """The month as a copy of the moment `at` has it. Raises Refused if the calendar has no row for it."""
     state, slots = state_of(office, month), Slots(office, month)
     total = slots.by(lambda collector, outlet, item: 0).get(0, Count())
     by_code = slots.by(lambda collector, outlet, item: slots.code(item))
-    parts, weight = slots.weighed(by_code, by_code)
-    share = Share(total.priced, total.slots, parts // weight if weight else None)
+    parts, weight = slots.weigh(by_code, by_code)
+    share = Share(total.with_price, total.slots, parts // weight if weight else None)
     last = {collector: it for collector, (it, _) in office.last_sent().items()}
-    sections = [by_division(slots, by_code), by_collector(slots, last, heard), by_outlet(slots)]
-    return Glance(at, state, share, total.missing, total.marks[SILENT], sections)
+    collectors = [*shares_of(slots, last, heard)]
+    sections = [by_division(slots, by_code), by_collector(collectors), by_outlet(slots)]
+    return Glance(at, state, share, total.missing, total.marks[SILENT], sections, collectors)
 
 
 def by_division(slots: Slots, by_code: Mapping[str, Count]) -> Section:
     """The response by division, by weight too."""
     rows: list[list[Cell]] = []
     for code, it in slots.by(lambda collector, outlet, item: slots.code(item)[:2]).items():
-        parts, weight = slots.weighed(by_code, [each for each in by_code if each[:2] == code])
+        parts, weight = slots.weigh(by_code, [each for each in by_code if each[:2] == code])
         title = slots.plan.titles.get(code, NOT_IN_PLAN) if slots.plan else NO_PLAN
         rows.append([code, title, *it.cells(), percent(parts, weight * 10**6)])
     note = message(
-        "By weight: each aggregate's weight in the plan, by the share of its slots that have a price. A slot counts in"
-        " the division in which the year's plan places its item."
+        "The percentage by weight multiplies each aggregate's weight in the plan by the share of its slots that have"
+        " a price. A slot counts in the division in which the year's plan places its item."
     )
     heads = columns("=division", "title", *RESPONSE, "#percent by weight")
     return Section("divisions", message("By division"), note, heads, rows, NO_SLOTS)
 
 
-def by_collector(slots: Slots, last: Mapping[int, int], heard: Mapping[int, Heard]) -> Section:
+def shares_of(slots: Slots, last: Mapping[int, int], heard: Mapping[int, Heard]) -> Iterator[CollectorShare]:
+    """How far each collector is, by number; `last` is by collector the last month with an entry."""
+    for number, count in slots.by(lambda collector, outlet, item: collector).items():
+        known = heard.get(number)
+        yield CollectorShare(number, count, last.get(number), known.at if known and known.is_seen else None)
+
+
+def by_collector(collectors: Iterable[CollectorShare]) -> Section:
     """The response by collector, and since when each of them is silent."""
     rows: list[list[Cell]] = []
-    for number, it in slots.by(lambda collector, outlet, item: collector).items():
-        known = heard.get(number)
-        moment = moment_of(known.at) if known and known.is_seen else ""
-        rows.append([number, month_of(last[number]) if number in last else "", moment, *it.cells()])
+    for share in collectors:
+        month = month_of(share.last_month) if share.last_month else ""
+        moment = moment_of(share.seen_at) if share.seen_at is not None else ""
+        rows.append([share.number, month, moment, *share.entries.cells()])
     note = message(
-        "Most silent slots first. The file of the office has no moment of a price: the one that is here is when this"
-        " application first saw the last entry, so it is there only of entries that came while it was running."
+        "Collectors with the most slots without a response come first. The office's file doesn't record when a price"
+        " arrived: the time shown here is the time at which this application first saw the last entry, so only"
+        " entries that arrived while it was running have one."
     )
     heads = columns("#collector", "last month with an entry", "last entry seen", *RESPONSE)
     return Section("collectors", message("By collector"), note, heads, most_silent(rows), NO_SLOTS, shown=100)
@@ -123,13 +163,13 @@ def by_outlet(slots: Slots) -> Section:
     found = slots.by(lambda collector, outlet, item: outlet)
     rows: list[list[Cell]] = [[number, slots.outlets[number], *it.cells()] for number, it in found.items()]
     heads = columns("#outlet", "name", *RESPONSE)
-    note = message("Most silent slots first.")
+    note = message("Those with the most slots without a response come first.")
     return Section("outlets", message("By outlet"), note, heads, most_silent(rows), NO_SLOTS, False, 100)
 
 
 def month_at(office: StoredOffice, at: int) -> Optional[int]:
-    """The month that the desk works at: the first one that isn't frozen and whose window has opened, else the last one
-    whose window has opened, else the first of the calendar."""
+    """The month that the desk works at: the first month that isn't frozen and whose window has opened; without one, the
+    last month whose window has opened; without that, the first month of the calendar."""
     calendar = office.calendar()
     frozen = {it.month for it in office.releases()}
     opened = [it.month for it in calendar if it.opens <= at]

@@ -1,26 +1,192 @@
-"""The prices to check as a table: filtered and sorted, seen by a person, noted by the desk, and as a list for a
-collector."""
+"""The prices to check as a table, each with its history as a line: filtered, sorted, seen by a person, noted."""
 
 from __future__ import annotations
 
-from collections.abc import Mapping, Sequence
+from collections.abc import Callable, Mapping, Sequence
 from pathlib import Path
-from typing import Any, Optional
+from typing import Any, NamedTuple, Optional
 
 import flask
+from markupsafe import Markup, escape
 from werkzeug.wrappers import Response
 
-from ...text.message import Message, month_of as month_words, sentences, message as _, message_of
-from ...text.others import Worded, isolated, of_others
-from ...text.terminal import Fault
+from ...office.stored import read_copy
+from ...text.message import (
+    Figure,
+    Message,
+    Price as Amount,
+    message as _,
+    message_of,
+    month_of as month_words,
+    sentences,
+    whole,
+)
+from ...text.others import Worded, isolate, of_others
+from ...text.terminal import Fault, month_before
+from ..field.field_notes import FieldNote
+from ..field.field_questions import ANSWERED, OPEN, Question
 from ..serve.faults import says
-from ..serve.page_versions import changed_by
-from ..serve.request_context import desk, field, month_of, page, session
-from .look_filters import ASKED, ORDERS, REASONS, SHOWS, Chosen, chosen_of, key_of, part_of
-from .looks import Look
-from .looks_rows import amount, percent_of, price_of, questions_by_slot, rows_of, state_of
+from ..serve.request_context import changed_by, desk, field, month_of, page, session
+from .looks import (
+    ASKED,
+    NOTE,
+    ORDERS,
+    REASONS,
+    SEEN,
+    SHOWS,
+    UNSEEN,
+    Chosen,
+    Look,
+    Mark,
+    Price,
+    chosen_of,
+    key_of,
+    part_of,
+)
 from .month_trials import Tried
-from .price_marks import NOTE, SEEN, UNSEEN, Price
+
+
+# ==== the history of a price as a line: a small picture in a month's row, next to the figures, which it doesn't repeat
+
+MONTHS, WIDE, HIGH, EDGE = 13, 120, 32, 3
+
+
+def months_to(month: int) -> list[int]:
+    """A month and those before it, the first ones first."""
+    found = [month]
+    while len(found) < MONTHS:
+        found.insert(0, month_before(found[0]))
+    return found
+
+
+def history(quotes: Mapping[int, tuple[str, int]], month: int) -> list[tuple[int, int]]:
+    """The months of the last year in which a series had a price, with it."""
+    return [(it, quotes[it][1]) for it in months_to(month) if it in quotes and quotes[it][1]]
+
+
+def line_of(quotes: Mapping[int, tuple[str, int]], month: int, render: Callable[[Message], object]) -> Markup:
+    """The prices of a series in a month and the year before it as a picture, with a name in the page's language; a
+    month without one is a gap."""
+    months = months_to(month)
+    known = dict(history(quotes, month))
+    if not known:
+        return Markup("")
+    low, high = min(known.values()), max(known.values())
+    step = (WIDE - 2 * EDGE) / (MONTHS - 1)
+    places: list[str] = []
+    parts = [""]
+    for at, each in enumerate(months):
+        if each not in known:
+            parts.append("")
+            continue
+        share = (known[each] - low) / (high - low) if high > low else 0.5
+        x, y = EDGE + at * step, HIGH - EDGE - share * (HIGH - 2 * EDGE)
+        parts[-1] += f"{'L' if parts[-1] else 'M'}{x:.1f} {y:.1f}"
+        places.append(f'<circle class="dot" cx="{x:.1f}" cy="{y:.1f}" r="{2.6 if each == month else 1.4}"/>')
+    path = "".join(parts)
+    spans = {"months": whole(MONTHS), "low": Amount(low), "high": Amount(high)}
+    name = message_of(
+        "One price in {months} months, {low}",
+        "{count} prices in {months} months, from {low} to {high}",
+        len(known),
+        **spans,
+    )
+    return Markup(
+        f'<svg class="history" viewBox="0 0 {WIDE} {HIGH}" role="img" aria-label="{escape(render(name))}">'
+        f'<path class="line" d="{path}"/>'
+        f'{"".join(places)}</svg>'
+    )
+
+
+# ==== the rows of the prices to check: each with its history as a picture, with the notes of the desk and the field,
+# and with the questions to its collector
+#
+# The notes of the field, and the questions to collectors, at the prices that they are of.
+
+
+class Row(NamedTuple):
+    """A price to check as a page shows it: with its history as a picture, the desk's notes, whether the reader has seen
+    it, the field notes, and the questions to its collector, the first ones first."""
+
+    look: Look
+    picture: Markup
+    notes: list[Mark]
+    is_seen: bool
+    field: list[FieldNote]
+    questions: list[Question]
+
+    @property
+    def latest(self) -> int:
+        """The number of the latest question, 0 for none."""
+        return self.questions[-1].number if self.questions else 0
+
+    @property
+    def key(self) -> str:
+        """The row's name in an address: `8-1`."""
+        return key_of(self.look)
+
+    @property
+    def name_in_form(self) -> str:
+        """The row's name in a form: `8-1-252`."""
+        return f"{self.key}-{self.look.price}"
+
+
+def price_of(month: int, it: Look) -> Price:
+    """The price to which a person's mark belongs."""
+    return Price(month, *it.slot, it.price)
+
+
+def amount(price: int) -> Amount:
+    """A price in minor units, as these pages and lists show it."""
+    return Amount(price)
+
+
+def percent_of(text: str) -> Figure:
+    """A change in percent, as lists show it."""
+    return Figure(text)
+
+
+def rows_of(month: int, found: Tried, looks: list[Look], asked: Mapping[tuple[int, int], list[Question]]) -> list[Row]:
+    """Some prices with their histories, which are one query; `asked` contains the month's questions by slot."""
+    seen, notes = desk().marks.seen_by(session().person, month), desk().marks.notes_of(month)
+    rows, notes_of_field = list[Row](), by_slot(month)
+    with read_copy(found.copy) as office:
+        quotes = office.quotes_of_series(it.series for it in looks)
+    for it in looks:
+        price = price_of(month, it)
+        picture = line_of(quotes.get(it.series, {}), month, desk().teller.render)
+        of_field = notes_of_field.get(it.slot, []), asked.get(it.slot, [])
+        rows.append(Row(it, picture, notes.get(price, []), price in seen, *of_field))
+    return rows
+
+
+def by_slot(month: int) -> dict[tuple[int, int], list[FieldNote]]:
+    """The notes of a month by collector and slot, the first ones first; none if they are off."""
+    notes = desk().field
+    found: dict[tuple[int, int], list[FieldNote]] = {}
+    for it in notes.of_month(month) if notes else []:
+        found.setdefault((it.collector, it.slot), []).append(it)
+    return found
+
+
+def questions_by_slot(month: int) -> dict[tuple[int, int], list[Question]]:
+    """The questions of a month by collector and slot, the first ones first; none if they are off."""
+    questions = desk().questions
+    found: dict[tuple[int, int], list[Question]] = {}
+    for it in questions.of_month(month) if questions else []:
+        found.setdefault((it.of.collector, it.of.slot), []).append(it)
+    return found
+
+
+def state_of(questions: list[Question]) -> str:
+    """The state of a slot's questions: OPEN if one is open, or ANSWERED if one was answered; empty if all of them were
+    withdrawn."""
+    states = {it.state for it in questions}
+    return next((it for it in (OPEN, ANSWERED) if it in states), "")
+
+
+# ==== the prices to check as a table: filtered and sorted, seen by a person, noted by the desk, and as a list for a
+# collector
 
 views = flask.Blueprint("looks", __name__)
 
@@ -30,25 +196,25 @@ POLICY = (
     "default-src 'none'; style-src 'self'; script-src 'self'; connect-src 'self'; img-src 'self' data:;"
     " form-action 'self'; base-uri 'none'; frame-ancestors 'none'"
 )
-"""The policy of this page only, which has a script of its own; without it the page is whole."""
+"""The policy of this page only, because it has its own script; without it the page is whole."""
 
 NOTHING = Worded("")
 
 
 @views.get("/looks.js")
 def script() -> Response:
-    """The script of the page: keys, and marks without loading it anew."""
+    """The script of the page: keys, and marks that don't load the page again."""
     return flask.Response(SCRIPT.read_text(encoding="utf-8"), mimetype="text/javascript")
 
 
 @views.get("/month/<month>/looks")
 def show(month: str) -> Response:
     """The prices that the address asks for: without more those that this person hasn't seen."""
-    return shown(month, flask.request.args)
+    return show_result(month, flask.request.args)
 
 
-def shown(month: str, asked: Mapping[str, str], status: int = 200, /, **typed: object) -> Response:
-    """The same, with the result of a form; `asked` says which prices, and from which one on."""
+def show_result(month: str, asked: Mapping[str, str], status: int = 200, /, **typed: object) -> Response:
+    """The page of prices, with the result of a form; `asked` says which prices, and from which one on."""
     number = month_of(month)
     found, chosen = desk().trials.latest(number), chosen_of(asked)
     named: dict[str, object] = {"refused": NOTHING, "of": None, "text": "", "question": "", "checked": frozenset[str]()}
@@ -97,15 +263,15 @@ def mark(month: str) -> Response:
     text = " ".join(field("text").split()) if what == NOTE else ""
     typed = {"of": price[1:3], "text": text}
     if changed := changed_since(number, [price]):
-        return shown(month, form, 409, refused=changed, **typed)
+        return show_result(month, form, 409, refused=changed, **typed)
     if what == NOTE and not text:
-        refused = _("The note is empty, so nothing was noted: write what is known of the price.")
-        return shown(month, form, 400, refused=refused, **typed)
+        refused = _("The note is empty, so nothing was noted: write what is known about the price.")
+        return show_result(month, form, 400, refused=refused, **typed)
     beside = place_after(number, price, what, chosen_of(form))
     try:
         desk().marks.add(session().person, price, what, text)
     except Fault as fault:
-        return shown(month, form, 503, refused=says(fault), **typed)
+        return show_result(month, form, 503, refused=says(fault), **typed)
     return back(month, chosen_of(form), beside)
 
 
@@ -119,19 +285,21 @@ def mark_many(month: str) -> Response:
     prices = [shown_price(number, text.split("-")) for text in checked]
     typed = {"checked": frozenset(checked)}
     if not prices:
-        return shown(month, form, 400, refused=_("No price is checked, so nothing was marked: check some first."))
+        return show_result(
+            month, form, 400, refused=_("No price is selected, so nothing was marked: select some first.")
+        )
     if changed := changed_since(number, prices):
-        return shown(month, form, 409, refused=changed, **typed)
+        return show_result(month, form, 409, refused=changed, **typed)
     try:
         desk().marks.add_all(session().person, prices, what)
     except Fault as fault:
-        return shown(month, form, 503, refused=says(fault), **typed)
+        return show_result(month, form, 503, refused=says(fault), **typed)
     return back(month, chosen_of(form), "")
 
 
 def shown_price(month: int, numbers: Sequence[str]) -> Price:
-    """The price of a row by its collector, slot and price as the form has them; other texts are no form of this page
-    (400)."""
+    """The price of a row from the collector, slot and price in the form; a form with other texts isn't a form of this
+    page (400)."""
     if len(numbers) != 3 or not all(it.isascii() and it.isdigit() and len(it) < 19 for it in numbers):
         flask.abort(400)
     return Price(month, *map(int, numbers))
@@ -147,12 +315,12 @@ def changed_since(month: int, prices: Sequence[Price]) -> Optional[Message]:
         return None
     by = (found.by, found.at) if found else ("", 0)
     slots = ", ".join(f"{it.collector}/{it.slot}" for it in gone)
-    named = _("Not as your page showed it any more: {slots}.", slots=of_others(slots))
+    named = _("These prices have changed since your page was loaded: {slots}.", slots=of_others(slots))
     return sentences(changed_by(*by), named) if len(prices) > 1 else changed_by(*by)
 
 
 def place_after(month: int, price: Price, what: str, chosen: Chosen) -> str:
-    """The row at which a person goes on: the next one if this one is seen now, else the same."""
+    """The row at which a person continues: the next one if this one is seen now, otherwise this one."""
     found = desk().trials.latest(month)
     if what != SEEN or not found or chosen.only:
         return f"{price.collector}-{price.slot}"
@@ -182,21 +350,21 @@ def to_send(month: str, collector: int) -> Response:
     if not looks:
         flask.abort(404)
     notes = desk().marks.notes_of(month_of(month))
-    text = [f"{said(head_of(month_of(month), collector, len(looks)))}\n"]
+    text = [f"{render_text(head_of(month_of(month), collector, len(looks)))}\n"]
     for it in looks:
         places = {"item": of_others(it.item), "outlet": of_others(it.outlet)}
-        text.append(f"\n{said(_('Slot {slot}: {item}; {outlet}', slot=it.slot[1], **places))}\n")
-        text.append(f"  {said(prices_of(it))}\n")
-        text += [f"  {said(each)}\n" for each in it.ask]
-        text += [f"  {isolated(each.text)}\n" for each in notes.get(price_of(month_of(month), it), [])]
+        text.append(f"\n{render_text(_('Slot {slot}: {item}; {outlet}', slot=it.slot[1], **places))}\n")
+        text.append(f"  {render_text(prices_of(it))}\n")
+        text += [f"  {render_text(each)}\n" for each in it.ask]
+        text += [f"  {isolate(each.text)}\n" for each in notes.get(price_of(month_of(month), it), [])]
     answer = flask.Response("".join(text), mimetype="text/plain")
     answer.headers["Content-Disposition"] = f'attachment; filename="{month}-collector-{collector}.txt"'
     return answer
 
 
-def said(text: Message) -> str:
+def render_text(text: Message) -> str:
     """A text in the office's language, for a file: texts of others are isolated in it."""
-    return isolated(desk().teller.render(text))
+    return isolate(desk().teller.render(text))
 
 
 def head_of(month: int, collector: int, count: int) -> Message:

@@ -1,12 +1,11 @@
-"""Months that `cpi` freezes on a copy for the pages, in a separate thread, one after the other: the provisional table,
-the prices to check, and a freeze's effect. The copy with the freeze stays, so that its figures can be explained."""
+"""Months that `cpi` freezes on a copy for the pages, in a thread of its own, and tables of earlier days."""
 
 from __future__ import annotations
 
 import tempfile
 import threading
 import time
-from collections.abc import Callable
+from collections.abc import Callable, Sequence
 from pathlib import Path
 from typing import NamedTuple, Optional
 
@@ -15,20 +14,116 @@ from ...office.program import Cpi
 from ...office.public import Published
 from ...office.stored import read_copy
 from ...office.trial import Frozen, State
-from ...text.message import Message, sentences, message as _
+from ...text.message import CODE, NUMBER, TEXT, Cell, Column, Message, Section, message as _, sentences
 from ...text.others import Worded
-from ...text.terminal import Fault, month_text
+from ...text.terminal import Fault, because_of, month_text
+from ...text.text_files import write_whole
 from ..freeze.freezes import sum_of
 from ..month.closing import Closed, closed_of
-from ..month.facts import Facts
+from ..month.facts import Facts, Levels, levels_of
 from ..month.month_report import Asked, Report, report_with, tried_on
-from ..month.reference_levels import Levels, levels_of
 from ..month.unusual import PERCENT_OF_WIDTH
-from ..serve.copies import Copies
-from ..serve.durations import Durations
-from ..serve.faults import met, says
-from .kept_tables import TablesKept
+from ..month.what_if import rows_of
+from ..serve.faults import explain_fault, says
+from ..serve.watched_office import Copies, Durations
 from .looks import Look, looks_of
+
+
+# ==== provisional tables of earlier days, to compare a day's table with the one before it: a file for each day and
+# month, the last one of the day
+
+
+class Earlier(NamedTuple):
+    """The table of an earlier day, like `2026-02-17` (UTC)."""
+
+    day: str
+    table: bytes
+
+
+def day_of(at: int) -> str:
+    """The day of a moment, in UTC."""
+    return time.strftime("%Y-%m-%d", time.gmtime(at))
+
+
+class TablesKept:
+    """The tables in a folder."""
+
+    def __init__(self, folder: Path):
+        self._folder = folder
+
+    def keep(self, month: int, at: int, table: bytes) -> None:
+        """Keeps the table of a month as it was at a moment. Raises Fault."""
+        try:
+            self._folder.mkdir(mode=0o700, exist_ok=True)
+            write_whole(self._folder / f"{month_text(month)}-at-{day_of(at)}.csv", table, 0o600)
+        except OSError as fault:
+            raise Fault(because_of(fault)) from fault
+
+    def before(self, month: int, at: int) -> Optional[Earlier]:
+        """The last table from a day before that of a moment."""
+        begins = f"{month_text(month)}-at-"
+        found = [path for path in self._folder.glob(f"{begins}*.csv") if path.stem[len(begins) :] < day_of(at)]
+        if not found:
+            return None
+        last = max(found)
+        return Earlier(last.stem[len(begins) :], last.read_bytes())
+
+
+# ==== two tables of a month side by side, each by its own levels: the nodes whose figures differ
+
+CHAINED, MONTH_CHANGE, YEAR_CHANGE = 3, 4, 5
+"""Cells of a row of a table."""
+
+DIGITS = 6
+"""Decimals of a level: what differs may be small."""
+
+Head = Callable[[str], Message]
+"""A function that makes the heading of one of the tables from the name of a figure."""
+
+Rows = dict[str, list[str]]
+
+
+def beside(
+    key: str, title: Message, tables: Sequence[bytes], heads: Sequence[Head], levels: Optional[Levels], empty: str = ""
+) -> Section:
+    """The nodes of two tables that differ. `levels` are the second table's levels, if they are known; the first table
+    has its own, since its month may be in the reference period."""
+    each: list[Optional[Levels]] = [levels.with_table(tables[0]), levels] if levels else [None, None]
+    has_chained = bool(levels and levels.has_reference)
+    names = [levels.name if levels else _("level"), _("month %"), _("year %")]
+    columns = [Column(head(name), NUMBER) for head in heads for name in names]
+    columns += [Column(head(levels.chained_name), NUMBER) for head in heads] if levels and has_chained else []
+    rows = differing([rows_of(table) for table in tables], each, has_chained)
+    ends = Column(_("code"), CODE), Column(_("title"), TEXT)
+    return Section(key, title, "", (ends[0], *columns, ends[1]), rows, empty or _("None: the tables are the same."))
+
+
+def differing(tables: Sequence[Rows], levels: Sequence[Optional[Levels]], has_chained: bool) -> list[list[Cell]]:
+    """The rows of the nodes that differ: the code, the figures of each table, and the title."""
+    found: list[list[Cell]] = []
+    for code in sorted({code for table in tables for code in table}):
+        rows = [table.get(code) for table in tables]
+        if rows[0] == rows[1]:
+            continue
+        cells: list[Cell] = [cell for row, own in zip(rows, levels) for cell in figures(code, row, own)]
+        if has_chained:
+            cells += [row[CHAINED] if row else "" for row in rows]
+        title = next(row[-1] for row in reversed(rows) if row)
+        found.append([code, *cells, title])
+    return found
+
+
+def figures(code: str, row: Optional[Sequence[str]], levels: Optional[Levels]) -> list[Cell]:
+    """The level of a node and both changes."""
+    if row is None:
+        return ["", "", ""]
+    level = levels.of(code, digits=DIGITS) if levels and levels.has_reference else row[CHAINED]
+    return [level, row[MONTH_CHANGE], row[YEAR_CHANGE]]
+
+
+# ==== Months that `cpi` freezes on a copy for the pages, in a separate thread, one after the other: the provisional
+# table, the prices to check, and a freeze's effect. The copy with the freeze stays, so that its figures can be
+# explained.
 
 SMALL = 3
 """Fewer series or outlets are few."""
@@ -123,13 +218,13 @@ class Trials:
 
     def _run(self, month: int) -> None:
         try:
-            with self._durations.measured(TRIAL):
+            with self._durations.measure(TRIAL):
                 self.run(month)
         except Fault as fault:
             self._faults[month] = says(fault)
         except Exception as fault:
             # (a fault of ours: it is on the page too, and the journal has all of it)
-            self._faults[month] = met(fault)
+            self._faults[month] = explain_fault(fault)
             raise
         finally:
             self.running = None
@@ -140,7 +235,7 @@ class Trials:
         folder = tempfile.TemporaryDirectory(prefix="cpi-desk-trial-", dir=self._room)
         try:
             with self._copies.latest() as it:
-                found = self._tried(it.path, it.at, right_copy(it.path, Path(folder.name)), month)
+                found = self._try_on_copy(it.path, it.at, right_copy(it.path, Path(folder.name)), month)
         except BaseException:
             folder.cleanup()
             raise
@@ -156,7 +251,7 @@ class Trials:
             each[1].cleanup()
         return found
 
-    def _tried(self, office_copy: Path, at: int, copy: Path, month: int) -> Tried:
+    def _try_on_copy(self, office_copy: Path, at: int, copy: Path, month: int) -> Tried:
         asked = Asked(month, at, self._left_out, PERCENT_OF_WIDTH, SMALL)
         tried = tried_on(self._cpi, office_copy, copy, asked, self._now, self._tables_known())
         with read_copy(copy) as office:
@@ -171,7 +266,7 @@ class Trials:
         return Tried(at, copy, tried.state, report, looks, closed, by)
 
     def _tables_known(self) -> list[Published]:
-        """The tables that the trials at hand printed, but for those of months that were tried."""
+        """The tables that earlier trials printed, except those of the tried months themselves."""
         levels = [known_levels(found) for found, _folder in [*self._found.values()]]
         return [table for each in levels if each for table in each.others]
 

@@ -14,16 +14,16 @@ import flask
 from werkzeug.wrappers import Response
 
 from ...office.stored import read_copy
-from ...text.message import Message, sentences, message as _, message_of
+from ...text.message import Message, message as _, message_of, sentences
 from ...text.terminal import month_text
-from ..serve.observations import Seen
+from ..serve.watched_office import Seen
 from ..serve.request_context import desk, month_of, page, section_file
 from .glance import Glance, months_of
 
 views = flask.Blueprint("month", __name__)
 
 REFRESH = 45
-"""Seconds after which the page loads itself anew."""
+"""The seconds after which the page loads itself again."""
 
 
 @views.get("/")
@@ -34,20 +34,20 @@ def first() -> Response:
 
 @views.get("/month/<month>/")
 def glance(month: str) -> Response:
-    """A month at a glance; with `still` the page doesn't load itself anew."""
+    """A month at a glance; with `still` the page doesn't load itself again."""
     found = desk().watch.glance(month_of(month))
     with desk().copies.latest() as copy, read_copy(copy.path) as office:
         months = [month_text(it) for it in months_of(office)]
     is_still = "still" in flask.request.args
     now = int(time.time())
-    expected = desk().watch.expected(found)
+    expected = desk().watch.expect(found)
     named = {
         "found": found,
         "months": months,
         "is_still": is_still,
         "refresh": REFRESH,
         "now": now,
-        "chart": chart_of(desk().watch.seen(), found.state.month),
+        "chart": chart_of(desk().watch.list_seen(), found.state.month),
     }
     return page("glance.html", month=found.month, left=time_left(found, now), expected=expected, **named)
 
@@ -63,7 +63,7 @@ def glance_file(month: str, key: str) -> Response:
 
 
 def time_left(found: Glance, now: int) -> Message:
-    """How long the window is still open, or when it opens, in days and hours: `3 days and 4 hours`."""
+    """The time until the window closes, or until it opens, in days and hours: `3 days and 4 hours`."""
     window = found.state.window
     seconds = (window.opens if now < window.opens else window.closes) - now
     if seconds <= 0:
@@ -108,7 +108,8 @@ class Chart(NamedTuple):
 
 
 def chart_of(rows: Sequence[Seen], month: int) -> Chart:
-    """The picture of a month, a bar for each day of which something was seen; rows are in the order of their moments."""
+    """The picture of a month, with a bar for each day on which the application saw something; rows are in the order of
+    their moments."""
     last = {it.after // DAY: it for it in rows if it.month == month and it.slots}
     bars = [_bar(day, it) for day, it in sorted(last.items())]
     return Chart(bars, max(DAYS, max(last, default=0) + 1) * WIDE)

@@ -1,26 +1,168 @@
-"""`cpi-tools desk close`: the whole carry list of a month, who decided on it, and the one record that freezes it.
-
-The month is frozen on a copy, which names every code. Nothing is sent to the office.
-"""
+"""`cpi-tools desk close`: the aggregates to check, the whole carry list, and the one record that freezes a month."""
 
 from __future__ import annotations
 
-from collections.abc import Callable, Iterator, Sequence
+from collections.abc import Callable, Iterable, Iterator, Sequence
 from pathlib import Path
 from typing import NamedTuple, Optional
 
 from ...office.copying import private_copy
+from ...office.price_rules import ONE, Pairs, dutot, jevons
 from ...office.program import Cpi, record
-from ...office.quote_marks import marks_of
-from ...office.stored import read_copy
+from ...office.quote_marks import mark_text, marks_of
+from ...office.stored import Series, read_copy
 from ...office.trial import Frozen as FrozenMonth, State, freeze_on_copy, state_of
-from ...text.message import Message, month_of, said_as, message as _, whole
+from ...text.exact import decimal
+from ...text.message import Cell, Message, Section, columns, message as _, message, month_of, said_as, whole
 from ...text.others import of_others
-from ...text.sections import Section
-from ...text.terminal import Fault, counted, month_text, time_text
-from . import aggregates, response
-from .early import Early, early_tables
+from ...text.terminal import Fault, month_text, time_text, write_count
+from . import response
 from .facts import Facts
+from .response import PLACE, percent
+from .what_if import Early, early_tables
+
+
+# ==== aggregates to check: small ones, imputed ones, those on the carry list, and those that may not be homogeneous
+#
+# The prices that count for a series are read from a copy that the program froze. Next to it are shares, and geometric
+# means of the same prices, which aren't published.
+
+# ---- small, imputed, carried
+
+
+def small(facts: Facts, least: int) -> Section:
+    """The aggregates with fewer priced series or outlets than `least`."""
+    rows: list[list[Cell]] = []
+    for code, sample in facts.samples.items():
+        priced = [it for it in sample if facts.carried_prices[it].observed]
+        outlets = {facts.holder[it].outlet for it in priced}
+        if len(priced) < least or len(outlets) < least:
+            weight = facts.rows[code].weight
+            rows.append([code, facts.title(code), weight, len(sample), len(priced), len(outlets)])
+    note = message(
+        "These aggregates have fewer than {count} priced series or outlets: a single shop can move their index, and"
+        " the published index reveals it.",
+        count=whole(least),
+    )
+    names = columns("=aggregate", "title", "#weight", "#series", "#priced", "#outlets")
+    return Section("small", message("Small aggregates"), note, names, rows, is_open=False)
+
+
+def imputed_parts(facts: Facts, codes: Iterable[str]) -> tuple[int, int]:
+    """Parts of the weight in use whose prices are imputed, in millionths, and the weight in all: each aggregate by the
+    imputed share of what its series count as."""
+    parts = weight = 0
+    for code in codes:
+        carried = [facts.carried_prices[it] for it in facts.samples[code]]
+        moved = sum(it.ticks for it in carried if it.imputed)
+        parts += facts.rows[code].weight * moved * 10**6 // sum(it.ticks for it in carried)
+        weight += facts.rows[code].weight
+    return parts, weight
+
+
+def imputed_percent(facts: Facts, codes: Iterable[str]) -> str:
+    """The imputed share by weight, in percent with one decimal."""
+    parts, weight = imputed_parts(facts, codes)
+    return percent(parts, weight * 10**6)
+
+
+def report_imputed(facts: Facts) -> Section:
+    """Imputed prices by division, by count and by weight."""
+    rows: list[list[Cell]] = []
+    for division in sorted({code[:2] for code in facts.samples}):
+        codes = [code for code in facts.samples if code[:2] == division]
+        series = [facts.carried_prices[it] for code in codes for it in facts.samples[code]]
+        count = sum(it.imputed for it in series)
+        counts: list[Cell] = [len(series), count, percent(count, len(series))]
+        weight = facts.rows[division].weight
+        rows.append([division, facts.title(division), *counts, weight, imputed_percent(facts, codes)])
+    note = message(
+        "The percentage by weight multiplies each aggregate's weight in use by the"
+        " imputed share of its series' carried prices."
+    )
+    names = columns("=division", "title", "#series", "#imputed", "#percent", "#weight", "#percent by weight")
+    return Section("imputed", message("Imputed prices"), note, names, rows)
+
+
+def carry(facts: Facts, codes: Iterable[str]) -> Section:
+    """The aggregates of a carry list, with their findings in this month and in the one before."""
+    rows: list[list[Cell]] = []
+    for code in codes:
+        sample = facts.samples.get(code, [])
+        then, now = (marks_of(sample, quotes) for quotes in (facts.frozen_before, facts.frozen))
+        outlets = {facts.holder[it].outlet for it in sample}
+        rows.append([code, facts.title(code), facts.rows[code].weight, len(sample), len(outlets), then, now])
+    note = message(
+        "No price in these aggregates can be compared with the previous month: the"
+        " freeze is refused until the list contains each of them."
+    )
+    names = columns("=aggregate", "title", "#weight", "#series", "#outlets", "month before", "now")
+    return Section("carry", message("The carry list"), note, names, rows, message("Empty: the freeze needs no entry."))
+
+
+def carry_series(facts: Facts, codes: Iterable[str]) -> Section:
+    """Each series of the aggregates of a carry list."""
+    rows: list[list[Cell]] = []
+    for code in codes:
+        for series in facts.samples.get(code, []):
+            place = facts.place_cells(facts.holder[series])
+            then, now = facts.frozen_before.get(series), facts.frozen.get(series)
+            rows.append([place[0], code, *place[2:], mark_text(then), mark_text(now)])
+    note = message(
+        "These are the entries for each series. If a price still comes in for one of"
+        " them, its aggregate may not need to be on the list."
+    )
+    names = columns(*PLACE, "month before", "now")
+    return Section("carry-series", message("Series of the carry list"), note, names, rows, is_open=False)
+
+
+# ---- homogeneity
+
+
+def homogeneity(facts: Facts) -> Section:
+    """Dutot and Jevons for each aggregate, the widest gap of the year first."""
+    found = [(code, sample, *pairs_of(facts, code, sample)) for code, sample in facts.samples.items()]
+    rows: list[list[Cell]] = []
+    for code, sample, month, year in sorted(found, key=lambda it: -abs(gap(it[3]) or 0)):
+        ticks = [facts.carried_prices[it].ticks for it in sample]
+        spread = decimal(max(ticks), min(ticks), 1)
+        rows.append([code, facts.title(code), len(sample), len(month), spread, *means(month), *means(year)])
+    note = message(
+        "These figures are computed beside the index, and aren't published. They show how prices moved by the"
+        " geometric mean of their ratios (Jevons), and how far the ratio of sums that the index uses (Dutot) is from"
+        " it. A wide spread of prices with a wide gap shows that the aggregate isn't homogeneous: split it in the"
+        " next plan."
+    )
+    names = columns(
+        *("=aggregate", "title", "#series", "#matched", "#dearest / cheapest"),
+        *("#Dutot, month", "#Jevons, month", "#gap, month", "#Dutot, year", "#Jevons, year", "#gap, year"),
+    )
+    return Section("homogeneity", message("Dutot compared with Jevons"), note, names, rows, is_open=False, shown=25)
+
+
+def pairs_of(facts: Facts, code: str, sample: Sequence[Series]) -> tuple[Pairs, Pairs]:
+    """The matched series' values, compared with the month before; and the whole sample, compared with its bases."""
+    now, then, bases = facts.carried_prices, facts.counted_before, facts.bases
+    month = [(now[it].ticks, then[it]) for it in facts.find_matches(code) if it in then]
+    return month, [(now[it].ticks, bases[it]) for it in sample if it in bases]
+
+
+def gap(pairs: Pairs) -> Optional[int]:
+    """The difference between the Dutot index and the Jevons index."""
+    return dutot(pairs) - jevons(pairs) if pairs else None
+
+
+def means(pairs: Pairs) -> list[str]:
+    """Dutot's and Jevons' changes and the gap between them, in percent."""
+    if not pairs:
+        return ["", "", ""]
+    sums, geometric = dutot(pairs), jevons(pairs)
+    return [decimal(100 * change, ONE, 2) for change in (sums - ONE, geometric - ONE, sums - geometric)]
+
+
+# ==== `cpi-tools desk close`: the whole carry list of a month, who decided on it, and the one record that freezes it
+#
+# The month is frozen on a copy, which names every code. Nothing is sent to the office.
 
 Answer = Callable[[str], str]
 """Shows a question, and gives the line that answers it."""
@@ -91,21 +233,21 @@ def _is_frozen(state: State) -> Message:
 def closed_of(facts: Facts, closes: int, frozen: FrozenMonth, early: list[Early]) -> Closed:
     """A month that was frozen on a copy, whose facts these are."""
     named, count = [named_of(facts, code) for code in frozen.carry], response.in_all(facts)
-    counts = (len(facts.rows), count.priced, count.slots)
+    counts = (len(facts.rows), count.with_price, count.slots)
     return Closed(facts.month, closes, frozen.revision, named, *counts, early, frozen.table)
 
 
 def named_of(facts: Facts, code: str) -> Named:
     """The text about an aggregate that a refusal named."""
     title = facts.title(code)
-    series = aggregates.carry_series(facts, [code])._replace(title=of_others(f"{code} {title}"))
+    series = carry_series(facts, [code])._replace(title=of_others(f"{code} {title}"))
     return Named(code, title, marks_of(facts.samples[code], facts.frozen), series)
 
 
 # ---- decisions
 
 
-def decided(closed: Closed, at: int, allowed: Optional[Sequence[str]], ask: Optional[Answer]) -> list[Decision]:
+def decide(closed: Closed, at: int, allowed: Optional[Sequence[str]], ask: Optional[Answer]) -> list[Decision]:
     """The decision on each aggregate that was named.
 
     `allowed` are the codes that may be carried, None all of them; `ask` is asked for each, None nobody. Raises
@@ -141,8 +283,8 @@ def closing_lines(
     for code in sorted({*(allowed or ())} - {it.code for it in decisions}):
         yield f"not carried: {code}; the freeze isn't refused for it"
     yield (
-        f"{month_text(closed.month)}, revision {closed.revision}: {counted(closed.rows, 'row')}, {closed.priced:,} of"
-        f" {counted(closed.slots, 'slot')} priced, {counted(len(decisions), 'aggregate')} carried"
+        f"{month_text(closed.month)}, revision {closed.revision}: {write_count(closed.rows, 'row')}, {closed.priced:,} of"
+        f" {write_count(closed.slots, 'slot')} priced, {write_count(len(decisions), 'aggregate')} carried"
     )
 
 

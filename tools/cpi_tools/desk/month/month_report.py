@@ -11,15 +11,126 @@ from ...office.program import Cpi
 from ...office.public import Published
 from ...office.stored import read_copy
 from ...office.trial import Frozen, Refused, State, as_frozen, freeze_on_copy, state_of
-from ...text.exact import ALL_ITEMS, decimal, depth_of, points, tenths, with_sign
-from ...text.message import Figure, Moment, Month, Message, moment_of, month_of, sentences, message, whole
+from ...text.exact import ALL_ITEMS, Ratio, decimal, depth_of, points, tenths, with_sign
+from ...text.message import (
+    NUMBER,
+    Cell,
+    Column,
+    Figure,
+    Message,
+    Moment,
+    Month,
+    Section,
+    columns,
+    message,
+    moment_of,
+    month_name_of,
+    month_of,
+    sentences,
+    text_of,
+    whole,
+)
 from ...text.others import of_others
-from ...text.sections import Section, text_of
-from . import aggregates, influence, provisional, response, sparse, unusual
-from .early import Early, early_tables
-from .facts import Facts
-from .reference_levels import Levels
-from .refused_trial import refused_words
+from ...text.terminal import link_month, month_before, month_text
+from . import closing, response, unusual
+from .facts import Facts, Levels, refused_words
+from .what_if import Early, early_tables
+
+
+# ==== the provisional table: as the program froze it on a copy, with each node's contribution to the changes of all
+# items
+
+HEADS = columns(
+    *("=code", "title", "#weight", "#index", "#level before", "#level", "#month %", "#year %"),
+    *("#adds, month", "#adds, year", "imputed"),
+)
+
+
+def heads_of(facts: Facts) -> tuple[Column, ...]:
+    """The headings of the table; the headings of levels name their period, if it is known."""
+    if facts.levels is None:
+        return HEADS
+    found = [*HEADS]
+    link = month_name_of(link_month(facts.month))
+    found[INDEX] = Column(message("index, {december} = 100", december=link), NUMBER)
+    found[BEFORE : LEVEL + 1] = [Column(facts.levels.name_before, NUMBER), Column(facts.levels.name, NUMBER)]
+    chained = [Column(facts.levels.chained_name, NUMBER)] if facts.levels.has_reference else []
+    return (*found[:-1], *chained, found[-1])
+
+
+# t: one letter that marks an imputed row
+IMPUTED = message("i")
+
+INDEX, BEFORE, LEVEL = 3, 4, 5
+"""Cells of a row: the index, and the levels of the month before and of the month."""
+
+
+def write_contribution(ratio: Optional[Ratio]) -> str:
+    """A contribution in percentage points with three decimals."""
+    return decimal(*ratio, 3) if ratio else ""
+
+
+def to_month(facts: Facts, code: str) -> Optional[Ratio]:
+    """A node's contribution to the month's change of all items, in percentage points."""
+    month = month_text(facts.month)
+    return facts.contributions.of(month, code, ALL_ITEMS).to_month if facts.contributions else None
+
+
+def row_of(facts: Facts, code: str) -> Optional[list[Cell]]:
+    """A node of the table, or one that left the plan and still adds to the year's change; None of any other."""
+    if facts.tables is None or facts.contributions is None:
+        return None
+    now, then = facts.rows.get(code), facts.tables.row(month_text(month_before(facts.month)), code)
+    given = facts.contributions.of(month_text(facts.month), code, ALL_ITEMS)
+    if now is None:
+        title = message("{title} (left the plan)", title=of_others(facts.tables.titles[code]))
+        empty = [""] * (1 if facts.levels is None or not facts.levels.has_reference else 2)
+        return [code, title, *[""] * 7, write_contribution(given.to_year), *empty] if given.to_year else None
+    levels, chained = levels_of_row(facts, code, then.chained if then else None, now.chained)
+    figures = [points(now.within, 2), *levels, tenths(now.month_change), tenths(now.year_change)]
+    adds = [write_contribution(given.to_month), write_contribution(given.to_year)]
+    return [code, now.title, now.weight, *figures, *adds, *chained, IMPUTED if now.is_imputed else ""]
+
+
+def levels_of_row(facts: Facts, code: str, then: Optional[int], now: int) -> tuple[list[str], list[str]]:
+    """The levels of a node in the month before and in the month, and the chained one if those are of another period."""
+    chained = [points(then, 2) if then is not None else "", points(now, 2)]
+    if facts.levels is None or not facts.levels.has_reference:
+        return chained, []
+    before = facts.levels.of(code, month_text(month_before(facts.month)), 2) if then is not None else ""
+    return [before, facts.levels.of(code, digits=2)], chained[1:]
+
+
+def table(facts: Facts) -> Section:
+    """The whole table, and what left the plan within a year."""
+    found = (row_of(facts, code) for code in (facts.tables.titles if facts.tables else ()))
+    note = message(
+        "Contributions are in percentage points of the change of all items. The file {file} contains the table byte"
+        " for byte.",
+        file="provisional.csv",
+    )
+    rows = [row for row in found if row]
+    return Section(
+        "table",
+        message("The whole table"),
+        note,
+        heads_of(facts),
+        rows,
+        message("The month has no table."),
+        False,
+        4000,
+    )
+
+
+def top(whole: Section) -> Section:
+    """All items and the divisions of the whole table."""
+    rows = [row for row in whole.rows if depth_of(str(row[0])) <= 1]
+    note = message("Contributions are in percentage points of the change of all items.")
+    title = message("All items and divisions, compared with the previous month")
+    return Section("top", title, note, whole.columns, rows, whole.empty)
+
+
+# ==== `cpi-tools desk month`: a month before it is frozen, as a page, as CSV files and as a text
 
 PERCENT = "\u202f%"
 """Behind a figure, on the same line as it."""
@@ -126,18 +237,18 @@ def frozen_at(state: State, asked: Asked) -> int:
 
 def report_with(cpi: Cpi, office_copy: Path, tried: OnCopy, facts: Facts, asked: Asked, now: Now) -> Report:
     """All there is to say of a month that was tried on a copy, whose facts these are."""
-    state, frozen, left = tried.state, tried.frozen, list[influence.Left]()
+    state, frozen, left = tried.state, tried.frozen, list[unusual.Left]()
     if frozen and facts.rows and asked.left_out and not state.is_frozen:
         now(message("leaving quotes out in turn"))
-        trial = influence.Trial(cpi, office_copy, state, frozen_at(state, asked), frozen.carry)
-        left = influence.left_out(facts, trial, asked.left_out)
+        trial = unusual.Trial(cpi, office_copy, state, frozen_at(state, asked), frozen.carry)
+        left = unusual.left_out(facts, trial, asked.left_out)
     now(message("counting"))
     sections = sections_of(facts, asked, frozen, left)
-    report = gathered(facts, asked, state, sections, tried.fault, frozen.table if frozen else b"")
+    report = gather(facts, asked, state, sections, tried.fault, frozen.table if frozen else b"")
     return report._replace(warnings=[it.warning() for it in tried.early])
 
 
-def sections_of(facts: Facts, asked: Asked, frozen: Optional[Frozen], left: Sequence[influence.Left]) -> list[Section]:
+def sections_of(facts: Facts, asked: Asked, frozen: Optional[Frozen], left: Sequence[unusual.Left]) -> list[Section]:
     """All sections, in their order on the page."""
     survey = [
         unusual.outliers(facts, asked.width),
@@ -147,28 +258,28 @@ def sections_of(facts: Facts, asked: Asked, frozen: Optional[Frozen], left: Sequ
         response.by_reason(facts),
         response.silent(facts),
         response.long_missing(facts),
-        sparse.quarterly(facts),
-        response.gone(facts),
+        response.quarterly(facts),
+        response.report_gone(facts),
         response.replacements(facts),
     ]
     if not frozen or not facts.rows:
         return survey
-    whole = provisional.table(facts)
+    whole = table(facts)
     return [
-        provisional.top(whole),
-        aggregates.carry(facts, frozen.carry),
-        aggregates.carry_series(facts, frozen.carry),
-        sparse.unmatched(facts),
-        influence.influence(facts, left),
+        top(whole),
+        closing.carry(facts, frozen.carry),
+        closing.carry_series(facts, frozen.carry),
+        response.report_unmatched(facts),
+        unusual.influence(facts, left),
         *survey,
-        aggregates.imputed(facts),
-        aggregates.small(facts, asked.small),
-        aggregates.homogeneity(facts),
+        closing.report_imputed(facts),
+        closing.small(facts, asked.small),
+        closing.homogeneity(facts),
         whole,
     ]
 
 
-def gathered(
+def gather(
     facts: Facts, asked: Asked, state: State, sections: list[Section], fault: Optional[Message], table: bytes
 ) -> Report:
     """The report of its parts."""
@@ -197,7 +308,7 @@ def standing(state: State, at: int) -> Message:
     named = {"revision": revision, "moment": moment_of(window.closes)}
     if state.is_frozen:
         moment = moment_of(window.publishes)
-        return message("frozen, revision {revision}; published from {moment} on", revision=revision, moment=moment)
+        return message("frozen, revision {revision}; release time {moment}", revision=revision, moment=moment)
     if at < window.opens:
         opens = moment_of(window.opens)
         if state.is_reopened:
@@ -231,18 +342,21 @@ def changes(is_frozen: bool, named: Mapping[str, str]) -> Message:
     """The level of all items and its changes; `annual` is named if there is one."""
     if is_frozen and "annual" in named:
         return message(
-            "All items are at {level}: {month} percent on the month before, {annual} percent on the year before.",
+            "All items are at {level}: the monthly change is {month} percent, and the annual change is {annual}"
+            " percent.",
             **named,
         )
     if is_frozen:
-        return message("All items are at {level}: {month} percent on the month before.", **named)
+        return message("All items are at {level}: the monthly change is {month} percent.", **named)
     if "annual" in named:
         return message(
-            "As things stand, all items would be at {level}: {month} percent on the month before, {annual} percent on the"
-            " year before.",
+            "As things stand, all items would be at {level}: the monthly change would be {month} percent, and the"
+            " annual change {annual} percent.",
             **named,
         )
-    return message("As things stand, all items would be at {level}: {month} percent on the month before.", **named)
+    return message(
+        "As things stand, all items would be at {level}: the monthly change would be" " {month} percent.", **named
+    )
 
 
 def of_most(most: Sequence[Division]) -> Message:
@@ -250,11 +364,11 @@ def of_most(most: Sequence[Division]) -> Message:
     named = {"title": of_others(most[0].title), "points": Figure(most[0].text)}
     if len(most) == 1:
         return message(
-            "The largest contribution to the month's change is that of {title}: {points} percentage points.", **named
+            "The largest contribution to the month's change comes from {title}: {points} percentage points.", **named
         )
     second = {"other": of_others(most[1].title), "other_points": Figure(most[1].text)}
     return message(
-        "The largest contributions to the month's change are those of {title} ({points} percentage points) and {other}"
+        "The largest contributions to the month's change come from {title} ({points} percentage points) and {other}"
         " ({other_points}).",
         **named,
         **second,
@@ -265,7 +379,7 @@ def divisions(facts: Facts) -> list[Division]:
     """Each division's contribution to the month's change of all items."""
     found = []
     for code in facts.rows:
-        given = provisional.to_month(facts, code) if depth_of(code) == 1 else None
+        given = to_month(facts, code) if depth_of(code) == 1 else None
         if given:
             text = with_sign(decimal(*given, 3))
             found.append(Division(code, facts.title(code), text, given.over / given.under))
@@ -286,15 +400,15 @@ def index_cards(facts: Facts) -> list[Card]:
         chained = Figure(points(top.chained, 2))
         level = message("{level}; {name}: {chained}", level=level, name=facts.levels.chained_name, chained=chained)
     # t: the change of all items on the month before: under a figure, short
-    on_month = message("all items on the month")
+    on_month = message("monthly change of all items")
     # t: the change of all items on the year before: under a figure, short
-    return [Card(month, on_month, level), Card(year, message("on the year"), None)]
+    return [Card(month, on_month, level), Card(year, message("annual change"), None)]
 
 
 def survey_cards(facts: Facts, sections: Sequence[Section]) -> list[Card]:
     """Of the survey."""
     count, rows = response.in_all(facts), {it.key: len(it.rows) for it in sections}
-    share = f"{response.percent(count.priced, count.slots) or '0.0'}{PERCENT}"
+    share = f"{response.percent(count.with_price, count.slots) or '0.0'}{PERCENT}"
     # t: slots with a price; short
     return [
         Card(share, message("priced"), of_slots(facts, count)),
@@ -306,7 +420,7 @@ def survey_cards(facts: Facts, sections: Sequence[Section]) -> list[Card]:
         ),
         Card(
             whole(rows["long-missing"]),
-            message("missing for long"),
+            message("missing for two months or more"),
             message("{count} gone without a replacement", count=whole(rows["gone"])),
         ),
         # t: prices to look at, of which a figure is the count; short
@@ -315,9 +429,9 @@ def survey_cards(facts: Facts, sections: Sequence[Section]) -> list[Card]:
 
 
 def of_slots(facts: Facts, count: response.Count) -> Message:
-    """How many slots have a price, and their share by weight if there is one."""
+    """The number of slots with a price, and their share by weight if there is one."""
     by_weight = response.weighted_percent(facts, {facts.code(it.item) for it in facts.slots})
-    named = {"priced": whole(count.priced), "slots": whole(count.slots)}
+    named = {"priced": whole(count.with_price), "slots": whole(count.slots)}
     if not by_weight:
         return message("{priced} of {slots} slots", **named)
     return message("{priced} of {slots} slots, {percent} by weight", **named, percent=Figure(f"{by_weight} %"))
@@ -328,8 +442,8 @@ def aggregate_cards(facts: Facts, sections: Sequence[Section]) -> list[Card]:
     if facts.all_items is None:
         return []
     rows = {it.key: len(it.rows) for it in sections}
-    count = sum(it.imputed for it in facts.carried.values())
-    share = f"{aggregates.imputed_percent(facts, facts.samples)}{PERCENT}"
+    count = sum(it.imputed for it in facts.carried_prices.values())
+    share = f"{closing.imputed_percent(facts, facts.samples)}{PERCENT}"
     return [
         Card(share, message("imputed, by weight"), message("{count} series", count=whole(count))),
         Card(whole(rows["carry"]), message("on the carry list"), message("aggregates with nothing to compare")),

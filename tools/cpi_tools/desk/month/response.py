@@ -1,22 +1,23 @@
-"""The response: slots priced, missing by reason and silent, by collector, outlet and division; and collectors who have
-been missing for long.
-
-Nothing here depends on a freeze.
-"""
+"""The response: slots priced, missing by reason and silent; and samples that are priced too seldom to be compared."""
 
 from __future__ import annotations
 
 from collections import Counter, defaultdict
-from collections.abc import Callable, Iterable, Iterator, Mapping
+from collections.abc import Callable, Iterable, Iterator, Mapping, Sequence
 from typing import Optional, TypeVar
 
-from ...office.quote_marks import SILENT, mark_words
-from ...office.stored import OBSERVED, REASONS, Assignment, Quote
+from ...office.quote_marks import SILENT, mark_words, marks_of
+from ...office.stored import COMPARABLE, OBSERVED, REASONS, Assignment, Quote
 from ...text.exact import decimal
-from ...text.message import Price, month_of, price_of, message
-from ...text.sections import Cell, Section, columns, heads
-from ...text.terminal import month_before
+from ...text.message import Cell, Price, Section, columns, heads, message, month_of, price_of, whole
+from ...text.terminal import month_before, month_text
 from .facts import NO_PLACE, Facts
+
+
+# ==== the response: slots priced, missing by reason and silent, by collector, outlet and division; and collectors who
+# have been missing for long
+#
+# Nothing here depends on a freeze.
 
 Key = TypeVar("Key", int, str)
 
@@ -43,7 +44,7 @@ class Count:
         self.marks[mark] += count
 
     @property
-    def priced(self) -> int:
+    def with_price(self) -> int:
         """Slots with a price, of a replacement too."""
         return sum(self.marks[mark] for mark in OBSERVED)
 
@@ -55,7 +56,14 @@ class Count:
     def cells(self) -> list[Cell]:
         """The cells under RESPONSE."""
         replaced = [self.marks["comparable"], self.marks["other"]]
-        return [self.slots, self.priced, percent(self.priced, self.slots), *replaced, self.missing, self.marks[SILENT]]
+        return [
+            self.slots,
+            self.with_price,
+            percent(self.with_price, self.slots),
+            *replaced,
+            self.missing,
+            self.marks[SILENT],
+        ]
 
 
 RESPONSE = heads("#slots", "#priced", "#percent", "#comparable", "#other", "#missing", "#silent")
@@ -74,22 +82,22 @@ def in_all(facts: Facts) -> Count:
     return counts(facts, lambda it: 0).get(0, Count())
 
 
-def weighted(facts: Facts, codes: Iterable[str]) -> tuple[int, int]:
+def weigh(facts: Facts, codes: Iterable[str]) -> tuple[int, int]:
     """Parts of the plan's weight that are priced, in millionths, and the weight in all: each aggregate by the share of
     its slots that have a price."""
     return weighted_by(counts(facts, lambda it: facts.code(it.item)), facts.plan.weights if facts.plan else {}, codes)
 
 
 def weighted_by(by_code: Mapping[str, Count], weights: Mapping[str, int], codes: Iterable[str]) -> tuple[int, int]:
-    """The same of counts by aggregate and the weights of a plan."""
+    """The priced parts of the weight, and the weight in all, from counts by aggregate and the weights of a plan."""
     known = [(weights[code], by_code[code]) for code in codes if code in by_code and code in weights]
-    parts = sum(weight * count.priced * 10**6 // count.slots for weight, count in known)
+    parts = sum(weight * count.with_price * 10**6 // count.slots for weight, count in known)
     return parts, sum(weight for weight, _ in known)
 
 
 def weighted_percent(facts: Facts, codes: Iterable[str]) -> str:
     """The priced share by weight, in percent with one decimal."""
-    parts, weight = weighted(facts, codes)
+    parts, weight = weigh(facts, codes)
     return percent(parts, weight * 10**6)
 
 
@@ -104,7 +112,7 @@ def most_silent(rows: list[list[Cell]]) -> list[list[Cell]]:
 def by_collector(facts: Facts) -> Section:
     """The response by collector."""
     rows: list[list[Cell]] = [[number, *it.cells()] for number, it in counts(facts, lambda it: it.collector).items()]
-    names, note = columns("#collector", *RESPONSE), message("Most silent slots first.")
+    names, note = columns("#collector", *RESPONSE), message("Those with the most slots without a response come first.")
     return Section("collectors", message("Response by collector"), note, names, most_silent(rows))
 
 
@@ -112,7 +120,9 @@ def by_outlet(facts: Facts) -> Section:
     """The response by outlet."""
     found = counts(facts, lambda it: it.outlet)
     rows: list[list[Cell]] = [[number, facts.outlets[number], *it.cells()] for number, it in found.items()]
-    names, note = columns("#outlet", "name", *RESPONSE), message("Most silent slots first.")
+    names, note = columns("#outlet", "name", *RESPONSE), message(
+        "Those with the most slots without a response come first."
+    )
     return Section("outlets", message("Response by outlet"), note, names, most_silent(rows), is_open=False, shown=30)
 
 
@@ -125,8 +135,8 @@ def by_division(facts: Facts) -> Section:
         for code, it in found.items()
     ]
     note = message(
-        "A slot counts in the division in which the year's plan places its item. By weight: each aggregate's weight in"
-        " the plan, by the share of its slots that have a price."
+        "A slot counts in the division in which the year's plan places its item. The percentage by weight multiplies"
+        " each aggregate's weight in the plan by the share of its slots that have a price."
     )
     names = columns("=division", "title", *RESPONSE, "#percent by weight")
     return Section("divisions", message("Response by division"), note, names, rows)
@@ -141,7 +151,7 @@ def by_reason(facts: Facts) -> Section:
         if it.missing
     ]
     names = columns("=division", "title", *(f"#{reason}" for reason in REASONS), "#all")
-    note = message("What was sent where there was no price.")
+    note = message("These reasons were sent for slots without a price.")
     return Section("missing", message("Missing, by reason"), note, names, rows)
 
 
@@ -153,7 +163,7 @@ def silent(facts: Facts) -> Section:
     rows: list[list[Cell]] = [
         [*facts.place_cells(it), price_of(facts.last.get(it[:2]))] for it in facts.slots if facts.quote(it) is None
     ]
-    note = message("Slots for which nothing was sent. At the freeze they count as missing.")
+    note = message("Nothing was sent for these slots. The freeze counts them as missing.")
     names, empty = columns(*PLACE, "#last price"), message("Something was sent for every slot.")
     return Section("silent", message("Still silent"), note, names, rows, empty, is_open=False)
 
@@ -173,15 +183,18 @@ def long_missing(facts: Facts) -> Section:
             now = mark_words(quote.mark if quote else SILENT)
             rows.append([*facts.place_cells(it), now, month_of(last) if last else NEVER])
     rows.sort(key=lambda row: (row[-1] != NEVER, str(row[-1])))
-    note = message("No price in this month and in the month before. Ask for a replacement, or let the series end.")
+    note = message(
+        "These slots have no price in this month or in the previous one. Ask for a"
+        " replacement, or let the series end."
+    )
     names = columns(*PLACE, "now", "last priced")
-    return Section("long-missing", message("Missing two months and more"), note, names, rows, is_open=False)
+    return Section("long-missing", message("Missing for two months or more"), note, names, rows, is_open=False)
 
 
-def gone(facts: Facts) -> Section:
+def report_gone(facts: Facts) -> Section:
     """Slots whose latest word is `gone`: nothing took the place of what went."""
     rows: list[list[Cell]] = [[*facts.place_cells(it), month_of(month)] for it, month in gone_slots(facts)]
-    note = message("The last that was sent of them is 'gone', and no replacement since.")
+    note = message("The last entry for these slots is 'gone', and no replacement has come since.")
     names = columns(*PLACE, "sent for")
     return Section("gone", message("Gone without a replacement"), note, names, rows, is_open=False)
 
@@ -201,13 +214,120 @@ def replacements(facts: Facts) -> Section:
     for it in facts.slots:
         quote = facts.quote(it)
         if quote and quote.mark in ("comparable", "other"):
-            carried = facts.carried.get(it.series)
+            carried = facts.carried_prices.get(it.series)
             scale = decimal(carried.knum, carried.kden * 10_000, 4) if carried else ""
             last, price = price_of(facts.last.get(it[:2])), Price(quote.value)
             rows.append([*facts.place_cells(it), last, mark_words(quote.mark), price, scale])
     note = message(
-        "A replacement marked 'other' enters without moving the index; its scale says what a unit of its price counts"
-        " as."
+        "A replacement marked 'other' enters the index without moving it; its scale shows what one unit of its price"
+        " counts as."
     )
     names = columns(*PLACE, "#last price", "mark", "#price", "#scale")
     return Section("replacements", message("Replacements"), note, names, rows, is_open=False)
+
+
+# ==== samples that are priced too seldom to be compared: aggregates without a match for three months, and series that
+# are priced only every third month
+#
+# A series is matched in a month if it has a comparable price there and an observed one in the month before
+# (docs/reference/OFFICE.md, the index of a month). Without a match, nothing moves the missing prices of an aggregate.
+
+MONTHS_WITHOUT_MATCH = 3
+"""So many months without a match are listed: the month and those before it."""
+
+QUARTER = 3
+"""The months from one price to the next."""
+
+LOOKED_AT = 2 * QUARTER + 1
+"""The months, this one and those before it, whose prices show how often a series is priced."""
+
+
+# ---- aggregates without a match
+
+
+def months_until(month: int, count: int) -> list[int]:
+    """A month and those before it, the latest first."""
+    found = [month]
+    while len(found) < count:
+        found.append(month_before(found[-1]))
+    return found
+
+
+def matched_in(facts: Facts, month: int) -> set[str]:
+    """The aggregates in which a series was matched in a frozen month."""
+    release, plan = facts.latest[month], facts.plans[month // 100]
+    now, then = (facts.office.frozen(facts.latest[each]) for each in (month, month_before(month)))
+    sample = facts.office.read_carried(release)
+    compared = [it for it in sample if it in now and now[it].mark in COMPARABLE]
+    return {plan.places[sample[it].item] for it in compared if it in then and then[it].mark in OBSERVED}
+
+
+def unmatched_codes(facts: Facts) -> list[str]:
+    """The aggregates of the month without a match in it and in the months before; none if these aren't all frozen."""
+    months = months_until(facts.month, MONTHS_WITHOUT_MATCH)
+    # (the first month has no sample, and nothing before it)
+    if any(month_before(each) not in facts.latest for each in months):
+        return []
+    codes = [code for code in facts.samples if not facts.find_matches(code)]
+    for month in months[1:]:
+        if codes:
+            matched, planned = matched_in(facts, month), facts.plans[month // 100].weights
+            codes = [code for code in codes if code in planned and code not in matched]
+    return codes
+
+
+def report_unmatched(facts: Facts) -> Section:
+    """The aggregates that had no match for three months, with the findings of their series in each."""
+    months = months_until(facts.month, MONTHS_WITHOUT_MATCH)
+    codes, rows = unmatched_codes(facts), list[list[Cell]]()
+    found = [facts.office.frozen(facts.latest[month]) for month in reversed(months)] if codes else []
+    for code in codes:
+        sample = facts.samples[code]
+        marks = [marks_of(sample, quotes) for quotes in found]
+        rows.append([code, facts.title(code), facts.rows[code].weight, len(sample), *marks])
+    note = message(
+        "In this month and in each of the two before it, no series had both a comparable price and an observed price"
+        " in the previous month. So nothing moved the missing prices. Have one series of each aggregate priced every"
+        " month, or place the aggregate's items with others."
+    )
+    names = columns("=aggregate", "title", "#weight", "#series", *map(month_text, reversed(months)))
+    return Section("unmatched", message("Nothing compared for three months"), note, names, rows, is_open=False)
+
+
+# ---- series that are priced every third month
+
+
+def number_of(month: int) -> int:
+    """Months since the year 0."""
+    return month // 100 * 12 + month % 100 - 1
+
+
+def is_quarterly(months: Sequence[int]) -> bool:
+    """Whether a series that was observed in these months, in their order, was so twice at least and always three
+    months apart."""
+    gaps = [number_of(later) - number_of(one) for one, later in zip(months, months[1:])]
+    return bool(gaps) and all(gap == QUARTER for gap in gaps)
+
+
+def quarterly_rows(facts: Facts) -> Iterator[list[Cell]]:
+    """A row for each slot whose series was priced every third month only."""
+    looked_at = months_until(facts.month, LOOKED_AT)
+    observed = facts.office.months_observed(looked_at[-1], looked_at[0])
+    for it in facts.slots:
+        months = observed.get(it.series, [])
+        if is_quarterly(months):
+            number = number_of(months[-1]) + QUARTER
+            due = month_of(number // 12 * 100 + number % 12 + 1)
+            yield [*facts.place_cells(it), " ".join(map(month_text, months)), due]
+
+
+def quarterly(facts: Facts) -> Section:
+    """The series that were priced every third month only."""
+    note = message(
+        "In the last {count} months, these series were priced at least twice, each time three months after the last."
+        " Such a series is never matched: it moves with its aggregate if another series there is priced every month;"
+        " otherwise the carry list keeps it unchanged.",
+        count=whole(LOOKED_AT),
+    )
+    names, rows = columns(*PLACE, "priced in", "next"), [*quarterly_rows(facts)]
+    return Section("quarterly", message("Priced only every third month"), note, names, rows, is_open=False)

@@ -1,24 +1,190 @@
-"""Prices to check: those outside the tolerance, changes outside Tukey's fences of their aggregate, those that nothing
-else of their aggregate is compared with, and replacements of another quality.
-
-The fences are those of the Consumer Price Index Manual: price ratios of 1 aside, and the lowest and the highest
-twentieth of the others aside, the mean of the rest is the middle; the means of what lies below and above it are the two
-half middles; and the fences lie some times their distances from the middle away. Ratios are in ten-thousandths.
-"""
+"""Prices to check: those that are unusual, and those without which the level of all items would be another."""
 
 from __future__ import annotations
 
 from collections import defaultdict
-from collections.abc import Iterator, Sequence
+from collections.abc import Iterator, Mapping, Sequence
 from fractions import Fraction
+from pathlib import Path
 from typing import NamedTuple, Optional
 
-from ...office.stored import Assignment
-from ...text.exact import decimal, rounded
-from ...text.message import Figure, Message, Price, message, row, whole
-from ...text.sections import Cell, Section, columns
+from ...office.copying import private_copy
+from ...office.program import LAST_MOMENT, Cpi, Session
+from ...office.public import Listed, Published
+from ...office.stored import Assignment, Series, Window
+from ...office.tables import Row, table_of
+from ...office.trial import MOST_REVISIONS, Record, State, calendar_record, frozen_with, must, print_table
+from ...text.exact import ALL_ITEMS, decimal, depth_of, points, round_ratio
+from ...text.message import Cell, Figure, Message, Price, Section, columns, message, price_of, row, whole
+from ...text.terminal import Fault, month_text
 from .facts import Facts, Ratio
 from .response import PLACE
+
+
+# ==== the level of all items without a quote: the program freezes the month on copies, without some quotes
+#
+# Aggregates don't touch each other below the mean, so that one freeze leaves out a quote in each of several: the
+# program says the index of each of these aggregates, and the mean of all items is taken of its table's rows with one
+# index put in place of another. First it checks that the mean of the unchanged rows is the program's own.
+#
+# An estimate in whole numbers says which quotes to try; no reported figure is an estimate.
+
+AGGREGATE = 5
+"""The depth of an elementary aggregate."""
+
+Round = dict[str, Series]
+"""The quotes that one freeze leaves out: at most one of each aggregate."""
+
+
+class Left(NamedTuple):
+    """A quote that was left out: the index of its aggregate and of all items without it, in millionths of a point."""
+
+    series: Series
+    code: str
+    aggregate: int
+    all_items: int
+
+
+# ---- which to try
+
+
+def estimates(facts: Facts, code: str) -> Iterator[tuple[int, Series]]:
+    """The estimated effect of each comparable quote of an aggregate on all items, in millionths of a point."""
+    now, then, sample = facts.carried_prices, facts.counted_before, facts.samples[code]
+    matched = set(facts.find_matches(code))
+    up, down = sum(now[it].ticks for it in matched), sum(then[it] for it in matched)
+    moved = sum(then[it] for it in sample if now[it].imputed)
+    scale = facts.rows[code].weight * 10**8
+    base = sum(facts.bases[it] for it in sample) * facts.rows[ALL_ITEMS].weight
+    for it in facts.comparable(code):
+        ticks, before = now[it].ticks, then[it]
+        if it not in matched:
+            over, under = (up, down) if matched else (1, 1)
+            yield scale * (before * over - ticks * under) // (base * under), it
+            continue
+        over, under = (up - ticks, down - before) if len(matched) > 1 else (1, 1)
+        change = (before * over - ticks * under) * down + moved * (over * down - up * under)
+        yield scale * change // (base * under * down), it
+
+
+def candidates(facts: Facts, count: int) -> list[Series]:
+    """The quotes that move all items most, by the estimate."""
+    found = [each for code in facts.samples for each in estimates(facts, code)]
+    return [series for _, series in sorted(found, key=lambda it: (-abs(it[0]), it[1]))[:count]]
+
+
+def rounds_of(facts: Facts, chosen: Sequence[Series]) -> list[Round]:
+    """The chosen quotes, in as few freezes as have one of each aggregate at most."""
+    found: list[Round] = []
+    for series in chosen:
+        code = facts.code(facts.carried_prices[series].item)
+        free = next((each for each in found if code not in each), None)
+        if free is None:
+            found.append({code: series})
+        else:
+            free[code] = series
+    return found
+
+
+# ---- the freezes
+
+
+class Trial(NamedTuple):
+    """The place for leaving out quotes: the program, a copy on which the month isn't frozen, the time of its freeze,
+    and its current carry list."""
+
+    cpi: Cpi
+    copy: Path
+    state: State
+    at: int
+    carry: tuple[str, ...]
+
+    @property
+    def room(self) -> int:
+        """The number of freezes that are possible on one copy: the revisions that the month has left."""
+        return max(1, min(MOST_REVISIONS - self.state.revision, LAST_MOMENT - self.state.window.publishes))
+
+
+def left_out(facts: Facts, trial: Trial, count: int) -> list[Left]:
+    """The `count` most influential quotes, each left out, the greatest effect first."""
+    rounds, found = rounds_of(facts, candidates(facts, count)), list[Left]()
+    for start in range(0, len(rounds), trial.room):
+        with private_copy(trial.copy) as copy, trial.cpi.session(copy) as session:
+            for turn, each in enumerate(rounds[start : start + trial.room]):
+                found += left_of(facts, each, rows_without(session, facts, trial, each, turn))
+    return sorted(found, key=lambda it: (-abs(facts.rows[ALL_ITEMS].within - it.all_items), it.series))
+
+
+def rows_without(session: Session, facts: Facts, trial: Trial, each: Round, turn: int) -> Mapping[str, Row]:
+    """Makes the quotes of a round missing, freezes, and puts them back; the rows of the table."""
+    window, month = trial.state.window, month_text(trial.state.month)
+    window = window._replace(publishes=window.publishes + turn)
+    if turn:
+        must(session, calendar_record(window))
+    for series in each.values():
+        must(session, quote_record(facts, window, series, "missing", "refused"))
+    frozen_with(session, window.month, trial.at, [*{*trial.carry, *each}])
+    listed = Listed(month, trial.state.revision + 1 + turn, window.publishes)
+    rows = table_of(Published(listed, print_table(session, listed))).rows
+    for series in each.values():
+        stood = facts.frozen[series]
+        must(session, quote_record(facts, window, series, stood.mark, stood.value, "confirm"))
+    return rows
+
+
+def quote_record(facts: Facts, window: Window, series: Series, *sent: object) -> Record:
+    """The record that the collector of a series in the month sends for it."""
+    it = facts.holder[series]
+    return [window.opens, facts.keys[it.collector], "quote", it.slot, month_text(window.month), *sent]
+
+
+def left_of(facts: Facts, each: Round, without: Mapping[str, Row]) -> Iterator[Left]:
+    """The results for each quote of a round, from the rows without these quotes."""
+    rows = [row for code, row in facts.rows.items() if depth_of(code) == AGGREGATE]
+    total, weight = sum(row.weight * row.within for row in rows), sum(row.weight for row in rows)
+    if round_ratio(total, weight) != facts.rows[ALL_ITEMS].within:
+        raise Fault("the index of all items isn't the mean of its aggregates")
+    for code, series in each.items():
+        now, then = facts.rows[code], without[code]
+        all_items = round_ratio(total + now.weight * (then.within - now.within), weight)
+        yield Left(series, code, then.within, all_items)
+
+
+# ---- the section
+
+
+# t: of a price that is left out: its aggregate has nothing else to compare
+CARRIED = message("carried")
+
+
+def influence(facts: Facts, left: Sequence[Left]) -> Section:
+    """The quotes that were left out, and what they move."""
+    rows: list[list[Cell]] = []
+    for it in left:
+        last = facts.last.get(facts.holder[it.series][:2])
+        price = [price_of(last), Price(facts.frozen[it.series].value)]
+        moves = [facts.rows[ALL_ITEMS].within - it.all_items, facts.rows[it.code].within - it.aggregate]
+        moved = [decimal(each, 10**6, digits) for each, digits in zip(moves, (4, 2))]
+        alone = CARRIED if facts.find_matches(it.code) == [it.series] else ""
+        rows.append([*facts.place_cells(facts.holder[it.series]), *price, points(it.all_items), *moved, alone])
+    note = message(
+        "The program froze the month once without each of these quotes. The columns show the index of all items"
+        " without the quote, and by how many points the quote moves all items and its aggregate. The note 'carried'"
+        " means that nothing else in the aggregate could be compared."
+    )
+    names = columns(
+        *PLACE, "#last price", "#price", "#all items without", "#moves all items", "#moves aggregate", "note"
+    )
+    empty = message("No trials were run: the month is frozen, or nothing can be compared.")
+    return Section("influence", message("The quotes that move all items most"), note, names, rows, empty)
+
+
+# ==== prices to check: those outside the tolerance, changes outside Tukey's fences of their aggregate, those that
+# nothing else of their aggregate is compared with, and replacements of another quality
+#
+# The fences come from the Consumer Price Index Manual: price ratios of 1 aside, and the lowest and the highest
+# twentieth of the others aside, the mean of the rest is the middle; the means of what lies below and above it are the
+# two half middles; and the fences lie some times their distances from the middle away. Ratios are in ten-thousandths.
 
 ONE = 10_000
 """A ratio of 1."""
@@ -60,7 +226,7 @@ def fences_of(ratios: Sequence[int], width: int = PERCENT_OF_WIDTH) -> Optional[
 
 def in_ten_thousandths(it: Ratio) -> int:
     """A ratio of two prices."""
-    return rounded(ONE * it.price, it.last)
+    return round_ratio(ONE * it.price, it.last)
 
 
 # t: why a price is to be looked at again
@@ -69,7 +235,7 @@ OF_AGGREGATE, OF_DIVISION = message("outside the fences of its aggregate"), mess
 )
 # t: why a price is to be looked at again: it was sent with the confirm button
 CONFIRMED = message("confirmed")
-ALONE = message("the only price that is compared in its aggregate")
+ALONE = message("the only compared price in its aggregate")
 OTHER = message("a replacement of another quality")
 
 
@@ -102,7 +268,7 @@ class Usual:
         self._fences = {key: fences_of(ratios, width) for key, ratios in groups.items()}
 
     def why_not(self, code: str, ratio: int) -> Iterator[Message]:
-        """Whose fences a ratio lies outside of, if it does."""
+        """The reason if a ratio lies outside the fences of its aggregate or division."""
         for key, words in ((code, OF_AGGREGATE), (code[:2], OF_DIVISION)):
             fences = self._fences.get(key)
             if fences:
@@ -126,12 +292,12 @@ def why_unusual(facts: Facts, usual: Usual, it: Ratio) -> list[Message]:
 def to_look_at(facts: Facts, width: int) -> list[Unusual]:
     """The prices of a month to check: those that can be compared, then replacements of another quality; `width` is the
     fences' width, in percent."""
-    return [*_unusual(facts, width), *_replaced(facts)]
+    return [*_unusual(facts, width), *_find_replaced(facts)]
 
 
 def _unusual(facts: Facts, width: int) -> Iterator[Unusual]:
     usual = Usual(facts, width)
-    alone = {facts.matched(code)[0] for code in facts.samples if len(facts.matched(code)) == 1}
+    alone = {facts.find_matches(code)[0] for code in facts.samples if len(facts.find_matches(code)) == 1}
     for it in facts.ratios:
         why = why_unusual(facts, usual, it)
         why += [ALONE] if it.slot.series in alone and len(facts.samples[facts.code(it.slot.item)]) > 1 else []
@@ -139,7 +305,7 @@ def _unusual(facts: Facts, width: int) -> Iterator[Unusual]:
             yield Unusual(it.slot, it.last, it.price, why)
 
 
-def _replaced(facts: Facts) -> Iterator[Unusual]:
+def _find_replaced(facts: Facts) -> Iterator[Unusual]:
     for slot in facts.slots:
         quote = facts.quote(slot)
         if quote and quote.mark == "other":
@@ -160,9 +326,9 @@ def outliers(facts: Facts, width: int) -> Section:
         for it in greatest
     ]
     note = message(
-        "A price outside its item's tolerance can only stand where it was confirmed. The fences are Tukey's, of the"
-        " ratios of an aggregate that aren't 1 (of its division where it has fewer than"
-        " {least}): its middle, and {times} times the distances of the half middles from it.",
+        "A price outside its item's tolerance is stored only if it was confirmed. The fences are Tukey's, computed"
+        " from the price ratios of an aggregate that aren't 1 (from those of its division if the aggregate has fewer"
+        " than {least}). Each fence is {times} times as far from the median as the median of its half.",
         least=whole(LEAST_RATIOS),
         times=Figure(decimal(width, 100, 1)),
     )
@@ -171,5 +337,5 @@ def outliers(facts: Facts, width: int) -> Section:
 
 
 def _change(it: Unusual) -> int:
-    """How far a price is from its last one, in ten-thousandths; less than 0 if they can't be compared."""
+    """The distance of a price from the last one, in ten-thousandths; less than 0 if they can't be compared."""
     return abs(in_ten_thousandths(Ratio(it.slot, it.last, it.price)) - ONE) if it.percent and it.last else -1

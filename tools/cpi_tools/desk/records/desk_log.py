@@ -1,9 +1,9 @@
 """The desk's log: a file that only grows, with each record that was sent to the office, by whom, when, and with what
 result.
 
-Each line is a JSON object, and has the SHA-256 of the line before it, so a line that is changed, taken out or put in
-breaks the chain. A line is on the disk before what it speaks of is done. One that a crash cut off stays as it is: the
-next line says so.
+Each line is a JSON object that contains the SHA-256 of the previous line, so a line that is changed, removed or
+inserted breaks the chain. A line is on the disk before what it speaks of is done. A line that a crash cut off doesn't
+change: the next line says so.
 """
 
 from __future__ import annotations
@@ -20,7 +20,7 @@ from pathlib import Path
 from typing import Any, NamedTuple, Optional
 
 from ...office.program import Reply
-from ...text.message import said_as, message as _
+from ...text.message import message as _, said_as
 from ...text.terminal import Fault, because_of
 from ..serve.faults import of_system
 
@@ -29,13 +29,13 @@ FIRST = "0" * 64
 
 SENT, ANSWERED, NOT_SENT, LOOKED_UP, SAID, CUT_OFF = "sent", "answered", "not sent", "looked up", "said", "cut off"
 """The kinds of lines: records that go out; the replies to them; a failure to send them; the office's file's content for
-them; a step of a person; a line that isn't whole."""
+them; a step of a person; an incomplete line."""
 
 FROZEN = "frozen"
-"""The same: a month that two people froze. Its one reply is the receipt (`freeze_receipts`)."""
+"""The kind of a line about a month that two people froze. Its one reply is the receipt (`freeze_steps`)."""
 
 PREPARED, DROPPED, CONFIRMED, DONE_ALREADY = "prepared: ", "dropped: ", "confirmed: ", "carried out already: "
-"""The beginning of a step of a freeze, which goes on as `freeze_texts.said` writes it."""
+"""The beginning of a step of a freeze, which `freeze_texts.describe_freeze` continues."""
 
 FROZEN_STEP = "frozen: {what}; prepared by {by}"
 UNSEEN = "; confirmed with prices that nobody has seen: {because}"
@@ -44,6 +44,7 @@ ASKED = "asked collector {collector} about slot {slot}, {month}: question {numbe
 WITHDREW = "withdrew question {number} to collector {collector}, {month}"
 ANSWERED_QUESTION = "question {number} was answered by collector {collector}, {month}"
 REMOVED_QUESTION = "removed question {number} and its answers, {month}"
+OPENED_DRAFT = "opened the draft of the release of {month}, revision {revision}: {what}, {language}"
 WRITTEN, PLANNED, NOT_PLANNED = "the website was written", "to be published", "not to be published"
 """Other steps, or how they begin."""
 
@@ -70,7 +71,7 @@ class BrokenLog(Fault):
     """A log whose chain doesn't hold; one line."""
 
 
-def shown(fields: Sequence[str]) -> list[str]:
+def hide_key(fields: Sequence[str]) -> list[str]:
     """The fields of a record without the key of a collector."""
     return [*fields[:2], HIDDEN, *fields[3:]] if fields and fields[0] == "collector" else [*fields]
 
@@ -156,7 +157,7 @@ class DeskLog:
         of."""
         with self._lock:
             number = self.entries[-1].number + 1 if self.entries else 1
-            kept = [shown(fields) for fields in records]
+            kept = [hide_key(fields) for fields in records]
             entry = Entry(number, int(time.time()), by, what, kept, of, [*replies], text)
             line = line_of_entry(entry, self._before)
             self._write(line)
@@ -165,7 +166,7 @@ class DeskLog:
             return entry
 
     def sum_of_line(self, number: int) -> str:
-        """The SHA-256 of a line, which the line after it has."""
+        """The SHA-256 of a line, which the next line contains."""
         return self._sums[number]
 
     def _write(self, line: bytes) -> None:

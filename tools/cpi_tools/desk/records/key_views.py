@@ -21,17 +21,17 @@ from ...text.languages import Language, a_language, language_of
 from ...text.message import message as _
 from ...text.others import of_others
 from ...text.terminal import Fault
-from ..keys.collector_names import NAME, NUMBER, name_of, number_of
+from ..keys.keys_cli import NAME, NUMBER, name_of, number_of
 from ..serve.faults import says
 from ..serve.request_context import after, desk, session, what_came
 from .desk_log import SAID
 from .sample_kinds import KINDS
-from .sample_views import shown
+from .sample_views import show_result
 
 views = flask.Blueprint("keys", __name__)
 
 POLICY = "default-src 'none'; style-src 'unsafe-inline'; img-src data:; base-uri 'none'; frame-ancestors 'none'"
-"""The page has its style in it, as the file that is printed elsewhere; it has no script, and none would run."""
+"""The page contains its style, like the file that is printed elsewhere; it has no script, and none would run."""
 
 
 class Asked(NamedTuple):
@@ -49,7 +49,7 @@ def ask_sheet() -> Response:
         asked = asked_in(flask.request.form)
         desk().log.append(session().person, SAID, text=f"printed the sheet with the key of collector {asked.collector}")
     except Fault as fault:
-        return shown(KINDS["collectors"], 400, _("No sheet was made: {fault}", fault=says(fault)))
+        return show_result(KINDS["collectors"], 400, _("No sheet was made: {fault}", fault=says(fault)))
     return after("keys.sheet", {"asked": asked})
 
 
@@ -67,7 +67,7 @@ def sheet() -> Response:
 def asked_in(form: Mapping[str, str]) -> Asked:
     """The sheet that a form asks for. Raises Fault."""
     if not desk().given.phones:
-        raise Fault(_("The application wasn't told the address of the front that collectors reach (--phones)."))
+        raise Fault(_("The application was started without the address of the front that collectors use (--phones)."))
     named = Row(Origin("", 0), {NUMBER: form["collector"], NAME: form.get("name", "")})
     with desk().copies_now() as copy, read_copy(copy.path) as office:
         number = number_of(named, collectors_in(office))
@@ -88,8 +88,8 @@ def page_with_key(asked: Asked) -> str:
 
 
 def language_in(text: str) -> Language:
-    """The language of a code. Raises Fault if there is no catalogue of it."""
+    """The language of a code. Raises Fault if the language has no catalogue."""
     try:
         return language_of(a_language(text))
     except argparse.ArgumentTypeError as fault:
-        raise Fault(_("There is no catalogue of the language {language}.", language=of_others(text))) from fault
+        raise Fault(_("There is no catalogue for the language {language}.", language=of_others(text))) from fault

@@ -9,21 +9,20 @@ from typing import NamedTuple, Optional
 import flask
 from werkzeug.wrappers import Response
 
-from ...text.csv_files import Writer, formulas_told, line_of
-from ...text.message import Message, moment_of, message as _
+from ...text.text_files import Writer, formulas_told, line_of
+from ...text.message import Message, message as _, moment_of
 from ...text.others import OwnLine, Worded, of_others, own_line
 from ...text.report_language import ENGLISH, Teller
 from ..serve.request_context import csv_file, desk, page, session
 from .desk_log import ANSWERED, CUT_OFF, FROZEN, LOOKED_UP, NOT_SENT, SAID, SENT, Entry
-from .record_names import NO_NAMES, Names, names_in
-from .record_replies import record_reply
-from .record_sentences import sentence_of
+from .record_sentences import NO_NAMES, Names, names_in, sentence_of
+from .sending import record_reply
 
 views = flask.Blueprint("log", __name__)
 
 # t: a line of the log: what a person did here
 STEP = _("a step at the desk")
-STEPS = {SAID: STEP, FROZEN: STEP, CUT_OFF: _("a line that isn't whole")}
+STEPS = {SAID: STEP, FROZEN: STEP, CUT_OFF: _("an incomplete line")}
 """The page's texts for lines that contain no record."""
 
 SHOWN = 100
@@ -78,7 +77,7 @@ def lines_of(entries: list[Entry]) -> list[Line]:
     return found
 
 
-def searched(lines: list[Line], query: str, teller: Teller = ENGLISH) -> list[Line]:
+def search(lines: list[Line], query: str, teller: Teller = ENGLISH) -> list[Line]:
     """The lines that have each word of a query somewhere, in English or as the page says it."""
     words = query.casefold().split()
 
@@ -95,7 +94,7 @@ def show() -> Response:
     """The log, the latest lines first."""
     query = flask.request.args.get("query", "")
     start = flask.request.args.get("from", "0")
-    lines = searched(lines_of([*desk().log.entries]), query, desk().teller)[::-1]
+    lines = search(lines_of([*desk().log.entries]), query, desk().teller)[::-1]
     first = int(start) if start.isdecimal() and len(start) < 9 else 0
     named: dict[str, object] = {"query": query, "count": len(lines), "first": first, "step": SHOWN}
     named["record_says"] = sentence_of
@@ -110,13 +109,13 @@ def file() -> Response:
         out = Writer(text)
         out.writerow(["number", "moment", "who", "record or step", "answer"])
         query = flask.request.args.get("query", "")
-        lines = searched(lines_of([*desk().log.entries]), query, desk().teller)
+        lines = search(lines_of([*desk().log.entries]), query, desk().teller)
         out.writerows(it.cells for it in lines)
     return csv_file("desk-log.csv", text.getvalue())
 
 
 @views.post("/log/settle")
 def settle() -> Response:
-    """Looks up what has no reply."""
+    """Looks up the records that have no reply."""
     desk().sender.settle(session().person)
     return flask.redirect(flask.url_for("log.show"), 303)

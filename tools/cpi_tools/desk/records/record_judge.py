@@ -1,5 +1,4 @@
-"""Records of the desk that a person typed or pasted: read, and judged by `cpi` on a copy of the office's file, row by
-row, before they are sent."""
+"""Records of the desk that a person typed, pasted or chose as a file: read, and judged by `cpi` row by row."""
 
 from __future__ import annotations
 
@@ -7,19 +6,27 @@ import csv
 import time
 from collections.abc import Iterator, Sequence
 from pathlib import Path
-from typing import NamedTuple
+from typing import NamedTuple, Optional
+
+import flask
 
 from ...office.copying import private_copy
 from ...office.program import Cpi, Reply, record
 from ...office.stored import read_copy
 from ...office.trial import state_of
 from ...text.clocks import Clock
+from ...text.exact import plain_digits
 from ...text.message import Message, message as _, whole
 from ...text.others import of_others
 from ...text.terminal import Fault, a_month
-from ..month.early import early_tables
+from ...text.text_files import line_of
+from ..month.what_if import early_tables
 from ..year.clock_faults import window_faults
-from .carried_out import TABLES
+from .sending import TABLES
+
+
+# ==== records of the desk that a person typed or pasted: read, and judged by `cpi` on a copy of the office's file, row
+# by row, before they are sent
 
 FREEZE = "freeze"
 
@@ -50,16 +57,19 @@ def records_of(text: str, clock: Clock) -> list[list[str]]:
         line = whole(rows.line_num)
         raise NotRead(
             _(
-                "Line {line} isn't read as CSV: look at its quotation marks. Wanted are fields with commas between them.",
+                "Line {line} can't be read as CSV: check its quotation marks. Write fields with commas between them.",
                 line=line,
             )
         ) from fault
     if len(found) > MOST_RECORDS:
         places = {"count": whole(len(found)), "most": whole(MOST_RECORDS)}
-        raise NotRead(_("There are {count} records: {most} are sent at once at most.", **places))
+        raise NotRead(_("There are {count} records: at most {most} can be sent at once.", **places))
     if not found:
         raise NotRead(
-            _("There are no records: write one a line, such as {example}.", example=of_others("outlet,10,Corner shop"))
+            _(
+                "There are no records: write one record per line, such as {example}.",
+                example=of_others("outlet,10,Corner shop"),
+            )
         )
     return found
 
@@ -67,13 +77,16 @@ def records_of(text: str, clock: Clock) -> list[list[str]]:
 def _looked_at(fields: list[str], line: int) -> list[str]:
     if fields[0] == FREEZE:
         says = _(
-            "Line {line}: a month is frozen on its own page: one person prepares it, another confirms it.",
+            "Line {line}: freeze a month on its own page, where one person prepares the freeze and another confirms"
+            " it.",
             line=whole(line),
         )
         raise NotRead(says)
     if fields[0] not in WORDS:
         places = {"line": whole(line), "word": of_others(fields[0][:20]), "words": of_others(", ".join(WORDS))}
-        raise NotRead(_("Line {line}: {word} is no word of a record here. Wanted is one of {words}.", **places))
+        raise NotRead(
+            _("Line {line}: no record on this page begins with {word}. Begin it with one of" " {words}.", **places)
+        )
     return fields
 
 
@@ -104,13 +117,13 @@ class Judged(NamedTuple):
     warnings: list[Message]
 
 
-def judged(cpi: Cpi, office_copy: Path, records: Sequence[Sequence[str]]) -> list[Reply]:
-    """What `cpi` answers to records now, on a further copy. Raises Fault."""
+def judge_records(cpi: Cpi, office_copy: Path, records: Sequence[Sequence[str]]) -> list[Reply]:
+    """The answers of `cpi` to records, on a further copy. Raises Fault."""
     return judge(cpi, office_copy, records).replies
 
 
 def judge(cpi: Cpi, office_copy: Path, records: Sequence[Sequence[str]]) -> Judged:
-    """The same, with warnings. Raises Fault."""
+    """The answers of `cpi` to records, with warnings. Raises Fault."""
     now = int(time.time())
     with private_copy(office_copy) as copy:
         replies = _replies(cpi, copy, records, now)
@@ -145,3 +158,53 @@ def lines_of(text: str) -> list[int]:
             found.append(begun)
         begun = rows.line_num + 1
     return found
+
+
+# ==== the text of a form that takes records: a chosen file, or typed text
+
+PLAN = "plan"
+
+
+TWO = _("You chose a file, but the field contains text too: empty the field, or choose no file. Nothing was sent.")
+"""The message to a form with two texts, one of which would be lost."""
+
+
+class Given(NamedTuple):
+    """Records as a text, the name of the file that they are from or none, and the year and rows of a form that has a plan
+    only."""
+
+    text: str
+    file: str
+    plan: Optional[tuple[str, str]]
+
+
+def read_given() -> Given:
+    """The content of the request's form: a file, or typed text. Raises NotRead, also if it has both."""
+    form, file = flask.request.form, flask.request.files.get("file")
+    name = (file.filename or "") if file else ""
+    content = text_of_file(name, file.read()) if file and name else None
+    if content is not None and form.get("text", "").strip():
+        raise NotRead(TWO)
+    if form.get("word") == PLAN:
+        year, rows = plain_digits(form.get("year", "")), content if content is not None else form.get("text", "")
+        plan = (year, rows.replace("\r\n", "\n"))
+        return Given(f"{line_of([PLAN, *plan])}\n", name, plan)
+    if form.get("word"):
+        first, *others = form.getlist("field") or flask.abort(400)
+        return Given(f"{line_of([form['word'], plain_digits(first), *others])}\n", name, None)
+    return Given(content if content is not None else form.get("text", ""), name, None)
+
+
+def text_of_file(name: str, content: bytes) -> str:
+    """The text of a file. Raises NotRead."""
+    try:
+        text = content.decode("utf-8-sig")
+        if "\0" in text:
+            raise ValueError
+    except ValueError as fault:
+        says = _(
+            "{file} isn't a text in UTF-8. Save the spreadsheet as CSV, in UTF-8. Nothing was sent.",
+            file=of_others(name),
+        )
+        raise NotRead(says) from fault
+    return text

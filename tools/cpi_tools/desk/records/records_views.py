@@ -10,20 +10,16 @@ from werkzeug.wrappers import Response
 
 from ...office.program import Reply
 from ...office.stored import StoredOffice, read_copy
-from ...text.csv_files import line_of
+from ...text.text_files import line_of
 from ...text.message import Message as Sentence, message as _
 from ...text.terminal import Fault
 from ..freeze.reason_views import still_asked
 from ..serve.faults import says
-from ..serve.kept_for_pages import Offer
-from ..serve.page_versions import replaced_since
-from ..serve.request_context import after, desk, field, page, session, what_came
-from .carried_out import what_stands
-from .given_files import PLAN, given
-from .record_judge import clock_warnings, judge as judge_on_copy, lines_of, records_of
-from .record_names import names_in, names_of
-from .record_replies import NOT_SENT, RecordReply, record_reply
-from .record_sentences import sentence_of
+from ..serve.sent_forms import Offer
+from ..serve.request_context import after, desk, field, page, replaced_since, session, what_came
+from .sending import NOT_SENT, RecordReply, record_reply, what_stands
+from .record_judge import PLAN, clock_warnings, judge as judge_on_copy, lines_of, read_given, records_of
+from .record_sentences import names_in, names_of, sentence_of
 
 views = flask.Blueprint("records", __name__)
 
@@ -68,10 +64,10 @@ def records_page(status: int = 200, /, **named: object) -> Response:
 
 @views.post("/records/judge")
 def judge() -> Response:
-    """What each record would be answered. The form has records in `text`, or in `file`, or a record's `word` with each
-    argument in a `field`, or the `year` and rows of a plan."""
+    """The answer that the office would give to each record. The form contains records in `text`, or in `file`, or a
+    record's `word` with each argument in a `field`, or the `year` and rows of a plan."""
     try:
-        found = given()
+        found = read_given()
     except Fault as fault:
         form = flask.request.form
         plan = (form.get("year", ""), form.get("text", "")) if form.get("word") == PLAN else None
@@ -83,7 +79,7 @@ def judge() -> Response:
             with read_copy(copy.path) as office:
                 stood = what_stands(office, records)
                 rows = [Row(*it) for it in zip(lines_of(found.text), map(record_reply, records, replies), records)]
-                listed = said(office, shown(rows), records)
+                listed = explain_rows(office, choose_rows(rows), records)
     except Fault as fault:
         kept = "" if found.plan or len(found.text) > MOST_SHOWN_BYTES else found.text
         return records_page(400, text=kept, plan=found.plan, fault=says(fault), file=found.file)
@@ -102,7 +98,7 @@ def judge() -> Response:
     return after("records.show", came)
 
 
-def shown(rows: Sequence[Row]) -> list[Row]:
+def choose_rows(rows: Sequence[Row]) -> list[Row]:
     """The rows that a page lists: all of them, or the first ones of each kind, those that are refused first."""
     if len(rows) <= SHOWN:
         return [*rows]
@@ -110,7 +106,7 @@ def shown(rows: Sequence[Row]) -> list[Row]:
     return [row for kind in kinds for row in kind[:SHOWN]]
 
 
-def said(office: StoredOffice, rows: Sequence[Row], records: Sequence[Sequence[str]]) -> list[Row]:
+def explain_rows(office: StoredOffice, rows: Sequence[Row], records: Sequence[Sequence[str]]) -> list[Row]:
     """The rows that a page lists with their sentences; `records` are all that were judged, which may name each other."""
     names = names_of(office, records, [row.fields for row in rows])
     return [row._replace(says=sentence_of(row.fields, names)) for row in rows]
@@ -121,7 +117,7 @@ def send() -> Response:
     """Sends records that were judged, once."""
     offer, left = desk().offers.take(field("offer"), session().person), field("left")
     if offer is None:
-        fault = _("These records were sent already, or the session is another one: the log says what became of them.")
+        fault = _("These records were already sent, or the session has changed: the log says what happened to them.")
         return records_page(409, text=left, fault=fault)
     records = offer.records
     text = left + "".join(f"{line_of(fields)}\n" for fields in records)
@@ -131,7 +127,7 @@ def send() -> Response:
         replies = desk().send(session(), records)
     except Fault as fault:
         return records_page(503, text=text, fault=_("Nothing was sent: {fault}", fault=says(fault)))
-    rows = answered(records, replies)
+    rows = pair_replies(records, replies)
     text = left + "".join(
         f"{row.record}\n" for row in rows if row.answer == NOT_SENT or row.answer.startswith("refused")
     )
@@ -139,11 +135,11 @@ def send() -> Response:
     pairs = [(row, sentence_of(fields, names)) for row, fields in zip(rows, records)]
     listed = pairs if len(rows) <= SHOWN else [pair for pair in pairs if not pair[0].is_done][:SHOWN]
     came = {"rows": listed, "count": len(rows), "text": text, "done": sum(row.is_done for row in rows)}
-    return after("records.sent", came)
+    return after("records.show_sent", came)
 
 
 @views.get("/records/sent")
-def sent() -> Response:
+def show_sent() -> Response:
     """The results of sent records; the log contains those that are no longer kept."""
     came = what_came()
     if not came:
@@ -156,7 +152,7 @@ def sent() -> Response:
     return page("records-sent.html", asked=asked, **came)
 
 
-def answered(records: Sequence[Sequence[str]], replies: Sequence[Optional[Reply]]) -> list[RecordReply]:
+def pair_replies(records: Sequence[Sequence[str]], replies: Sequence[Optional[Reply]]) -> list[RecordReply]:
     """The messages about records and their replies: after a message without a reply, nothing more was sent."""
     waiting = {tuple(it) for entry in desk().log.open_entries() for it in entry.records}
     found = list[RecordReply]()

@@ -2,7 +2,7 @@
 stays in the tray with the answer.
 
 Slots that nobody named: of an assignment, or of a hand-over's new holder. It is the slot that has exactly this already,
-so that rows that are given twice are no second series; else the first that is free.
+so that a row that is given twice doesn't make a second series; else the first that is free.
 """
 
 from __future__ import annotations
@@ -17,38 +17,36 @@ from ...office.program import Reply
 from ...office.stored import StoredOffice, read_copy
 from ...office.stored_pages import last_months_of, slots_of
 from ...text.clocks import Clock
-from ...text.csv_files import line_of
+from ...text.text_files import line_of
 from ...text.message import message as _
 from ...text.others import Worded, own_line
 from ...text.terminal import Fault, month_text
 from ..freeze.freezes import sum_of
 from ..serve.desk import Desk
-from ..serve.page_versions import replaced_since
+from ..serve.request_context import replaced_since
 from ..serve.sessions import Session
-from .carried_out import what_stands
-from .desk_log import ANSWERED, HIDDEN, LOOKED_UP, SENT, Entry, shown
-from .item_bounds import NOT_READ, bounds_read, has_bounds, why_not_read
-from .record_judge import at_clock, judged
-from .record_replies import NOT_SENT, NO_REPLY, record_reply
-from .sample_kinds import KINDS, Kind
-from .tray import COLLECTORS, GOING, GOOD, KEY, REFUSED, Tray, Waiting
+from .sending import COLLECTORS, GOING, GOOD, KEY, NOT_SENT, NO_REPLY, REFUSED, Tray, Waiting, record_reply, what_stands
+from .desk_log import ANSWERED, HIDDEN, LOOKED_UP, SENT, Entry, hide_key
+from .sample_kinds import KINDS, NOT_READ, Kind, bounds_read, has_bounds, why_not_read
+from .record_judge import at_clock, judge_records
 
 NO_REPLY_YET, NOT_SENT_YET, KEY_IS_GONE, WAS_ENDED = "no-reply", "not-sent", "key", "ended"
-"""Why a row has no answer, as the tray's file has it; a fault is there in its own words."""
+"""The code in the tray's file for a row without an answer; a fault is given in its own words."""
 
 WHY = {
     NO_REPLY_YET: NO_REPLY,
     NOT_SENT_YET: NOT_SENT,
     KEY_IS_GONE: _(
-        "A key is kept in memory only, and the application was started anew since: drop this row, and give it again."
+        "A key is kept only in memory, and the application has been restarted since: discard this row, and enter "
+        "it again."
     ),
-    WAS_ENDED: _("Not sent: the application was ended before it could be."),
+    WAS_ENDED: _("Not sent: the application was stopped first."),
 }
-"""The same as a page says it."""
+"""The reasons, as a page shows them."""
 
 
 def answer_of(row: Waiting) -> Worded:
-    """What a page says next to a row."""
+    """The text that a page shows next to a row."""
     if row.reply is not None:
         return record_reply(row.record, row.reply).answer
     if row.why == NOT_READ:
@@ -104,14 +102,14 @@ def fill_slots(kind: Kind, rows: Sequence[list[str]], office: StoredOffice) -> N
     for row in rows:
         if not row[at]:
             given = [*row[:at], *row[at + 1 :]]
-            row[at] = slots.assigned(*given) if kind.word == "assign" else slots.handed_over(*given)
+            row[at] = slots.find_slot(*given) if kind.word == "assign" else slots.handed_over(*given)
 
 
 # ---- judging
 
 
 def judge(desk: Desk, person: str, kind: Kind) -> None:
-    """Judges all rows of a person's tray anew, together and in their order. Raises Fault."""
+    """Judges all rows of a person's tray again, together and in their order. Raises Fault."""
     settle(desk, person, kind)
     rows = [it for it in desk.tray.rows(person, kind.name) if it.state != GOING]
     if not rows:
@@ -121,16 +119,16 @@ def judge(desk: Desk, person: str, kind: Kind) -> None:
             records = records_of(desk.tray, kind, rows, office, desk.given.clock)
             stood = what_stands(office, [it.fields for it in records])
         asked = [it.fields for it in records if not it.fault]
-        replies = iter(judged(desk.cpi, copy.path, asked))
+        replies = iter(judge_records(desk.cpi, copy.path, asked))
     changed = {
-        it.row.number: _judged(it, None if it.fault else next(replies))._replace(stood=before)
+        it.row.number: _judge_record(it, None if it.fault else next(replies))._replace(stood=before)
         for it, before in zip(records, stood)
     }
     desk.tray.change(person, kind.name, changed)
 
 
-def _judged(it: Record, reply: Optional[Reply]) -> Waiting:
-    record = shown(it.fields)
+def _judge_record(it: Record, reply: Optional[Reply]) -> Waiting:
+    record = hide_key(it.fields)
     if reply is None:
         return it.row._replace(record=record, state=REFUSED, reply=None, why=it.fault, since=0)
     state = REFUSED if "refused" in reply else GOOD
@@ -152,7 +150,7 @@ def state_of(rows: Sequence[Waiting]) -> str:
 
 
 class Sent(NamedTuple):
-    """How many rows were sent, and how many of them were carried out."""
+    """The number of rows sent, and the number of those that were carried out."""
 
     total: int
     done: int
@@ -163,13 +161,14 @@ class NotAsSeen(Fault):
 
 
 def send(desk: Desk, session: Session, kind: Kind, seen: str) -> Sent:
-    """Sends the rows that the copy would carry out, if they are those of the sum `seen`. Raises Fault if nothing was
-    sent."""
+    """Sends the rows that the copy would carry out, if `seen` is their sum. Raises Fault if nothing was sent."""
     with desk.tray.lock:
         all_rows = desk.tray.rows(session.person, kind.name)
         rows = [it for it in all_rows if it.state == GOOD]
         if not rows or state_of(all_rows) != seen:
-            raise NotAsSeen(_("These rows were sent already, or changed since they were shown: see what is here now."))
+            raise NotAsSeen(
+                _("These rows were already sent, or have changed since they were shown: see the current state.")
+            )
         if others := replaced_since([it.record for it in rows], [it.stood for it in rows]):
             raise NotAsSeen(others)
         records = [_for_office(desk.tray, kind, it) for it in rows]
@@ -246,11 +245,11 @@ def _replies(row: Waiting, entries: Sequence[Entry]) -> Iterator[Optional[Reply]
 
 
 MOST_DIGITS = 9
-"""A longer number is no collector's."""
+"""No collector has a longer number."""
 
 
 class FreeSlots:
-    """The slots of an office's collectors, and those that were given out since; all as texts."""
+    """The slots of an office's collectors, and the slots that have been given out since; all as texts."""
 
     def __init__(self, office: StoredOffice, collectors: Iterable[str]):
         numbers = sorted({int(it) for it in collectors if it.isdecimal() and len(it) < MOST_DIGITS})
@@ -274,7 +273,7 @@ class FreeSlots:
         """A slot that somebody named."""
         self._taken[collector].add(slot)
 
-    def assigned(self, collector: str, outlet: str, item: str, first: str, last: str) -> str:
+    def find_slot(self, collector: str, outlet: str, item: str, first: str, last: str) -> str:
         """The slot of an assignment."""
         return self._one_of(collector, self._assigned[collector, outlet, item, first, last])
 

@@ -24,7 +24,7 @@ from werkzeug.wrappers import Response
 
 from ...office.stored import StoredOffice, read_copy
 from ...office.stored_pages import LISTINGS, Found, found_in
-from ...text.csv_files import Writer, formulas_told, line_of
+from ...text.text_files import Writer, formulas_told, line_of
 from ...text.languages import in_themselves
 from ...text.message import Message, message as _, message_of, whole
 from ...text.others import Worded, of_others
@@ -33,14 +33,10 @@ from ..freeze.reason_views import still_asked
 from ..serve.faults import says
 from ..serve.request_context import after, csv_file, desk, field, page, session, what_came
 from ..year.clock_faults import window_faults
-from .carried_out import CALENDAR
-from .item_bounds import NOT_READ, bounds_in_file, bounds_shown, has_bounds
-from .pasted_rows import pasted
-from .record_names import names_of
-from .record_sentences import sentence_of
-from .sample_kinds import KINDS, Kind
+from .sending import CALENDAR, COLLECTORS, GOING, GOOD, NEW, REFUSED, Waiting
+from .sample_kinds import KINDS, NOT_READ, Kind, bounds_in_file, bounds_shown, has_bounds, read_pasted
+from .record_sentences import names_of, sentence_of
 from .sample_rows import NotAsSeen, Sent, answer_of, judge, send, settle, state_of, sum_of_rows
-from .tray import COLLECTORS, GOING, GOOD, NEW, REFUSED, Waiting
 
 views = flask.Blueprint("sample", __name__)
 
@@ -53,8 +49,8 @@ ORDER = (REFUSED, NEW, GOING, GOOD)
 MONTHS = ("first", "last", "month")
 
 NOT_THOSE_ROWS = _(
-    "These rows were sent, mended or dropped after your page was loaded, perhaps in another window of yours. Nothing was"
-    " done: see what is here now."
+    "These rows were sent, corrected or discarded after your page was loaded, perhaps in another of your "
+    "windows. Nothing was done: see the current state."
 )
 
 
@@ -68,7 +64,7 @@ class Shown(NamedTuple):
 
 
 def kind_of(name: str) -> Kind:
-    """The kind of an address; of any other name there is no page."""
+    """The kind of an address; any other name has no page."""
     if name not in KINDS:
         flask.abort(404)
     return KINDS[name]
@@ -94,13 +90,13 @@ def show(kind: str) -> Response:
     """The registered rows of a kind, and the rows that wait."""
     it = kind_of(kind)
     settle(desk(), session().person, it)
-    return shown(it, **what_came())
+    return show_result(it, **what_came())
 
 
 NOTHING = Worded("")
 
 
-def shown(
+def show_result(
     kind: Kind,
     status: int = 200,
     fault: Worded = NOTHING,
@@ -118,7 +114,7 @@ def shown(
     named: dict[str, Any] = {
         "kind": kind,
         "kinds": KINDS,
-        "listed": listed(kind),
+        "listed": list_rows(kind),
         "query": flask.request.args.get("query", ""),
         "cut": cut_of(kind),
         "step": SHOWN,
@@ -139,7 +135,7 @@ def shown(
         "sum_of_rows": sum_of_rows,
         "all_shown": sum_of_rows([it for it in waiting if it.state != GOING]),
         "text": text or (text_of(kind, mended) if len(mended) > 1 else ""),
-        "zone": desk().given.clock.said,
+        "zone": desk().given.clock.spoken_name,
         "asked": still_asked() if kind.name == CALENDAR else None,
         "phones": desk().given.phones,
         "languages": in_themselves() if kind.name == COLLECTORS else {},
@@ -148,14 +144,14 @@ def shown(
 
 
 def cells_of(kind: Kind, typed: Optional[Mapping[str, str]], mended: Sequence[Waiting]) -> list[str]:
-    """The cells of the form's row: those that a person filled in and that weren't taken, else those of the one row that is
-    mended."""
+    """The cells of the form's row: those that a person filled in and that weren't accepted, or those of the one row
+    that is being corrected."""
     if typed and any(it in typed for it in kind.columns):
         return [typed.get(it, "") for it in kind.columns]
     return mended[0].cells if len(mended) == 1 else [""] * len(kind.columns)
 
 
-def listed(kind: Kind) -> Shown:
+def list_rows(kind: Kind) -> Shown:
     """The rows of the page that is asked for."""
     with desk().copies_now() as copy, read_copy(copy.path) as office:
         if kind.name not in LISTINGS:
@@ -213,7 +209,7 @@ def shown_waiting(rows: Sequence[Waiting]) -> list[Waiting]:
 
 
 def text_of(kind: Kind, rows: Sequence[Waiting]) -> str:
-    """Waiting rows as a text to mend, with a heading."""
+    """Waiting rows as a text to correct, with a heading."""
     return "".join(f"{line_of(cells)}\n" for cells in [kind.columns, *(it.cells for it in rows)])
 
 
@@ -248,24 +244,24 @@ def judge_rows(kind: str) -> Response:
         row for row in desk().tray.rows(session().person, it.name) if str(row.number) in form.get("instead", "").split()
     ]
     if form.get("instead") and sum_of_rows(gone) != field("shown"):
-        return shown(it, 409, NOT_THOSE_ROWS, text=text, typed=typed)
+        return show_result(it, 409, NOT_THOSE_ROWS, text=text, typed=typed)
     instead = [row.number for row in gone]
     try:
         if text.strip():
-            rows, unread = pasted(text, it)
+            rows, unread = read_pasted(text, it)
         if rows:
             desk().tray.take(session().person, it.name, rows, instead)
             # (they are in the tray now, and so aren't in the form any more)
             text, typed = "", {}
         judge(desk(), session().person, it)
     except Fault as fault:
-        return shown(it, 400, says(fault), text=text, typed=typed)
+        return show_result(it, 400, says(fault), text=text, typed=typed)
     came = {"unread": of_others(", ".join(unread))} if unread else {}
     return after("sample.show", came, kind=it.name)
 
 
 def rows_in_fields(kind: Kind) -> list[list[str]]:
-    """The rows of a form that has a field for each column; one of which nothing but its month was given is none."""
+    """The rows of a form that has a field for each column; a row in which only the month was given isn't a row."""
     columns = [[each.strip() for each in flask.request.form.getlist(it)] for it in kind.columns]
     if len({*map(len, columns)}) > 1:
         # (a row without one of its cells is no row of this form)
@@ -281,19 +277,19 @@ def send_rows(kind: str) -> Response:
     try:
         sent = send(desk(), session(), it, field("seen"))
     except NotAsSeen as fault:
-        return shown(it, 409, says(fault))
+        return show_result(it, 409, says(fault))
     except Fault as fault:
-        return shown(it, 503, _("Nothing was sent: {fault}", fault=says(fault)))
+        return show_result(it, 503, _("Nothing was sent: {fault}", fault=says(fault)))
     return after("sample.show", {"answer": told_sent(sent)}, kind=it.name)
 
 
 def told_sent(sent: Sent) -> Message:
-    """How many rows were carried out."""
+    """The sentence with the number of rows that were carried out."""
     if sent.done == sent.total:
-        return message_of("{count} row sent, and carried out.", "{count} rows sent, and carried out.", sent.total)
+        return message_of("{count} row sent and accepted.", "{count} rows sent and accepted.", sent.total)
     return message_of(
-        "{done} of {count} row carried out. The answer to the other is below.",
-        "{done} of {count} rows carried out. The answers to the others are below.",
+        "{done} of {count} row accepted. The answer to the other is below.",
+        "{done} of {count} rows accepted. The answers to the others are below.",
         sent.total,
         done=whole(sent.done),
     )
@@ -306,6 +302,6 @@ def drop_rows(kind: str) -> Response:
     rows = [row for row in desk().tray.rows(session().person, it.name) if row.state != GOING]
     gone = rows if form.get("all") else [row for row in rows if str(row.number) == field("number")]
     if sum_of_rows(gone) != was:
-        return shown(it, 409, NOT_THOSE_ROWS)
+        return show_result(it, 409, NOT_THOSE_ROWS)
     desk().tray.change(session().person, it.name, {row.number: None for row in gone})
     return flask.redirect(flask.url_for("sample.show", kind=it.name), 303)

@@ -1,46 +1,175 @@
-"""The desk: all that its pages work with."""
+"""The desk: all that its pages work with, and the thread that follows the office."""
 
 from __future__ import annotations
 
 import contextlib
 import threading
-from collections.abc import Iterator, Mapping, Sequence
+import time
+import traceback
+from collections.abc import Callable, Iterator, Mapping, Sequence
 from pathlib import Path
 from typing import NamedTuple, Optional
 
 from ...office.program import Cpi, Reply
+from ...office.stored import StoredOffice, read_copy
 from ...text.clocks import Clock
+from ...text.languages import SPEAKS_ENGLISH, Speech
+from ...text.message import Section, message as _
+from ...text.others import Worded
 from ...text.report_language import Teller
-from ...text.sections import Section
-from ...text.speech import SPEAKS_ENGLISH, Speech
+from ...text.terminal import Fault
 from ..field.field_notes import FieldNotes
 from ..field.field_questions import FieldQuestions
 from ..field.photographs import Turns
 from ..freeze.freezes import PreparedFreeze
-from ..freeze.publication import Publisher, Site
-from ..freeze.revision_reasons import RevisionReasons
-from ..looks.kept_tables import Earlier, TablesKept
-from ..looks.month_trials import Trials, Tried
-from ..looks.price_marks import Marks
-from ..records.carried_out import looked_up
+from ..freeze.publication import Publisher, ReleaseDrafts, Site
+from ..freeze.reason_file import RevisionReasons
+from ..looks.glance import Glance, glance_at, month_at
+from ..looks.looks import Marks
+from ..looks.month_trials import Earlier, TablesKept, Trials, Tried
 from ..records.desk_log import DeskLog
-from ..records.sending import Sender
-from ..records.tray import Tray
+from ..records.sending import Sender, Tray, looked_up
+from ..teams.supervisors import Supervisors
 from ..year.drafts import Drafts
-from .copies import Copies, Copy
-from .deadlines import NAME as DEADLINES, Deadlines, may_set_windows
-from .durations import Durations
-from .held_forms import HeldForms
-from .kept_for_pages import Kept, Offer
-from .observations import Observed
-from .running_office import Office
-from .seals import Seal
-from .second_key import SecondKey
-from .sent_twice import Once
+from .faults import explain_fault, says
+from .sent_forms import HeldForms, Kept, Offer, Once
 from .serve_cli import REASON_ABOVE
-from .sessions import Session, Sessions
-from .site_config import OnceARequest, SiteConfig
-from .watch import Watch
+from .sessions import Seal, SecondKey, Session, Sessions
+from .site_config import NAME as DEADLINES, Deadlines, OnceARequest, SiteConfig, may_set_windows
+from .watched_office import Copies, Copy, Durations, Expected, Observed, Office, Seen
+
+
+# ==== a thread that follows the office: each half minute it makes a right copy, if the office's file changed, and notes
+# what is new
+
+EVERY = 30
+"""Seconds from one look to the next while somebody is at the desk."""
+
+IDLE = 600
+"""Seconds from one look to the next while nobody is at the desk: so many seconds after the last page was asked for,
+nobody is."""
+
+ChooseMonth = Callable[[StoredOffice, int], Optional[int]]
+"""Chooses a month of an office at a moment, in seconds since 1970 UTC; None if there is none."""
+
+
+class Watch:
+    """The months at a glance, as of the latest copy; `fault` is why it couldn't be renewed, `seconds` how long that
+    took the last time."""
+
+    def __init__(self, copies: Copies, observed: Observed, every: float = EVERY):
+        self._copies, self._observed, self._every = copies, observed, every
+        self._wake, self._is_over = threading.Event(), False
+        self._asked_at = self._renewed_at = -float(IDLE)
+        self._glances: dict[int, Glance] = {}
+        self.fault, self.seconds = Worded(""), 0.0
+        self.on_renewed: Callable[[], None] = lambda: None
+        """A function that is called after each check of the office's file."""
+        self._is_stale, self._is_of_now = False, True
+        self._looking = threading.Lock()
+        self._thread = threading.Thread(target=self._follow, daemon=True, name="watch")
+
+    def start(self) -> None:
+        """Begins to follow."""
+        self._thread.start()
+
+    def stop(self) -> None:
+        """Ends it."""
+        self._is_over = True
+        self._wake.set()
+        if self._thread.is_alive():
+            self._thread.join()
+
+    def person_came(self) -> None:
+        """Somebody signed in: the next page is of now, or says why it can't be."""
+        self._is_of_now = False
+
+    def note_change(self) -> None:
+        """Something was sent to the office, so the next page waits for a copy that has it."""
+        self._is_stale = True
+
+    def glance(self, month: Optional[int] = None, choose: ChooseMonth = month_at) -> Glance:
+        """A month at a glance, by the latest copy; if none is named the one that is chosen, such as that at which the desk
+        works. Raises Fault."""
+        self._asked_at = time.monotonic()
+        if self._is_stale:
+            self._is_stale, self._is_of_now = False, True
+            self._renew_for_page()
+        elif not self._is_of_now:
+            self._is_of_now = True
+            self._try()
+        elif self._asked_at - self._renewed_at > self._every:
+            self._wake.set()
+        with self._looking, self._copies.latest() as copy, read_copy(copy.path) as office:
+            wanted = month or choose(office, int(time.time()))
+            if wanted is None:
+                raise Fault(_("The office has no calendar yet: send the window of a month first."))
+            known = self._glances.get(wanted)
+            if known is None or known.at != copy.at:
+                known = self._glances[wanted] = glance_at(office, wanted, copy.at, self._observed.heard)
+            return known
+
+    def expect(self, found: Glance) -> Optional[Expected]:
+        """The response of earlier months at the same time after their windows opened."""
+        window = found.state.window
+        return self._observed.expect(window.month, min(found.at, window.closes) - window.opens)
+
+    def list_seen(self) -> Sequence[Seen]:
+        """The response of months as the application saw it while it ran."""
+        return self._observed.rows
+
+    def renew(self) -> None:
+        """Takes a copy if the office's file changed, and notes its new content. Raises Fault."""
+        begun = time.monotonic()
+        if self._copies.renew():
+            with self._looking, self._copies.latest() as copy, read_copy(copy.path) as office:
+                self._observed.hear(office.last_sent(), copy.at)
+                month = month_at(office, copy.at)
+                self._glances = {}
+                if month is not None:
+                    self._glances[month] = found = glance_at(office, month, copy.at, self._observed.heard)
+                    self._note(found)
+            self.seconds = time.monotonic() - begun
+        self.on_renewed()
+
+    def _renew_for_page(self) -> None:
+        """Renews; if that fails, the pages after this one say that they may be old. Raises Fault."""
+        try:
+            self.renew()
+        except Fault as fault:
+            self.fault = says(fault)
+            raise
+
+    def _note(self, found: Glance) -> None:
+        """Notes how far a month is whose window is open for the first time."""
+        window, share = found.state.window, found.share
+        if window.opens <= found.at < window.closes and not found.state.revision:
+            weighed = -1 if share.weighed is None else share.weighed
+            self._observed.note(Seen(window.month, found.at - window.opens, share.slots, share.priced, weighed))
+
+    def _follow(self) -> None:
+        while not self._is_over:
+            now = time.monotonic()
+            is_idle = now - self._asked_at > IDLE
+            if now - self._renewed_at >= (IDLE if is_idle else self._every):
+                self._try()
+            self._wake.wait(self._every)
+            self._wake.clear()
+
+    def _try(self) -> None:
+        """Renews, and keeps why it couldn't, whatever that is: the thread continues."""
+        try:
+            self.renew()
+            self.fault = Worded("")
+        except Fault as fault:
+            self.fault = says(fault)
+        except Exception as fault:
+            self.fault = explain_fault(fault)
+            traceback.print_exc()
+        self._renewed_at = time.monotonic()
+
+
+# ==== the desk: all that its pages work with
 
 LOG = "desk.log"
 
@@ -52,8 +181,8 @@ class Given(NamedTuple):
     session ends, the office's clock, the folder of copies, how many quotes a trial leaves out in turn, for how many
     months field notes and questions to collectors are kept, 0 if there are none, the address of the front that
     collectors reach, if sheets with their keys are printed here, how the pages speak, the folder of the website, if it
-    is written here, from how many millionths of a point on a price that nobody has seen needs a reason at a freeze, and
-    the file of the second key, if there is one.
+    is written here, from how many millionths of a point on a price that nobody has seen needs a reason at a freeze, the
+    file of the second key, and that of the supervisors, if there are such files.
     """
 
     url: str
@@ -70,6 +199,7 @@ class Given(NamedTuple):
     site: Optional[Site] = None
     reason_above: int = REASON_ABOVE
     second_key: Optional[Path] = None
+    supervisors: Optional[Path] = None
 
 
 class Desk:
@@ -85,6 +215,7 @@ class Desk:
         self.copies = Copies(given.file, given.copies)
         self.watch = Watch(self.copies, Observed(given.room))
         self.sessions = Sessions(self.office.is_desk, given.idle, seal=Seal(given.room / "session-key"))
+        self.supervisors = self._supervisors(given.supervisors) if given.supervisors else None
         self.held = HeldForms()
         self.once, self.durations = Once(), Durations()
         """Forms that are sent twice, and how long forms took, by their views."""
@@ -93,6 +224,7 @@ class Desk:
         self.trials = Trials(
             self.cpi, self.copies, self.tables, given.copies, given.left_out, self.site_config.reference_in
         )
+        self.release_drafts = ReleaseDrafts(self.cpi)
         self.since: dict[int, tuple[Tried, Earlier, Section]] = {}
         """By month what changed since the table of an earlier day, as it was shown last."""
         self.marks = Marks(given.room / "looks.jsonl")
@@ -114,6 +246,9 @@ class Desk:
         """The results of forms, with the views that show them afterwards."""
         self.offers = Kept[Offer]()
         """Records that were judged on a copy and not sent."""
+
+    def _supervisors(self, path: Path) -> Supervisors:
+        return Supervisors(path, self.office.knows, self.given.idle)
 
     def _publisher(self, site: Site) -> Publisher:
         made = Publisher(site, self.given.file, self.cpi.path, self.given.room / "to-publish.json", self.log)
@@ -137,12 +272,12 @@ class Desk:
         try:
             return self.sender.send(by.person, by.key, records)
         finally:
-            self.watch.changed()
+            self.watch.note_change()
             if self.deadlines and may_set_windows(records):
                 self.deadlines.renew()
 
     def _look_up(self, records: Sequence[Sequence[str]], since: int) -> list[Reply]:
-        """What the office's file has of records, by a copy that is taken now."""
+        """The replies to records that a copy of the office's file, taken now, contains."""
         with self.copies_now() as copy:
             return looked_up(self.cpi, copy.path, records, since)
 

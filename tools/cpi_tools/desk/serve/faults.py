@@ -9,13 +9,13 @@ from ...office.program import CpiFailed
 from ...office.stored import NotAnOffice
 from ...office.trial import Refused
 from ...publish.figures.config import BadConfig
-from ...publish.figures.office_languages import BadLanguages
-from ...publish.figures.reasons import BadReasons
+from ...publish.figures.own_words import BadLanguages
+from ...publish.figures.announcements import BadReasons
 from ...publish.forms.manifest import NotAManifest
 from ...text.message import Message, message as _
 from ...text.others import Worded, of_others, own_line
 from ...text.terminal import because_of
-from ..month.refused_trial import refused_words
+from ..month.facts import refused_words
 
 FULL = (errno.ENOSPC, errno.EDQUOT)
 DENIED = (errno.EACCES, errno.EPERM, errno.EROFS)
@@ -38,18 +38,17 @@ def of_system(fault: OSError, text: str = "") -> Message:
     """A fault of the system; `text` is its line, if it isn't the usual one."""
     line = own_line(text or because_of(fault))
     if fault.errno in FULL:
-        return _("The disk is full: make room on it, then do this again. The system says: {line}", line=line)
+        return _("The disk is full: free some space, then try again. The system says: {line}", line=line)
     if fault.errno in DENIED:
         return _(
-            "The application may not use a file: give its user the right to it, then do this again. The system says:"
-            " {line}",
+            "The application has no permission for a file: give its user that permission, then try again. The "
+            "system says: {line}",
             line=line,
         )
     if fault.errno in MISSING:
-        return _("A file or a folder isn't there: put it back, then do this again. The system says: {line}", line=line)
+        return _("A file or a folder is missing: put it back, then try again. The system says: {line}", line=line)
     return _(
-        "A file can't be read or written: have the machine's disk looked at, then do this again. The system says:"
-        " {line}",
+        "A file can't be read or written: have the machine's disk checked, then try again. The system says: {line}",
         line=line,
     )
 
@@ -58,35 +57,35 @@ def _of_tools(fault: Exception, line: Worded) -> Message:
     """A fault that a tool reports in its own line."""
     if isinstance(fault, CpiFailed):
         return _(
-            "cpi ended before it had an answer. It worked on a copy, so the office is as it was. Show its line to the"
-            " person who keeps this machine: {line}",
+            "cpi ended before it gave an answer. It worked on a copy, so the office is unchanged. Show its line to"
+            " the person who maintains this machine: {line}",
             line=line,
         )
     if isinstance(fault, (CopyFailed, NotAnOffice)):
         return _(
-            "The office's file can't be copied, or the copy can't be read. The office itself goes on. Show this line to"
-            " the person who keeps this machine: {line}",
+            "The office's file can't be copied, or the copy can't be read. The office itself keeps running. Show "
+            "this line to the person who maintains this machine: {line}",
             line=line,
         )
     if isinstance(fault, (BadConfig, BadLanguages, BadReasons, NotAManifest)):
         return _(
-            "A file of the website can't be read. Mend what this line names, then load the page anew: {line}", line=line
+            "A file of the website can't be read. Correct what this line names, then reload the page: {line}", line=line
         )
-    return _("It couldn't be done. Show this line to the person who keeps this machine: {line}", line=line)
+    return _("It couldn't be done. Show this line to the person who maintains this machine: {line}", line=line)
 
 
 def not_as_written(path: object, fault: Exception) -> Message:
     """A file of the application that something else has changed."""
     return _(
-        "{file} isn't as the application wrote it: put it aside, then do this again. What is wrong with it: {line}",
+        "{file} isn't as the application wrote it: move it away, then try again. The fault: {line}",
         file=of_others(str(path)),
         line=own_line(fault),
     )
 
 
-def met(fault: Exception) -> Worded:
+def explain_fault(fault: Exception) -> Worded:
     """A fault of the application itself."""
     return _(
-        "The application met an error, which is its own. Show this line to the person who keeps this machine: {line}",
+        "The application had an internal error. Show this line to the person who maintains this machine: {line}",
         line=own_line(f"{type(fault).__name__}: {fault}"),
     )

@@ -7,7 +7,7 @@ from typing import Optional
 import flask
 from werkzeug.wrappers import Response
 
-from .held_forms import HeldForm
+from .sent_forms import HeldForm
 from .request_context import desk, page
 
 views = flask.Blueprint("held", __name__)
@@ -20,10 +20,10 @@ PATH = "/held/"
 def show(name: str) -> Response:
     """A form that is kept; or that it isn't kept any more."""
     form = desk().held.of(name)
-    return shown(form, 200 if form else 404, name)
+    return show_form(form, 200 if form else 404, name)
 
 
-def shown(form: Optional[HeldForm], status: int, name: str = "") -> Response:
+def show_form(form: Optional[HeldForm], status: int, name: str = "") -> Response:
     """A form with its typed fields; `name` is the name under which it is kept."""
     return page("held.html", status, form=form, name=name)
 

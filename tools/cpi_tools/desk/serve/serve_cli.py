@@ -67,6 +67,7 @@ def run(chosen: argparse.Namespace) -> int:
         site_of(chosen),
         chosen.reason_above,
         chosen.second_key_file,
+        chosen.supervisors,
     )
     serve(given, chosen.listen, chosen.front or "")
     return 0
@@ -136,7 +137,8 @@ provisional table and the source of each figure, the freeze as a checklist for t
 that cpi judges on a copy before they are sent, and the desk's log. Figures are read from copies of
 the office's file, so the office isn't held up. Changes are sent to the office over its interface,
 with the desk's key, which a person gives when signing in and which is never written to disk. The
---room folder contains the log, notes on prices, and what was prepared; only its owner can read it.
+--room folder contains the log, notes on prices, and the changes that were prepared; only its owner
+can read it.
 """
 
 SERVE_EPILOG = """\
@@ -149,7 +151,7 @@ are refused
 
 def add_second_person(words: argparse.ArgumentParser) -> None:
     """The words of the second person, who confirms a freeze."""
-    says = "ask for a reason to freeze if nobody has seen a price that moves all items by more"
+    says = "ask for a reason to freeze if nobody has seen a price that moves all items by more points than this"
     words.add_argument(
         "--reason-above",
         type=a_few_points,
@@ -176,7 +178,7 @@ def add_serve(jobs: argparse._SubParsersAction[ToolWords]) -> None:
         help="where to listen (%(default)s): with --front, the path of a socket that only the front may open",
     )
     add("--other-machines", action="store_true", help="allow an address that other machines can reach")
-    add("--front", type=a_url, metavar="URL", help="the pages' address at a front with TLS, which they trust")
+    add("--front", type=a_url, metavar="URL", help="the pages' address at a front with TLS, which the pages trust")
     add(
         "--minutes",
         type=at_least(1),
@@ -187,7 +189,12 @@ def add_serve(jobs: argparse._SubParsersAction[ToolWords]) -> None:
     add("--phones", type=an_origin, metavar="URL", help="the front that collectors use, for the sheets with their keys")
     add_language(words, "the pages")
     add("--site", type=Path, metavar="FOLDER", help="where to write the website, next to calendar.json for phones")
-    add("--site-config", type=Path, metavar="FILE", help="who publishes, and under which names")
+    add(
+        "--site-config",
+        type=Path,
+        metavar="FILE",
+        help="the website's configuration: who publishes, and under which names",
+    )
     add("--sign", type=Path, metavar="KEY", help="sign the website's manifest with this SSH key")
     add(
         "--left-out",
@@ -204,6 +211,13 @@ def add_serve(jobs: argparse._SubParsersAction[ToolWords]) -> None:
         metavar="MONTHS",
         help="accept collectors' notes, ask them questions, and keep both for this many months (0: do neither)",
     )
-    add("--copies", type=Path, metavar="FOLDER", help="where copies of the office's file go (else where TMPDIR says)")
+    says = "let each supervisor in this CSV file (name, key, collectors) see at /team/ how far these collectors are"
+    add("--supervisors", type=Path, metavar="FILE", help=says)
+    add(
+        "--copies",
+        type=Path,
+        metavar="FOLDER",
+        help="where copies of the office's file go (by default, the folder that TMPDIR names)",
+    )
     add_program(words)
     words.set_defaults(run=run, tool="desk serve", words=words)

@@ -14,12 +14,11 @@ from typing import Any
 
 import waitress
 
-from ...office.rooms import new_room
+from ...office.folders import new_room
 from ...text.terminal import Fault, because_of
-from .app import make_app
+from .app import Reached, make_app
 from .desk import Desk, Given
-from .form_bounds import MOST_BYTES
-from .reach import Reached
+from .sent_forms import MOST_BYTES
 
 THREADS = 8
 
@@ -86,8 +85,8 @@ def listening(desk: Desk, reached: Reached) -> None:
 
 
 def _place(reached: Reached) -> dict[str, Any]:
-    """The listener's address, in the words of waitress. The socket of another application that still listens isn't
-    taken away. Raises OSError."""
+    """The listener's address, in the words of waitress. The socket of another application that still listens stays.
+    Raises OSError."""
     if not reached.socket:
         return {"listen": reached.listen}
     with contextlib.closing(socket.socket(socket.AF_UNIX)) as other:

@@ -12,9 +12,9 @@ from ...text.message import message as _
 from .faults import says
 from .held_views import PATH
 from .request_context import desk, page
-from .running_office import NoReply, NotSent
+from .watched_office import NoReply, NotSent
 from .sessions import NotSignedIn, WrongKey
-from .typed_texts import key_of
+from ...text.exact import key_of
 
 views = flask.Blueprint("sign_in", __name__)
 
@@ -26,17 +26,17 @@ MOST_OF_ADDRESS = 60
 """The letters of a wrong address that a line shows."""
 
 MOST_OF_PLACE = 2_000
-"""Letters, as an address has them, of the page to which a person goes on: the form is sent without a session, so it is
-short."""
+"""Letters, as an address has them, of the page to which a person continues: the form is sent without a session, so it
+is short."""
 
 
 def place_after(to: str) -> str:
-    """The next page of a person after signing in: a page of this application, else its first one."""
+    """The next page of a person after signing in: a page of this application, or by default its first one."""
     is_own = to.startswith("/") and not to.startswith("//") and "\\" not in to and to.isprintable()
     return flask.request.script_root + (to if is_own else "/")
 
 
-def shown(address: str) -> str:
+def show_address(address: str) -> str:
     """An address as a line has it, whatever a front wrote."""
     try:
         return str(ipaddress.ip_address(address))
@@ -46,7 +46,7 @@ def shown(address: str) -> str:
 
 @views.get("/sign-in")
 def show() -> Response:
-    """The form. After it a person goes on to the page that was asked, unless its address is too long for the form."""
+    """The form. After it a person continues to the requested page, unless its address is too long for the form."""
     to = flask.request.args.get("to", "/")
     is_short = len(urllib.parse.quote(to, safe="")) <= MOST_OF_PLACE
     text = KEPT if to.startswith(PATH) else ""
@@ -64,7 +64,7 @@ def enter() -> Response:
     except (NotSignedIn, NotSent, NoReply) as fault:
         if isinstance(fault, WrongKey):
             # (neither key nor name: a person may have typed one in the place of the other)
-            flask.current_app.logger.warning("desk: a wrong key from %s", shown(address))
+            flask.current_app.logger.warning("desk: a wrong key from %s", show_address(address))
         status = 403 if isinstance(fault, NotSignedIn) else 503
         return page("sign-in.html", status, to=to, name=name, text=says(fault))
     desk().watch.person_came()

@@ -1,27 +1,132 @@
-"""The windows of the months by the office's clock, and the form that sets one."""
+"""The windows of the months by the office's clock, those of a year as a form shows them, and the form that sets one."""
 
 from __future__ import annotations
 
+import calendar
 import time
 from collections.abc import Sequence
-from typing import NamedTuple
+from datetime import datetime, timezone
+from typing import NamedTuple, Optional
 
 import flask
 from werkzeug.wrappers import Response
 
 from ...office.calendar_file import text_of, windows_since
-from ...office.stored import read_copy
-from ...text.message import Month, Message, moment_of, sentences, message as _, whole
+from ...office.stored import StoredOffice, Window, read_copy
+from ...text.clocks import CIVIL, Clock
+from ...text.message import Message, Month, message as _, moment_of, sentences, whole
 from ...text.others import Worded, of_others
 from ...text.terminal import Fault, month_text
 from ..freeze.reason_views import still_asked
-from ..records.carried_out import CALENDAR, what_stands
 from ..records.sample_kinds import KINDS
 from ..records.sample_rows import judge
+from ..records.sending import CALENDAR, what_stands
 from ..serve.faults import says
-from ..serve.page_versions import NOTHING_DONE, last_sent
-from ..serve.request_context import desk, page, session
-from .year_calendar import Given, Row as YearRow, as_filled_in, changed, quicker, rows_of
+from ..serve.request_context import NOTHING_DONE, desk, last_sent, page, session
+
+
+# ==== the windows of a year by the office's clock, as a form shows them: the existing ones, and for the other months
+# the windows of the previous year or month, moved forward
+
+
+class FormRow(NamedTuple):
+    """A month: its three civil times (empty if nothing is known), whether it has a window, whether it is frozen, and
+    the times that a person filled in, if the page shows them."""
+
+    month: str
+    times: tuple[str, str, str]
+    is_set: bool
+    is_frozen: bool
+    typed: Optional[tuple[str, str, str]] = None
+
+    @property
+    def was(self) -> str:
+        """The text with which a form says which window it showed for the month."""
+        return " ".join([SET if self.is_set else FREE, *self.times])
+
+
+SET, FREE = "set", "free"
+"""The part of a form that says whether a month has a window."""
+
+
+class Given(NamedTuple):
+    """A month of a form that came back: what the form showed of it, and the times that it has."""
+
+    month: str
+    was: str
+    times: tuple[str, str, str]
+
+    @property
+    def is_changed(self) -> bool:
+        """Whether a person changed what the form showed; times of a month that had no window are a proposal."""
+        return any(self.times) and self.was != " ".join([SET, *self.times])
+
+    @property
+    def is_touched(self) -> bool:
+        """Whether the times are others than the form showed."""
+        return self.was.partition(" ")[2] != " ".join(self.times)
+
+
+def civil(moment: int, clock: Clock) -> str:
+    """A moment as the clock shows it, `2026-01-28T09:30`."""
+    return datetime.fromtimestamp(moment, clock.zone or timezone.utc).strftime(CIVIL)
+
+
+def move_time(text: str, months: int) -> str:
+    """A civil time so many months later; a day that the month hasn't is its last one."""
+    at = datetime.strptime(text, CIVIL)
+    count = at.year * 12 + at.month - 1 + months
+    year, month = count // 12, count % 12 + 1
+    return at.replace(year=year, month=month, day=min(at.day, calendar.monthrange(year, month)[1])).strftime(CIVIL)
+
+
+def rows_of(office: StoredOffice, year: int, clock: Clock) -> list[FormRow]:
+    """The months of a year."""
+    windows = {it.month: it for it in office.calendar()}
+    frozen = {it.month for it in office.releases()}
+    known = {month: times_of(it, clock) for month, it in windows.items()}
+    found = list[FormRow]()
+    for month in (year * 100 + number for number in range(1, 13)):
+        times = known.get(month) or suggest_times(month, known)
+        if times:
+            known[month] = times
+        found.append(FormRow(month_text(month), times or ("", "", ""), month in windows, month in frozen))
+    return found
+
+
+def times_of(it: Window, clock: Clock) -> tuple[str, str, str]:
+    """The civil times of a window."""
+    return civil(it.opens, clock), civil(it.closes, clock), civil(it.publishes, clock)
+
+
+def suggest_times(month: int, known: dict[int, tuple[str, str, str]]) -> Optional[tuple[str, str, str]]:
+    """The times of a month, from the times a year earlier, or from the previous month's."""
+    before = month - 1 if month % 100 > 1 else month - 89
+    for earlier, months in ((month - 100, 12), (before, 1)):
+        if earlier in known:
+            opens, closes, publishes = (move_time(it, months) for it in known[earlier])
+            return opens, closes, publishes
+    return None
+
+
+def find_changes(given: Sequence[Given]) -> list[list[str]]:
+    """The rows that a person changed: month and three times."""
+    return [[it.month, *it.times] for it in given if it.is_changed]
+
+
+def quicker(rows: Sequence[FormRow], given: Sequence[Given]) -> list[str]:
+    """The months that a person changed and whose window is another one now than the form showed."""
+    now = {it.month: it.was for it in rows}
+    return [it.month for it in given if it.is_changed and now.get(it.month) != it.was]
+
+
+def as_filled_in(rows: Sequence[FormRow], given: Sequence[Given]) -> list[FormRow]:
+    """The months as they are now, with the times that a person filled in."""
+    typed = {it.month: it.times for it in given if it.is_touched}
+    return [it._replace(typed=typed.get(it.month)) for it in rows]
+
+
+# ==== the windows of the months by the office's clock, and the form that sets one
 
 views = flask.Blueprint("calendar", __name__)
 
@@ -54,7 +159,7 @@ def show() -> Response:
         rows.append(Row(month_text(it.month), *it[1:], state))
     year = time.gmtime(now).tm_year
     years = sorted({*(int(it.month[:4]) for it in rows), year, year + 1})
-    return page("calendar.html", rows=rows, years=years, zone=desk().given.clock.said, asked=still_asked())
+    return page("calendar.html", rows=rows, years=years, zone=desk().given.clock.spoken_name, asked=still_asked())
 
 
 # ---- a year
@@ -68,12 +173,12 @@ def show_year(year: int) -> Response:
 
 def shown_year(year: int, status: int = 200, fault: Worded = Worded(""), given: Sequence[Given] = ()) -> Response:
     """The form of a year, with the reason why it wasn't taken, and with the typed fields."""
-    named = {"year": year, "rows": as_filled_in(year_rows(year), given), "zone": desk().given.clock.said}
+    named = {"year": year, "rows": as_filled_in(year_rows(year), given), "zone": desk().given.clock.spoken_name}
     return page("year-calendar.html", status, fault=fault, **named)
 
 
-def year_rows(year: int) -> list[YearRow]:
-    """The months of a year as they are now; there is no page of a year that an office can't have."""
+def year_rows(year: int) -> list[FormRow]:
+    """The months of a year as they are now; a year that an office can't have has no page."""
     if not 2000 <= year <= 2199:
         flask.abort(404)
     with desk().copies_now() as copy, read_copy(copy.path) as office:
@@ -82,10 +187,10 @@ def year_rows(year: int) -> list[YearRow]:
 
 @views.post("/calendar/<int:year>")
 def judge_year(year: int) -> Response:
-    """Takes the windows that differ from those which the form showed, and judges them. The fields `month`, `was`, `opens`,
-    `closes` and `publishes` are there once for each month."""
+    """Takes the windows that differ from those which the form showed, and judges them. The form contains the fields
+    `month`, `was`, `opens`, `closes` and `publishes` once for each month."""
     kind, now, given = KINDS["calendar"], year_rows(year), given_year(year)
-    rows = changed(given)
+    rows = find_changes(given)
     if others := quicker(now, given):
         return shown_year(year, 409, sentences(*map(window_by, others), NOTHING_DONE), given)
     if not rows:
@@ -108,13 +213,13 @@ def given_year(year: int) -> list[Given]:
 
 
 def window_by(month: str) -> Message:
-    """That somebody set the window of a month."""
+    """The message that somebody set the window of a month."""
     begins = [CALENDAR, month]
     with desk().copies.latest() as copy, read_copy(copy.path) as office:
         (stands,) = what_stands(office, [begins])
     entry = last_sent(desk().log, begins, stands)
     if entry is None:
-        return _("The window of {month} is another one now.", month=Month(month))
+        return _("The window of {month} has changed.", month=Month(month))
     places = {"name": of_others(entry.by), "month": Month(month), "moment": moment_of(entry.at)}
     return _("{name} sent another window of {month}, {moment}.", **places)
 

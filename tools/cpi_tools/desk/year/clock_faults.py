@@ -8,7 +8,7 @@ from datetime import datetime, timezone
 from typing import Optional
 
 from ...text.clocks import CIVIL, Clock
-from ...text.message import Code, Message, moment_of, message as _
+from ...text.message import Code, Message, message as _, moment_of
 from ...text.others import of_others
 
 LAST_MOMENT = 9_999_999_999
@@ -30,7 +30,7 @@ def both_clocks(at: int) -> Message:
 
 
 def clock_fault(text: str, clock: Clock) -> Optional[Message]:
-    """What a civil time such as `2027-03-28T02:30` becomes, if the clock doesn't show it once."""
+    """The message about a civil time such as `2027-03-28T02:30` that the clock skips or shows twice."""
     try:
         civil, moment = datetime.strptime(text, CIVIL), clock.moment(text)
     except (ValueError, OverflowError):
@@ -42,10 +42,10 @@ def clock_fault(text: str, clock: Clock) -> Optional[Message]:
         return None
     places = {"text": of_others(text), "taken": both_clocks(moment)}
     if second.timestamp() < first.timestamp():
-        return _("The office's clock leaves {text} out, since it is moved forward then: it becomes {taken}.", **places)
+        return _("The office's clock skips {text}, because it is moved forward then: it becomes {taken}.", **places)
     return _(
-        "The office's clock shows {text} twice, since it is moved back then: the earlier one is taken, {taken}, and not"
-        " {other}.",
+        "The office's clock shows {text} twice, because it is moved back then: the earlier time is used, "
+        "{taken}, not {other}.",
         other=both_clocks(int(second.timestamp())),
         **places,
     )

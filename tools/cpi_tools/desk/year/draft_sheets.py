@@ -1,30 +1,101 @@
-"""The draft of a coming year, as `cpi-tools next-year` makes it and `take-in` reads it: a folder with the sheets of the
-plan and of the new series, which people change row by row or by pasting, and the lists of rows that leave the sample.
-Beside the sheets are the sources of the weights, and the changes of the draft."""
+"""The draft of a coming year as a folder of sheets, which `take-in` reads, and who changed which row and when."""
 
 from __future__ import annotations
 
 import csv
 import io
 import json
+import time
 from collections.abc import Callable, Sequence
 from fractions import Fraction
 from pathlib import Path
 from typing import NamedTuple, Optional
 
-from ...sheets.numbers_of_texts import Numbers
 from ...sheets.plan_rows import WHOLE
 from ...sheets.record_rows import FIELDS
+from ...sheets.sheet_numbers import Numbers
 from ...sheets.year.next_year import HEADS
-from ...text.csv_files import Writer
 from ...text.message import message as _
 from ...text.others import of_others
 from ...text.terminal import Fault, because_of
-from ...text.whole_files import write_whole
+from ...text.text_files import Writer, write_whole
 from ..freeze.freezes import sum_of
 from ..records.sample_kinds import Kind
 from ..serve.faults import not_as_written
-from .draft_changes import CHANGES, Change, Changes, Pair
+
+
+# ==== The changes of a draft of a coming year: who changed which row and when, with each row before and after. They
+# show a page the changes by others since it was shown.
+
+CHANGES = "changes.jsonl"
+"""The file of them: a line for each change."""
+
+Pair = tuple[Optional[list[str]], Optional[list[str]]]
+"""A row as it was (None if it is new) and as it is (None if it went)."""
+
+
+class Change(NamedTuple):
+    """A change: the moment in seconds since 1970 UTC, the person, the sheet or setting, and the rows; None if the line
+    is of a version that noted no rows."""
+
+    at: int
+    by: str
+    name: str
+    pairs: Optional[list[Pair]] = None
+
+
+class Changes:
+    """The changes in a file."""
+
+    def __init__(self, path: Path):
+        self._path = path
+
+    def all(self) -> list[Change]:
+        """All of them, the first one first. Raises Fault."""
+        try:
+            lines = self._path.read_text(encoding="utf-8").splitlines() if self._path.exists() else []
+            return [_change_of(*json.loads(line)) for line in lines]
+        except OSError as fault:
+            raise Fault(because_of(fault)) from fault
+        except (ValueError, TypeError) as fault:
+            raise Fault(not_as_written(self._path, fault)) from fault
+
+    def add(self, by: str, name: str, pairs: Sequence[Pair]) -> None:
+        """Adds one of now. Raises Fault."""
+        found = [*self.all(), Change(int(time.time()), by, name, [*pairs])]
+        try:
+            write_whole(self._path, "".join(f"{json.dumps(it)}\n" for it in found).encode(), 0o600)
+        except OSError as fault:
+            raise Fault(because_of(fault)) from fault
+
+    def version(self) -> str:
+        """The version of the draft, which a form sends with it: the number of changes, and a sum of them. Raises
+        Fault."""
+        return version_of(self.all())
+
+    def since(self, version: str) -> Optional[list[Change]]:
+        """The changes after a version; None if it isn't a version of this draft, such as after a new start. Raises
+        Fault."""
+        found, count = self.all(), version.partition(".")[0]
+        if not (count.isascii() and count.isdigit() and len(count) < 9 and int(count) <= len(found)):
+            return None
+        return found[int(count) :] if version_of(found[: int(count)]) == version else None
+
+
+def version_of(changes: Sequence[Change]) -> str:
+    """The version after some changes."""
+    return f"{len(changes)}.{sum_of(changes)}"
+
+
+def _change_of(at: int, by: str, name: str, pairs: Optional[list[list[Optional[list[str]]]]] = None) -> Change:
+    """A change of a line. Raises ValueError or TypeError if it is none."""
+    rows = None if pairs is None else [(before, after) for before, after in pairs]
+    return Change(int(at), str(by), str(name), rows)
+
+
+# ==== The draft of a coming year, as `cpi-tools next-year` makes it and `take-in` reads it: a folder with the sheets of
+# the plan and of the new series, which people change row by row or by pasting, and the lists of rows that leave the
+# sample. Beside the sheets are the sources of the weights, and the changes of the draft.
 
 CLASSIFICATION, WEIGHTS, PLACES, SERIES = "classification", "weights", "places", "series"
 
@@ -37,19 +108,19 @@ SHEETS: dict[str, Kind] = {
 """The sheets that a person edits, by name; the weights are the classification's, each with its source."""
 
 KEYS = {CLASSIFICATION: 1, WEIGHTS: 1, PLACES: 1, SERIES: 2}
-"""How many columns name a row of a sheet; a series without a slot is named by all of them."""
+"""The number of columns that identify a row of a sheet; all columns identify a series without a slot."""
 
 LISTS: dict[str, tuple[str, ...]] = {name: tuple(heads) for name, heads in HEADS.items()}
 """The lists that are only shown, by name."""
 
 UNITS = {"ppm": Fraction(1_000_000), **WHOLE, "money": None}
-"""What weights may be given in, with what they add up to; money has no such sum."""
+"""The units of weights, with the sum that they add up to; money has no such sum."""
 
 SETTINGS_FILE, SOURCES_FILE = "settings.json", "sources.csv"
 
 
 class Settings(NamedTuple):
-    """What the weights are given in, and their decimal sign."""
+    """The unit of the weights, and their decimal sign."""
 
     unit: str = "ppm"
     decimal: str = "."
@@ -126,11 +197,11 @@ class Draft:
         before, shown = self.rows(CLASSIFICATION), self.rows(WEIGHTS)
         if unknown := sorted({*given} - {row[0] for row in before}):
             code = of_others(unknown[0])
-            raise Fault(_("The draft has no code {code}: give it a title first, or leave its weight out.", code=code))
+            raise Fault(_("The draft has no code {code}: give it a title first, or omit its weight.", code=code))
         sources = {**self.sources(), **{code: source for code, _, source in rows}}
         weights = {code: given.get(code, "" if is_whole else weight) for code, _, weight in before}
         after = [[code, weights[code], sources.get(code, "")] for code in weights if weights[code] or "-" in code]
-        if self._noted(WEIGHTS, shown, after, by):
+        if self._note_changes(WEIGHTS, shown, after, by):
             write_rows(self.folder / SOURCES_FILE, ("code", "source"), [[*it] for it in sources.items() if it[1]])
             self._write_rows(CLASSIFICATION, [[code, title, weights[code]] for code, title, _ in before])
 
@@ -140,7 +211,7 @@ class Draft:
         self._write(name, [row for row in self.rows(name) if key(row) != key(cells)], by)
 
     def _write(self, name: str, rows: Sequence[Cells], by: str) -> None:
-        if self._noted(name, self.rows(name), rows, by):
+        if self._note_changes(name, self.rows(name), rows, by):
             self._write_rows(name, rows)
 
     def _write_rows(self, name: str, rows: Sequence[Sequence[str]]) -> None:
@@ -151,7 +222,7 @@ class Draft:
 
     # ---- what a page showed, and who changed it since
 
-    def shown(self, name: str, cells: Optional[Sequence[str]] = None) -> str:
+    def sum_page(self, name: str, cells: Optional[Sequence[str]] = None) -> str:
         """A sum of what a page shows of the draft: of a sheet, of the settings, of the reference month or of ALL; of a
         sheet only the row that some cells name, if there are any. Raises Fault."""
         if name in (SETTINGS, REFERENCE):
@@ -167,7 +238,7 @@ class Draft:
         """Notes who changes a sheet, a setting, or makes the draft, which rows, and that it is now. Raises Fault."""
         self.changes.add(by, name, pairs)
 
-    def _noted(self, name: str, before: Sequence[Cells], after: Sequence[Cells], by: str) -> bool:
+    def _note_changes(self, name: str, before: Sequence[Cells], after: Sequence[Cells], by: str) -> bool:
         """Notes how rows of a sheet become others, before they are written: so no change is unknown. Whether they do."""
         pairs = pairs_of(before, after, key_of(name))
         if pairs:
@@ -175,15 +246,16 @@ class Draft:
         return bool(pairs)
 
     def changed_last(self, name: str) -> tuple[str, int]:
-        """Who changed a sheet, a setting or ALL last, and when; nobody, if nobody did. Raises Fault."""
+        """The person who changed a sheet, a setting or ALL last, and the time; an empty name if nobody did. Raises
+        Fault."""
         of = [it for it in self.changes.all() if name == ALL or it.name in names_with(name)]
         return (of[-1].by, of[-1].at) if of else ("", 0)
 
     def touched_since(
         self, version: str, name: str, rows: Optional[Sequence[Sequence[str]]]
     ) -> Optional[tuple[str, int, list[Pair]]]:
-        """Who changed one of some rows of a sheet last (None: any row) since the draft had a version, when, and how these
-        rows were changed; None if nobody did. Raises Fault."""
+        """The last change to some rows of a sheet (None: to any row) since a version of the draft: the person, the
+        time, and the changes of these rows; None if nobody changed them. Raises Fault."""
         since = self.changes.since(version)
         if since is None:
             return (*self.changed_last(ALL), list[Pair]())
@@ -201,7 +273,7 @@ class Draft:
         return rows[0][0] if rows else ""
 
     def settings(self) -> Settings:
-        """What the weights are in. Raises Fault."""
+        """The unit of the weights, and their decimal sign. Raises Fault."""
         try:
             return Settings(*json.loads((self.folder / SETTINGS_FILE).read_text(encoding="utf-8")))
         except FileNotFoundError:
@@ -209,7 +281,7 @@ class Draft:
         except (OSError, ValueError, TypeError) as fault:
             raise Fault(not_as_written(self.folder / SETTINGS_FILE, fault)) from fault
 
-    def set(self, settings: Settings, by: str = "") -> None:
+    def change_settings(self, settings: Settings, by: str = "") -> None:
         """Sets what the weights are in. Raises Fault."""
         if settings != self.settings():
             self.note(by, SETTINGS, [([*self.settings()], [*settings])])
@@ -222,7 +294,7 @@ class Draft:
             write_rows(self.sheets / "plans.csv", ["year", "reference"], [[str(self.year), reference]])
 
     def numbers(self) -> dict[str, Optional[Fraction]]:
-        """The weights by their codes; None of a text that is no number. Raises Fault."""
+        """The weights by their codes; None for a text that isn't a number. Raises Fault."""
         unit, decimal = self.settings()
         reads, found = Numbers(decimal), dict[str, Optional[Fraction]]()
         for code, weight, _source in self.rows(WEIGHTS):
@@ -231,7 +303,7 @@ class Draft:
         return found
 
     def sum(self) -> Sum:
-        """What the weights add up to. Raises Fault."""
+        """The sum of the weights. Raises Fault."""
         numbers = self.numbers()
         unread = [code for code, number in numbers.items() if number is None]
         return Sum(sum(filter(None, numbers.values()), Fraction(0)), UNITS[self.settings().unit], unread)
@@ -241,7 +313,7 @@ Key = tuple[str, ...]
 
 
 def key_of(name: str) -> Callable[[Sequence[str]], Key]:
-    """What names a row of a sheet."""
+    """The function that returns the key of a row of a sheet."""
     count = KEYS[name]
     return lambda cells: tuple(cells[:count]) if all(cells[:count]) else tuple(cells)
 

@@ -1,16 +1,108 @@
-"""The weights of a draft, compared with those of the year before: the share of each in the total, its difference, and
-the weight that prices make of it, by the levels of the office's tables."""
+"""The weights of a draft: compared with those of the year before, moved by prices, and changed in a form."""
 
 from __future__ import annotations
 
-from collections.abc import Iterable, Mapping, Sequence
+import json
+import re
+from collections.abc import Collection, Iterable, Mapping, Sequence
 from fractions import Fraction
-from typing import NamedTuple, Optional
+from typing import Any, NamedTuple, Optional
 
-from ...office.stored import StoredOffice
+import flask
+
+from ...office.stored import StoredOffice, read_copy
 from ...text.exact import decimal, with_sign
-from .draft_changes import Change
-from .draft_sheets import ONE_FILE, UNITS, Draft
+from ...text.message import Message, message as _, sentences
+from ...text.others import Worded, of_others
+from ...text.terminal import month_text
+from ..serve.request_context import desk
+from .draft_sheets import CLASSIFICATION, ONE_FILE, REFERENCE, UNITS, Cells, Change, Draft, Pair
+
+
+# ==== the table of weights as a form: its earlier content of each row and a person's text there, so that only that
+# person's changes are put, and nobody else's go with them
+
+FIELDS = ("code", "was", "weight", "source")
+"""The fields of a row."""
+
+MOST_NAMED = 8
+"""So many rows are named in a sentence."""
+
+
+class Given(NamedTuple):
+    """A row of the form: its code, its weight and source as the page showed them, and as they came back."""
+
+    code: str
+    was: Cells
+    now: Cells
+
+    @property
+    def is_changed(self) -> bool:
+        """Whether a person changed it."""
+        return self.was != self.now
+
+
+def shown_of(weight: str, source: str) -> str:
+    """The text with which a form says which row it showed."""
+    return json.dumps([weight, source])
+
+
+def given_rows() -> list[Given]:
+    """The rows of the form that came; a form that isn't of this page is refused by 400."""
+    columns = [flask.request.form.getlist(name) for name in FIELDS]
+    if not columns[0] or len({*map(len, columns)}) > 1:
+        flask.abort(400)
+    return [Given(code, _was(was), [weight.strip(), source.strip()]) for code, was, weight, source in zip(*columns)]
+
+
+def _was(text: str) -> Cells:
+    try:
+        found = json.loads(text)
+    except ValueError:
+        found = None
+    if not (isinstance(found, list) and len(found) == 2 and all(isinstance(it, str) for it in found)):
+        flask.abort(400)
+    return [str(it) for it in found]
+
+
+def quicker(given: Iterable[Given], now: Mapping[str, Cells]) -> list[Given]:
+    """The rows that a person changed, and that now are neither as the form showed them nor as the person wrote them.
+    `now` are the weights and sources by their codes."""
+    return [it for it in given if it.is_changed and now.get(it.code) not in (it.was, it.now)]
+
+
+def absent(given: Iterable[Given], now: Mapping[str, Cells]) -> Optional[Message]:
+    """The message with a person's texts for rows that no longer exist; None if all exist."""
+    rows = [f"{it.code}: {', '.join(it.now)}" for it in given if it.is_changed and it.code not in now]
+    if not rows:
+        return None
+    return _("The draft no longer contains these rows; you wrote {rows}.", rows=of_others("; ".join(rows)))
+
+
+def differs(pairs: Sequence[Pair]) -> Optional[Message]:
+    """The message about other people's changes of rows, for the first of them; None if no rows are known."""
+    found = [_of_pair(it) for it in [*pairs][-MOST_NAMED:]]
+    return sentences(*found) if found else None
+
+
+def _of_pair(pair: Pair) -> Message:
+    before, after = pair
+    name = of_others((after or before or [""])[0])
+    places = {"row": name, "before": _cells(before), "after": _cells(after)}
+    if before is None:
+        return _("{row} is new: {after}.", **places)
+    if after is None:
+        return _("{row} was removed: it was {before}.", **places)
+    return _("{row} was {before}, and is {after} now.", **places)
+
+
+def _cells(cells: Optional[Cells]) -> Worded:
+    """The cells of a row after its name."""
+    return of_others(", ".join(it for it in (cells or [])[1:] if it) or "\u2013")
+
+
+# ==== the weights of a draft, compared with the previous year's: the share of each in the total, its difference, and
+# the weight that prices make of it, by the levels of the office's tables
 
 DIGITS = 3
 """Decimals of a share in percent, and of the difference of two shares."""
@@ -31,8 +123,8 @@ class Before(NamedTuple):
 
 
 class Moved(NamedTuple):
-    """What prices make of the weights from one month to another: by code its price in the second one, 1 in the first; the
-    shares at prices of the second; and the codes of weights without a level in one of the two, which have no shares
+    """Weights price-updated from one month to another: by code its price in the second month, if it is 1 in the first;
+    the shares at prices of the second; and the codes of weights without a level in one of the two, which have no shares
     then."""
 
     then: int
@@ -43,9 +135,10 @@ class Moved(NamedTuple):
 
 
 class Row(NamedTuple):
-    """A weight, or the sum of a division: its share in the year before and in the draft, the price of the month to which
-    the weights are moved (1 at first), and the share at that month's prices; None if there is none. `code` is shown with
-    its title; a weight has its text and its source, and who changed it last. One that `is_gone` isn't in the draft."""
+    """A weight, or the sum of a division: its share in the year before and in the draft, the price of the month to
+    which the weights are moved (1 at first), and the share at that month's prices; None if there is none. `code` is
+    shown with its title; a weight has its text, its source, and the person who changed it last. One that `is_gone`
+    isn't in the draft."""
 
     code: str
     title: str
@@ -60,14 +153,15 @@ class Row(NamedTuple):
 
     @property
     def difference(self) -> str:
-        """By how many percentage points the share differs from that of the year before; nothing if one isn't known."""
+        """The difference between the share and the previous year's share, in percentage points; nothing if one isn't
+        known."""
         if self.share is None:
             return ""
         return points_text(self.share - (self.before or 0))
 
 
 def shares_of(numbers: Mapping[str, Optional[Fraction]]) -> dict[str, Fraction]:
-    """Numbers as parts of their sum; of a text that is no number there is none."""
+    """Numbers as parts of their sum; None for a text that isn't a number."""
     total = sum(filter(None, numbers.values()), Fraction(0))
     return {code: number / total for code, number in numbers.items() if number is not None} if total else {}
 
@@ -95,7 +189,7 @@ def in_unit(share: Optional[Fraction], unit: str) -> str:
 
 
 def before(office: StoredOffice, year: int) -> Before:
-    """The weights of a year as its tables have them, or else its plan."""
+    """The weights of a year from its tables, or from its plan if there are none."""
     of_year = [it for it in office.releases() if it.month // 100 == year]
     levels = office.levels(of_year[-1]) if of_year else {}
     weights = {code: Fraction(it.weight) for code, it in levels.items() if "-" in code}
@@ -116,9 +210,11 @@ def months_to_move(office: StoredOffice, year: int) -> list[int]:
     return months[1:-1][::-1]
 
 
-def moved(office: StoredOffice, numbers: Mapping[str, Optional[Fraction]], month: int, year: int) -> Optional[Moved]:
-    """What prices make of weights of a month up to December before a year, or up to the last frozen month before; None if
-    nothing can be moved from that month."""
+def move_weights(
+    office: StoredOffice, numbers: Mapping[str, Optional[Fraction]], month: int, year: int
+) -> Optional[Moved]:
+    """Price-updates the weights of a month to December before a year, or to the last frozen month before it; None if
+    nothing can be updated from that month."""
     if month not in months_to_move(office, year):
         return None
     latest = {it.month: it for it in office.releases() if it.month < year * 100}
@@ -134,7 +230,7 @@ def moved(office: StoredOffice, numbers: Mapping[str, Optional[Fraction]], month
 
 
 def table(draft: Draft, was: Before, of: Optional[Moved]) -> list[Row]:
-    """The weights of a draft, and those of the year before that aren't in it. Raises Fault."""
+    """The weights of a draft, and the previous year's weights that it doesn't contain. Raises Fault."""
     shares, last = shares_of(draft.numbers()), last_changes(draft)
     found = [
         Row(
@@ -170,17 +266,116 @@ def divisions(rows: Iterable[Row], titles: Mapping[str, str]) -> list[Row]:
     for row in rows:
         for code in ("00", row.code[:2]):
             by_code.setdefault(code, []).append(row)
-    return [summed(code, titles.get(code, ""), by_code[code]) for code in sorted(by_code)]
+    return [sum_rows(code, titles.get(code, ""), by_code[code]) for code in sorted(by_code)]
 
 
-def summed(code: str, title: str, rows: Sequence[Row]) -> Row:
+def sum_rows(code: str, title: str, rows: Sequence[Row]) -> Row:
     """The sum of some rows."""
-    before_all = added(it.before for it in rows)
-    share, moved_share = added(it.share for it in rows), added(it.moved for it in rows)
+    before_all = add_shares(it.before for it in rows)
+    share, moved_share = add_shares(it.share for it in rows), add_shares(it.moved for it in rows)
     return Row(code, title, before_all, share if share is not None else Fraction(0), None, moved_share)
 
 
-def added(shares: Iterable[Optional[Fraction]]) -> Optional[Fraction]:
-    """The sum of the shares that are there; None if there are none."""
+def add_shares(shares: Iterable[Optional[Fraction]]) -> Optional[Fraction]:
+    """The sum of the existing shares; None if there are none."""
     found = [it for it in shares if it is not None]
     return sum(found, Fraction(0)) if found else None
+
+
+# ==== the weights on the page of a draft: the table with the year before, by division too, and moved by prices
+
+MONTH = re.compile("2[01][0-9]{2}-(0[1-9]|1[0-2])")
+
+ROWS = 500
+"""Weights on one page: those of most offices."""
+
+PRICES = "prices"
+"""The field of an address with the month from which prices move the weights."""
+
+
+class Now(NamedTuple):
+    """The office's weights of the previous year, its months, and the price-updated weights."""
+
+    before: Before
+    months: list[int]
+    moved: Optional[Moved]
+
+
+def now(draft: Draft, month: int) -> Now:
+    """These values, from a copy that is taken now; `month` is 0 if nothing is moved. Raises Fault."""
+    with desk().copies_now() as copy, read_copy(copy.path) as office:
+        of = move_weights(office, draft.numbers(), month, draft.year) if month else None
+        return Now(before(office, draft.year - 1), months_to_move(office, draft.year), of)
+
+
+def month_asked(draft: Draft) -> int:
+    """The month whose prices a page shows: the month of its address, or the draft's reference month, or 0."""
+    text = flask.request.values.get(PRICES, draft.reference())
+    return int(text[:4]) * 100 + int(text[5:]) if MONTH.fullmatch(text) else 0
+
+
+def of_weights(draft: Draft, query: str, start: int, typed: Sequence[Given]) -> dict[str, Any]:
+    """The values that the page needs for the weights: those that a search finds, from one of them on. Raises Fault."""
+    asked = month_asked(draft)
+    office = now(draft, asked)
+    rows = table(draft, office.before, office.moved)
+    found = search_weights(rows, query)
+    first = min(start, max(0, (len(found) - 1) // ROWS * ROWS))
+    titles = {code: title for code, title, _ in draft.rows(CLASSIFICATION)}
+    typed_rows = {it.code: it for it in typed if it.is_changed}
+    return {
+        "weights": with_typed(rows, found[first : first + ROWS], typed_rows),
+        "divisions": divisions(rows, {**office.before.titles, **titles}),
+        "year_before": office.before.year,
+        "typed_rows": typed_rows,
+        "moved": office.moved,
+        "months": [month_text(it) for it in office.months],
+        "asked": month_text(asked) if asked else "",
+        "total": len(found),
+        "first": first,
+        "step": ROWS,
+        "shown_reference": draft.sum_page(REFERENCE),
+        "shown_of": shown_of,
+        "month_text": month_text,
+        "month_said": month_said,
+        "percent_text": percent_text,
+        "in_unit": in_unit,
+        "price_text": price_text,
+    }
+
+
+def month_said(text: str) -> str:
+    """A month in words; a text that is none as it is."""
+    return desk().teller.month(text) if MONTH.fullmatch(text) else of_others(text)
+
+
+def search_weights(rows: Sequence[Row], query: str) -> list[Row]:
+    """The rows that have each word of a query in their code, title, weight or source."""
+    words = query.casefold().split()
+    texts = (" ".join((it.code, it.title, it.weight, it.source)).casefold() for it in rows)
+    return [it for it, text in zip(rows, texts) if all(word in text for word in words)]
+
+
+def with_typed(rows: Sequence[Row], shown: Sequence[Row], typed: Collection[str]) -> list[Row]:
+    """The rows of a page, and those that a person typed in, but that others have removed from the draft in the
+    meantime."""
+    codes = {it.code for it in shown}
+    return [it for it in rows if it.code in codes or (it.code in typed and not it.is_gone)]
+
+
+def price_text(row: Row) -> str:
+    """By how many percent a price changed, with its sign; nothing if that isn't known."""
+    if row.price is None:
+        return ""
+    change = 100 * (row.price - 1)
+    return with_sign(decimal(change.numerator, change.denominator, 1))
+
+
+def columns_of_file(draft: Draft) -> tuple[Sequence[str], list[list[str]]]:
+    """The columns and rows of the file of weights, which can be pasted back. Raises Fault."""
+    office, unit, year = now(draft, 0).before, draft.settings().unit, draft.year - 1
+    is_money = not in_unit(Fraction(1), unit)
+    heads = ("code", "title", f"percent_{year}" if is_money else f"weight_{year}", "weight", "source")
+    rows = [it for it in table(draft, office, None) if not it.is_gone]
+    cells = [[it.code, it.title, in_unit(it.before, unit) or percent_text(it.before)] for it in rows]
+    return heads, [[*first, it.weight, it.source] for first, it in zip(cells, rows)]

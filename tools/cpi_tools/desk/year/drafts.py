@@ -22,13 +22,12 @@ from ...sheets.plan_rows import Weighed
 from ...sheets.record_rows import Bundle, Problem, body_of
 from ...sheets.take_in import taken_in
 from ...sheets.year.next_year import next_year
-from ...text.message import Message, sentences, message as _
+from ...text.message import Message, message as _, sentences
 from ...text.others import Worded, of_others, own_line
 from ...text.terminal import Fault, because_of
-from ..records.carried_out import what_stands
-from ..serve.copies import Copies
-from ..serve.durations import Durations
-from ..serve.faults import met, of_system, says
+from ..records.sending import what_stands
+from ..serve.watched_office import Copies, Durations
+from ..serve.faults import explain_fault, of_system, says
 from .draft_sheets import ALL, MADE, Draft
 
 UTC = "UTC0"
@@ -50,7 +49,7 @@ class Checked(NamedTuple):
     stood: Sequence[str] = ()
 
     @property
-    def seen(self) -> str:
+    def sum_of_records(self) -> str:
         """A sum of the records, so that only records are sent that somebody saw."""
         return hashlib.sha256(repr(self.records).encode()).hexdigest()
 
@@ -82,7 +81,7 @@ class Drafts:
         self._checked: dict[int, Checked] = {}
         self._durations = Durations()
         self.sent: dict[int, list[Left]] = {}
-        """What the office answered to records of a year's draft that it didn't carry out, since the last change."""
+        """The office's answers to records of a year's draft that it didn't carry out, since the last change."""
         self.running: Optional[Running] = None
         self.fault = Worded("")
 
@@ -95,18 +94,18 @@ class Drafts:
         """The draft of a year, if there is one."""
         return Draft(self._folder / str(year)) if (self._folder / str(year)).is_dir() else None
 
-    def checked(self, year: int) -> Optional[Checked]:
+    def find_checked(self, year: int) -> Optional[Checked]:
         """The messages about a draft since its last change, if there are any."""
         return self._checked.get(year)
 
-    def changed(self, year: int) -> None:
+    def drop_checked(self, year: int) -> None:
         """A draft was changed, or sent, so the messages about it are old."""
         self._checked.pop(year, None)
         self.sent.pop(year, None)
 
     def drop(self, year: int) -> None:
         """Removes a draft. Raises Fault."""
-        self.changed(year)
+        self.drop_checked(year)
         try:
             shutil.rmtree(self._folder / str(year))
         except OSError as fault:
@@ -116,11 +115,11 @@ class Drafts:
 
     def make(self, year: int, by: str = "") -> bool:
         """Begins to make the draft of a year for a person; whether it did."""
-        return self._begin(year, _("cpi says on a copy who is in the sample"), partial(self._make_for, by))
+        return self._begin(year, _("cpi determines the sample on a copy"), partial(self._make_for, by))
 
     def check(self, year: int) -> bool:
         """Begins to judge the draft of a year; whether it did."""
-        return self._begin(year, _("cpi judges the draft on a copy"), self._check)
+        return self._begin(year, _("cpi checks the draft on a copy"), self._check)
 
     def _begin(self, year: int, what: Message, job: Callable[[int], None]) -> bool:
         with self._lock:
@@ -136,7 +135,7 @@ class Drafts:
     def _run(self, year: int, job: Callable[[int], None]) -> None:
         try:
             what = str(self.running.what) if self.running else ""
-            with self._durations.measured(what):
+            with self._durations.measure(what):
                 job(year)
         except Fault as fault:
             self.fault = says(fault)
@@ -146,7 +145,7 @@ class Drafts:
             self.fault = _("The copy can't be read: {fault}", fault=own_line(fault))
         except Exception as fault:
             # (a fault of ours: it is on the page too, and the journal has all of it)
-            self.fault = met(fault)
+            self.fault = explain_fault(fault)
             raise
         finally:
             self.running = None
@@ -184,10 +183,10 @@ class Drafts:
 
 
 def changed_meanwhile(by: str) -> Message:
-    """That somebody changed a draft as it was judged."""
+    """The message that somebody changed a draft while it was checked."""
     if not by:
-        return _("The draft was changed while it was judged: judge it again.")
-    return _("{name} changed the draft while it was judged: judge it again.", name=of_others(by))
+        return _("The draft was changed while it was checked: check it again.")
+    return _("{name} changed the draft while it was checked: check it again.", name=of_others(by))
 
 
 def records_of(bundles: Iterable[Bundle]) -> Iterator[list[str]]:

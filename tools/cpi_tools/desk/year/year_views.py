@@ -21,27 +21,48 @@ import flask
 from werkzeug.wrappers import Response
 
 from ...office.stored import read_copy
-from ...sheets.numbers_of_texts import decimal
-from ...text.csv_files import line_of
-from ...text.message import Figure, Message, sentences, message as _, message_of, whole
+from ...sheets.sheet_numbers import decimal
+from ...text.text_files import line_of
+from ...text.message import Figure, Message, message as _, message_of, sentences, whole
 from ...text.others import Worded, of_others
 from ...text.terminal import Fault
 from ..freeze.freezes import sum_of
-from ..records.desk_log import DROPPED_DRAFT, SAID, shown as hidden
-from ..records.pasted_rows import pasted
-from ..records.record_names import names_in, names_of
-from ..records.record_sentences import sentence_of
-from ..records.records_views import answered
+from ..records.desk_log import DROPPED_DRAFT, SAID, hide_key as hidden
+from ..records.sample_kinds import read_pasted
+from ..records.record_sentences import names_in, names_of, sentence_of
+from ..records.records_views import pair_replies
 from ..records.sample_views import SHOWN
 from ..serve.faults import says
-from ..serve.page_versions import changed_by, changed_by_step, replaced_since
-from ..serve.request_context import after, csv_file, desk, field, page, session, what_came
-from ..serve.running_office import MOST_BYTES, body_of
-from .draft_changes import Change, Pair
-from .draft_sheets import ALL, CLASSIFICATION, KEYS, LISTS, REFERENCE, SETTINGS, SHEETS, UNITS, WEIGHTS, Draft, Settings
+from ..serve.request_context import (
+    after,
+    changed_by,
+    changed_by_step,
+    csv_file,
+    desk,
+    field,
+    page,
+    replaced_since,
+    session,
+    what_came,
+)
+from ..serve.watched_office import MOST_BYTES, body_of
+from .draft_sheets import (
+    ALL,
+    CLASSIFICATION,
+    KEYS,
+    LISTS,
+    REFERENCE,
+    SETTINGS,
+    SHEETS,
+    UNITS,
+    WEIGHTS,
+    Change,
+    Draft,
+    Pair,
+    Settings,
+)
 from .drafts import Checked, Left
-from .weight_forms import Given, absent, differs, given_rows, quicker
-from .year_weights import PRICES, columns_of_file, of_weights
+from .draft_weights import PRICES, Given, absent, columns_of_file, differs, given_rows, of_weights, quicker
 
 views = flask.Blueprint("year", __name__)
 
@@ -83,9 +104,9 @@ def make() -> Response:
     """Begins to make a draft."""
     text = flask.request.form.get("year", "").strip()
     if not (text.isdecimal() and len(text) == 4):
-        return shown_form(400, _("{text} is no year, such as {year}.", text=of_others(text), year=2027))
+        return shown_form(400, _("{text} isn't a year like {year}.", text=of_others(text), year=2027))
     if desk().drafts.draft(int(text)):
-        told_so = _("There is a draft of {year} already: drop it first, if it is to be made anew.", year=int(text))
+        told_so = _("There is already a draft of {year}: discard it first if you want to begin again.", year=int(text))
         return shown_form(409, told_so)
     desk().drafts.make(int(text), session().person)
     return flask.redirect(flask.url_for("year.first"), 303)
@@ -95,11 +116,12 @@ def make() -> Response:
 
 
 class NoDraft(Fault):
-    """There is no draft of a year any more; one line."""
+    """The draft of a year no longer exists; one line."""
 
 
 def draft_of(year: int) -> Draft:
-    """The draft of an address; without one there is no page. Raises NoDraft for a form of one that was dropped."""
+    """The draft of an address; without a draft the page doesn't exist. Raises NoDraft for a form of one that was
+    dropped."""
     found = desk().drafts.draft(year) if 2000 <= year <= 2199 else None
     if found is not None:
         return found
@@ -117,10 +139,10 @@ def no_draft(fault: NoDraft) -> Response:
 @views.get("/year/<int:year>/")
 def show(year: int) -> Response:
     """A draft: its sheets, the sum of its weights, and the messages about it."""
-    return shown(draft_of(year), **what_came())
+    return show_result(draft_of(year), **what_came())
 
 
-def shown(
+def show_result(
     draft: Draft,
     status: int = 200,
     fault: Worded = NOTHING,
@@ -134,7 +156,7 @@ def shown(
     name = flask.request.values.get("sheet", WEIGHTS)
     name = name if name in SHEETS or name in LISTS else WEIGHTS
     drafts, filled = desk().drafts, typed or {}
-    total, checked = draft.sum(), drafts.checked(draft.year)
+    total, checked = draft.sum(), drafts.find_checked(draft.year)
     changes = draft.changes.all()
     named: dict[str, Any] = {
         "draft": draft,
@@ -153,8 +175,8 @@ def shown(
         "is_row": bool(filled) and "pasted" not in filled and not given,
         "changes": newest(changes),
         "lines_of_changes": len(changes),
-        "shown_settings": draft.shown(SETTINGS),
-        "shown_all": draft.shown(ALL),
+        "shown_settings": draft.sum_page(SETTINGS),
+        "shown_all": draft.sum_page(ALL),
         **of_sheet(draft, name),
         **(of_weights(draft, query_of(), start_of(), given) if name == WEIGHTS else {}),
     }
@@ -167,13 +189,13 @@ def query_of() -> str:
 
 
 def start_of() -> int:
-    """From which row on a sheet is shown, by the address or such a form; 0 if that is no number."""
+    """From which row on a sheet is shown, by the address or such a form; 0 if that isn't a number."""
     text = flask.request.values.get("from", "")
     return int(text) if text.isascii() and text.isdigit() and len(text) < 9 else 0
 
 
 class Noted(NamedTuple):
-    """A change as the page has it: some of its rows as they were and as they are, and how many more there are."""
+    """A change, for the page: some of its rows as they were and as they are, and how many more there are."""
 
     change: Change
     rows: list[tuple[str, str]]
@@ -192,9 +214,9 @@ def rows_of_change(change: Change) -> list[tuple[str, str]]:
 
 
 def of_sheet(draft: Draft, name: str) -> dict[str, Any]:
-    """What the page has of a sheet: the rows that are searched for."""
+    """The values that the page needs for a sheet: the rows that a search finds."""
     query = query_of()
-    rows = searched(draft.rows(name), query) if name != WEIGHTS else []
+    rows = search_rows(draft.rows(name), query) if name != WEIGHTS else []
     start = min(start_of(), max(0, (len(rows) - 1) // SHOWN * SHOWN))
     return {
         "sheet": name,
@@ -216,7 +238,7 @@ def number_text(number: Fraction) -> Figure:
     return whole(number.numerator) if number.denominator == 1 else Figure(decimal(number))
 
 
-def searched(rows: list[list[str]], query: str) -> list[list[str]]:
+def search_rows(rows: list[list[str]], query: str) -> list[list[str]]:
     """The rows that have each word of a query somewhere."""
     words = query.casefold().split()
     return [row for row in rows if all(word in " ".join(row).casefold() for word in words)]
@@ -249,7 +271,9 @@ def too_long(checked: Checked) -> Worded:
         if (size := len(body_of([record]))) > MOST_BYTES:
             places = {"record": line(record), "size": whole(size), "most": whole(MOST_BYTES)}
             return _(
-                "Too long for a message to the office: {record}. It has {size} bytes, of {most} at most.", **places
+                "This record is too long for a message to the office: {record}. It has {size} bytes; at most {most}"
+                " are allowed.",
+                **places,
             )
     return NOTHING
 
@@ -282,7 +306,7 @@ def changes_file(year: int) -> Response:
 
 def to_sheet(draft: Draft, name: str, unread: Sequence[str] = ()) -> Response:
     """Back to a sheet that was changed, as it was searched."""
-    desk().drafts.changed(draft.year)
+    desk().drafts.drop_checked(draft.year)
     to: dict[str, Any] = {"year": draft.year, "sheet": name, "_anchor": "sheet"}
     to.update({it: flask.request.form[it] for it in ("query", "from", PRICES) if flask.request.form.get(it)})
     if unread:
@@ -290,13 +314,14 @@ def to_sheet(draft: Draft, name: str, unread: Sequence[str] = ()) -> Response:
     return flask.redirect(flask.url_for("year.show", **to), 303)
 
 
-def refused(draft: Draft, status: int, fault: Worded, given: Sequence[Given] = ()) -> Response:
+def show_refusal(draft: Draft, status: int, fault: Worded, given: Sequence[Given] = ()) -> Response:
     """The page again, with the typed fields."""
-    return shown(draft, status, fault, typed=flask.request.form.to_dict(), given=given)
+    return show_result(draft, status, fault, typed=flask.request.form.to_dict(), given=given)
 
 
 def changed_since(draft: Draft, name: str, now: str) -> Optional[Message]:
-    """That a row, a setting or ALL aren't any more as the form showed them; None if they are. `now` is their sum."""
+    """The message that a row, a setting or ALL has changed since the form showed it; None if it hasn't. `now` is their
+    sum."""
     return None if field("shown") == now else changed_by(*draft.changed_last(name))
 
 
@@ -317,41 +342,42 @@ def put_rows(draft: Draft, name: str, form: Mapping[str, str]) -> Response:
     kind, is_pasted, is_whole, version = SHEETS[name], "pasted" in form, bool(form.get("whole")), field("shown")
     row = [] if is_pasted else [field(it).strip() for it in kind.columns]
     try:
-        rows, unread = pasted(form["pasted"], kind) if is_pasted else ([row], [])
+        rows, unread = read_pasted(form["pasted"], kind) if is_pasted else ([row], [])
         if lacks := [it for it, cell in zip(kind.columns, rows[0]) if not cell and it not in (kind.optional, "weight")]:
-            raise Fault(_("The row lacks a cell: {column}.", column=of_others(lacks[0])))
+            raise Fault(_("The row has no cell {column}.", column=of_others(lacks[0])))
         if name == WEIGHTS:
             rows = with_sources(draft, rows, form.get("source", "").strip())
         if name == CLASSIFICATION:
             rows = with_weights(draft, rows)
         if others := draft.touched_since(version, name, None if is_whole else rows):
-            return refused(draft, 409, told_others(*others))
+            return show_refusal(draft, 409, told_others(*others))
         draft.put(name, rows, is_whole, session().person)
     except Fault as fault:
-        return refused(draft, 400, says(fault))
+        return show_refusal(draft, 400, says(fault))
     return to_sheet(draft, name, unread)
 
 
 def told_others(by: str, at: int, pairs: Sequence[Pair]) -> Message:
-    """Who changed the same rows since the page was shown, when, and how."""
+    """The message about a change to the same rows since the page was shown: the person, the time, and the changes."""
     how = differs(pairs)
     return sentences(changed_by(by, at), how) if how else changed_by(by, at)
 
 
 def with_sources(draft: Draft, rows: Sequence[Sequence[str]], source: str) -> list[list[str]]:
-    """Pasted weights, those without a source with the one of the form, or the one that is there."""
+    """Pasted weights, those without a source get the form's source, or keep the present one."""
     known = draft.sources()
     return [[code, weight, own or source or known.get(code, "")] for code, weight, own in rows]
 
 
 def with_weights(draft: Draft, rows: Sequence[Sequence[str]]) -> list[list[str]]:
-    """Titles, those without a weight with the one that is there: the table of weights empties one."""
+    """Titles, those without a weight keep the present one: the table of weights empties one."""
     known = {code: weight for code, _, weight in draft.rows(CLASSIFICATION)}
     return [[code, title, weight or known.get(code, "")] for code, title, weight in rows]
 
 
 def put_weights(draft: Draft) -> Response:
-    """Puts the weights and sources of the table that a person changed, if nobody else changed them meanwhile."""
+    """Puts the weights and sources of the table that a person changed, if nobody else has changed them in the
+    meantime."""
     version, given = field("shown"), given_rows()
     now = {code: [weight, source] for code, weight, source in draft.rows(WEIGHTS)}
     rows = [[it.code, *it.now] for it in given if it.is_changed and now.get(it.code) != it.now]
@@ -360,10 +386,10 @@ def put_weights(draft: Draft) -> Response:
             changed = [[it.code] for it in others]
             by, at, pairs = draft.touched_since(version, WEIGHTS, changed) or (*draft.changed_last(WEIGHTS), [])
             parts = [told_others(by, at, pairs), absent(given, now)]
-            return refused(draft, 409, sentences(*(it for it in parts if it)), given)
+            return show_refusal(draft, 409, sentences(*(it for it in parts if it)), given)
         draft.put(WEIGHTS, rows, by=session().person)
     except Fault as fault:
-        return refused(draft, 400, says(fault), given)
+        return show_refusal(draft, 400, says(fault), given)
     return to_sheet(draft, WEIGHTS)
 
 
@@ -375,8 +401,8 @@ def out(year: int) -> Response:
         cells = flask.request.form.getlist("cell")
         if name not in KEYS or name == WEIGHTS or len(cells) < KEYS[name]:
             flask.abort(400)
-        if others := changed_since(draft, name, draft.shown(name, cells)):
-            return refused(draft, 409, others)
+        if others := changed_since(draft, name, draft.sum_page(name, cells)):
+            return show_refusal(draft, 409, others)
         draft.take_out(name, cells, session().person)
         return to_sheet(draft, name)
 
@@ -388,9 +414,9 @@ def set_all(year: int) -> Response:
         draft, unit, sign = draft_of(year), field("unit"), field("decimal")
         if unit not in UNITS or sign not in (".", ","):
             flask.abort(400)
-        if others := changed_since(draft, SETTINGS, draft.shown(SETTINGS)):
-            return refused(draft, 409, others)
-        draft.set(Settings(unit, sign), session().person)
+        if others := changed_since(draft, SETTINGS, draft.sum_page(SETTINGS)):
+            return show_refusal(draft, 409, others)
+        draft.change_settings(Settings(unit, sign), session().person)
         return to_sheet(draft, WEIGHTS)
 
 
@@ -399,8 +425,8 @@ def set_reference(year: int) -> Response:
     """Sets the month at whose prices the weights are."""
     with desk().drafts.changing:
         draft, reference = draft_of(year), field("reference").strip()
-        if others := changed_since(draft, REFERENCE, draft.shown(REFERENCE)):
-            return refused(draft, 409, others)
+        if others := changed_since(draft, REFERENCE, draft.sum_page(REFERENCE)):
+            return show_refusal(draft, 409, others)
         draft.set_reference(reference, session().person)
         return to_sheet(draft, WEIGHTS)
 
@@ -410,8 +436,8 @@ def drop(year: int) -> Response:
     """Removes the draft."""
     with desk().drafts.changing:
         draft = draft_of(year)
-        if others := changed_since(draft, ALL, draft.shown(ALL)):
-            return refused(draft, 409, others)
+        if others := changed_since(draft, ALL, draft.sum_page(ALL)):
+            return show_refusal(draft, 409, others)
         desk().log.append(session().person, SAID, text=DROPPED_DRAFT.format(year=year))
         desk().drafts.drop(year)
         return flask.redirect(flask.url_for("year.first"), 303)
@@ -430,32 +456,34 @@ def check(year: int) -> Response:
 @views.post("/year/<int:year>/send")
 def send(year: int) -> Response:
     """Sends the judged records, once."""
-    draft, checked, seen = draft_of(year), desk().drafts.checked(year), field("seen")
-    if checked is None or not checked.records or checked.seen != seen:
-        return shown(draft, 409, _("The draft was sent already, or changed since this was shown: judge it again."))
+    draft, checked, seen = draft_of(year), desk().drafts.find_checked(year), field("seen")
+    if checked is None or not checked.records or checked.sum_of_records != seen:
+        return show_result(
+            draft, 409, _("The draft was already sent, or has changed since this was shown: check it again.")
+        )
     if others := replaced_since(checked.records, checked.stood):
-        return shown(draft, 409, others)
-    desk().drafts.changed(year)
+        return show_result(draft, 409, others)
+    desk().drafts.drop_checked(year)
     try:
         replies = desk().send(session(), checked.records)
     except Fault as fault:
-        return shown(draft, 503, _("Nothing was sent: {fault}", fault=says(fault)))
-    rows = answered([hidden(it) for it in checked.records], replies)
+        return show_result(draft, 503, _("Nothing was sent: {fault}", fault=says(fault)))
+    rows = pair_replies([hidden(it) for it in checked.records], replies)
     names, pairs = names_in(checked.records), zip(rows, checked.records)
     left = [Left(line(of), it.answer, sentence_of(of, names)) for it, of in pairs if not it.is_done]
     desk().drafts.sent[year] = left
     done = len(rows) - len(left)
     if left:
         return after("year.show", {"fault": told_left(done, len(rows))}, year=year)
-    answer = message_of("{count} record sent, and carried out.", "{count} records sent, and carried out.", done)
+    answer = message_of("{count} record sent and accepted.", "{count} records sent and accepted.", done)
     return after("year.show", {"answer": answer}, year=year)
 
 
 def told_left(done: int, count: int) -> Message:
-    """How many records were carried out, if not all."""
+    """The message with the number of records that were carried out, if not all were."""
     return message_of(
-        "{done} of {count} record carried out. The answer to the other is below.",
-        "{done} of {count} records carried out. The answers to the others are below.",
+        "{done} of {count} record accepted. The answer to the other is below.",
+        "{done} of {count} records accepted. The answers to the others are below.",
         count,
         done=whole(done),
     )

@@ -1,4 +1,4 @@
-"""A repository of Debian's borgbackup in a folder: each archive in it has the files of one moment.
+"""A repository of Debian's borgbackup in a folder: each archive in it contains the files of one moment.
 
 Borg runs as the user to whom the folder belongs, whoever runs the tool, so nothing in it ever belongs to another one.
 Extracted bytes come through a pipe: borg writes no file for the tool, and gives none a name, an owner or a mode.
@@ -25,9 +25,8 @@ from pathlib import Path
 from typing import IO, Any, NamedTuple, NoReturn, Optional
 
 from ...office.access import User
-from ...office.held_folders import HeldFolder, held
-from ...office.plain_json import plain_json
-from ...text.terminal import Fault, because_of, counted
+from ...office.folders import HeldFolder, hold_folder, plain_json
+from ...text.terminal import Fault, because_of, write_count
 
 LOCK_WAIT = 120
 """Seconds for which borg waits until another run has done its work in the repository."""
@@ -39,7 +38,8 @@ OWN = "borg"
 """Borg's own files, in the same folder: its cache, and the repositories that it knows."""
 
 CUT = ("--chunker-params", "fixed,16384", "--files-cache", "disabled", "--compression", "zstd,3")
-"""How a file is cut and packed: an office's file changes page by page in its place, so pieces of four pages stay."""
+"""The options that cut and pack a file: an office's file changes page by page in its place, so pieces of four pages
+stay."""
 
 
 MOST_BYTES = 1 << 20
@@ -91,7 +91,7 @@ class Repository:
         with subprocess.Popen(words, stdout=subprocess.PIPE, stderr=subprocess.PIPE, **self._how()) as process:
             assert process.stdout and process.stderr
             try:
-                written, cut = _written(process.stdout, place), ""
+                written, cut = _write_files(process.stdout, place), ""
             except tarfile.TarError as fault:
                 written, cut = set(), str(fault)
             finally:
@@ -121,7 +121,7 @@ class Repository:
         try:
             ran = self._ran("check", str(self.path), seconds=seconds)
         except subprocess.TimeoutExpired as fault:
-            raise Fault(f"{self.path}: its check wasn't done after {counted(seconds, 'second')}") from fault
+            raise Fault(f"{self.path}: its check wasn't done after {write_count(seconds, 'second')}") from fault
         if ran.returncode not in (0, FOUND):
             self._refuse(ran.stderr)
         return cause_in(ran.stderr.decode(errors="replace")) if ran.returncode else ""
@@ -129,7 +129,7 @@ class Repository:
     # ---- running borg
 
     def _at(self, name: str) -> str:
-        """How borg names an archive."""
+        """The name that borg gives an archive."""
         return f"{self.path}::{name}"
 
     def _words(self, *words: str) -> list[str]:
@@ -139,7 +139,8 @@ class Repository:
         return ["borg", "--lock-wait", str(LOCK_WAIT), *words]
 
     def _how(self, folder: Optional[Path] = None) -> dict[str, Any]:
-        """How borg is run: as the owner, with nobody else's settings, and with hours and days in UTC."""
+        """The arguments with which borg is run: as the owner, with nobody else's settings, and with hours and days in
+        UTC."""
         kept = {"PATH": os.environ.get("PATH", os.defpath), "LC_ALL": "C.UTF-8", "TZ": "UTC"}
         kept.update(BORG_BASE_DIR=str(self._own), HOME=str(self._own), PYTHONDONTWRITEBYTECODE="1")
         kept["BORG_HOST_ID"] = this_start().host
@@ -177,7 +178,7 @@ class Repository:
             return
         self._is_free = True
         try:
-            with contextlib.suppress(FileNotFoundError), held(self.path) as opened:
+            with contextlib.suppress(FileNotFoundError), hold_folder(self.path) as opened:
                 # (by who has done so meanwhile it is free, and may be locked anew)
                 if _is_alone(opened) and self._has_only_left():
                     self._run("break-lock", str(self.path))
@@ -239,7 +240,7 @@ def _text_of(path: str) -> str:
 
 
 def _is_alone(folder: HeldFolder) -> bool:
-    """Whether no other process has a folder locked, as this one has then until it closes it."""
+    """Locks a folder until this process closes it; whether no other process had locked it."""
     with contextlib.suppress(OSError):
         fcntl.flock(folder.number, fcntl.LOCK_EX | fcntl.LOCK_NB)
         return True
@@ -248,7 +249,7 @@ def _is_alone(folder: HeldFolder) -> bool:
 
 def _who_locks(folder: Path) -> Iterator[str]:
     """The holders of locks in a folder, as borg names hosts. A name that isn't borg's isn't known. Raises OSError."""
-    with contextlib.suppress(FileNotFoundError, NotADirectoryError), held(folder) as opened:
+    with contextlib.suppress(FileNotFoundError, NotADirectoryError), hold_folder(folder) as opened:
         with contextlib.suppress(FileNotFoundError), opened.folder(LOCKED) as locks:
             yield from (name.rpartition("-")[0].rpartition(".")[0] for name in os.listdir(locks.number))
         with contextlib.suppress(FileNotFoundError):
@@ -259,7 +260,7 @@ def _who_locks(folder: Path) -> Iterator[str]:
                 yield ""
 
 
-def _written(stream: IO[bytes], place: Callable[[str], Optional[Path]]) -> set[str]:
+def _write_files(stream: IO[bytes], place: Callable[[str], Optional[Path]]) -> set[str]:
     """Writes the files of an archive that borg sends; which ones. Raises tarfile.TarError and OSError."""
     written = set[str]()
     with tarfile.open(fileobj=stream, mode="r|") as tar:
@@ -278,7 +279,7 @@ def _written(stream: IO[bytes], place: Callable[[str], Optional[Path]]) -> set[s
 
 
 def cause_in(said: str) -> str:
-    """Why borg failed: the system's first fault in its output, else its first line outside of a traceback."""
+    """Why borg failed: the system's first fault in its output, or its first line outside of a traceback."""
     if system := re.search(r"\[Errno \d+\] (.+?)(?:: '.*)?$", said, re.M):
         return system[1]
     others = ("Local Exception", "Traceback")

@@ -8,11 +8,11 @@ it there.
     the bytes of these, one after the other
 
 **A log only grows**, even for the program that puts changes in: an intruder on the first machine can add lines, and
-takes none away. If a log doesn't continue the copy's, a new folder is begun, and the former one stays as it is. The
+takes none away. If a log doesn't continue the copy's, a new folder is begun, and the former one doesn't change. The
 index comes last, so whatever stops it, the next changes begin from the state that the index describes.
 
 The carried file comes from another machine: each file is opened by its plain name from the place's descriptor
-(`held_folders`), and a link, a pipe or a file with a second name is refused.
+(`folders`), and a link, a pipe or a file with a second name is refused.
 """
 
 from __future__ import annotations
@@ -25,12 +25,11 @@ from collections.abc import Iterator, Mapping
 from pathlib import Path
 from typing import IO, Any, NamedTuple, Optional
 
-from ...office.held_folders import HeldFolder, held
-from ...office.plain_json import moment_of, plain_json, whole_number
+from ...office.folders import HeldFolder, hold_folder, moment_of, plain_json, whole_number
 from ...text.terminal import Fault, because_of, naming
 from .desk_files import DATABASE, LOGS, MOST_FILES, Notes, Sized, is_name
 from .mirrors import PAGE
-from .page_changes import CAME, LONGEST_LINE, NotFitting
+from .carriers import CAME, LONGEST_LINE, NotFitting
 from .second_copies import DESK, INDEX
 
 CARRIED_DESK = "desk-changes"
@@ -40,7 +39,7 @@ MOST_FOLDERS = 10**9
 """The greatest number of a folder."""
 
 WHOLE, APPEND, PAGES = "whole", "append", "pages"
-"""How a file is written: all of it, its new end, or the pages of an SQLite file that changed."""
+"""The ways to write a file: all of it, its new end, or the changed pages of an SQLite file."""
 
 
 class Index(NamedTuple):
@@ -60,7 +59,7 @@ class Index(NamedTuple):
 
 
 class Part(NamedTuple):
-    """How a file is written: its name, WHOLE, APPEND or PAGES, and the numbers of the pages."""
+    """A file to write: its name, WHOLE, APPEND or PAGES, and the numbers of the pages."""
 
     name: str
     way: str
@@ -122,8 +121,8 @@ def index_at(place: HeldFolder) -> Optional[Index]:
 
 
 def index_of(place: Path) -> Optional[Index]:
-    """The same of a path. Raises OSError."""
-    with held(place) as folder:
+    """The index of the copy at a path. Raises OSError."""
+    with hold_folder(place) as folder:
         return index_at(folder)
 
 
@@ -131,7 +130,8 @@ def index_of(place: Path) -> Optional[Index]:
 
 
 def write_desk_changes(to: Path, changes: DeskChanges, data: Mapping[str, bytes], mirrors: Path) -> None:
-    """Writes a file of changes: the bytes of parts from `data`, or else from the mirror of that name. Raises OSError."""
+    """Writes a file of changes: the bytes of parts from `data`, or from the mirror of that name if `data` doesn't
+    contain it. Raises OSError."""
     head = {
         "before": changes.before.text if changes.before else "",
         "index": changes.after.text,
@@ -186,8 +186,8 @@ def put_in_desk(place: Path) -> Index:
     """Puts the changes of the desk's folder that lie at a place into its copy there, and removes them. Raises Fault:
     nothing was written if they don't belong to that copy, would take a line of a log away, or aren't plain files."""
     try:
-        with held(place) as whole, whole.folder(CAME) as came:
-            with os.fdopen(came.opened(CARRIED_DESK, links=1), "rb") as file:
+        with hold_folder(place) as whole, whole.folder(CAME) as came:
+            with os.fdopen(came.open_file(CARRIED_DESK, links=1), "rb") as file:
                 changes = read_desk_head(file)
                 _refuse(whole, changes, os.fstat(file.fileno()).st_size - file.tell())
                 with whole.made_folder(DESK) as desk:
@@ -268,7 +268,7 @@ def _put_part(file: IO[bytes], changes: DeskChanges, part: Part, folder: HeldFol
         folder.write_whole(name, file.read(size), 0o600)
         return
     whole = changes.after.files[part.name].size
-    with os.fdopen(folder.opened(name, os.O_RDWR | os.O_CREAT, links=1), "r+b") as to, naming(folder.path / name):
+    with os.fdopen(folder.open_file(name, os.O_RDWR | os.O_CREAT, links=1), "r+b") as to, naming(folder.path / name):
         if part.way == APPEND:
             if os.fstat(to.fileno()).st_size < whole - size:
                 raise NotFitting(f"{part.name} is shorter here than its index says")

@@ -1,28 +1,34 @@
-"""The files of the desk's application as they are copied: its folder contains the desk's log, notes on prices, field
-notes, questions to collectors, the draft of a year, and waiting entries. A backup, a second copy, a restore and a
-promotion all read it so.
-
-Each file is read at one moment, while the application runs. The logs are only appended to, and only whole lines are
-taken. All others but the notes of the field and the questions are written whole or not at all. Of those, SQLite files,
-nobody commits a change while it is read.
-
-**Which of two folders is the later one.** By the logs: one goes on from another if each log begins with the other's. Each
-change of a question is in the desk's log first.
-"""
+"""The files of the desk's application as they are copied, and as a backup has them in one file."""
 
 from __future__ import annotations
 
 import contextlib
+import io
 import os
 import re
+import shutil
 import sqlite3
+import tarfile
+import time
 from collections.abc import Iterator
 from pathlib import Path
 from typing import NamedTuple, Optional
 
-from ...office.held_folders import NotPlain, held
+from ...office.folders import NotPlain, hold_folder
 from ...text.terminal import Fault, because_of
 from .mirrors import sum_of_bytes
+
+
+# ==== The files of the desk's application as they are copied: its folder contains the desk's log, notes on prices,
+# field notes, questions to collectors, the draft of a year, and waiting entries. A backup, a second copy, a restore and
+# a promotion all read it so.
+#
+# Each file is read at one moment, while the application runs. The logs are only appended to, and only whole lines are
+# taken. All others but the notes of the field and the questions are written whole or not at all. Of those, SQLite
+# files, nobody commits a change while it is read.
+#
+# **Which of two folders is the later one.** By the logs: one continues another if each of its logs begins with the
+# other's. Each change of a question is in the desk's log first.
 
 HERE = Path("/var/lib/cpi-desk")
 """The folder of the package."""
@@ -101,21 +107,21 @@ def lines_in(path: Path) -> bytes:
     """The whole lines of a log; nothing if it isn't there. Raises OSError, also if it is a link or no file: root reads the
     folder of another user."""
     try:
-        with held(path.parent) as folder, os.fdopen(folder.opened(path.name), "rb") as file:
+        with hold_folder(path.parent) as folder, os.fdopen(folder.open_file(path.name), "rb") as file:
             data = file.read()
     except FileNotFoundError:
         return b""
     return data[: data.rfind(b"\n") + 1]
 
 
-def sized(data: bytes) -> Sized:
+def measure_bytes(data: bytes) -> Sized:
     """Size and sum of some bytes."""
     return Sized(len(data), sum_of_bytes(data))
 
 
 def goes_on(data: bytes, before: Optional[Sized]) -> bool:
     """Whether a log continues an earlier one, whose size and sum are all that is known."""
-    return before is None or (len(data) >= before.size and sized(data[: before.size]) == before)
+    return before is None or (len(data) >= before.size and measure_bytes(data[: before.size]) == before)
 
 
 def is_later(folder: Path, other: Path) -> bool:
@@ -128,8 +134,8 @@ def is_later(folder: Path, other: Path) -> bool:
 
 
 class Notes(NamedTuple):
-    """How far the field notes go: the number of the last note that ever came, which only grows; and the number and the
-    sum of the last note that is kept."""
+    """The extent of the field notes: the number of the last note that ever came, which only grows; and the number and
+    the sum of the last note that is kept."""
 
     came: int
     kept: int
@@ -165,3 +171,64 @@ def unchanging(path: Path) -> Iterator[sqlite3.Connection]:
             yield link
     except sqlite3.Error as fault:
         raise Fault(f"{path} can't be read now: {fault}") from fault
+
+
+# ==== The desk's folder in a backup: one file next to the office's, `office.db.desk.tar`, with its sum in the note on
+# the backup. A backup of an earlier version has none.
+#
+# The office's file is copied first. So the desk's log in the backup has each record that the office in it has.
+
+MOST_BYTES = 1 << 36
+"""Bytes of a file in the desk's folder at most."""
+
+
+def desk_beside(path: Path) -> Path:
+    """The path of the desk's folder in a backup: `office.db.desk.tar` for `office.db`."""
+    return path.with_name(f"{path.name}.desk.tar")
+
+
+def write_desk(desk: Path, to: Path) -> bool:
+    """Writes a desk's folder to a new file of mode 0600; whether there is one: it has a log. Raises Fault and OSError."""
+    seen = seen_in(desk)
+    if LOG not in seen:
+        return False
+    opened = os.open(to, os.O_WRONLY | os.O_CREAT | os.O_EXCL | os.O_CLOEXEC, 0o600)
+    with os.fdopen(opened, "wb") as file, tarfile.open(fileobj=file, mode="w", format=tarfile.PAX_FORMAT) as tar:
+        for name in seen:
+            _add(tar, desk, name)
+    return True
+
+
+def _add(tar: tarfile.TarFile, desk: Path, name: str) -> None:
+    """Adds a file as it is at one moment."""
+    of_file = tarfile.TarInfo(name)
+    of_file.mode, of_file.mtime = 0o600, int(time.time())
+    if name.endswith(DATABASE):
+        with unchanging(desk / name), (desk / name).open("rb") as file:
+            of_file.size = os.fstat(file.fileno()).st_size
+            tar.addfile(of_file, file)
+        return
+    data = lines_in(desk / name) if name in LOGS else (desk / name).read_bytes()
+    of_file.size = len(data)
+    tar.addfile(of_file, io.BytesIO(data))
+
+
+def read_desk(tar: Path, to: Path) -> None:
+    """Writes the files of a desk's folder in a backup to a folder that is empty. Raises Fault if it contains anything
+    else."""
+    try:
+        with tarfile.open(tar, mode="r:") as files:
+            for each in files:
+                if not each.isfile() or not is_name(each.name) or each.size > MOST_BYTES:
+                    raise Fault(f"{tar} has {each.name!r}, which no desk's folder has")
+                source = files.extractfile(each)
+                assert source
+                path = to / each.name
+                path.parent.mkdir(mode=0o700, parents=True, exist_ok=True)
+                number = os.open(path, os.O_WRONLY | os.O_CREAT | os.O_EXCL | os.O_CLOEXEC, 0o600)
+                with os.fdopen(number, "wb") as file:
+                    shutil.copyfileobj(source, file, 1 << 20)
+    except tarfile.TarError as fault:
+        raise Fault(f"{tar} can't be read: {fault}") from fault
+    except OSError as fault:
+        raise Fault(because_of(fault)) from fault

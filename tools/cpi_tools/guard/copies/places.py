@@ -1,8 +1,8 @@
 """The places of second copies: a folder of this machine, or one that a carrier reaches.
 
-A round at a folder writes there itself, and each file is on the disk before its note is. A round elsewhere keeps a
-mirror in a room on this machine, and a carrier takes it over. Either checks its copy before the copy's note says that
-it is whole: it isn't damaged, and the office goes on from the newest copy (`office_marks`).
+A round at a folder writes there itself, and each file is on the disk before its note is. For a place elsewhere, a round
+keeps a mirror in a room on this machine, and a carrier transfers it. Either checks its copy before the copy's note says
+that it is whole: it isn't damaged, and the office continues the newest copy (`mirrors`).
 """
 
 from __future__ import annotations
@@ -16,14 +16,12 @@ from pathlib import Path
 from typing import NamedTuple, Optional, Protocol
 
 from ...office.copying import CopyFailed
-from ...office.held_folders import held
+from ...office.folders import hold_folder
 from ...text.terminal import Fault
-from ...text.whole_files import write_whole
-from .carriers import Carrier, carrier_of
+from ...text.text_files import write_whole
+from .carriers import CAME, CARRIED, Carrier, Changes, carrier_of, of_mirror, received_text, write_changes
 from .desk_changes import CARRIED_DESK, Index, desk_received_text, index_of, put_in_desk
-from .mirrors import MirroredOffice, Taken, second_of, stamp, sync
-from .office_marks import Known, NotCarried, known_of
-from .page_changes import CAME, CARRIED, Changes, of_mirror, received_text, write_changes
+from .mirrors import Known, MirroredOffice, NotCarried, Taken, known_of, second_of, stamp, sync
 from .second_copies import (
     DRILLED,
     MOST_BYTES,
@@ -57,7 +55,7 @@ class Place(Protocol):
     seen: Path
 
     def state(self) -> State:
-        """What is there. Raises Fault if it can't be known."""
+        """The state of the copies at the place. Raises Fault if it can't be known."""
 
     def round(self, office: Path, state: State, patience: float, is_anew: bool) -> tuple[CopyNote, Taken]:
         """Brings the older copy up to date; its note. `is_anew` lets it be an office that doesn't go on from the newer
@@ -84,16 +82,16 @@ class Folder:
         return state_of(self._folder)
 
     def round(self, office: Path, state: State, patience: float, is_anew: bool) -> tuple[CopyNote, Taken]:
-        """The note of the older copy goes first, and the new one comes last."""
+        """The note of the older copy is removed first, and the new one is written last."""
         name, number = state.next()
         folder = self._folder / name
         folder.mkdir(mode=0o700, exist_ok=True)
         if (self._folder / REFUSED).exists() and not is_anew:
             self._look_aside(office, state, patience)
         (folder / NOTE).unlink(missing_ok=True)
-        mirror, taken = self._mirrors.taken(folder, office, patience)
+        mirror, taken = self._mirrors.take(folder, office, patience)
         try:
-            note = note_of(office, number, taken, mirror, _known(mirror, state, is_anew))
+            note = note_of(office, number, taken, mirror, _record_mirror(mirror, state, is_anew))
         except NotCarried:
             self._put_back(mirror, folder, state)
             raise
@@ -107,8 +105,8 @@ class Folder:
         aside = self._folder / ASIDE
         try:
             aside.mkdir(mode=0o700, exist_ok=True)
-            mirror, _ = self._mirrors.taken(aside, office, patience)
-            _known(mirror, state, False)
+            mirror, _ = self._mirrors.take(aside, office, patience)
+            _record_mirror(mirror, state, False)
         except OSError:
             self._mirrors.remove(aside)
 
@@ -138,8 +136,8 @@ class Elsewhere:
     """A place that a carrier reaches, with a room on this machine: the mirror that is carried, and the record of the
     place.
 
-    The first round of each copy compares it with the mirror as a whole. From then on it is known which pages changed since
-    its last round, and only these are read and carried, if a program is there that puts them in.
+    The first round of each copy compares it with the mirror as a whole. From then on it is known which pages changed
+    since its last round, and only these are read and carried, if a program there puts them in.
     """
 
     def __init__(self, carrier: Carrier, room: Path):
@@ -160,7 +158,7 @@ class Elsewhere:
         """Puts the note on the last drill into the folder in which a probe of this machine sees it. Raises OSError."""
         seen = self.seen / DRILLED
         try:
-            with held(there) as fetched:
+            with hold_folder(there) as fetched:
                 text = fetched.text(DRILLED, MOST_BYTES)
         except FileNotFoundError:
             seen.unlink(missing_ok=True)
@@ -173,9 +171,9 @@ class Elsewhere:
         name, number = state.next()
         folder = self._room / "mirror"
         folder.mkdir(mode=0o700, exist_ok=True)
-        mirror, taken = self._mirrors.taken(folder, office, patience)
+        mirror, taken = self._mirrors.take(folder, office, patience)
         self._note_pages(mirror)
-        note = note_of(office, number, taken, mirror, _known(mirror, state, is_anew))
+        note = note_of(office, number, taken, mirror, _record_mirror(mirror, state, is_anew))
         # (after a fault the copy isn't known any more)
         lag = self._lags.pop(name, None)
         if lag and lag.note != state.notes.get(name):
@@ -205,7 +203,7 @@ class Elsewhere:
             raise Fault(f"{self.name} doesn't take the desk's folder: bring cpi there to this version")
 
     def _takes_desk(self) -> bool:
-        """Whether cpi-receive is there. After the first carrying, all this is seen in what was fetched since."""
+        """Whether cpi-receive exists there. After the first carrying, all this is seen in what was fetched since."""
         there = self._room / "there"
         if not (there / RECEIVED).exists() and not self._is_asked:
             self._is_asked = True
@@ -223,7 +221,7 @@ class Elsewhere:
         mirror.log.pages.clear()
 
     def _is_received(self) -> bool:
-        """Whether a program is there that puts changed pages into a copy, as far as is known."""
+        """Whether a program there puts changed pages into a copy, as far as is known."""
         return not self._is_unheard and (self._room / "there" / RECEIVED).exists()
 
     def _carry(self, name: str, note: CopyNote, is_whole: bool) -> None:
@@ -267,7 +265,7 @@ class Mirrors:
     def __init__(self) -> None:
         self._known = dict[Path, MirroredOffice]()
 
-    def taken(self, folder: Path, office: Path, patience: float) -> tuple[MirroredOffice, Taken]:
+    def take(self, folder: Path, office: Path, patience: float) -> tuple[MirroredOffice, Taken]:
         """The mirror in a folder, brought to an office's file. It is read again after a fault, which may have left a
         block that was written in part. Raises CopyFailed and OSError."""
         mirror = self._known.pop(folder, None) or MirroredOffice(folder, OFFICE)
@@ -289,13 +287,13 @@ def _write_note(mirror: MirroredOffice, folder: Path, note: CopyNote) -> None:
     sync(folder)
 
 
-def _known(mirror: MirroredOffice, state: State, is_anew: bool) -> Known:
+def _record_mirror(mirror: MirroredOffice, state: State, is_anew: bool) -> Known:
     """The record of a mirrored office, which has to go on from the newest copy. If that copy has the same bytes, they
     were checked before. Raises NotCarried."""
     last = state.last()
     if last and last.marks and (last.file, last.log) == sums_of(mirror):
-        return last.known
-    return known_of(mirror.file.path, last.known if last else None, is_anew)
+        return last.record_of_office
+    return known_of(mirror.file.path, last.record_of_office if last else None, is_anew)
 
 
 def place_of(dest: str, room: Path, ssh: Optional[str]) -> Place:

@@ -1,37 +1,41 @@
-"""A second copy of an office at another place: two folders that take turns, a note in each, a mark of a promotion, and
-a note on the kept generations.
-
-    DEST/copy-1/office.db, office.db-wal, office.db.json
-    DEST/copy-2/office.db, office.db-wal, office.db.json
-    DEST/promoted.json
-    DEST/drilled.json
-
-Each round brings the older of the two copies up to date, and writes its note last. So whatever stops a round, the other
-copy is whole. A note has the sums of its file and log, so a copy that was cut off shows even if a note of before is
-next to it. The copy that counts is the one whose note has the greatest number of a round.
-
-The two files of a copy are in a state that a crash could leave at its moment, so `cpi` opens them as they are.
-
-An intruder may control the machine that carries to a place. So files there are read only by their plain names, never
-through a link; and the mark is in a folder where that machine's key can't write (`cpi-receive`).
-"""
+"""A second copy of an office at another place: two folders that take turns, with a note in each."""
 
 from __future__ import annotations
 
+import contextlib
 import json
+import os
+import shutil
 import socket
 import time
+from collections.abc import Iterator
 from datetime import datetime, timezone
 from pathlib import Path
 from typing import NamedTuple, Optional
 
 from ...office.copying import log_beside
-from ...office.held_folders import HeldFolder, NotPlain, held
-from ...office.plain_json import moment_of, plain_json, whole_number
+from ...office.folders import HeldFolder, NotPlain, hold_folder, moment_of, plain_json, whole_number
 from ...text.terminal import Fault, because_of, is_line
-from ...text.whole_files import write_whole
-from .mirrors import MirroredOffice, Taken, sum_of
-from .office_marks import Identity, Known, Marks, identity_in, marks_in
+from ...text.text_files import write_whole
+from .mirrors import Identity, Known, Marks, MirroredOffice, Taken, identity_in, marks_in, sum_of
+
+
+# ==== a second copy of an office at another place: two folders that take turns, a note in each, a mark of a promotion,
+# and a note on the kept generations
+#
+#     DEST/copy-1/office.db, office.db-wal, office.db.json
+#     DEST/copy-2/office.db, office.db-wal, office.db.json
+#     DEST/promoted.json
+#     DEST/drilled.json
+#
+# Each round brings the older of the two copies up to date, and writes its note last. So whatever stops a round, the
+# other copy is whole. A note has the sums of its file and log, so a copy that was cut off is noticed even if an earlier
+# note is next to it. The copy that counts is the one whose note has the greatest number of a round.
+#
+# The two files of a copy are in a state that a crash could leave at its moment, so `cpi` opens them as they are.
+#
+# An intruder may control the machine that carries to a place. So files there are read only by their plain names, never
+# through a link; and the mark is in a folder where that machine's key can't write (`cpi-receive`).
 
 NAMES = ("copy-1", "copy-2")
 """The folders that take turns."""
@@ -53,15 +57,15 @@ DESK, INDEX = "desk", "index.json"
 """The folder of a place with the copy of the desk's folder, and the file in it that describes the copy's content."""
 
 RECEIVED = "received.lock"
-"""A lock at a place on another machine where a program puts changed pages into a copy: one carrying at a time holds
+"""A lock at a place on another machine, in which a program puts changed pages into a copy: one carrying at a time holds
 it."""
 
 REFUSED = "refused.json"
 """Is there as long as rounds are refused, since the office doesn't go on from its copy."""
 
 DRILLED = "drilled.json"
-"""Which generation of the copies passed its drill last, if somebody keeps them (`generations`). A follower's key only
-reads it."""
+"""The file that names the generation of the copies that passed its drill last, if somebody keeps them (`generations`).
+A follower's key only reads it."""
 
 MOST_BYTES = 1 << 16
 """Bytes of a note that are read."""
@@ -90,7 +94,7 @@ class CopyNote(NamedTuple):
     marks: Optional[Marks] = None
 
     @property
-    def known(self) -> Known:
+    def record_of_office(self) -> Known:
         """The record of the office in it."""
         return Known(self.identity, self.marks, self.receipts)
 
@@ -167,7 +171,7 @@ def write_note(folder: Path, note: CopyNote) -> None:
 def write_promotion(folder: Path, copied: int) -> Promotion:
     """Writes that the copy of a place, of the moment `copied`, was promoted on this machine now. Raises OSError."""
     promotion = Promotion(socket.gethostname(), int(time.time()), copied)
-    with held(folder) as place:
+    with hold_folder(folder) as place:
         place.write_whole(MARK, (json.dumps(promotion._asdict()) + "\n").encode(), 0o644)
         place.sync()
     return promotion
@@ -188,7 +192,7 @@ def state_of(folder: Path) -> State:
     if not folder.is_dir():
         raise Fault(f"{folder} is no folder: make it first, so that nothing is copied to a disk that isn't mounted")
     try:
-        with held(folder) as place:
+        with hold_folder(folder) as place:
             return state_in(place)
     except OSError as fault:
         raise Fault(because_of(fault)) from fault
@@ -201,9 +205,9 @@ def state_in(place: HeldFolder) -> State:
 
 
 def promotion_of(folder: Path) -> Optional[Promotion]:
-    """The promotion of a place. Raises Fault if its mark can't be read, since nobody knows then what the mark says."""
+    """The promotion of a place. Raises Fault if its mark can't be read, since then nobody knows its content."""
     try:
-        with held(folder) as place:
+        with hold_folder(folder) as place:
             return _promotion_in(place)
     except OSError as fault:
         raise Fault(because_of(fault)) from fault
@@ -223,7 +227,7 @@ def _promotion_in(place: HeldFolder) -> Optional[Promotion]:
 def refusal_of(folder: Path) -> str:
     """Why the last round was refused; empty if it wasn't. Raises Fault if that can't be read."""
     try:
-        with held(folder) as place:
+        with hold_folder(folder) as place:
             return str(plain_json(place.text(REFUSED, MOST_BYTES))["because"])
     except FileNotFoundError:
         return ""
@@ -279,3 +283,96 @@ def fault_of(office: Path, note: CopyNote) -> str:
 
 EMPTY = (0, "e3b0c44298fc1c149afbf4c8996fb92427ae41e4649b934ca495991b7852b855")
 """The size and the sum of a file without a byte."""
+
+
+# ==== the two copies of a place as open files, for a user who may not open them by name
+#
+# Root opens them: plain files only, by their own names below the folder's descriptor, so no link leads anywhere. The
+# other user reads the open files, and takes the newest copy that has the sums of its note. A round that writes at the
+# same time is noticed, because the sums differ then; the other copy is whole.
+
+BLOCK = 1 << 20
+"""Bytes that are read at once."""
+
+
+class NotWhole(Fault):
+    """No copy is whole at this moment; one line."""
+
+
+class OpenCopy(NamedTuple):
+    """A copy of a place: the path of its folder, the descriptors of its note, its file and its log, None for missing
+    ones; and why it can't be read, empty if it can."""
+
+    path: Path
+    note: Optional[int]
+    office: Optional[int]
+    log: Optional[int]
+    fault: str = ""
+
+
+@contextlib.contextmanager
+def open_copies(dest: Path) -> Iterator[list[OpenCopy]]:
+    """The copies of a place, open to be read until the end. Raises OSError if the place can't be opened."""
+    with hold_folder(dest) as place, contextlib.ExitStack() as stack:
+        yield [_open_copy(place, name, stack) for name in NAMES]
+
+
+def _open_copy(place: HeldFolder, name: str, stack: contextlib.ExitStack) -> OpenCopy:
+    """A copy, whose files are closed at the end of a stack."""
+    path = place.path / name
+    try:
+        copy = stack.enter_context(place.folder(name))
+        note, office, log = (_opened_file(copy, each, stack) for each in (NOTE, OFFICE, LOG))
+        return OpenCopy(path, note, office, log)
+    except OSError as fault:
+        return OpenCopy(path, None, None, None, because_of(fault))
+
+
+def _opened_file(copy: HeldFolder, name: str, stack: contextlib.ExitStack) -> Optional[int]:
+    """The descriptor of a file of a copy; None if there is none. Raises OSError."""
+    try:
+        opened = copy.open_file(name, links=1)
+    except FileNotFoundError:
+        return None
+    stack.callback(os.close, opened)
+    return opened
+
+
+def take_newest(copies: list[OpenCopy], room: Path) -> CopyNote:
+    """Copies the newest of open copies that is whole to a folder, with its note; which one. Raises NotWhole if none is,
+    with the cause of the newest, and other Faults, and OSError."""
+    faults = [copy.fault for copy in copies if copy.fault]
+    notes = [(note, copy) for copy in copies if (note := _note_of(copy))]
+    for note, copy in sorted(notes, key=lambda each: -each[0].round):
+        for name in (OFFICE, LOG):
+            (room / name).unlink(missing_ok=True)
+        _refuse_large(copy, note, shutil.disk_usage(room).free)
+        _copy(copy.office, note.file.size + 1, room / OFFICE)
+        _copy(copy.log, note.log.size + 1, room / LOG)
+        if not (fault := fault_of(room / OFFICE, note)):
+            (room / NOTE).write_text(f"{note_text(note)}\n", encoding="ascii")
+            return note
+        faults.append(f"{copy.path} isn't whole: {fault}")
+    raise NotWhole(faults[0] if faults else f"{copies[0].path.parent} has no copy with a whole note")
+
+
+def _note_of(copy: OpenCopy) -> Optional[CopyNote]:
+    """The note of an open copy; None if it has none that is whole."""
+    return None if copy.note is None else note_in(os.pread(copy.note, MOST_BYTES, 0).decode(errors="replace"))
+
+
+def _refuse_large(copy: OpenCopy, note: CopyNote, free: int) -> None:
+    """Raises Fault if so many bytes aren't enough for a copy: a file may be larger than anything that is in it."""
+    sizes = ((copy.office, note.file.size), (copy.log, note.log.size))
+    size = sum(min(os.fstat(number).st_size, most) for number, most in sizes if number is not None)
+    if size > free:
+        raise Fault(f"{copy.path} has {size:,} bytes, and the disk of the generations has {free:,} left")
+
+
+def _copy(source: Optional[int], most: int, to: Path) -> None:
+    """Copies an open file from its beginning, without moving in it, but no more than so many bytes. Raises OSError."""
+    with to.open("xb") as file:
+        at = 0
+        while source is not None and (block := os.pread(source, min(BLOCK, most - at), at)):
+            file.write(block)
+            at += len(block)

@@ -21,23 +21,26 @@ from ...office.stored import Window
 from ...text.terminal import Fault, ToolWords, at_least
 from ..copies.generations import LastDrill, last_drill_of
 from ..next_open import next_open
-from .certificates import certificate_at, place
-from .last_writes import writes_of
-from .machine_clock import machine_clock
-from .probe_levels import OK, Levels, levels, levels_of_rest
 from .probe_looks import (
+    OK,
     Answer,
     Backups,
-    asked,
+    Levels,
+    ask_tables,
     backups_of,
     calendar_of,
+    certificate_at,
     files_of,
     late_months,
+    levels,
+    levels_of_rest,
+    machine_clock,
+    place,
     second_copy_of,
     trusting,
 )
-from .probe_output import Seen, judged, nagios_line, prometheus_text
-from .serve_log import Journal, OutputFile, Said, connections_left
+from .serve_log import Journal, OutputFile, Said, connections_left, writes_of
+from .probe_output import Seen, judge_office, nagios_line, prometheus_text
 
 UNIT = "cpi.service"
 """The unit of the package."""
@@ -85,7 +88,7 @@ def look(chosen: argparse.Namespace, now: int) -> Seen:
         certificate=looks.at(certificate_at, chosen.certificate, chosen.timeout) if chosen.certificate else None,
         clock=looks.at(machine_clock) if chosen.clock else None,
         unseen=tuple(looks.faults),
-        unnamed=unnamed(chosen, last_drill),
+        unnamed=find_unnamed(chosen, last_drill),
     )
 
 
@@ -95,7 +98,7 @@ def _answer(chosen: argparse.Namespace, looks: Looks) -> tuple[Optional[Answer],
     if trusted is None:
         return None, ""
     try:
-        return asked(chosen.url, chosen.timeout, trusted), ""
+        return ask_tables(chosen.url, chosen.timeout, trusted), ""
     except Fault as cause:
         return None, str(cause)
 
@@ -132,7 +135,7 @@ def said_by(chosen: argparse.Namespace) -> Optional[Said]:
         ) from fault
 
 
-def unnamed(chosen: argparse.Namespace, last_drill: Optional[LastDrill] = None) -> tuple[str, ...]:
+def find_unnamed(chosen: argparse.Namespace, last_drill: Optional[LastDrill] = None) -> tuple[str, ...]:
     """The parts that weren't named, or that nobody keeps."""
     parts = {
         "the file": chosen.file,
@@ -176,7 +179,7 @@ Connections: the same lines say when few connections are left before `cpi serve`
 
 The next open: a running office doesn't show how much memory and time its next start takes, which
 grow with the rows of FILE. The probe reads their number, and compares the memory and time of an
-open (as bench/age measures them) with what UNIT and this machine allow (--open). A start that is
+open (as bench/files measures them) with what UNIT and this machine allow (--open). A start that is
 killed while it opens the file is tried again and again, and meanwhile nobody gets an answer.
 """
 
@@ -256,7 +259,7 @@ def add_words(tools: argparse._SubParsersAction[ToolWords]) -> None:
 def run(chosen: argparse.Namespace, clock: Callable[[], float] = time.time) -> int:
     """Runs the tool by its words; its exit status."""
     seen = look(chosen, int(clock()))
-    found = judged(seen, chosen)
+    found = judge_office(seen, chosen)
     if not chosen.prometheus:
         print(nagios_line(seen, found))
         return found.state

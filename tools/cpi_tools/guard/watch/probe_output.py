@@ -7,15 +7,29 @@ from collections.abc import Iterator
 from typing import NamedTuple, Optional
 
 from ...office.stored import Window
-from ...text.terminal import counted, month_text, time_text
+from ...text.terminal import month_text, time_text, write_count
 from ..copies.generations import LastDrill
 from ..next_open import NextOpen, in_words
-from . import last_writes
-from .certificates import Certificate
-from .last_writes import Writes
-from .machine_clock import MachineClock
-from .probe_levels import CRITICAL, OK, STATES, UNKNOWN, WARNING, Judgement, state_of, state_of_rest, worst
-from .probe_looks import Answer, Backups, Files, SecondCopy, Table
+from . import serve_log
+from .probe_looks import (
+    CRITICAL,
+    OK,
+    STATES,
+    UNKNOWN,
+    WARNING,
+    Answer,
+    Backups,
+    Certificate,
+    Files,
+    Judgement,
+    MachineClock,
+    SecondCopy,
+    Table,
+    state_of,
+    state_of_rest,
+    worst,
+)
+from .serve_log import Writes
 
 HOUR, DAY = 3600, 86_400
 
@@ -24,7 +38,7 @@ MOST_MONTHS = 3
 
 
 class Seen(NamedTuple):
-    """A probe's findings; None for each part that it wasn't to check, or couldn't. `fault` is why there is no answer,
+    """A probe's findings; None for each part that it wasn't to check, or couldn't. `fault` is why nobody answered,
     `unseen` has a line for each part that couldn't be checked, and `unnamed` the parts that it wasn't to check."""
 
     now: int
@@ -54,7 +68,7 @@ class Judged(NamedTuple):
 # ---- judging
 
 
-def judged(seen: Seen, chosen: argparse.Namespace) -> Judged:
+def judge_office(seen: Seen, chosen: argparse.Namespace) -> Judged:
     """The state of an office: the worst of its parts, by the chosen levels; the text names all parts that aren't
     well."""
     parts = (
@@ -88,7 +102,7 @@ def _of_late(seen: Seen, chosen: argparse.Namespace) -> Iterator[Judgement]:
     for state, row in zip(states[:MOST_MONTHS], late):
         yield state, f"no table of {month_text(row.month)}, to be published {time_text(row.publishes)}"
     if others := states[MOST_MONTHS:]:
-        yield worst(others), f"no table of {counted(len(others), 'more month')}"
+        yield worst(others), f"no table of {write_count(len(others), 'more month')}"
 
 
 def _of_files(seen: Seen, chosen: argparse.Namespace) -> Iterator[Judgement]:
@@ -111,11 +125,11 @@ def _of_backups(seen: Seen, chosen: argparse.Namespace) -> Iterator[Judgement]:
         yield _ahead("the last backup", last.copied - seen.now)
     elif last:
         hours = (seen.now - last.copied) // HOUR
-        yield state_of(hours, chosen.age), f"the last backup is {counted(hours, 'hour')} old"
+        yield state_of(hours, chosen.age), f"the last backup is {write_count(hours, 'hour')} old"
     else:
         yield CRITICAL, "there is no backup"
     if failed:
-        yield CRITICAL, f"after the last backup {counted(failed, 'drill')} failed (.db.bad)"
+        yield CRITICAL, f"after the last backup {write_count(failed, 'drill')} failed (.db.bad)"
 
 
 def _of_second(seen: Seen, chosen: argparse.Namespace) -> Iterator[Judgement]:
@@ -132,12 +146,15 @@ def _of_second(seen: Seen, chosen: argparse.Namespace) -> Iterator[Judgement]:
         yield _ahead("the second copy", copied - seen.now)
     else:
         seconds = seen.now - copied
-        yield state_of(seconds, chosen.copied), f"the second copy is {counted(seconds, 'second')} old"
+        yield state_of(seconds, chosen.copied), f"the second copy is {write_count(seconds, 'second')} old"
 
 
 def _ahead(name: str, seconds: int) -> Judgement:
     """The text about a copy whose moment hasn't come yet: nobody would see that no later one is made."""
-    return WARNING, f"{name} is dated {counted(seconds, 'second')} ahead, so its age isn't known: one clock is wrong"
+    return (
+        WARNING,
+        f"{name} is dated {write_count(seconds, 'second')} ahead, so its age isn't known: one clock is wrong",
+    )
 
 
 def _of_generations(seen: Seen, chosen: argparse.Namespace) -> Iterator[Judgement]:
@@ -152,7 +169,7 @@ def _of_generations(seen: Seen, chosen: argparse.Namespace) -> Iterator[Judgemen
         yield WARNING, f"the last run of cpi-tools keep failed: {last.fault}"
     if last.tried:
         days = (seen.now - last.checked) // DAY
-        text = f"was last found whole {counted(days, 'day')} ago" if last.checked else "was never found whole"
+        text = f"was last found whole {write_count(days, 'day')} ago" if last.checked else "was never found whole"
         yield state_of(days, chosen.checked), f"the repository of the generations {text}"
     if not last.generation:
         yield CRITICAL, "no generation of the second copy has passed its drill"
@@ -160,13 +177,13 @@ def _of_generations(seen: Seen, chosen: argparse.Namespace) -> Iterator[Judgemen
         yield _ahead("the last generation", last.copied - seen.now)
     else:
         hours = (seen.now - last.copied) // HOUR
-        text = f"the last generation that passed its drill is {counted(hours, 'hour')} old"
+        text = f"the last generation that passed its drill is {write_count(hours, 'hour')} old"
         yield state_of(hours, chosen.drilled), text
 
 
 def _of_writes(seen: Seen, chosen: argparse.Namespace) -> Iterator[Judgement]:
     if seen.writes:
-        yield last_writes.judged(seen.writes, seen.now, chosen.refused)
+        yield serve_log.judge_writes(seen.writes, seen.now, chosen.refused)
     if seen.left is not None:
         yield state_of_rest(seen.left, chosen.left), f"no more than {seen.left:,} connections are left of its limit"
 
@@ -177,7 +194,7 @@ def _of_machine(seen: Seen, chosen: argparse.Namespace) -> Iterator[Judgement]:
         if days < 0:
             yield CRITICAL, f"the certificate {seen.certificate.place} ended {line}"
         else:
-            text = f"the certificate {seen.certificate.place} ends {line}, in {counted(days, 'day')}"
+            text = f"the certificate {seen.certificate.place} ends {line}, in {write_count(days, 'day')}"
             yield state_of_rest(days, chosen.days), text
     if seen.clock and not seen.clock.is_synchronized:
         yield WARNING, "this machine's clock isn't synchronized"

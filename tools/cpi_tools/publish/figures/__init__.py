@@ -1,1 +1,1 @@
-"""What is published: the configuration, and each figure that is computed from published tables."""
+"""The configuration of a publication, and each figure that is computed from published tables."""

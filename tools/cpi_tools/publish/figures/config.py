@@ -9,29 +9,35 @@ from __future__ import annotations
 
 import configparser
 import re
-from collections.abc import Collection, Mapping, Sequence
+from collections.abc import Mapping, Sequence
 from pathlib import Path
 from typing import NamedTuple, Optional
 
+from ...office.price_rules import FEWEST_OUTLETS
 from ...text.clocks import UTC, Clock, NoZone, clock_of
-from ...text.languages import SOURCE
-from ...text.speech import LATIN
+from ...text.languages import LATIN, SOURCE
 from ...text.terminal import Fault, because_of
-from .announced import Announced
-from .colours import BadColour, Colours, colours_of
-from .core_definitions import CoreDefinition, read_core
-from .office_languages import BadLanguages, OfficeLanguages, Own, read_languages
-from .own_words import OwnWords, read_own_words
-from .planned import Planned, read_planned
+from .announcements import Announced, Planned, Reason, read_planned, read_reasons
+from .survey_rows import FEWEST_LEAST, LEAST_OUTLETS, MOST_LEAST, Average, Cell, read_averages, read_counts
+from .own_words import (
+    BadColour,
+    BadLanguages,
+    Colours,
+    OfficeLanguages,
+    Own,
+    OwnWords,
+    colours_of,
+    read_languages,
+    read_own_words,
+)
+from .specials import BadPress, CoreDefinition, PressNames, Special, press_names, read_core, read_specials
 from .profiles import BadProfile, Profile, read_profile
-from .reasons import Reason, read_reasons
+from .seasonal_series import Seasonal, read_seasonal
 from .shown_figures import EXACT, RATES
-from .specials import Special, read_specials
-from .survey_counts import FEWEST_LEAST, LEAST_OUTLETS, MOST_LEAST, Cell, read_counts
 
 ID = re.compile(r"[A-Za-z0-9_$@-]{1,60}")
 NAME = re.compile(r"[A-Za-z][A-Za-z0-9_-]{0,59}")
-"""An id that stands in XML as a name too, so that it begins with a letter."""
+"""An id that is a name in XML too, so that it begins with a letter."""
 
 AGENCY = re.compile(r"[A-Za-z][A-Za-z0-9_-]*(\.[A-Za-z][A-Za-z0-9_-]*)*")
 LANGUAGE = re.compile(r"[a-z]{2,3}(-[A-Za-z0-9]{2,8})*")
@@ -43,7 +49,7 @@ ADDRESS = re.compile(r"https?://[A-Za-z0-9.-]+(:[0-9]{1,5})?(/[A-Za-z0-9._~-]+)*
 NAMES = ("agency", "area", "office", "title", "country", "contact", "licence", "reference", "currency", "minor_digits",
          "without", "aggregates", "rates", "language", "provisional", "address", "zone",
          "calendar", "years", "revisions", "languages", "digits", "about", "doi", "quality",
-         "least_outlets", "profiles", "core", "press", "colour", "colour_dark", "with")  # fmt: skip
+         "least_outlets", "profiles", "core", "press", "colour", "colour_dark", "with", "average_prices", "seasonal")  # fmt: skip
 NEEDED = ("agency", "area", "office")
 
 
@@ -56,17 +62,17 @@ pictures there are no files of them, and no pages to embed; those in the pages s
 observations (`slices`)."""
 
 
-SQLITE = "sqlite"
-MORE_FORMS = (SQLITE,)
+SQLITE, PDF = "sqlite", "pdf"
+MORE_FORMS = (SQLITE, PDF)
 """The forms that a pack has only if the office wants them."""
 
 
 TABLES = "tables"
-"""What `quality` is if the office has no file of counts: quality in figures by published tables only."""
+"""The value of `quality` if the office has no file of counts: quality figures from published tables only."""
 
 
 MOST_PROVISIONAL = 24
-"""Months that can be provisional at most."""
+"""The largest number of months that can be provisional."""
 
 
 class BadConfig(Fault):
@@ -84,7 +90,7 @@ class KnownIds(NamedTuple):
 
     @property
     def all(self) -> frozenset[str]:
-        """All of them."""
+        """All ids that an office can choose."""
         return self.names | self.codes | self.lists
 
 
@@ -94,16 +100,17 @@ class Config(NamedTuple):
     `agency` and `area` are ids of SDMX, `reference` is a year or a month whose level is 100 (empty: December before an
     item came), `rates` is what changes are computed from (`shown.RATES`), `currency` and `minor_digits` (0 to 4) are
     those of the calculator's amounts, `without` has the forms that aren't written, `language` is that of titles, `ids`
-    are the office's own ids of SDMX by those that are used else, `specials` its special aggregates, `provisional` is how
-    many of the last months it may still revise (0 to MOST_PROVISIONAL), `years` how many years are in the files of
-    the folder `data` (None: as many as don't make them large), `speaks` are the languages of the pages
-    (without one they are English), `announced` are the releases that the pack before announced, and these do, `about`
-    is what the office says of the index in its own words, and `doi` is the DOI of the index, with which those of its
-    releases begin. With `has_quality` quality is told in figures, with the `counts` of the survey, in which a division has
-    `least_outlets`. `profiles` are the structures of other agencies in which the series are written too, `core` the
-    office's measures of analytical core inflation, and `also` the forms of MORE_FORMS that it wants. `press` are the ids of
-    special aggregates and of such measures that the sentences of releases name, those of months from `press_since` on, and
-    `colours` the office's own colour on its pages.
+    are the office's own ids of SDMX by those that are used else, `specials` its special aggregates, `provisional` is
+    how many of the last months it may still revise (0 to MOST_PROVISIONAL), `years` how many years are in the files of
+    the folder `data` (None: as many as don't make them large), `speaks` are the languages of the pages (without one
+    they are English), `announced` are the releases that the pack before announced, and these do, `about` is what the
+    office says of the index in its own words, and `doi` is the DOI of the index, with which those of its releases
+    begin. With `has_quality`, the pack contains quality figures, with the `counts` of the survey, in which a division
+    has `least_outlets`; with `has_averages` there are `averages` of prices of as many. `profiles` are the structures of
+    other agencies in which the series are written too, `core` the office's measures of analytical core inflation, and
+    `also` the forms of MORE_FORMS that it wants. `press` are the ids of special aggregates and of such measures that
+    the sentences of releases name, those of months from `press_since` on, and `colours` the office's own colour on its
+    pages. `seasonal` is its folder of adjusted series.
     """
 
     agency: str
@@ -143,17 +150,20 @@ class Config(NamedTuple):
     press_since: str = ""
     colours: Optional[Colours] = None
     also: frozenset[str] = frozenset()
+    has_averages: bool = False
+    averages: tuple[Average, ...] = ()
+    seasonal: Optional[Seasonal] = None
 
     def reference_in(self, month: str) -> str:
-        """The reference period of the release of a month."""
+        """The reference period in the release of a month."""
         return value_in(self.references, month) if self.references else self.reference
 
     def rates_in(self, month: str) -> str:
-        """What changes of the release of a month are computed from."""
+        """The rule for changes in the release of a month: the levels from which they are computed."""
         return value_in(self.all_rates, month) if self.all_rates else self.rates
 
     def provisional_in(self, month: str) -> int:
-        """How many of the last months could still be revised at the release of a month."""
+        """The number of last months that the office could still revise at the release of a month."""
         return int(value_in(self.all_provisional, month)) if self.all_provisional else self.provisional
 
     def has(self, form: str) -> bool:
@@ -161,11 +171,11 @@ class Config(NamedTuple):
         return form not in self.without
 
     def spoken(self, tag: str) -> Config:
-        """The same with the office's own texts in a language."""
+        """The configuration with the office's own texts in a language."""
         return self._replace(**self.speaks.own.get(tag, Own()).words)  # type: ignore[arg-type]
 
     def id(self, name: str) -> str:
-        """An id of SDMX as this office has it."""
+        """The id of SDMX that this office uses."""
         return self.ids.get(name, name)
 
 
@@ -174,16 +184,17 @@ def read_config(path: Path, known: KnownIds = KnownIds()) -> Config:
     aggregates, of announced releases and of reasons, and the folder of the office's own words, if there are any, are named
     from the folder of this file.
 
-    Raises BadConfig, BadSpecials, BadCalendar, BadReasons, BadCounts, or a fault of `own_words`.
+    Raises BadConfig, BadSpecials, BadCalendar, BadReasons, BadCounts, BadSeasonal, or a fault of `own_words`.
     """
     parser = _read_sections(path)
     found = _office_words(parser)
     press, own_colours = found.pop("press", ""), [found.pop(name, "") for name in ("colour", "colour_dark")]
     quality, least_outlets = found.pop("quality", ""), _least_outlets(path, found.pop("least_outlets", ""))
+    averages = found.pop("average_prices", "")
     profiles = found.pop("profiles", "").replace(",", " ").split()
     ids = dict(parser["sdmx"]) if "sdmx" in parser else {}
-    specials, calendar, reasons, about, core = (
-        found.pop(name, "") for name in ("aggregates", "calendar", "revisions", "about", "core")
+    specials, calendar, reasons, about, core, seasonal = (
+        found.pop(name, "") for name in ("aggregates", "calendar", "revisions", "about", "core", "seasonal")
     )
     sections = {name: dict(parser[name]) for name in parser.sections() if name not in ("office", "sdmx")}
     languages, digits = found.pop("languages", ""), found.pop("digits", LATIN)
@@ -199,11 +210,11 @@ def read_config(path: Path, known: KnownIds = KnownIds()) -> Config:
     except BadColour as fault:
         raise BadConfig(f"{path}: {fault}") from None
     measures = _core(path, core, config.specials) if core else ()
-    named, since = _press(path, press, {it.id for it in config.specials} | {it.id for it in measures})
+    named = _press(path, press, config, measures)
     return config._replace(
         core=measures,
-        press=named,
-        press_since=since,
+        press=named.ids,
+        press_since=named.since,
         colours=colours,
         speaks=speaks,
         planned=read_planned(path.parent / calendar, config.clock) if calendar else (),
@@ -212,7 +223,10 @@ def read_config(path: Path, known: KnownIds = KnownIds()) -> Config:
         has_quality=bool(quality),
         counts=read_counts(path.parent / quality, least_outlets) if quality not in ("", TABLES) else (),
         least_outlets=least_outlets,
+        has_averages=bool(averages),
+        averages=_averages(path, averages, config.minor_digits, least_outlets) if averages else (),
         profiles=_profiles(path, profiles),
+        seasonal=read_seasonal(path.parent / seasonal) if seasonal else None,
     )
 
 
@@ -226,20 +240,45 @@ def _core(path: Path, name: str, specials: tuple[Special, ...]) -> tuple[CoreDef
     return found
 
 
-PRESS = re.compile(r"(.*?)(?: +from +(2[01][0-9]{2}-(?:0[1-9]|1[0-2])))?")
+def _press(path: Path, text: str, config: Config, core: Sequence[CoreDefinition]) -> PressNames:
+    """The aggregates and measures that the sentences of releases name. Raises BadConfig."""
+    try:
+        named = press_names(text, config.specials, core)
+    except BadPress as fault:
+        raise BadConfig(f"{path}: {fault}") from None
+    months = [named.since, *(it.since for it in config.all_rates if it.since > named.since)]
+    if named.ids and all(config.rates_in(month) != EXACT for month in months):
+        raise BadConfig(f"{path}: press: sentences say changes with `rates = exact` only, and rates is {config.rates}")
+    return named
 
 
-def _press(path: Path, text: str, ids: Collection[str]) -> tuple[tuple[str, ...], str]:
-    """What the sentences of releases name, and the month of the first release that does. Raises BadConfig."""
-    read = PRESS.fullmatch(text.replace(",", " ").strip())
-    assert read
-    names = tuple(read[1].split())
-    for name in names:
-        if name not in ids:
-            raise BadConfig(f"{path}: press: {name} is no id of `aggregates` or `core`")
-    if len({*names}) < len(names):
-        raise BadConfig(f"{path}: press names an id twice")
-    return names, read[2] or ""
+def _averages(path: Path, name: str, digits: int, least_outlets: int) -> tuple[Average, ...]:
+    """The average prices of a file. Raises BadAverages or BadConfig."""
+    return read_averages(path.parent / name, digits, _least_of_averages(path, least_outlets))
+
+
+def _least_of_averages(path: Path, least_outlets: int) -> int:
+    """The least number of outlets behind an average price. Raises BadConfig."""
+    if least_outlets < FEWEST_OUTLETS:
+        raise BadConfig(f"{path}: least_outlets is {least_outlets}: wanted {FEWEST_OUTLETS} or more for average prices")
+    return least_outlets
+
+
+class AverageRule(NamedTuple):
+    """The least number of outlets behind an average price, and the number of decimals of the office's money."""
+
+    least: int
+    digits: int
+
+
+def read_average_rule(path: Path) -> AverageRule:
+    """The configuration of average prices. Raises BadConfig."""
+    found = _office_words(_read_sections(path))
+    least = _least_of_averages(path, _least_outlets(path, found.get("least_outlets", "")))
+    try:
+        return AverageRule(least, _minor_digits(found))
+    except BadConfig as fault:
+        raise BadConfig(f"{path}: {fault}") from None
 
 
 def read_least_outlets(path: Path) -> int:
@@ -248,7 +287,7 @@ def read_least_outlets(path: Path) -> int:
 
 
 def _read_sections(path: Path) -> configparser.ConfigParser:
-    """The sections of a file, of which [office] is one. Raises BadConfig."""
+    """The sections of a file; one of them is [office]. Raises BadConfig."""
     parser = configparser.ConfigParser(interpolation=None)
     parser.optionxform = str  # type: ignore[assignment]
     try:
@@ -263,7 +302,7 @@ def _read_sections(path: Path) -> configparser.ConfigParser:
 
 
 def _office_words(parser: configparser.ConfigParser) -> dict[str, str]:
-    """The words of [office]. One without a value is as one that isn't there; a value of several lines is one."""
+    """The words of [office]. One without a value counts as missing; a value of several lines is one."""
     return {name: " ".join(value.split()) for name, value in parser["office"].items() if value.strip()}
 
 
@@ -278,7 +317,7 @@ def _profiles(path: Path, names: Sequence[str]) -> tuple[Profile, ...]:
 
 
 def _least_outlets(path: Path, text: str) -> int:
-    """How many outlets a division with counts has at least. Raises BadConfig."""
+    """The least number of outlets of a division with counts. Raises BadConfig."""
     if not text:
         return LEAST_OUTLETS
     if text not in map(str, range(FEWEST_LEAST, MOST_LEAST + 1)):
@@ -289,7 +328,7 @@ def _least_outlets(path: Path, text: str) -> int:
 def _config(found: dict[str, str], ids: dict[str, str], known: KnownIds, specials: tuple[Special, ...]) -> Config:
     """The values of both sections, tested."""
     _test_words(found)
-    references, all_rates, provisional = (_dated(found, name) for name in ("reference", "rates", "provisional"))
+    references, all_rates, provisional = (_read_dated(found, name) for name in ("reference", "rates", "provisional"))
     _test_dated(references, all_rates, provisional)
     numbers, without, also = _numbers(found), _forms(found, "without", FORMS), _forms(found, "with", MORE_FORMS)
     _test_ids(ids, known)
@@ -332,14 +371,21 @@ def _test_dated(references: tuple[Dated, ...], all_rates: tuple[Dated, ...], pro
 
 def _numbers(found: dict[str, str]) -> dict[str, Optional[int]]:
     """Takes the words that are numbers."""
-    digits = found.pop("minor_digits", "2")
-    if digits not in ("0", "1", "2", "3", "4"):
-        raise BadConfig(f"minor_digits: {digits} isn't 0 to 4")
+    digits = _minor_digits(found)
+    found.pop("minor_digits", "")
     provisional = found.pop("provisional", "0")
     years = found.pop("years", "")
     if years and not re.fullmatch("[1-9][0-9]?", years):
         raise BadConfig(f"years: {years} isn't 1 to 99")
-    return {"minor_digits": int(digits), "provisional": int(provisional), "years": int(years) if years else None}
+    return {"minor_digits": digits, "provisional": int(provisional), "years": int(years) if years else None}
+
+
+def _minor_digits(found: Mapping[str, str]) -> int:
+    """The number of decimals of the office's money. Raises BadConfig."""
+    digits = found.get("minor_digits", "2")
+    if digits not in ("0", "1", "2", "3", "4"):
+        raise BadConfig(f"minor_digits: {digits} isn't 0 to 4")
+    return int(digits)
 
 
 def _forms(found: dict[str, str], word: str, known: Sequence[str]) -> frozenset[str]:
@@ -365,7 +411,7 @@ def _clock(found: dict[str, str]) -> Clock:
         raise BadConfig(f"zone: {fault}") from None
 
 
-def _dated(found: dict[str, str], name: str) -> tuple[Dated, ...]:
+def _read_dated(found: dict[str, str], name: str) -> tuple[Dated, ...]:
     """The values of a word that may change with a release, of which the last stays in its place; none if it is one."""
     try:
         values = dated_of(found[name]) if name in found else ()
@@ -377,7 +423,7 @@ def _dated(found: dict[str, str], name: str) -> tuple[Dated, ...]:
 
 
 def _test_ids(ids: dict[str, str], known: KnownIds) -> None:
-    """Raises BadConfig where an id of the office can't be one, or would stand for two."""
+    """Raises BadConfig if an id of the office can't be one, or would mean two."""
     for name, own in ids.items():
         if name not in known.all:
             raise BadConfig(f"{name} is no id that [sdmx] can name; they are {', '.join(sorted(known.all))}")
@@ -402,7 +448,7 @@ class Dated(NamedTuple):
 
 
 def dated_of(text: str) -> tuple[Dated, ...]:
-    """The values of a text in their order; one value needs no month. Raises ValueError, which says what is wrong."""
+    """The values of a text in their order; one value needs no month. Raises ValueError, which names the problem."""
     found = []
     for part in text.split(","):
         read = PART.fullmatch(part.strip())

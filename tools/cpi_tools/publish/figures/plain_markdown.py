@@ -13,12 +13,12 @@ from typing import Any
 
 from markupsafe import Markup
 
-from ...text.markup import FORBIDDEN
+from ...text.others import FORBIDDEN
 from ...text.terminal import Fault, because_of, needs
 
 DIRECTIONS = re.compile("[\u202a-\u202e\u2066-\u2069]")
-"""Characters that nobody sees, and that turn the direction of what follows them, however far. (A mark such as U+200F reaches
-only its neighbours, and an Arabic text needs it between `2018:` and `309`.)"""
+"""Invisible characters that turn the direction of the text after them, however long it is. (A mark such as U+200F
+reaches only its neighbours, and an Arabic text needs it between `2018:` and `309`.)"""
 
 MODULE, PACKAGE = "markdown_it", "python3-markdown-it"
 
@@ -38,7 +38,7 @@ ELEMENTS: Mapping[str, str] = {
 """The elements without words of their own, by the names of the reader's tokens."""
 
 SCROLLED = Markup('<div class="scroll" tabindex="0">'), Markup("</div>")
-"""What is round a table, which may be wider than a telephone."""
+"""The markup around a table, which may be wider than a telephone's screen."""
 
 LINK = re.compile(r"(https?://|mailto:)[^\s\"'<>]+", re.IGNORECASE)
 
@@ -46,13 +46,13 @@ OTHERS: Mapping[str, str] = {
     "html_inline": "HTML", "html_block": "HTML", "image": "a picture", "fence": "a block of code",
     "code_block": "a block of code", "blockquote": "a citation", "hr": "a line across",
 }  # fmt: skip
-"""What else is in CommonMark, as a refusal says it."""
+"""The names that refusals give to the other elements of CommonMark."""
 
 WANTED = "paragraphs, headings (# and ##), lists, tables, *emphasis*, **strong**, `code` and links"
 
 
 class BadMarkdown(Fault):
-    """A text that isn't taken; one line, with the number of its own line."""
+    """A text that isn't accepted; the message is one line, with the number of the line in the text."""
 
 
 def read_markdown(path: Path) -> Markup:
@@ -86,7 +86,7 @@ def html_of(text: str) -> Markup:
 
 
 def _test_signs(text: str, line: int) -> None:
-    """Raises BadMarkdown if a text has what none can have, or what turns its direction."""
+    """Raises BadMarkdown if a text contains a character that isn't allowed, or one that turns its direction."""
     for signs, says in ((FORBIDDEN, "which no text has"), (DIRECTIONS, "which turns the direction of a text unseen")):
         found = signs.search(text)
         if found:
@@ -108,7 +108,7 @@ def _parts(tokens: Sequence[Any]) -> Iterator[Markup]:
 
 
 def _part(token: Any, line: int) -> Markup:
-    """The HTML of a token that has no others in it."""
+    """The HTML of a token that contains no other tokens."""
     kind, _, way = token.type.rpartition("_")
     if way in ("open", "close"):
         return _edge(token, kind, way == "open", line)
@@ -126,7 +126,7 @@ def _part(token: Any, line: int) -> Markup:
 
 
 def _edge(token: Any, kind: str, is_open: bool, line: int) -> Markup:
-    """Where an element begins or ends."""
+    """The HTML of an element's beginning or end."""
     if kind == "link":
         return _link(token, line) if is_open else Markup("</a>")
     if kind == "heading":
@@ -145,7 +145,8 @@ def _edge(token: Any, kind: str, is_open: bool, line: int) -> Markup:
 
 
 def _words_of(token: Any, element: str) -> str:
-    """The attributes of an element: where a list begins to count, and cells whose column is at the end of the line."""
+    """The attributes of an element: the number at which a list begins, and the class of cells whose column is at the
+    end of the line."""
     start = token.attrGet("start")
     if element == "ol" and isinstance(start, int):
         return f' start="{start}"'
@@ -164,5 +165,5 @@ def _link(token: Any, line: int) -> Markup:
 
 
 def _other(kind: str, line: int) -> BadMarkdown:
-    """What says that something isn't taken."""
+    """The refusal of an element that isn't accepted."""
     return BadMarkdown(f"line {line}: {OTHERS.get(kind, kind)} isn't taken; a section has {WANTED}")

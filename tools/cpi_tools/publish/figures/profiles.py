@@ -19,7 +19,7 @@ from pathlib import Path
 from typing import Any, NamedTuple, NoReturn, Optional
 
 from ...text.terminal import Fault
-from ...text.toml_files import BadToml, toml_of
+from ...text.text_files import BadToml, toml_of
 
 WORDS = {"id": str, "structure": str, "dataflow": str, "reference": str, "deepest": int, "dimensions": list,
          "dimension": dict, "attribute": dict}  # fmt: skip
@@ -43,8 +43,8 @@ class BadProfile(Fault):
 
 class Source(NamedTuple):
     """Where a dimension or an attribute comes from: one value, or what ours have, by `codes` if there are some; with
-    `has_others` those that aren't there are as ours. `at` says what an attribute hangs on, and `line` is where the table
-    begins."""
+    `has_others`, codes that aren't in the table stay as ours. `at` says what an attribute belongs to, and `line` is
+    where the table begins."""
 
     name: str
     constant: Optional[str]
@@ -85,7 +85,7 @@ class Profile(NamedTuple):
         return self.lines.get(key, 1)
 
     def refuse(self, line: int, says: str) -> NoReturn:
-        """Raises BadProfile with a line of the file; a value of several lines is said in one."""
+        """Raises BadProfile with a line of the file; a value of several lines is given in one."""
         raise BadProfile(f"{self.path}, line {line}: {' '.join(says.split())}")
 
 
@@ -117,7 +117,7 @@ class _Reader:
             if word not in WORDS:
                 self._refuse((word,), f"{word} is no word of a profile: wanted one of {', '.join(WORDS)}")
             if not isinstance(value, WORDS[word]) or isinstance(value, bool):
-                self._refuse((word,), f"{word} isn't as it has to be: wanted {_wanted(WORDS[word])}")
+                self._refuse((word,), f"{word} isn't as it has to be: wanted {_say_wanted(WORDS[word])}")
         for word in NEEDED:
             if word not in words:
                 self._refuse((), f"{word} is missing: wanted a line {word} = .. above the tables")
@@ -157,7 +157,7 @@ class _Reader:
         return tuple(self._source("dimension", str(name), tables[str(name)]) for name in names)
 
     def _source(self, kind: str, name: str, table: Any) -> Source:
-        """What a table says."""
+        """The contents of a table."""
         key, known = (kind, name), DIMENSION_WORDS if kind == "dimension" else ATTRIBUTE_WORDS
         if not isinstance(table, dict) or not NAME.fullmatch(name):
             self._refuse(key, f"{kind} {name}: wanted an id, and a table with constant or of")
@@ -201,8 +201,8 @@ class _Reader:
             self._refuse(key, f"{code!r} is no code: wanted a text of letters, digits, _, @, $ and -")
 
 
-def _wanted(kind: type) -> str:
-    """What a word has to be."""
+def _say_wanted(kind: type) -> str:
+    """The values that a word can have."""
     return {str: "a text", int: "a whole number", list: "a list of ids", dict: "a table"}[kind]
 
 

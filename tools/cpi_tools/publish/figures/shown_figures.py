@@ -1,9 +1,4 @@
-"""The figures as readers are shown them: levels with the office's own reference period, and changes by its own rule.
-
-A node whose months are linked to the reference period has 100 there. Any other, and every node if the office names no
-period, has 100 in December before it came. Changes are those of the tables, which come from levels before rounding. If
-the office says `rates = published`, they come from the printed index, which has one decimal.
-"""
+"""The figures as readers are shown them: levels and changes by the office's own rule, and a month in one sentence."""
 
 from __future__ import annotations
 
@@ -13,18 +8,53 @@ from collections.abc import Iterable, Iterator, Mapping, Sequence
 from typing import Optional
 
 from ...office.tables import Row, Series, before, link_of, rounded_change
-from ...text.exact import HUNDRED, Ratio, decimal, points, rounded, scaled
-from ...text.speech import SPEAKS_ENGLISH, Speech
+from ...text.exact import HUNDRED, Ratio, decimal, points, round_ratio, scale_ratio, tenths
+from ...text.languages import SPEAKS_ENGLISH, Speech
 from ...text.terminal import Fault, month_name
-from .measures import average, months_linked_to, reference_level, rereferenced
+from .measures import average, months_linked_to, reference_level, rereference
+
+
+# ==== the change in prices in a month, in one sentence: the headline of the first page, of a release, of a feed and of
+# a card
+
+
+def headline(month: str, whole: Row, speech: Speech = SPEAKS_ENGLISH) -> str:
+    """The sentence of a month by the row of all items, without its full stop: with the annual change, or the monthly
+    change as long as there is no annual one."""
+    is_annual = whole.year_change is not None
+    change = whole.month_change if whole.year_change is None else whole.year_change
+    size = speech.figure(tenths(abs(change)))
+    return _say_change(speech, is_annual, change).format(month=speech.month(month), size=size)
+
+
+def _say_change(speech: Speech, is_annual: bool, change: int) -> str:
+    """The sentence, with its places."""
+    if is_annual:
+        if change == 0:
+            return speech.t("In {month}, consumer prices were as high as a year earlier")
+        if change > 0:
+            return speech.t("In {month}, consumer prices were {size} percent higher than a year earlier")
+        return speech.t("In {month}, consumer prices were {size} percent lower than a year earlier")
+    if change == 0:
+        return speech.t("In {month}, consumer prices didn't change from the previous month")
+    if change > 0:
+        return speech.t("In {month}, consumer prices rose by {size} percent from the previous month")
+    return speech.t("In {month}, consumer prices fell by {size} percent from the previous month")
+
+
+# ==== the figures as readers are shown them: levels with the office's own reference period, and changes by its own rule
+#
+# A node whose months are linked to the reference period has 100 there. Any other, and every node if the office names no
+# period, has 100 in December before it came. Changes are those of the tables, which come from levels before rounding.
+# If the office says `rates = published`, they come from the printed index, which has one decimal.
 
 EXACT, PUBLISHED = "exact", "published"
 RATES = (EXACT, PUBLISHED)
-"""What changes are computed from: levels before rounding, or the printed index."""
+"""The levels from which changes are computed: levels before rounding, or the printed index."""
 
 
 RATES_SAY = {EXACT: "from levels before rounding", PUBLISHED: "from the printed index with one decimal"}
-"""What forms say of the rule."""
+"""The sentence about the rule in data files."""
 
 
 def period_name(period: str) -> str:
@@ -33,7 +63,7 @@ def period_name(period: str) -> str:
 
 
 class NotCovered(Fault):
-    """A reference period of which there is no table; one line."""
+    """A reference period without a table; one line."""
 
 
 class Shown:
@@ -52,7 +82,7 @@ class Shown:
         self._bases = {code: self._base(code) for code in series.all_titles} if reference else {}
 
     def part(self, series: Series) -> Shown:
-        """The same figures of a part of the tables, which need not have the reference period itself."""
+        """The figures of a part of the tables, which need not contain the reference period itself."""
         found = copy.copy(self)
         found.series, last = series, series.every[-1]
         found.__dict__.pop("_factors", None)
@@ -61,7 +91,7 @@ class Shown:
         return found
 
     def spoken(self, speech: Speech) -> Shown:
-        """The same figures for readers of another language."""
+        """The figures for readers of another language."""
         found = copy.copy(self)
         found.speech = speech
         return found
@@ -84,7 +114,7 @@ class Shown:
             return None
         return found[2]
 
-    def hundred(self, month: str, code: str) -> str:
+    def find_reference(self, month: str, code: str) -> str:
         """The period in which a node is 100, for a level of a month."""
         return self.reference if self.is_rereferenced(month, code) else self.series.base_of(month, code)
 
@@ -94,12 +124,12 @@ class Shown:
 
     def hundreds(self, code: str) -> list[tuple[str, str]]:
         """The first month of each of a node's runs, with the period in which it is 100."""
-        return [(month, self.hundred(month, code)) for month in self.series.starts(code)]
+        return [(month, self.find_reference(month, code)) for month in self.series.starts(code)]
 
     def of_level(self, chained: int, month: str, code: str) -> Ratio:
         """A chained level of a node in a month, in points of what is shown."""
         base = self._base_in(month, code)
-        return rereferenced(chained, base) if base else Ratio(chained, 10**6)
+        return rereference(chained, base) if base else Ratio(chained, 10**6)
 
     def row(self, month: str, code: str) -> Optional[Row]:
         """The row of a node, with the changes that are shown."""
@@ -119,9 +149,9 @@ class Shown:
         return decimal(*self.of_level(chained, month, code), digits)
 
     def units(self, months: Sequence[str], code: str, digits: int = 6) -> list[Optional[int]]:
-        """The same in some months, in units of the last decimal; None without a row."""
+        """The levels in some months, in units of the last decimal; None without a row."""
         found = self._ratios(months, code, self.series.column(months, code, "chained"))
-        return [None if it is None else scaled(*it, digits) for it in found]
+        return [None if it is None else scale_ratio(*it, digits) for it in found]
 
     def units_of_month(
         self, month: str, codes: Iterable[str], chained: Iterable[Optional[int]], digits: int
@@ -131,7 +161,7 @@ class Shown:
         for code, level in zip(codes, chained):
             it = factors.get(code)
             over, under = it[2:] if it and it[0] <= month <= it[1] else (1, 10**6)
-            yield None if level is None else rounded(level * over * by, under)
+            yield None if level is None else round_ratio(level * over * by, under)
 
     @functools.cached_property
     def _factors(self) -> Mapping[str, tuple[str, str, int, int]]:
@@ -159,34 +189,34 @@ class Shown:
         return self.mean(found, code, year) if found else None
 
     def mean(self, chained: Ratio, code: str, year: int) -> Ratio:
-        """The same of the average of chained levels."""
+        """The average of chained levels, in points of what is shown."""
         base = self._base_in(f"{year:04}-01", code)
         return Ratio(100 * chained.over * base.under, chained.under * base.over) if base else chained
 
     # ---- changes
 
     def changes(self, months: Sequence[str], code: str, is_annual: bool) -> list[Optional[int]]:
-        """The changes of a node that are shown in some months, in tenths of a percent; None where there is none."""
+        """The changes of a node that are shown in some months, in tenths of a percent; None if there is none."""
         if self.rates == EXACT:
             return self.series.column(months, code, "year_change" if is_annual else "month_change")
         rows = [self.row(month, code) for month in months]
         return [row and (row.year_change if is_annual else row.month_change) for row in rows]
 
-    def _printed(self, chained: int, month: str, code: str) -> int:
+    def _print_level(self, chained: int, month: str, code: str) -> int:
         """A level with one decimal, in tenths of a point."""
         level = self.of_level(chained, month, code)
-        return rounded(10 * level.over, level.under)
+        return round_ratio(10 * level.over, level.under)
 
     def _printed_before(self, month: str, by: int, code: str) -> Optional[int]:
         """The printed level so many months before; December before a run has the level that it began from."""
         earlier = before(month, by)
         chained = self.series.level(earlier, code)
         if chained is None and link_of(month) == earlier and month[:4] in {it[:4] for it in self.series.starts(code)}:
-            return self._printed(HUNDRED, earlier, code)
-        return None if chained is None else self._printed(chained, earlier, code)
+            return self._print_level(HUNDRED, earlier, code)
+        return None if chained is None else self._print_level(chained, earlier, code)
 
     def change(self, month: str, code: str, is_annual: bool) -> Optional[int]:
-        """The change of a node on the month or on the year before, in tenths of a percent."""
+        """The monthly or annual change of a node, in tenths of a percent."""
         row = self.series.row(month, code)
         if row is None:
             return None
@@ -195,4 +225,4 @@ class Shown:
             return printed
         # (of a month whose table isn't out yet there is no printed index, and the table's own change stays)
         then = self._printed_before(month, 12 if is_annual else 1, code)
-        return rounded_change(then, self._printed(row.chained, month, code)) if then else printed
+        return rounded_change(then, self._print_level(row.chained, month, code)) if then else printed

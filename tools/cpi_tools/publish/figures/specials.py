@@ -1,12 +1,4 @@
-"""Special aggregates: sets of elementary aggregates that an office names in a file, such as core inflation or a region.
-
-A row of the file `aggregates.csv` has an id, a title, and two lists of codes, apart by blanks: those that belong to
-the set (`in`) and those that don't (`out`). A code stands for all elementary aggregates at or below it, and the id of
-another set for all that are in that one. What is in both lists isn't in the set.
-
-A set can have further rows. Each says from which January on (`from`) it holds, since a year is linked to the December
-before it, and the rows before it hold for the years before. With nothing in it such a row ends the set.
-"""
+"""What an office names in files: special aggregates, measures of core inflation, and what the press reads of."""
 
 from __future__ import annotations
 
@@ -19,7 +11,18 @@ from typing import NamedTuple
 from ...office.table_rows import CODE
 from ...text.exact import at_and_above
 from ...text.terminal import Fault
-from .office_rows import read_rows
+from ...text.text_files import read_rows
+
+
+# ==== special aggregates: sets of elementary aggregates that an office names in a file, such as core inflation or a
+# region
+#
+# A row of the file `aggregates.csv` has an id, a title, and two lists of codes, apart by blanks: those that belong to
+# the set (`in`) and those that don't (`out`). A code stands for all elementary aggregates at or below it, and the id of
+# another set for all that are in that one. What is in both lists isn't in the set.
+#
+# A set can have further rows. Each says from which January on (`from`) it holds, since a year is linked to the December
+# before it, and the rows before it hold for the years before. With nothing in it such a row ends the set.
 
 HEAD = ["id", "title", "in", "out"]
 FROM = "from"
@@ -45,7 +48,7 @@ class Special(NamedTuple):
     since: str = ""
 
     @property
-    def named(self) -> tuple[str, ...]:
+    def all_names(self) -> tuple[str, ...]:
         """All codes and ids of both lists."""
         return self.inside + self.outside
 
@@ -56,7 +59,7 @@ def read_specials(path: Path) -> tuple[Special, ...]:
 
 
 def specials_of(rows: Sequence[Sequence[str]]) -> tuple[Special, ...]:
-    """The sets of some rows, the first of which has the names of the columns. Raises BadSpecials."""
+    """The sets of some rows, the first of which contains the names of the columns. Raises BadSpecials."""
     if not rows or [*rows[0]] not in (HEAD, [*HEAD, FROM]):
         raise BadSpecials(f"its first row isn't {','.join(HEAD)}, with or without {FROM}")
     wide = len(rows[0])
@@ -106,22 +109,22 @@ def in_force(specials: Iterable[Special], month: str) -> dict[str, Special]:
 
 def _test_names(special: Special, by_id: Mapping[str, Special], ids: set[str]) -> None:
     """Raises BadSpecials if a set names what is neither a code nor one of the ids, or is made of itself."""
-    for name in special.named:
+    for name in special.all_names:
         if name not in ids and not CODE.fullmatch(name):
             raise BadSpecials(f"{special.id}: {name} is neither a code such as 01.1 nor the id of a set")
-    if special.id in _reached(special, by_id):
+    if special.id in _reach(special, by_id):
         raise BadSpecials(f"{special.id} is made of itself")
 
 
-def _reached(special: Special, by_id: Mapping[str, Special]) -> set[str]:
+def _reach(special: Special, by_id: Mapping[str, Special]) -> set[str]:
     """The ids of all sets that a set is made of, through other sets too."""
     found: set[str] = set()
-    ahead = [*special.named]
+    ahead = [*special.all_names]
     while ahead:
         name = ahead.pop()
         if name in by_id and name not in found:
             found.add(name)
-            ahead += by_id[name].named
+            ahead += by_id[name].all_names
     return found
 
 
@@ -138,7 +141,7 @@ class Sets:
         return [*dict.fromkeys(it.id for it in self._rows)]
 
     def title(self, name: str) -> str:
-        """The title of a set: that of its last row."""
+        """The title of a set, from its last row."""
         return [it.title for it in self._rows if it.id == name][-1]
 
     def last(self, name: str) -> Special:
@@ -146,7 +149,7 @@ class Sets:
         return [it for it in self._rows if it.id == name and it.inside][-1]
 
     def in_month(self, month: str) -> Membership:
-        """What belongs to which set in a month."""
+        """The sets to which each elementary aggregate belongs in a month."""
         return self._known(max((it.since for it in self._rows if it.since <= month), default=""))
 
     def _membership(self, since: str) -> Membership:
@@ -154,7 +157,7 @@ class Sets:
 
     def unknown(self, codes: Iterable[str]) -> list[str]:
         """The codes that sets name and that aren't among some."""
-        return sorted({name for it in self._rows for name in it.named} - {*codes, *self.ids})
+        return sorted({name for it in self._rows for name in it.all_names} - {*codes, *self.ids})
 
 
 class Membership:
@@ -175,3 +178,166 @@ class Membership:
             )
             self._known[name, code] = is_inside and not is_outside
         return self._known[name, code]
+
+
+# ==== measures of analytical core inflation, which an office names in a file such as `core.csv`
+#
+# A row has an id, a title, a measure (`MEASURES`) and, of a trimmed mean, what is left out: percent of all weight at
+# each end, or at the lower and at the upper end, apart by a blank. The rules of the measures are in `aggregated`.
+#
+# A measure can have further rows. Each says from which January on (`from`) it holds, and the rows before it hold for
+# the years before. Without a measure such a row ends it.
+
+CORE_HEAD = ["id", "title", "measure", "trim"]
+
+MEDIAN, TRIMMED, ITEMS, WEIGHT = "median", "trimmed-mean", "items-rising", "weight-rising"
+MEASURES = (MEDIAN, TRIMMED, ITEMS, WEIGHT)
+"""The weighted median, a trimmed mean, and the shares of elementary aggregates and of their weight that rise."""
+
+RISING = (ITEMS, WEIGHT)
+"""The measures that are shares, and not changes."""
+
+WHOLE = 10_000
+"""All weight, in hundredths of a percent."""
+
+PERCENT = re.compile(r"(0|[1-9][0-9]?)(?:\.([0-9]{1,2}))?")
+
+
+class BadCore(Fault):
+    """A file of core measures with a fault; one line."""
+
+
+class CoreDefinition(NamedTuple):
+    """A measure as a row of the file names it. `lower` and `upper` are what a trimmed mean leaves out at the ends, in
+    hundredths of a percent of all weight; `since` is the January from which on that holds, empty for all years. Without a
+    measure it ends before."""
+
+    id: str
+    title: str
+    measure: str
+    lower: int = 0
+    upper: int = 0
+    since: str = ""
+
+    @property
+    def is_share(self) -> bool:
+        """Whether its figures are shares, and no changes."""
+        return self.measure in RISING
+
+
+def read_core(path: Path) -> tuple[CoreDefinition, ...]:
+    """The measures of a file, in its order. Raises BadCore."""
+    return read_rows(path, definitions_of, BadCore)
+
+
+def definitions_of(rows: Sequence[Sequence[str]]) -> tuple[CoreDefinition, ...]:
+    """The measures of some rows, the first of which contains the names of the columns. Raises BadCore."""
+    if not rows or [*rows[0]] not in (CORE_HEAD, [*CORE_HEAD, FROM]):
+        raise BadCore(f"its first row isn't {','.join(CORE_HEAD)}, with or without {FROM}")
+    wide = len(rows[0])
+    found = [_definition(number, row, wide) for number, row in enumerate(rows[1:], 2) if any(row)]
+    _test_core_order(found)
+    return tuple(found)
+
+
+def _definition(number: int, row: Sequence[str], wide: int) -> CoreDefinition:
+    """The measure of a row, which has as many cells as the head."""
+    if len(row) != wide:
+        raise BadCore(f"row {number} has {len(row)} cells, and not {wide}")
+    name, title, measure, trim, since = (cell.strip() for cell in (*row, "")[: len(CORE_HEAD) + 1])
+    if not ID.fullmatch(name):
+        raise BadCore(f"row {number}: {name or 'an empty text'} is no id of a measure, such as MEDIAN")
+    if not title:
+        raise BadCore(f"row {number}: {name} has no title")
+    if since and not JANUARY.fullmatch(since):
+        raise BadCore(f"row {number}: {name} is from {since}, which is no January such as 2027-01")
+    if measure not in MEASURES and (measure or trim or not since):
+        raise BadCore(f"row {number}: {name} is {measure or 'nothing'}, and none of {', '.join(MEASURES)}")
+    if (measure == TRIMMED) != bool(trim):
+        wanted = "needs in trim" if measure == TRIMMED else "isn't trimmed, and has in trim"
+        raise BadCore(f"row {number}: {name} {wanted} {trim or 'how many percent of all weight are left out'}")
+    return CoreDefinition(name, title, measure, *_ends(number, name, trim), since)
+
+
+def _ends(number: int, name: str, trim: str) -> tuple[int, int]:
+    """The weight that is left out at the lower and at the upper end, in hundredths of a percent of the total weight."""
+    if not trim:
+        return 0, 0
+    read = [PERCENT.fullmatch(part) for part in trim.split()]
+    ends = [int(it[1]) * 100 + int((it[2] or "").ljust(2, "0")) for it in read if it]
+    if len(ends) != len(read) or len(ends) > 2 or not 0 < sum(ends) * (3 - len(ends)) < WHOLE:
+        raise BadCore(
+            f"row {number}: {name} trims {trim}: wanted percent of all weight at each end, such as 15, or at the lower and"
+            " the upper end, such as 24 31, less than 100 together"
+        )
+    return ends[0], ends[-1]
+
+
+def _test_core_order(found: Sequence[CoreDefinition]) -> None:
+    """Raises BadCore if a further row of a measure doesn't begin after the one before, or makes shares of changes."""
+    last: dict[str, CoreDefinition] = {}
+    for it in found:
+        earlier = last.get(it.id)
+        if earlier and it.since <= earlier.since:
+            raise BadCore(
+                f"{it.id} has two rows: the further one needs in the column {FROM} the January from which on it holds"
+            )
+        if not earlier and not it.measure:
+            raise BadCore(f"{it.id} ends before it is anything")
+        if earlier and it.measure and earlier.measure and it.is_share != earlier.is_share:
+            raise BadCore(f"{it.id} is a share in one row and a change in another: give one of them an id of its own")
+        last[it.id] = it
+
+
+def definition_in(found: Sequence[CoreDefinition], month: str) -> CoreDefinition:
+    """The row of a measure that holds in a month; `found` are all rows of it. Before the first one it is nothing."""
+    own = [it for it in found if it.since <= month]
+    return own[-1] if own else found[0]._replace(measure="")
+
+
+# ==== the aggregates and measures that the sentences of releases name: the word `press` of a configuration, `FOOD CORE
+# from 2027-01`
+#
+# It has ids of special aggregates and of measures of core inflation, and may say the month of the first release that
+# names them. An id of which no sentence would ever say anything is refused.
+
+PRESS = re.compile(r"(.*?)(?: +from +(2[01][0-9]{2}-(?:0[1-9]|1[0-2])))?")
+
+
+class BadPress(Fault):
+    """Names that no sentence can say; one line."""
+
+
+class PressNames(NamedTuple):
+    """The ids that sentences name, and the month of the first release that has such sentences, empty if all have."""
+
+    ids: tuple[str, ...] = ()
+    since: str = ""
+
+
+def press_names(text: str, specials: Sequence[Special], core: Sequence[CoreDefinition]) -> PressNames:
+    """The names of a text, which are among some special aggregates and measures. Raises BadPress."""
+    read = PRESS.fullmatch(text.replace(",", " ").strip())
+    assert read
+    found = PressNames(tuple(read[1].split()), read[2] or "")
+    for name in found.ids:
+        rows = [(it.since, bool(it.inside)) for it in specials if it.id == name]
+        rows += [(it.since, bool(it.measure)) for it in core if it.id == name]
+        if not rows:
+            raise BadPress(f"press: {name} is no id of `aggregates` or `core`")
+        if any(it.is_share for it in core if it.id == name):
+            raise BadPress(
+                f"press: {name} is a share, and no sentence says one: wanted sets, a median or trimmed means"
+            )
+        if not _has_some(rows, found.since):
+            raise BadPress(f"press: {name} ends before {found.since}, when sentences begin to name it")
+    if len({*found.ids}) < len(found.ids):
+        raise BadPress("press names an id twice")
+    return found
+
+
+def _has_some(rows: Sequence[tuple[str, bool]], since: str) -> bool:
+    """Whether a set or a measure has something in it in a month or later; each row says from when on it holds, and whether it
+    has something."""
+    now = [has for at, has in rows if at <= since][-1:]
+    return any([*now, *(has for at, has in rows if at > since)])

@@ -1,16 +1,20 @@
-"""What each pack changed of the one before, for a registry that has that one: observations to replace and to delete.
+"""The changes of each pack from the one before, for a registry that contains that one: observations to replace and to
+delete.
 
-A pack that goes on from another one has `data/changes/2027-03-r1.sdmx.csv.zip` and `..sdmx.xml.zip`, which are named by its
-newest release: SDMX-CSV with the actions `R` and `D`, and SDMX-ML with a data set for each. Observations are compared as
-they were published, in the files of `data` and in the archives of earlier years. So the observations of the pack before with
-these changes are those of the pack, whatever made the difference: a table, another definition, or another status.
+A pack that goes on from another one has `data/changes/2027-03-r1.sdmx.csv.zip` and `..sdmx.xml.zip`, which are named by
+its newest release: SDMX-CSV with the actions `R` and `D`, and SDMX-ML with a data set for each. Observations are
+compared as they were published, in the files of `data` and in the archives of earlier years. So the observations of the
+pack before with these changes are those of the pack, whatever made the difference: a table, another definition, or
+another status.
 
-A file of changes stays for ever, and each later pack takes it over; the manifest names each with its sum. In a pack of seven
-thousand items one has some 60,000 observations: it is an archive, so that those of thirty years need 400 MB and not 4,000.
+A file of changes stays for ever, and each later pack takes it over; the manifest names each with its sum. In a pack of
+seven thousand items one has some 60,000 observations: it is an archive, so that those of thirty years need 400 MB and
+not 4,000.
 """
 
 from __future__ import annotations
 
+import re
 import shutil
 import tempfile
 import zipfile
@@ -19,11 +23,11 @@ from pathlib import Path
 from typing import BinaryIO, NamedTuple, Optional
 
 from ...office.tables import Series, Table
-from ...text.markup import attributes_of
+from ...text.others import attributes_of
 from ...text.terminal import Fault
-from ...text.whole_files import link_or_copy
+from ...text.text_files import link_or_copy
 from ..figures.config import Config
-from ..figures.release_names import name_of
+from ..figures.announcements import name_of
 from .artefacts import Structure
 from .manifest import Change, Manifest, sum_of
 from .pack_before import Before
@@ -42,7 +46,7 @@ from .sdmx import (
 from .years import YEARS, put
 
 FOLDER = "changes"
-"""The folder of `data` that has them."""
+"""The folder in `data` that contains the changes."""
 
 OBSERVATIONS = f"cpi.{ENDS['sdmx-csv']}"
 START = 3
@@ -50,9 +54,12 @@ START = 3
 
 IN_KEY = START + len(DIMENSIONS)
 
+ARCHIVE = re.compile(rf"data/{YEARS}/[0-9]{{4}}\.zip")
+"""The archive of a year, by its name in a pack."""
+
 
 class LostChanges(Fault):
-    """Published changes that aren't there any more; one line."""
+    """Published changes that no longer exist; one line."""
 
 
 # ---- what is kept
@@ -69,7 +76,8 @@ class Earlier(NamedTuple):
 
 
 def earlier_changes(pack: Path, manifest: Manifest, is_whole: bool = True) -> Earlier:
-    """Those of a pack. Of a manifest that is kept without its pack, those whose files are beside it. Raises LostChanges."""
+    """The changes of a pack; for a manifest that is kept without its pack, the changes whose files are next to it.
+    Raises LostChanges."""
     rows, places = list[Change](), dict[str, Path]()
     for row in manifest.changes:
         lost = next((name for name, its_sum in row.files.items() if not _has(pack / name, its_sum)), None)
@@ -87,8 +95,8 @@ def _has(path: Path, its_sum: str) -> bool:
     return path.is_file() and not path.is_symlink() and sum_of(path) == its_sum
 
 
-def joined(last: Earlier, standing: Earlier) -> Earlier:
-    """The changes of two packs, of which the new one follows the first."""
+def join_changes(last: Earlier, standing: Earlier) -> Earlier:
+    """The changes between two packs: the new one follows the first."""
     names = {row.name for row in last.rows}
     more = [row for row in standing.rows if row.name not in names]
     return last._replace(rows=[*more, *last.rows], places={**standing.places, **last.places})
@@ -98,7 +106,7 @@ def joined(last: Earlier, standing: Earlier) -> Earlier:
 
 
 class Made(NamedTuple):
-    """What the changes of a pack are made of."""
+    """The files from which the changes of a pack are made."""
 
     series: Series
     structure: Structure
@@ -108,8 +116,8 @@ class Made(NamedTuple):
 
 
 def write_changes(earlier: Earlier, made: Made, folder: Path) -> tuple[list[Change], dict[str, str]]:
-    """Writes the files of all changes into the folder of a pack whose observations are there: those of earlier packs, and
-    those against the pack before. All changes, and the sums of their files."""
+    """Writes the files of all changes into the folder of a pack that contains its observations: the changes of
+    earlier packs, and the changes from the pack before. Returns all changes, and the sums of their files."""
     rows, sums = [*earlier.rows], dict[str, str]()
     if earlier.places:
         (folder / "data" / FOLDER).mkdir()
@@ -125,7 +133,7 @@ def write_changes(earlier: Earlier, made: Made, folder: Path) -> tuple[list[Chan
 
 
 def _new_change(earlier: Earlier, made: Made, folder: Path) -> Optional[Change]:
-    """What the pack changes of the one before; None if it is nothing, and no table is new."""
+    """The changes of the pack from the one before; None if there are none, and no table is new."""
     before, manifest = made.now, earlier.manifest
     assert before and manifest and earlier.pack
     new = [it for it in made.series.vintages if (it.month, it.revision) not in manifest.tables]
@@ -145,19 +153,20 @@ def _new_change(earlier: Earlier, made: Made, folder: Path) -> Optional[Change]:
         if made.config.has("sdmx-ml"):
             paths.append(path.with_name(f"{name}.{ENDS['sdmx-ml']}"))
             _write_xml(path, paths[-1], made, name)
-        files = dict(_archived(each, folder) for each in paths)
+        files = dict(_archive_file(each, folder) for each in paths)
     return Change(name, releases, manifest.sha256, replaced, deleted, files)
 
 
 def _name(tables: Iterable[Table], used: Collection[str]) -> str:
-    """The name of a pack's changes: that of the newest release of some, and a number if that has some already."""
+    """The name of a pack's changes: the name of the newest release, and a number if that release has changes
+    already."""
     newest = max(tables, key=lambda it: (it.moment, it.month, it.revision))
     name = name_of(newest.month, newest.revision)
     names = (name, *(f"{name}-{number}" for number in range(2, len(used) + 2)))
     return next(each for each in names if each not in used)
 
 
-def _archived(path: Path, folder: Path) -> tuple[str, str]:
+def _archive_file(path: Path, folder: Path) -> tuple[str, str]:
     """Puts a file into an archive of its own; the name of that in the pack, and its sum."""
     name = f"data/{FOLDER}/{path.name}.zip"
     (folder / name).parent.mkdir(exist_ok=True)
@@ -170,33 +179,36 @@ def _archived(path: Path, folder: Path) -> tuple[str, str]:
 
 
 class _Pair:
-    """The observations of two packs, of which archives that are the same bytes are left out."""
+    """The observations of two packs, without archives that have the same bytes in both."""
 
     def __init__(self, before: Before, folder: Path, taken: Mapping[str, str], room: Path):
-        self._room, archives = room, sorted((folder / "data" / YEARS).glob("*.zip"))
-        changed = [path.stem for path in archives if f"data/{YEARS}/{path.name}" not in taken]
-        whole = before.whole(f"data/{OBSERVATIONS}")
-        now = (_member(folder / _archive(year), room / f"new-{year}.csv") for year in changed)
+        """`taken` are the sums of files that weren't made again; they may be of a third pack."""
+        self._room = room
+        archives = {f"data/{YEARS}/{path.name}" for path in (folder / "data" / YEARS).glob("*.zip")}
+        same = {name for name in archives if before.has(name, taken.get(name))}
+        now = (_member(folder / name, room / f"new-{_year(name)}.csv") for name in sorted(archives - same))
         self._new = [folder / "data" / OBSERVATIONS, *now]
-        archived = {year: found for year in changed if (found := before.whole(_archive(year)))}
-        earlier = (_member(found, room / f"old-{year}.csv") for year, found in archived.items())
-        is_lost = any(before.is_lost(_archive(year)) for year in changed)
-        self._old = [whole, *earlier] if whole and not is_lost else []
-        self._taken = {path.stem for path in archives} - {*changed}
+        whole = before.whole(f"data/{OBSERVATIONS}")
+        # (a year that is in the files of `data` now may have been in an archive)
+        then = sorted({name for name in before.names if ARCHIVE.fullmatch(name)} - same)
+        found = [path for name in then if (path := before.whole(name))]
+        is_whole = whole and len(found) == len(then)
+        self._old = [whole, *(_member(it, room / f"old-{it.stem}.csv") for it in found)] if whole and is_whole else []
+        self._same = {_year(name) for name in same}
 
     @property
     def is_comparable(self) -> bool:
-        """Whether the files are there, with the same columns."""
+        """Whether the files exist, with the same columns."""
         return bool(self._old) and len({_head(path) for path in (*self._old, *self._new)}) == 1
 
     def write(self, to: Path, structure: Structure) -> tuple[int, int]:
-        """Writes the observations that are others now, and then those that are gone; how many they are."""
+        """Writes the observations that changed, and then those that are gone; returns the numbers of both."""
         flow = structure.flow
         start = f"dataflow,{flow.agency}:{flow.id}({flow.version}),".encode()
         counts = [0, 0]
         with to.open("wb") as file, tempfile.TemporaryFile(dir=self._room) as gone:
             file.write(_head(self._new[0]))
-            for key, replaced, deleted in self._compared():
+            for key, replaced, deleted in self._compare():
                 file.writelines(b"%sR,%s,%s\n" % (start, key, line) for line in replaced)
                 gone.writelines(b"%sD,%s,%s\n" % (start, key, line) for line in deleted)
                 counts[0] += len(replaced)
@@ -205,8 +217,8 @@ class _Pair:
             shutil.copyfileobj(gone, file, 1 << 20)
         return counts[0], counts[1]
 
-    def _compared(self) -> Iterator[tuple[bytes, list[bytes], list[bytes]]]:
-        """By series, the rests of the lines that are others now, and those of observations that are gone."""
+    def _compare(self) -> Iterator[tuple[bytes, list[bytes], list[bytes]]]:
+        """By series, the rests of the lines that changed, and the rests of lines that are gone."""
         old = _Index(self._old)
         try:
             columns = _head(self._new[0]).count(b",") - IN_KEY
@@ -227,15 +239,15 @@ class _Pair:
     def _differing(
         self, now: Mapping[bytes, bytes], then: Mapping[bytes, bytes], columns: int
     ) -> tuple[list[bytes], list[bytes]]:
-        """The rests of the lines of a series that are others, and of those that are gone, with empty cells."""
+        """The rests of the lines of a series that changed, and of those that are gone, with empty cells."""
         replaced = [it for at, it in now.items() if then.get(at) != it]
-        gone = (at for at in then if at not in now and at[:4].decode() not in self._taken)
+        gone = (at for at in then if at not in now and at[:4].decode() not in self._same)
         return replaced, [at + b"," * columns for at in gone]
 
 
-def _archive(year: str) -> str:
-    """The archive of a year, by its name in a pack."""
-    return f"data/{YEARS}/{year}.zip"
+def _year(archive: str) -> str:
+    """The year of an archive, by its name in a pack."""
+    return Path(archive).stem
 
 
 def _member(archive: Path, to: Path) -> Path:
@@ -260,8 +272,8 @@ def _lines(text: bytes) -> dict[bytes, bytes]:
 
 
 class _Index:
-    """Where the series of some files are, whose texts are read when they are asked for: a national office has hundreds of
-    megabytes of them."""
+    """The places of the series in some files, whose texts are read only when they are needed: a national office has
+    hundreds of megabytes of them."""
 
     def __init__(self, paths: Iterable[Path]):
         self._files: list[BinaryIO] = [path.open("rb") for path in paths]

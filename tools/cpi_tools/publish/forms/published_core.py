@@ -1,34 +1,210 @@
-"""The core measures of a pack that was written before: whether their figures stay, and those that a later publication changed.
-
-`data/core.csv` has all figures of all months. They are computed once more from the tables of that pack and by the office's
-definitions now: another figure, or none, is what the office's file changed. What was published stays in `vintages.csv`.
-"""
+"""The core measures of a pack: as cubes of their own, and whether those that were published before stay."""
 
 from __future__ import annotations
 
 import csv
+import json
 from collections.abc import Iterator, Mapping, Sequence
 from pathlib import Path
-from typing import NamedTuple, Optional
+from typing import Any, NamedTuple, Optional
 
 from ...office.public import MONTH
-from ...office.tables import CoreRow, Series, Table, iso
+from ...office.tables import CoreMeasure, CoreRow, Series, Table, iso
+from ...text.languages import Speech, mark_text
 from ...text.terminal import Fault
-from ..figures.aggregated import by_moment, published_again
-from ..figures.core_definitions import CoreDefinition
-from ..figures.core_measures import CoreComputed, measures_of
-from ..figures.reasons import Reasons, definition_of
-from ..figures.specials import FROM, ID
+from ..figures.aggregated import CoreComputed, by_moment, measures_of, published_again
+from ..figures.announcements import Reasons, definition_of
+from ..figures.config import JSON_STAT, PX, Config
+from ..figures.figures import Known
+from ..figures.specials import FROM, ID, CoreDefinition
+from .artefacts import Tongue, first_of, others_of
+from .cubes import BREAK, NONE, PERCENT, PROVISIONAL, REVISABLE, in_languages, list_texts, moment_of, quote
 from .manifest import Manifest, SetSum, core_sum
-from .published_sets import latest_of
-from .reason_files import read_told
-from .set_vintages import line_with
+from .pack_before import read_told
+from .published_sets import latest_of, line_with
+from .sdmx import open_text
 from .tidy import HEAD, write_rows
+
+
+# ==== analytical core inflation as cubes of their own, JSON-stat 2.0 and PX, and as rows of a sheet of the workbook
+#
+# Each cube contains the measures, the changes from which they are computed (monthly and annual), and months. Figures
+# are in percent with one decimal. In JSON-stat a figure has `b` in the January from which its measure changes, and `p`
+# in a month that can still be revised; PX says both in notes.
+
+JSON_NAME, PX_NAME = "core.jsonstat.json", "core.px"
+
+MONTHLY, ANNUAL = "monthly", "annual"
+CHANGES = {
+    MONTHLY: mark_text("From the monthly changes"),
+    ANNUAL: mark_text("From the annual changes"),
+}
+"""The changes of elementary aggregates that a figure is computed from."""
+
+NAME = mark_text("Analytical core inflation")
+ABOUT = mark_text(
+    "Computed from published tables: from the changes of elementary aggregates before rounding, and from the weights"
+    " in use."
+)
+OTHER = mark_text("Break: the measure changes from this month on")
+
+
+def write_core_cubes(known: Known, config: Config, folder: Path) -> None:
+    """Writes both files, if the office has such measures and such forms."""
+    if not known.series.core:
+        return
+    if config.has(JSON_STAT):
+        with open_text(folder / JSON_NAME) as file:
+            file.write(json.dumps(_json_stat(known, config), ensure_ascii=False, indent=1) + "\n")
+    if config.has(PX):
+        with open_text(folder / PX_NAME) as file:
+            file.writelines(f"{keyword}={value};\n" for keyword, value in _keywords(known, config))
+            file.write("DATA=\n")
+            for _, _, texts in cells_of(known.series):
+                file.write(" ".join(text or NONE for text in texts) + "\n")
+            file.write(";\n")
+
+
+def cells_of(series: Series) -> Iterator[tuple[str, str, list[str]]]:
+    """By measure and change, the figures of all months; empty texts if there is none."""
+    for name, measure in series.core.items():
+        for at, change in enumerate(CHANGES):
+            yield name, change, [
+                measure.rows[month].texts[at] if month in measure.rows else "" for month in series.months
+            ]
+
+
+def title_of(tongue: Tongue, name: str, measure: CoreMeasure) -> str:
+    """The title of a measure in a language; the title in the office's file, if the language has none."""
+    return tongue.titles.get(name, measure.title)
+
+
+# ---- JSON-stat
+
+
+def _json_stat(known: Known, config: Config) -> dict[str, Any]:
+    series, first = known.series, first_of(config)
+    cells = [*cells_of(series)]
+    others = {tongue.tag: _spoken(known, tongue) for tongue in others_of(config)}
+    return {
+        "version": "2.0",
+        "class": "dataset",
+        **_spoken(known, first),
+        "updated": iso(series.moment),
+        "id": ["measure", "change", "month"],
+        "size": [len(series.core), len(CHANGES), len(series.months)],
+        "role": {"time": ["month"]},
+        "extension": {
+            "status": {"label": {BREAK: first.speech.t(OTHER), PROVISIONAL: first.speech.t(REVISABLE)}},
+            **({"languages": others} if others else {}),
+        },
+        "status": _statuses(known, cells),
+        "value": [float(text) if text else None for _, _, texts in cells for text in texts],
+    }
+
+
+def _statuses(known: Known, cells: list[tuple[str, str, list[str]]]) -> dict[str, str]:
+    """The statuses by the places of figures, counted from 0."""
+    series, statuses = known.series, dict[str, str]()
+    for at, (name, _, texts) in enumerate(cells):
+        for place, (month, text) in enumerate(zip(series.months, texts), at * len(series.months)):
+            status = BREAK if month in series.core[name].changes else ""
+            status += PROVISIONAL if month in known.shown.provisional else ""
+            if text and status:
+                statuses[str(place)] = status
+    return statuses
+
+
+def _spoken(known: Known, tongue: Tongue) -> dict[str, Any]:
+    """The texts of the dataset in a language."""
+    series, t = known.series, tongue.speech.t
+    titles = {name: title_of(tongue, name, measure) for name, measure in series.core.items()}
+    unit = {"label": t(PERCENT), "decimals": 1}
+    measure = {"index": [*titles], "label": titles, "unit": {name: unit for name in titles}}
+    change = {"index": [*CHANGES], "label": {name: t(text) for name, text in CHANGES.items()}}
+    return {
+        "label": t("{title}: analytical core inflation", title=tongue.config.title),
+        "source": tongue.config.office,
+        "note": [t(ABOUT)],
+        "dimension": {
+            "measure": {"label": t("Measure"), "category": measure},
+            "change": {"label": t("Change"), "category": change},
+            "month": {"label": t("Month"), "category": {"index": series.months}},
+        },
+    }
+
+
+# ---- PX
+
+
+def _keywords(known: Known, config: Config) -> Iterator[tuple[str, str]]:
+    """The keywords before the data, in the order that the format asks for."""
+    first, others = first_of(config), others_of(config)
+    moment = moment_of(known.series.moment)
+    yield "CHARSET", '"ANSI"'
+    yield "AXIS-VERSION", '"2013"'
+    yield "CODEPAGE", '"utf-8"'
+    yield "LANGUAGE", quote(first.tag)
+    if others:
+        yield "LANGUAGES", ",".join(quote(tongue.tag) for tongue in (first, *others))
+    yield "CREATION-DATE", f'"{moment}"'
+    yield "DECIMALS", "1"
+    yield "SHOWDECIMALS", "1"
+    yield "MATRIX", '"CORE"'
+    yield "AGGREGALLOWED", "NO"
+    yield "SUBJECT-CODE", '"CPI"'
+    yield from in_languages((first, *others), lambda tongue: _in_language(known, tongue, moment))
+
+
+def _in_language(known: Known, tongue: Tongue, moment: str) -> Iterator[tuple[str, str]]:
+    """The keywords with texts, or with the names of variables, in a language."""
+    series, t, speech = known.series, tongue.speech.t, tongue.speech
+    measure, change, month = (quote(t(name)) for name in ("Measure", "Change", "Month"))
+    titles = {name: f"{name} {title_of(tongue, name, measure)}" for name, measure in series.core.items()}
+    yield "SUBJECT-AREA", quote(tongue.config.title)
+    yield "TITLE", quote(t("{title}: analytical core inflation", title=tongue.config.title))
+    yield "CONTENTS", quote(t(NAME))
+    yield "UNITS", quote(t(PERCENT))
+    yield "STUB", f"{measure},{change}"
+    yield "HEADING", month
+    yield f"VALUES({measure})", list_texts(titles.values())
+    yield f"VALUES({change})", list_texts(map(t, CHANGES.values()))
+    yield f"VALUES({month})", list_texts(map(speech.month, series.months))
+    yield f"TIMEVAL({month})", "TLIST(M1),\n" + list_texts(each.replace("-", "") for each in series.months)
+    yield f"CODES({measure})", list_texts(titles)
+    yield f"CODES({change})", list_texts(CHANGES)
+    yield f"CODES({month})", list_texts(each.replace("-", "M") for each in series.months)
+    yield "LAST-UPDATED", f'"{moment}"'
+    if tongue.config.contact:
+        yield "CONTACT", quote(tongue.config.contact)
+    yield "SOURCE", quote(tongue.config.office)
+    yield "NOTE", quote(t(ABOUT))
+    yield from _notes(known, speech, titles, measure, month)
+
+
+def _notes(known: Known, speech: Speech, titles: dict[str, str], measure: str, month: str) -> Iterator[tuple[str, str]]:
+    """The notes about provisional months, and about measures that change from a month on."""
+    for each in known.series.months:
+        if each in known.shown.provisional:
+            yield f"VALUENOTE({month},{quote(speech.month(each))})", quote(speech.t(REVISABLE))
+    for name, own in known.series.core.items():
+        if own.changes:
+            months = speech.row([speech.month(each) for each in own.changes])
+            says = speech.t("Break: the measure changes in {months}", months=months)
+            yield f"VALUENOTE({measure},{quote(titles[name])})", quote(says)
+
+
+# ==== the core measures of a pack that was written before: whether their figures stay, and those that a later
+# publication changed
+#
+# `data/core.csv` has all figures of all months. They are computed once more from the tables of that pack and by the
+# office's definitions now: another figure, or none, is what the office's file changed. What was published stays in
+# `vintages.csv`.
 
 CORE = "core.csv"
 CORE_HEAD = ("month", "revision", "published", "id", "title", "measure", "monthly", "annual", "break")
-"""The columns of the file. `monthly` and `annual` are by the changes on the month and on the year before; `break` is 1 in the
-January from which on the measure is another one."""
+"""The columns of the file. `monthly` and `annual` are computed from monthly and annual changes; `break` is 1 in the
+January from which the measure changes."""
 
 Cells = dict[str, str]
 """A row of a file, by the names of its columns."""
@@ -39,11 +215,11 @@ class NoCoreFile(Fault):
 
 
 class OtherCore(Fault):
-    """Published figures of core measures that would be other ones now; one line."""
+    """Published figures of core measures that would change now; one line."""
 
 
 class KeptCore(NamedTuple):
-    """What a pack has of its core measures: the rows of its file by id and month, their lines in `vintages.csv`, and which
+    """The core measures of a pack: the rows of its file by id and month, their lines in `vintages.csv`, and which
     definition holds by the reasons that it has."""
 
     rows: Mapping[str, Mapping[str, Cells]] = {}
@@ -55,7 +231,7 @@ NO_CORE = KeptCore()
 
 
 def kept_core(pack: Path) -> KeptCore:
-    """That of a folder. Raises NoCoreFile or BadReasons."""
+    """The core measures of a folder. Raises NoCoreFile or BadReasons."""
     path = pack / "data" / CORE
     if not path.is_file():
         return NO_CORE
@@ -91,7 +267,7 @@ def refuse_changed_core(
     names = dict.fromkeys([*before.core, *kept.rows])
     rows = _rows_by(definitions, latest_of(before, series)) if names else {}
     for name in names:
-        says = _changed(name, before.core.get(name), kept.rows.get(name, {}), rows.get(name, {}), series)
+        says = _find_change(name, before.core.get(name), kept.rows.get(name, {}), rows.get(name, {}), series)
         definition = kept.definitions.get(name, 1)
         if says and definition_of(name, given) <= definition:
             raise OtherCore(
@@ -110,10 +286,10 @@ def _rows_by(definitions: Sequence[CoreDefinition], tables: Mapping[str, Table])
     return rows
 
 
-def _changed(
+def _find_change(
     name: str, known: Optional[SetSum], file: Mapping[str, Cells], rows: Mapping[str, CoreRow], series: Series
 ) -> str:
-    """What is said of the first other figure of a measure; nothing if all are the published ones."""
+    """The sentence about the first figure of a measure that differs; empty if all are the published ones."""
     if known and core_sum(rows) == known:
         return ""
     for month, cells in sorted(file.items()):
@@ -162,7 +338,7 @@ def core_lines(
 
 
 def _cells(series: Series, name: str, table: Table, moment: int, row: Optional[CoreRow]) -> Sequence[object]:
-    """A line with the columns of HEAD; without figures if there are none any more."""
+    """A line with the columns of HEAD; without figures if there are no longer any."""
     texts = ("", "") if row is None else row.texts
     named = table.month, table.revision, iso(moment), name, "", series.core[name].title
     return (*named, "", "", "", *texts, *[""] * (len(HEAD) - 11))
@@ -191,8 +367,8 @@ def _vintages(series: Series, definitions: Sequence[CoreDefinition]) -> dict[str
 
 
 def _of_redefined(series: Series, name: str, moment: int, kept: KeptCore) -> Iterator[list[Sequence[object]]]:
-    """The lines of a measure that got another definition: those that the pack before has as superseded, its own figures that
-    are others now, and what they are now. `moment` is that of the office's last reason."""
+    """The lines of a measure that got another definition: the superseded ones of the previous pack, its own figures
+    that differ now, and the figures that replace them. `moment` is that of the office's last reason."""
     earlier, rows = kept.vintages.get(name, {}), kept.rows.get(name, {})
     for month in sorted({*earlier, *rows}):
         lines, cells, table = earlier.get(month, []), rows.get(month), series.latest[month]

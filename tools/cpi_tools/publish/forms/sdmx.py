@@ -1,6 +1,6 @@
 """SDMX: the observations as SDMX-CSV 2.0 and as SDMX-ML 2.1, and the structure that both refer to.
 
-The XML is StructureSpecificData, the compact form, and the structure message lies beside it. Dimensions are those in
+The XML is StructureSpecificData, the compact form, and the structure message is next to it. Dimensions are those in
 use for consumer prices: FREQ, REF_AREA, MEASURE, UNIT_MEASURE, COICOP18, TRANSFORMATION, TIME_PERIOD. A dot is no
 character of an id, so `00` is `_T`, `01.1.1.1` is `CP01111` and `01.1.1.1-01` is `CP01111-01`.
 
@@ -34,20 +34,20 @@ from pathlib import Path
 from typing import NamedTuple, Optional, Protocol, TextIO, Union
 
 from ...office.tables import Series, iso, link_of
-from ...text.csv_files import line_of
-from ...text.markup import attributes_of, text_of
-from ...text.speech import marked
+from ...text.text_files import line_of
+from ...text.others import attributes_of, text_of
+from ...text.languages import mark_text
 from ..figures import figures
 from ..figures.config import SDMX_FORMS, Config, KnownIds
 from ..figures.figures import Figure, Known
 from ..figures.measures import average_change, full_years
 from .artefacts import CROSS_DOMAIN, SHARED, Structure, item_id
-from .tidy import written
+from .tidy import write_ratio
 
 FLOW, DEFINITION, SCHEME = "DF_CPI", "DSD_CPI", "CS_CPI"
 
 ENDS = {"sdmx-csv": "sdmx.csv", "sdmx-ml": "sdmx.xml"}
-"""How the names of the files of each form end."""
+"""The endings of the names of each form's files."""
 
 DIMENSIONS = ("FREQ", "REF_AREA", "MEASURE", "UNIT_MEASURE", "COICOP18", "TRANSFORMATION")
 TIME, VALUE = "TIME_PERIOD", "OBS_VALUE"
@@ -57,41 +57,43 @@ NEEDED = ("OBS_STATUS", "DECIMALS")
 
 LISTS: Mapping[str, tuple[str, Mapping[str, str]]] = {
     "MEASURE": (
-        marked("Measure"),
+        mark_text("Measure"),
         {
-            "CPI": marked("Consumer price index"),
-            "CPIC": marked("Consumer price index, December before the item came = 100"),
-            "CPIW": marked("Weight in the consumer price index"),
-            "CPIS": marked("Share of all weight, per mille"),
-            "CTR": marked("Contribution to the change of all items"),
+            "CPI": mark_text("Consumer price index"),
+            "CPIC": mark_text("Consumer price index, the December before the item entered the index = 100"),
+            "CPIW": mark_text("Weight in the consumer price index"),
+            "CPIS": mark_text("Share of the total weight, per mille"),
+            "CTR": mark_text("Contribution to the change in all items"),
         },
     ),
     "UNIT_MEASURE": (
-        marked("Unit of measure"),
+        mark_text("Unit of measure"),
         {
-            "IX": marked("Index"),
-            "PC": marked("Percent"),
-            "WU": marked("Units of weight, as in use"),
-            "PM": marked("Per mille"),
-            "PP": marked("Percentage points"),
+            "IX": mark_text("Index"),
+            "PC": mark_text("Percent"),
+            "WU": mark_text("Units of the weight in use"),
+            "PM": mark_text("Per mille"),
+            "PP": mark_text("Percentage points"),
         },
     ),
     "TRANSFORMATION": (
-        marked("Transformation"),
+        mark_text("Transformation"),
         {
-            "N": marked("As it is"),
-            "G1": marked("Change on the period before"),
-            "GY": marked("Change on the same period a year before"),
+            "N": mark_text("Not transformed"),
+            "G1": mark_text("Change from the previous period"),
+            "GY": mark_text("Change from the same period a year earlier"),
         },
     ),
     "IMPUTED_PRICES": (
-        marked("Prices imputed at or below the item"),
-        {"0": marked("None"), "1": marked("At least one")},
+        mark_text("Prices imputed at or below the item"),
+        {"0": mark_text("None"), "1": mark_text("At least one")},
     ),
 }
 """The code lists that don't depend on the tables: their titles, and the name of each code."""
 
-RISING: Mapping[str, str] = {"CPIR": marked("Share of elementary aggregates, or of their weight, that rises")}
+RISING: Mapping[str, str] = {
+    "CPIR": mark_text("Share of elementary aggregates, or of their weight, with rising prices")
+}
 """A further measure of an office with such shares of analytical core inflation."""
 
 
@@ -104,17 +106,17 @@ def lists_of(config: Config) -> Mapping[str, tuple[str, Mapping[str, str]]]:
 
 
 CONCEPTS: Mapping[str, str] = {
-    "FREQ": marked("Frequency"),
+    "FREQ": mark_text("Frequency"),
     **{name: title for name, (title, _) in LISTS.items()},
-    "OBS_STATUS": marked("Observation status"),
-    "REF_AREA": marked("Reference area"),
-    "COICOP18": marked("Item, by COICOP 2018"),
-    TIME: marked("Month or year"),
-    VALUE: marked("Observation"),
-    "BASE_PER": marked("Base period"),
-    "DECIMALS": marked("Decimals"),
-    "REVISION": marked("Revision of the month's table"),
-    "EMBARGO_TIME": marked("Moment of publication"),
+    "OBS_STATUS": mark_text("Observation status"),
+    "REF_AREA": mark_text("Reference area"),
+    "COICOP18": mark_text("Item, by COICOP 2018"),
+    TIME: mark_text("Month or year"),
+    VALUE: mark_text("Observation"),
+    "BASE_PER": mark_text("Base period"),
+    "DECIMALS": mark_text("Decimals"),
+    "REVISION": mark_text("Revision of the month's table"),
+    "EMBARGO_TIME": mark_text("Time of publication"),
 }
 
 FIXED = {TIME, VALUE}
@@ -141,7 +143,7 @@ KNOWN_IDS = KnownIds(
 
 
 class Measure(NamedTuple):
-    """What a series of observations is of: its ids, its decimals, and its figures."""
+    """A series of observations: its ids, its decimals, and its figures."""
 
     measure: str
     transformation: str
@@ -163,7 +165,7 @@ MEASURES = (
 
 
 Attributes = tuple[str, ...]
-"""What is said of an observation, in the order of OBS_ATTRIBUTES; most have the same as others of their month."""
+"""The attributes of an observation, in the order of OBS_ATTRIBUTES; most observations of a month have the same."""
 
 Observation = tuple[str, str, Attributes]
 """A figure: its month or year, the figure itself, and its attributes."""
@@ -204,7 +206,7 @@ class Months:
         ]
 
     def attributes(self, month: str, is_break: bool) -> Attributes:
-        """The attributes of a figure that has no base period, and of which nothing is said of imputed prices."""
+        """The attributes of a figure that has no base period, and no statement about imputed prices."""
         return self._based("")[is_break][self._known.series.months.index(month)][""]
 
     def observations(self, it: Measure, code: str) -> list[Observation]:
@@ -224,8 +226,8 @@ class Months:
         return found
 
     def _of_levels(self, code: str, bases: Sequence[tuple[str, str]]) -> list[Attributes]:
-        """The same of levels, some of which come after a break; `bases` are the first month of each base period, and the
-        period."""
+        """The attributes of levels, some of which come after a break; `bases` are the first month of each base
+        period, and the period."""
         months, breaks = self._known.series.months, self._known.series.marks(code)
         starts, periods = [month for month, _ in bases], [period for _, period in bases]
         found = []
@@ -243,7 +245,7 @@ def _all(_: tuple[str, ...], __: str) -> bool:
     return True
 
 
-def observed(known: Known, config: Config, is_wanted: Wanted = _all) -> Iterator[Observed]:
+def observe(known: Known, config: Config, is_wanted: Wanted = _all) -> Iterator[Observed]:
     """All wanted series that have an observation, in the order of the table above and of codes."""
     months = Months(known, config)
     for it in MEASURES:
@@ -302,7 +304,9 @@ def _annual(known: Known, config: Config) -> Iterator[Observed]:
                 value = average_change(series, code, each.year) if it is rates else shown.average(code, each.year)
                 if value is not None:
                     status = _status_of_year(each, marks, shown.provisional)
-                    value_text, base = written(value, it.decimals), "" if it is rates else _base_of(known, each, code)
+                    value_text, base = write_ratio(value, it.decimals), "" if it is rates else _base_of(
+                        known, each, code
+                    )
                     found.append((f"{each.year:04}", value_text, (base, config.id(status), "", "", iso(each.moment))))
             if found:
                 key = (config.id("A"), config.area, *ids[:2], item_id(code), ids[2])
@@ -318,7 +322,7 @@ def _status_of_year(year: Year, marks: Sequence[str], provisional: frozenset[str
 
 def _base_of(known: Known, year: Year, code: str) -> str:
     """The period in which the average of a year is 100."""
-    return known.shown.hundred(f"{year.year:04}-01", code)
+    return known.shown.find_reference(f"{year.year:04}-01", code)
 
 
 def _bases(it: Measure, known: Known, code: str) -> list[tuple[str, str]]:
@@ -329,7 +333,7 @@ def _bases(it: Measure, known: Known, code: str) -> list[tuple[str, str]]:
 
 
 class Also(Protocol):
-    """What else is made of the series as they are written, such as slices."""
+    """The other writers that get the series as they are written, such as slices."""
 
     def add(self, name: str, found: Observed, text: str) -> None:
         """Takes a series, and its text in the form of a name."""
@@ -340,9 +344,9 @@ def write_data(known: Known, structure: Structure, config: Config, folder: Path,
     with contextlib.ExitStack() as files:
         forms: dict[str, Form] = {}
         for form in filter(config.has, SDMX_FORMS):
-            file = files.enter_context(opened(folder / f"cpi.{ENDS[form]}"))
+            file = files.enter_context(open_text(folder / f"cpi.{ENDS[form]}"))
             forms[form] = form_of(form, file, structure, known.series, config)
-        for found in observed(known, config):
+        for found in observe(known, config):
             for form, it in forms.items():
                 text = it.text_of(found)
                 it.put(text)
@@ -359,7 +363,7 @@ def form_of(form: str, file: TextIO, structure: Structure, series: Series, confi
     return XmlForm(file, structure, series, config, part)
 
 
-def opened(path: Path) -> TextIO:
+def open_text(path: Path) -> TextIO:
     """A new file of text."""
     return path.open("w", encoding="utf-8", newline="")
 
@@ -401,7 +405,7 @@ class CsvForm:
         return end
 
     def end(self) -> None:
-        """Nothing stands behind the last row."""
+        """Nothing follows the last row."""
 
 
 # ---- XML
@@ -481,7 +485,7 @@ def _sender(config: Config) -> str:
 
 
 def _way(config: Config) -> str:
-    """A contact by its kind: an address of mail, of a page, a telephone, or else a name."""
+    """A contact by its kind: a mail address, a page's address, a telephone number, or otherwise a name."""
     text = text_of(config.contact)
     for form, name in CONTACTS:
         if form.fullmatch(config.contact):
@@ -494,12 +498,12 @@ CONTACTS = (
     (re.compile(r"https?://\S+"), "URI"),
     (re.compile(r"\+?[0-9][0-9 ()/.-]{3,}"), "Telephone"),
 )
-"""What a contact is by its form, and the element that SDMX has for it."""
+"""The kind of a contact by its form, and SDMX's element for it."""
 
 
 def data_head(own: Structure, series: Series, config: Config, part: str = "", action: str = "Information") -> str:
-    """What is before the series: namespaces, header, and the beginning of the data set; the id of a part of all is in that
-    of the message."""
+    """The text before the series: namespaces, header, and the beginning of the data set; the message's id contains
+    the id of a part."""
     definition, version = own.definition.id, own.definition.version
     model = "urn:sdmx:org.sdmx.infomodel.datastructure.DataStructure"
     space = f"{model}={own.definition.agency}:{definition}({version}):ObsLevelDim:{TIME}"

@@ -1,4 +1,4 @@
-"""CSV files: UTF-8, RFC 4180, a row of names first, lines ended by LF, figures with a fixed number of decimals."""
+"""CSV files of all nodes and of special aggregates: UTF-8, RFC 4180, a row of names first, lines ended by LF."""
 
 from __future__ import annotations
 
@@ -9,12 +9,15 @@ from typing import Optional
 
 from ...office.table_rows import NO_CHANGE, Rows
 from ...office.tables import Row, Series, Table, iso
-from ...text import csv_files
+from ...text import text_files
 from ...text.exact import ALL_ITEMS, Ratio, decimal, depth_of, parent_of, tenths
 from ..figures.figures import GIVEN_MONTH, GIVEN_YEAR, LEVEL, MONTH_CHANGE, PRINTED, SHARE, YEAR_CHANGE, Known
-from ..figures.measures import Contribution, average, average_change, full_years, twelve_month_rate
+from ..figures.measures import Contribution, Contributions, average, average_change, full_years, twelve_month_rate
 from ..figures.shown_figures import Shown
 from .pack_before import NOTHING_KEPT, KeptLines
+
+
+# ==== CSV files: UTF-8, RFC 4180, a row of names first, lines ended by LF, figures with a fixed number of decimals
 
 HEAD = ("month", "revision", "published", "code", "depth", "title", "weight", "index", "chained", "month_change",
         "year_change", "imputed", "base", "break")  # fmt: skip
@@ -34,13 +37,13 @@ AVERAGE_HEAD = ("code", "title", "year", "average", "change", "reference", "chai
 def write_rows(path: Path, head: Sequence[str], rows: Iterable[Sequence[object]]) -> None:
     """Writes a CSV file."""
     with path.open("w", encoding="utf-8", newline="") as file:
-        writer = csv_files.Writer(file)
+        writer = text_files.Writer(file)
         writer.writerow(head)
         writer.writerows(rows)
 
 
-def written(value: Optional[Ratio], digits: int) -> str:
-    """A ratio with some decimals; nothing where there is none."""
+def write_ratio(value: Optional[Ratio], digits: int) -> str:
+    """A ratio with some decimals; empty if there is none."""
     return "" if value is None else decimal(value.over, value.under, digits)
 
 
@@ -53,15 +56,15 @@ def figure_row(series: Series, table: Table, row: Row) -> Sequence[object]:
 
 
 class Lines:
-    """The same as lines of CSV, made from the columns of tables."""
+    """The rows as lines of CSV, made from the columns of tables."""
 
     def __init__(self, series: Series):
-        self._series, self._titles = series, csv_files.Cells()
+        self._series, self._titles = series, text_files.Cells()
         self._tenths = {NO_CHANGE: ""}
         self._tables: dict[tuple[str, int], str] = {}
 
     def look_at(self, titles: Iterable[str]) -> None:
-        """Looks at titles, of lines that are kept too, since a spreadsheet may take one for a formula."""
+        """Checks titles, also of kept lines, since a spreadsheet may take one for a formula."""
         for title in titles:
             self._titles[title]
 
@@ -101,13 +104,13 @@ class Lines:
             f"{chained // 1_000_000}.{chained % 1_000_000:06},{monthly},{annual},{rows.is_imputed[place]}"
         )
 
-    def gone(self, table: Table, code: str) -> str:
-        """The line of a node that an earlier revision of the month has, and this one hasn't: without figures."""
+    def write_gone(self, table: Table, code: str) -> str:
+        """The line, without figures, of a node that only an earlier revision of the month contains."""
         title = self._titles[self._series.title(code)] if code in self._series.titles else ""
         return f"{self._head(table)}{code},{depth_of(code)},{title}{',' * 8}\n"
 
     def _head(self, table: Table) -> str:
-        """What is the same in all lines of a table."""
+        """The cells that are the same in all lines of a table."""
         found = self._tables[table[:2]] = f"{table.month},{table.revision},{iso(table.moment)},"
         return found
 
@@ -119,14 +122,14 @@ class Lines:
 
 
 def write_lines(path: Path, head: Sequence[str], lines: Iterable[str], kept: Optional[str] = None) -> None:
-    """Writes a CSV file of lines, each with its end, behind those that are kept with their head."""
+    """Writes a CSV file of lines, each with its end, after those that are kept with their head."""
     with path.open("w", encoding="utf-8", newline="") as file:
-        file.write(csv_files.line_of(head) + "\n" if kept is None else kept)
+        file.write(text_files.line_of(head) + "\n" if kept is None else kept)
         file.writelines(lines)
 
 
 def write_months(known: Known, folder: Path, kept: KeptLines = NOTHING_KEPT) -> None:
-    """The CSV files with rows for months, but those of SDMX, of special aggregates and of the nodes."""
+    """The CSV files with rows for months, except the files of SDMX, of special aggregates and of the nodes."""
     series, shown = known.series, known.shown
     rereferenced = ("month", "code", "title", "reference", "rereferenced")
     printed = (*PRINTED_HEAD, PROVISIONAL) if shown.provisional else PRINTED_HEAD
@@ -160,7 +163,7 @@ def write_whole(
 
 
 def _cpi_lines(known: Known, months: Sequence[str]) -> Iterator[str]:
-    """All that tables have."""
+    """All lines of tables."""
     lines, latest = Lines(known.series), known.series.latest
     for month in known.series.months:
         lines.look_at(latest[month].rows.named.titles)
@@ -169,23 +172,23 @@ def _cpi_lines(known: Known, months: Sequence[str]) -> Iterator[str]:
 
 def _vintage_lines(series: Series, sets: Mapping[str, Sequence[str]]) -> Iterator[str]:
     """The lines of the nodes that a further revision changed: as they were at first, and as each revision that changed
-    them has them, with those of sets behind them. All others are in `cpi.csv` and `aggregates.csv`."""
+    them has them, with those of sets after them. All others are in `cpi.csv` and `aggregates.csv`."""
     lines = Lines(series)
     for month, found in groupby(series.vintages, key=lambda it: it.month):
         tables = [*found]
-        for code in sorted(_revised(tables)):
+        for code in sorted(_find_revised(tables)):
             earlier = ""
             for table in tables:
                 place = table.rows.place(code)
                 text = "" if place is None else lines.figures(table.rows, place)
                 if text != earlier:
-                    yield lines.line(table, code, place) if place is not None else lines.gone(table, code)
+                    yield lines.line(table, code, place) if place is not None else lines.write_gone(table, code)
                 earlier = text
         yield from sets.get(month, ())
 
 
-def _revised(tables: Sequence[Table]) -> set[str]:
-    """The nodes that have other figures or another title in two revisions of a month."""
+def _find_revised(tables: Sequence[Table]) -> set[str]:
+    """The nodes whose figures or titles differ between two revisions of a month."""
     found: set[str] = set()
     for old, new in zip(tables, tables[1:]):
         found |= old.rows.keys() ^ new.rows.keys()
@@ -198,11 +201,11 @@ CONTRIBUTION_HEAD = ("month", "code", "of", "contribution_month", "contribution_
 
 def contribution_row(month: str, it: Contribution) -> Sequence[object]:
     """Percentage points with six decimals."""
-    return month, it.code, it.of, written(it.to_month, 6), written(it.to_year, 6)
+    return month, it.code, it.of, write_ratio(it.to_month, 6), write_ratio(it.to_year, 6)
 
 
 def _contribution_lines(known: Known, months: Sequence[str]) -> Iterator[str]:
-    """Of each node to all items, and to the node above it if that is another."""
+    """The contributions of each node to all items, and to the node above it if that is another one."""
     above = [(code, parent_of(code)) for code in known.series.titles]
     parents = dict.fromkeys(parent for _, parent in above if parent is not None and parent != ALL_ITEMS)
     for month in months:
@@ -215,23 +218,24 @@ def _contribution_lines(known: Known, months: Sequence[str]) -> Iterator[str]:
                 of_month, of_year = both[parent]
                 monthly, annual = of_month(code), of_year(code)
                 if monthly is not None or annual is not None:
-                    yield f"{month},{code},{parent},{written(monthly, 6)},{written(annual, 6)}\n"
+                    yield f"{month},{code},{parent},{write_ratio(monthly, 6)},{write_ratio(annual, 6)}\n"
 
 
 def _printed_lines(known: Known, months: Sequence[str]) -> Iterator[str]:
-    """The figures of the pages: the index with one decimal, the changes in percent, and the share of all weight."""
-    titles, provisional = csv_files.Cells(), known.shown.provisional
+    """The figures on the pages: the index with one decimal place, the changes in percent, and the share of the total
+    weight."""
+    titles, provisional = text_files.Cells(), known.shown.provisional
     for month in months:
         end = f",{int(month in provisional)}" if provisional else ""
         columns = (known.texts_of_month(figure, month) for figure in (PRINTED, MONTH_CHANGE, YEAR_CHANGE, SHARE))
         for (code, title), index, *others in zip(known.titles.items(), *columns):
             if index:
-                yield f"{month},{code},{titles[title]},{known.shown.hundred(month, code)},{index},{','.join(others)}{end}\n"
+                yield f"{month},{code},{titles[title]},{known.shown.find_reference(month, code)},{index},{','.join(others)}{end}\n"
 
 
 def _average_lines(shown: Shown, kept: KeptLines) -> Iterator[str]:
     """Averages in points with six decimals, as shown and of chained levels; their change in percent with one."""
-    series, titles = shown.series, csv_files.Cells()
+    series, titles = shown.series, text_files.Cells()
     earlier, years = kept.by_code("averages.csv", series.all_titles.values()), full_years(series)
     if earlier:
         years = [int(month[:4]) for month in kept.later(f"{year:04}-12" for year in years)]
@@ -241,25 +245,69 @@ def _average_lines(shown: Shown, kept: KeptLines) -> Iterator[str]:
         for year in years:
             chained = average(series, code, year)
             if chained is not None:
-                mean, hundred = shown.mean(chained, code, year), shown.hundred(f"{year:04}-01", code)
-                changed = written(average_change(series, code, year), 1)
-                yield f"{code},{cell},{year},{written(mean, 6)},{changed},{hundred},{written(chained, 6)}\n"
+                mean, hundred = shown.mean(chained, code, year), shown.find_reference(f"{year:04}-01", code)
+                changed = write_ratio(average_change(series, code, year), 1)
+                yield f"{code},{cell},{year},{write_ratio(mean, 6)},{changed},{hundred},{write_ratio(chained, 6)}\n"
 
 
 def _rate_lines(known: Known, months: Sequence[str]) -> Iterator[str]:
     """Percent with one decimal."""
-    series, titles = known.series, csv_files.Cells()
+    series, titles = known.series, text_files.Cells()
     for month in months:
         for code, title in series.all_titles.items():
             rate = twelve_month_rate(series, month, code)
             if rate is not None:
-                yield f"{month},{code},{titles[title]},{written(rate, 1)}\n"
+                yield f"{month},{code},{titles[title]},{write_ratio(rate, 1)}\n"
 
 
 def _rereferenced_lines(known: Known, months: Sequence[str]) -> Iterator[str]:
     """Points with six decimals; a node without a level in the whole reference period, or a link to it, has no row."""
-    titles, shown = csv_files.Cells(), known.shown
+    titles, shown = text_files.Cells(), known.shown
     for month in months:
         for (code, title), level in zip(known.titles.items(), known.texts_of_month(LEVEL, month)):
             if level and shown.is_rereferenced(month, code):
                 yield f"{month},{code},{titles[title]},{shown.reference},{level}\n"
+
+
+# ==== the CSV files of special aggregates: their figures, the elementary aggregates in them, and contributions
+
+FIGURES, MEMBERS, GIVEN = "aggregates.csv", "aggregate-members.csv", "aggregate-contributions.csv"
+
+
+def write_specials(series: Series, contributions: Contributions, folder: Path) -> None:
+    """Writes the three files, if there are special aggregates."""
+    if series.specials:
+        write_rows(folder / FIGURES, HEAD, _figures(series))
+        write_rows(folder / MEMBERS, ("id", "title", "year", "code", "weight"), _members(series))
+        given = (
+            contribution_row(month, it) for month in series.months for it in _list_contributions(contributions, month)
+        )
+        write_rows(folder / GIVEN, CONTRIBUTION_HEAD, given)
+
+
+def _figures(series: Series) -> Iterator[Sequence[object]]:
+    """The rows of all months, with the columns of cpi.csv; `depth` is empty."""
+    for month in series.months:
+        for it in series.specials.values():
+            if month in it.rows:
+                yield figure_row(series, series.latest[month], it.rows[month])
+
+
+def _members(series: Series) -> Iterator[Sequence[object]]:
+    """The elementary aggregates of each year with their weights in use."""
+    first = {month[:4]: month for month in reversed(series.months)}
+    for name, it in series.specials.items():
+        for year, members in it.members.items():
+            if year in first:
+                rows = series.latest[first[year]].rows
+                yield from ((name, it.title, year, code, rows[code].weight) for code in members)
+
+
+def _list_contributions(contributions: Contributions, month: str) -> Iterator[Contribution]:
+    """The contributions of each set to all items, and of each elementary aggregate to the sets that it is or was in."""
+    for name, it in contributions.series.specials.items():
+        years = [it.members.get(year, ()) for year in (month[:4], f"{int(month[:4]) - 1:04}")]
+        members = sorted({code for found in years for code in found})
+        pairs = [(name, ALL_ITEMS), *((code, name) for code in members)]
+        found = (contributions.of(month, code, to) for code, to in pairs)
+        yield from (each for each in found if each.to_month is not None or each.to_year is not None)

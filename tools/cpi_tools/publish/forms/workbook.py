@@ -13,12 +13,12 @@ from typing import NamedTuple
 
 from ...office.tables import iso
 from ...text.exact import ALL_ITEMS
-from ...text.markup import attributes_of, text_of
+from ...text.others import attributes_of, text_of
 from ..figures import figures
 from ..figures.config import Config
 from ..figures.figures import Figure, Known
 from ..figures.shown_figures import RATES_SAY
-from .core_cubes import cells_of
+from .published_core import cells_of
 
 WHEN_ZIPPED = (1980, 1, 1, 0, 0, 0)
 """The time of each member."""
@@ -28,7 +28,7 @@ PLAIN, BOLD, ONE_DECIMAL, TWO_DECIMALS, WHOLE, AFTER_BREAK = range(6)
 
 
 class Sheet(NamedTuple):
-    """A sheet of figures: its name, the style of a figure, and which it is."""
+    """A sheet of figures: its name, the style of a figure, and the kind of figures."""
 
     name: str
     style: int
@@ -47,7 +47,7 @@ CORE = "Core inflation"
 """The name of the sheet with the measures of analytical core inflation, if the office has some."""
 
 CHAINED = Sheet("Chained level", ONE_DECIMAL, figures.CHAINED)
-"""A sheet that is there if the office has a reference period of its own."""
+"""A sheet that exists only if the office has a reference period of its own."""
 
 
 def sheets_of(config: Config) -> tuple[Sheet, ...]:
@@ -61,7 +61,7 @@ def write_workbook(known: Known, config: Config, path: Path) -> None:
     core = [CORE] if known.series.core else []
     names = ["Read me", *(sheet.name for sheet in sheets), *core, "Reference periods"]
     with zipfile.ZipFile(path, "w") as archive:
-        for name, text in _fixed(names).items():
+        for name, text in _write_fixed(names).items():
             _put(archive, name, [text])
         _put(archive, "xl/worksheets/sheet1.xml", _read_me(known, config))
         for number, sheet in enumerate(sheets, 2):
@@ -84,12 +84,12 @@ def _put(archive: zipfile.ZipFile, name: str, parts: Iterable[str]) -> None:
 
 
 def column_name(number: int) -> str:
-    """`A` of 0, `Z` of 25, `AA` of 26."""
+    """`A` for 0, `Z` for 25, `AA` for 26."""
     return (column_name(number // 26 - 1) if number > 25 else "") + chr(ord("A") + number % 26)
 
 
 def text_cell(place: str, text: str, style: int = PLAIN) -> str:
-    """A cell with a text, also where it begins as a formula would."""
+    """A cell with a text, even if the text begins like a formula."""
     kept = f'<is><t xml:space="preserve">{text_of(text)}</t></is>'
     return f'<c r="{place}" s="{style}" t="inlineStr">{kept}</c>'
 
@@ -114,7 +114,7 @@ def _pane_of(columns: int) -> str:
 
 
 def _sheet_head(widths: Sequence[tuple[int, int, int]], pane: str = "") -> str:
-    """What stands before the rows; `widths` are the first column, the last and their width in letters."""
+    """The part before the rows; `widths` are the first column, the last and their width in letters."""
     views = f'<sheetViews><sheetView workbookViewId="0">{pane}</sheetView></sheetViews>'
     columns = "".join(
         f'<col min="{first}" max="{last}" width="{wide}" customWidth="1"/>' for first, last, wide in widths
@@ -134,7 +134,7 @@ def _read_me(known: Known, config: Config) -> Iterator[str]:
         ("Published", iso(series.moment)),
         (
             "Index",
-            f"Level, {known.shown.hundred(series.months[-1], ALL_ITEMS)} = 100, unless the sheet Reference periods has"
+            f"Level, {known.shown.find_reference(series.months[-1], ALL_ITEMS)} = 100, unless the sheet Reference periods has"
             " another period for the item",
         ),
         (
@@ -160,7 +160,7 @@ def _read_me(known: Known, config: Config) -> Iterator[str]:
 
 
 def _provisional(known: Known) -> str:
-    """Which months can still be revised; nothing if there are none."""
+    """The months that can still be revised; empty if there are none."""
     months = [month for month in known.series.months if month in known.shown.provisional]
     return f"{months[0]} to {months[-1]}: the office may still revise these months" if months else ""
 
@@ -210,7 +210,7 @@ def _reference_periods(known: Known) -> Iterator[str]:
             changes = [month for month in series.marks(code) if run[0] < month <= run[-1]]
             notes = ["Back after a break: not linked to the levels before"] if at else []
             notes += [f"Other elementary aggregates from {month} on" for month in changes]
-            texts = [code, title, run[0], run[-1], known.shown.hundred(run[0], code), "; ".join(notes)]
+            texts = [code, title, run[0], run[-1], known.shown.find_reference(run[0], code), "; ".join(notes)]
             cells = (text_cell(f"{column_name(place)}{number}", text) for place, text in enumerate(texts) if text)
             yield f'<row r="{number}">{"".join(cells)}</row>\n'
     yield SHEET_FOOT
@@ -272,8 +272,8 @@ def _styles() -> str:
     )
 
 
-def _fixed(names: Sequence[str]) -> dict[str, str]:
-    """The members without a figure, for a book of some sheets."""
+def _write_fixed(names: Sequence[str]) -> dict[str, str]:
+    """The members without figures, for a workbook of some sheets."""
     sheets = [("worksheet", f"worksheets/sheet{number}.xml") for number in range(1, len(names) + 1)]
     return {
         "[Content_Types].xml": _content_types(len(names)),

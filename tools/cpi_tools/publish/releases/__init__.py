@@ -1,1 +1,1 @@
-"""Releases: what each said on its day, its pictures, its feed, its quality."""
+"""Releases: their pages as of their day, pictures, feed and quality."""

@@ -1,32 +1,98 @@
-"""The pictures of a pack's pages: the level and the changes of a node, and how much was imputed."""
+"""The pictures of a pack's pages: level and changes of a node, how much was imputed, and contributions."""
 
 from __future__ import annotations
 
 import functools
-from collections.abc import Iterator, Sequence
+from collections.abc import Iterable, Iterator, Sequence
+from fractions import Fraction
 from typing import NamedTuple, Optional
 
 from markupsafe import Markup
 
 from ...office.table_rows import Rows
-from ...office.tables import Series, before, link_of
+from ...office.tables import Row, Series, before, link_of
 from ...text import charts
 from ...text.charts import OTHER, OWN, Line, Picture
-from ...text.exact import ALL_ITEMS, HUNDRED, decimal, depth_of, tenths, with_sign
-from ...text.others import Worded, apart, of_others, others, worded
+from ...text.exact import ALL_ITEMS, HUNDRED, Ratio, decimal, depth_of, tenths, with_sign
+from ...text.languages import SPEAKS_ENGLISH, Speech, mark_text
+from ...text.others import Worded, apart, of_others, others, word_text
 from ...text.page_templates import NO_FIGURE
-from ...text.speech import SPEAKS_ENGLISH, Speech, marked
+from ..figures.measures import Contribution
 from ..figures.shown_figures import Shown
+
+
+# ==== the contributions of nodes to the change in a node above them, as the rows of a table with bars, and the lead
+# about them
+
+Values = list[tuple[str, Ratio]]
+"""Codes with percentage points."""
+
+
+class Given(NamedTuple):
+    """The contribution of a node to the change in the node directly above it: a row of a table, with its bar."""
+
+    code: str
+    title: str
+    row: Optional[Row]
+    value: Ratio
+    bar: charts.Bar
+
+
+class Lead(NamedTuple):
+    """The largest contribution to a change, the largest one in the other direction, and the sum of all, in
+    percentage points."""
+
+    most: Optional[Given]
+    against: Optional[Given]
+    total: Ratio
+
+
+def values_of(parts: Iterable[Contribution], is_annual: bool) -> Values:
+    """The codes of those that give something, with what they give."""
+    values = [(it.code, it.to_year if is_annual else it.to_month) for it in parts]
+    return [(code, value) for code, value in values if value is not None]
+
+
+def sorted_values(parts: Iterable[Contribution], is_annual: bool) -> Values:
+    """The contributions, the largest first."""
+    return sorted(values_of(parts, is_annual), key=lambda it: (-Fraction(*it[1]), it[0]))
+
+
+def with_bars(shown: Shown, month: str, found: Values) -> tuple[list[Given], str]:
+    """The rows of a table of what some nodes give, and where zero is on the track."""
+    track = charts.track([value.over / value.under for _, value in found])
+    rows = [
+        Given(code, shown.series.title(code), shown.row(month, code), value, bar)
+        for (code, value), bar in zip(found, track.bars)
+    ]
+    return rows, track.zero
+
+
+def lead_of(rows: Sequence[Given], change: int) -> Lead:
+    """The lead about contributions, the largest first, and about the change in tenths of a percent that they
+    explain."""
+    sign = -1 if change < 0 else 1
+    # (the first row gives most to a rise, the last one to a fall)
+    ends = rows[::sign]
+    most = ends[0] if ends and ends[0].value.over * sign > 0 else None
+    against = ends[-1] if ends and ends[-1].value.over * sign < 0 else None
+    total = Ratio(0, 1)
+    for it in rows:
+        total = total.plus(it.value)
+    return Lead(most, against, total)
+
+
+# ==== the pictures of a pack's pages: the level and the changes of a node, and how much was imputed
 
 LEVEL, YEAR, MONTH, IMPUTED, GIVEN, SETS = "level", "year", "month", "imputed", "contributions", "sets"
 """The kinds of pictures, by which their files are named."""
 
 
-KEY = marked("<b>Full line</b>: {full}. <i>Broken line</i>: {broken}.")
-"""What the lines of a picture are; in each language with these elements."""
+KEY = mark_text("<b>Full line</b>: {full}. <i>Broken line</i>: {broken}.")
+"""The text about the lines of a picture; in each language with these elements."""
 
 
-CUT = marked("{unit}; the axis doesn't begin at zero")
+CUT = mark_text("{unit}; the axis doesn't begin at zero")
 """A unit below the name of a picture whose axis is cut."""
 
 
@@ -57,7 +123,7 @@ class Chart(NamedTuple):
 
     @property
     def key(self) -> Markup:
-        """What its lines and its marks are, as elements of a page."""
+        """The texts about its lines and its marks, as elements of a page."""
         if not self.broken:
             return Markup("")
         form = self.speech.t(KEY)
@@ -71,15 +137,15 @@ def _ends(values: Sequence[Optional[float]], months: Sequence[str]) -> list[tupl
 
 
 def of_node(shown: Shown, code: str) -> list[Chart]:
-    """The level, beside that of all items, and both changes: up to the last month of the node."""
+    """The level, next to the level of all items, and both changes: up to the last month of the node."""
     series, speech = shown.series, shown.speech
     title = apart(series.title(code), speech.language.dir)
     end = next(at for at in range(len(series.months), 0, -1) if series.level(series.months[at - 1], code) is not None)
     months = series.months[max(0, end - charts.MOST_MONTHS) : end]
     found = [_level(shown, code, months)]
     names = (
-        (True, YEAR, speech.t("Change on the year before"), marked("{title}: change on the year before")),
-        (False, MONTH, speech.t("Change on the month before"), marked("{title}: change on the month before")),
+        (True, YEAR, speech.t("Annual change"), mark_text("{title}: annual change")),
+        (False, MONTH, speech.t("Monthly change"), mark_text("{title}: monthly change")),
     )
     for is_annual, kind, texts, of_title in names:
         values = [None if it is None else it / 10 for it in shown.changes(months, code, is_annual)]
@@ -108,10 +174,10 @@ def figures_of(shown: Shown, code: str, kind: str) -> list[tuple[str, str]]:
 
 
 def _between(speech: Speech, known: Sequence[tuple[str, float]]) -> str:
-    """The least and the greatest of some changes in percent, each with its month."""
+    """The smallest and the largest of some changes in percent, each with its month."""
     values = [value for _, value in known]
     (low_month, low), (high_month, high) = (known[values.index(most(values))] for most in (min, max))
-    least, greatest = (speech.figure(charts.signed(it)) for it in (low, high))
+    least, greatest = (speech.figure(charts.write_signed(it)) for it in (low, high))
     if len(known) == 1:
         return speech.t("{change} percent in {month}.", change=least, month=speech.month(low_month))
     if low == high:
@@ -136,12 +202,12 @@ def _base_text(speech: Speech, hundreds: tuple[tuple[str, str], ...]) -> str:
     first, *others = [(speech.month(month), speech.period(hundred)) for month, hundred in hundreds]
     texts = speech.t("{period} = 100", period=first[1])
     for month, period in others:
-        texts = speech.t("{bases}, from {month} on {period} = 100", bases=texts, month=month, period=period)
+        texts = speech.t("{bases}; since {month}, {period} = 100", bases=texts, month=month, period=period)
     return texts
 
 
 def _level(shown: Shown, code: str, months: Sequence[str]) -> Chart:
-    """The level of a node in some months, beside that of all items, which is 100 in the same period as the node's."""
+    """The level of a node in some months, next to the level of all items, which is 100 in the same period."""
     series, title, speech = shown.series, shown.series.title(code), shown.speech
     # (a first month alone is no line: it is drawn from the December before it, which it is linked to)
     months = [before(months[0]), *months] if len(months) == 1 else months
@@ -155,18 +221,18 @@ def _level(shown: Shown, code: str, months: Sequence[str]) -> Chart:
     if code != ALL_ITEMS:
         lines.append(Line(OTHER, _beside(shown, code, tuple(months))))
     named = speech.t("{title}: index", title=apart(title, speech.language.dir))
-    says = _said(shown, code, there, breaks)
+    says = _say_levels(shown, code, there, breaks)
     picture = Picture(LEVEL, named, " ".join(says), speech)
     drawn = charts.lines(picture, months, lines, breaks=breaks, marks=marks)
     chart = Chart(LEVEL, speech.t("Index"), base_text(shown, code), drawn, speech=speech)
     if code == ALL_ITEMS:
         return chart
     return chart._replace(
-        full=of_others(title), broken=_beside_text(shown, code), marks=_marked(shown, code, breaks, marks)
+        full=of_others(title), broken=_beside_text(shown, code), marks=_say_marks(shown, code, breaks, marks)
     )
 
 
-def _chained(shown: Shown, month: str, code: str) -> Optional[int]:
+def _find_level(shown: Shown, month: str, code: str) -> Optional[int]:
     """The chained level of a node in a month; in December before its first month it is 100."""
     chained = shown.series.level(month, code)
     return HUNDRED if chained is None and month < shown.series.months[0] else chained
@@ -186,8 +252,8 @@ def _of_all(shown: Shown, months: tuple[str, ...]) -> Sequence[Optional[float]]:
 
 
 def _text(shown: Shown, month: str, code: str) -> str:
-    """A level with one decimal; empty if there is none."""
-    chained = _chained(shown, month, code)
+    """A level with one decimal place; empty if there is no level."""
+    chained = _find_level(shown, month, code)
     return "" if chained is None else decimal(*shown.of_level(chained, month, code), 1)
 
 
@@ -200,16 +266,17 @@ def _beside(shown: Shown, code: str, months: tuple[str, ...]) -> Sequence[Option
 
 
 def _beside_in(shown: Shown, code: str, month: str, of_all: Optional[float]) -> Optional[float]:
-    """The same in a month; `of_all` is the level of all items as it is shown for themselves."""
-    chained = _chained(shown, month, ALL_ITEMS)
+    """The level of all items in a month next to a node; `of_all` is the level that is shown for all items
+    themselves."""
+    chained = _find_level(shown, month, ALL_ITEMS)
     if chained is None or shown.is_rereferenced(month, code):
         return of_all
     return 100 * chained / shown.series.level_in(shown.series.base_of(month, code), ALL_ITEMS)
 
 
 def _beside_text(shown: Shown, code: str) -> Worded:
-    """What a picture says of the line of all items: their title, and their period if they are shown elsewhere with
-    another one."""
+    """The text about the line of all items: their title, and their period if another one is shown for them
+    elsewhere."""
     periods, of_all = (tuple(hundred for _, hundred in shown.hundreds(it)) for it in (code, ALL_ITEMS))
     return _beside_in_periods(shown.speech, shown.series.title(ALL_ITEMS), periods, periods == of_all)
 
@@ -220,27 +287,27 @@ def _beside_in_periods(speech: Speech, title: str, periods: tuple[str, ...], is_
     if is_same:
         return named
     if len(periods) == 1:
-        return worded(speech.t("{title}, with {period} = 100 too"), title=named, period=speech.period(periods[0]))
-    return worded(speech.t("{title}, each time with the same period = 100"), title=named)
+        return word_text(speech.t("{title}, also with {period} = 100"), title=named, period=speech.period(periods[0]))
+    return word_text(speech.t("{title}, always with the same reference period"), title=named)
 
 
-def _marked(shown: Shown, code: str, breaks: Sequence[str], marks: Sequence[str]) -> str:
-    """What the marks of a picture are."""
+def _say_marks(shown: Shown, code: str, breaks: Sequence[str], marks: Sequence[str]) -> str:
+    """The text about the marks of a picture."""
     speech = shown.speech
     texts = [
         speech.t(
-            "from {month} on {period} = 100",
+            "since {month}, {period} = 100",
             month=speech.month(month),
-            period=speech.period(shown.hundred(month, code)),
+            period=speech.period(shown.find_reference(month, code)),
         )
         for month in breaks
     ]
     others = [month for month in marks if month not in breaks]
-    texts += [speech.t("from {month} on other items are in it", month=speech.month(month)) for month in others]
-    return speech.t("Mark: a break, {breaks}.", breaks="; ".join(texts)) if texts else ""
+    texts += [speech.t("from {month} on, it contains other items", month=speech.month(month)) for month in others]
+    return speech.t("A mark shows a break: {breaks}.", breaks="; ".join(texts)) if texts else ""
 
 
-def _said(shown: Shown, code: str, months: Sequence[str], breaks: Sequence[str]) -> Iterator[str]:
+def _say_levels(shown: Shown, code: str, months: Sequence[str], breaks: Sequence[str]) -> Iterator[str]:
     """The first level and the last one, of each part between two breaks; a node has a level in all these months."""
     speech, limits = shown.speech, ["", *breaks, "9999-12"]
     for begin, end in zip(limits, limits[1:]):
@@ -271,14 +338,14 @@ class Imputed(NamedTuple):
 
 
 def _share_imputed(rows: Rows) -> str:
-    """How much of the weight is that of elementary aggregates in which a price was imputed, in percent."""
+    """The share of the weight that belongs to elementary aggregates in which a price was imputed, in percent."""
     found = zip(rows.named.codes, rows.weight, rows.is_imputed)
     imputed = sum(weight for code, weight, is_imputed in found if is_imputed and depth_of(code) == 5)
     return decimal(100 * imputed, rows[ALL_ITEMS].weight, 0)
 
 
 def of_imputed(series: Series, speech: Speech = SPEAKS_ENGLISH) -> Imputed:
-    """How much of the weight is that of aggregates in which a price was imputed."""
+    """The share of the weight that belongs to aggregates in which a price was imputed."""
     months = series.months[-charts.MOST_MONTHS :]
     shares = [_share_imputed(series.latest[month].rows) for month in months]
     low, high = (most(shares, key=int) for most in (min, max))
@@ -290,5 +357,5 @@ def of_imputed(series: Series, speech: Speech = SPEAKS_ENGLISH) -> Imputed:
     name = speech.t("Aggregates in which a price was imputed")
     figures = [(speech.month(month), speech.figure(share)) for month, share in zip(months, shares)][::-1]
     drawn = charts.columns(Picture(IMPUTED, name, says, speech), months, [float(it) for it in shares])
-    chart = Chart(IMPUTED, name, speech.t("Percent of all weight"), drawn, speech=speech)
+    chart = Chart(IMPUTED, name, speech.t("Percent of the total weight"), drawn, speech=speech)
     return Imputed(figures[0][1], figures, chart)

@@ -1,6 +1,6 @@
 """The releases of an office: each table that was published, in the words and figures of its day, with a page that stays.
 
-A release is a month with its revision. Its page is made of the tables up to its moment (`as_of`), so later tables
+A release is a month with its revision. Its page is made of the tables up to its moment (`measures`), so later tables
 change nothing of it; a later revision adds a line that leads to it.
 """
 
@@ -16,19 +16,23 @@ import jinja2
 from ...office.tables import Row, Series, Table, before
 from ...text.exact import ALL_ITEMS, decimal, parent_of
 from ...text.page_templates import write_page
-from ...text.speech import Speech
-from ..figures.as_of import AsOf, each_as_of, given_then
-from ..figures.bases import Base, hidden_bases, revised_bases
+from ...text.languages import Speech
+from ..figures.measures import (
+    AsOf,
+    Base,
+    Contributions,
+    Revised,
+    each_as_of,
+    given_then,
+    hidden_bases,
+    revised_bases,
+    revised_of,
+)
 from ..figures.config import Config
-from ..figures.contributions import Given, lead_of, sorted_values, with_bars
-from ..figures.figures import Known
-from ..figures.headline import headline
-from ..figures.measures import Contributions
-from ..figures.notes import notes_then
-from ..figures.reasons import GivenReason, given_reasons
-from ..figures.release_names import FOLDER, card_of, name_of, page_of_release
-from ..figures.revised_levels import Revised, revised_of
-from ..figures.shown_figures import EXACT, Shown
+from .pictures import Given, lead_of, sorted_values, with_bars
+from ..figures.figures import Known, notes_then
+from ..figures.shown_figures import EXACT, Shown, headline
+from ..figures.announcements import FOLDER, GivenReason, card_of, given_reasons, name_of, page_of_release
 from ..forms.site_texts import RATES_TEXTS, release_text
 
 LAST_RELEASES = 5
@@ -36,9 +40,9 @@ LAST_RELEASES = 5
 
 
 class Release(NamedTuple):
-    """A release with the tables as they were, and the revisions of its month that came later. If its month was among the
-    last ones that could still be revised, `provisional` is how many these are, and else 0. `reasons` are those of a
-    further revision."""
+    """A release with the tables as they were, and the revisions of its month that came later. If its month was among
+    the last ones that could still be revised, `provisional` is the number of these months, and otherwise 0.
+    `reasons` are those of a further revision."""
 
     as_of: AsOf
     shown: Shown
@@ -60,7 +64,7 @@ class Release(NamedTuple):
 
     @property
     def is_annual(self) -> bool:
-        """Whether its headline has the change on the year before, else it has that on the month before."""
+        """Whether its headline has the annual change; otherwise it has the monthly one."""
         return self.whole.year_change is not None
 
     @property
@@ -74,9 +78,9 @@ class Release(NamedTuple):
         return self.shown.speech.figure(self.shown.text(self.table.month, ALL_ITEMS, 1))
 
     @property
-    def hundred(self) -> str:
+    def reference_period(self) -> str:
         """The period in which the index of all items is 100."""
-        return self.shown.hundred(self.table.month, ALL_ITEMS)
+        return self.shown.find_reference(self.table.month, ALL_ITEMS)
 
     @property
     def last_said(self) -> int:
@@ -95,7 +99,7 @@ class Release(NamedTuple):
 
     @property
     def text(self) -> str:
-        """What it is called: its month, and its revision if it is a further one."""
+        """The name of the release: its month, and its revision if it is a further one."""
         return release_text(self.shown.speech, self.table.month, self.table.revision)
 
     @property
@@ -131,7 +135,7 @@ def _later(series: Series, of: Table) -> Iterator[Table]:
 
 
 def _provisional(as_of: AsOf, months: int) -> int:
-    """So many months, if that of the release was among the last ones of its day; else 0."""
+    """The number of months, if the release's month was among the last ones of its day; otherwise 0."""
     of = as_of.of
     after = {it.month for it in as_of.whole.vintages if it.month > of.month and it.moment <= of.moment and it.rows}
     return months if len(after) < months else 0
@@ -142,11 +146,11 @@ def hundreds_of(releases: Sequence[Release]) -> str:
     `December 2024 = 100, from December 2025 on 2025 = 100`."""
     found, speech = dict[str, str](), releases[0].shown.speech
     for it in reversed(releases):
-        found.setdefault(speech.period(it.hundred), speech.month(it.table.month))
+        found.setdefault(speech.period(it.reference_period), speech.month(it.table.month))
     first, *others = found
     text = speech.t("{period} = 100", period=first)
     for period in others:
-        text = speech.t("{bases}, from {month} on {period} = 100", bases=text, month=found[period], period=period)
+        text = speech.t("{bases}; since {month}, {period} = 100", bases=text, month=found[period], period=period)
     return text
 
 
@@ -154,13 +158,14 @@ def hundreds_of(releases: Sequence[Release]) -> str:
 
 
 def given_in(release: Release, contributions: Contributions) -> tuple[list[Given], str]:
-    """What divisions give to the change of a release's headline, and where zero is on the track of their bars."""
+    """The contributions of divisions to the change in a release's headline, and the place of zero on the track of
+    their bars."""
     found = given_then(release.as_of, contributions).below(release.table.month, ALL_ITEMS)
     return with_bars(release.shown, release.table.month, sorted_values(found, release.is_annual))
 
 
 def page_words(release: Release, rows: list[Given], zero: str) -> dict[str, object]:
-    """What the template of a release's page is handed; the rows are those of `given_in`."""
+    """The values for the template of a release's page; the rows come from `given_in`."""
     as_of, shown, whole = release.as_of, release.shown, release.whole
     month = as_of.of.month
     change = whole.month_change if whole.year_change is None else whole.year_change
@@ -198,7 +203,7 @@ def _revised_bases(as_of: AsOf, rows: list[Given], speech: Speech) -> Iterator[B
 
 
 def revision_before(as_of: AsOf) -> Optional[Revised]:
-    """What a release changed, if it is a further revision of its month."""
+    """The changes of a release, if it is a further revision of its month."""
     mine = [it for it in as_of.vintages if it.month == as_of.of.month and it.revision < as_of.of.revision]
     return revised_of(mine[-1], as_of.of) if mine else None
 
@@ -210,7 +215,7 @@ def release_before(as_of: AsOf) -> Optional[Table]:
 
 
 def revised_since(as_of: AsOf) -> list[Revised]:
-    """What was revised after the first release of the month before, up to the first release of a month."""
+    """The revisions after the first release of the previous month, up to the first release of a month."""
     last = release_before(as_of)
     if last is None or as_of.of.revision > 1:
         return []
@@ -237,7 +242,8 @@ def _greatest(one: Table, other: Table) -> list[tuple[str, str]]:
 
 
 More = Callable[[Release, Sequence[Given]], dict[str, object]]
-"""What else the template of a release is handed: by the release and what divisions give to its change."""
+"""The other values for the template of a release: from the release and from the contributions of divisions to its
+change."""
 
 
 class ReleasePages:
@@ -254,14 +260,16 @@ class ReleasePages:
 
     @property
     def last(self) -> list[Release]:
-        """Those that were published last, the last one first."""
+        """The releases that were published last, the last one first."""
         by_moment = sorted(self.all, key=lambda it: (it.table.moment, it.table.month, it.table.revision))
         return by_moment[: -LAST_RELEASES - 1 : -1]
 
     @cached_property
     def other_hundreds(self) -> frozenset[str]:
-        """The names of those whose index is 100 in another period than that of the release before."""
-        return frozenset(now.name for before, now in zip(self.all, self.all[1:]) if now.hundred != before.hundred)
+        """The names of releases whose index is 100 in another period than in the release before."""
+        return frozenset(
+            now.name for before, now in zip(self.all, self.all[1:]) if now.reference_period != before.reference_period
+        )
 
     def by_year(self) -> list[tuple[str, list[Release]]]:
         """All releases by the year of their month, the last first."""

@@ -1,32 +1,39 @@
-"""Where the site of a pack is: the address that an office names, the map of its pages, and what pages say of themselves
-to other programs (schema.org).
-
-Without an address all links are relative, and nothing of this is written but the links.
-"""
+"""Where the site of a pack is: its address, the map of its pages, and the site as a catalogue (DCAT 3)."""
 
 from __future__ import annotations
 
 import json
-from collections.abc import Iterable, Sequence
+import re
+from collections.abc import Callable, Iterable, Iterator, Mapping, Sequence
 from pathlib import Path
+from typing import NamedTuple
 
 from markupsafe import Markup
 
 from ...office.tables import Series, iso
-from ...text.markup import is_address
-from ...text.speech import SPEAKS_ENGLISH, Speech
+from ...text.languages import SPEAKS_ENGLISH, Speech
+from ...text.others import is_address
+from ..figures.announcements import name_of
 from ..figures.config import Config
-from ..forms.cube import measures_of
-from ..releases.citations import doi_of
+from ..forms.cubes import measures_of
+from ..forms.manifest import NewFiles
+from ..forms.site_texts import FILES, file_says
+from ..releases.release_feeds import doi_of
 from ..releases.releases import Release
 from ..releases.site_languages import ALONE, Version
+
+
+# ==== the addresses of a pack's site: the address that an office names, the map of its pages, and the pages'
+# descriptions for other programs (schema.org)
+#
+# Without an address all links are relative, and nothing of this is written but the links.
 
 SITEMAP = "sitemap.xml"
 LOST = "404.html"
 """The page that a front shows if there is none at an address; no other page leads to it."""
 
 EMBEDDED = "embed/"
-"""The folder of the pages that are shown in a frame of other sites: they aren't for those who search."""
+"""The folder of the pages that are shown in a frame of other sites: search engines leave them out."""
 
 SITEMAP_HEAD = '<?xml version="1.0" encoding="UTF-8"?>\n<urlset xmlns="http://www.sitemaps.org/schemas/sitemap/0.9">\n'
 
@@ -41,13 +48,13 @@ TYPES = {
     "jsonld": "application/ld+json",
     "sqlite": "application/vnd.sqlite3",
 }
-"""The media types of the data files, by the ends of their names."""
+"""The media types of the data files, by the endings of their names."""
 
 OTHER_TYPES = {
     "structure.sdmx.xml": "application/vnd.sdmx.structure+xml;version=2.1",
     "csv-metadata.json": "application/csvm+json",
 }
-"""Those of single files."""
+"""The media types of single files."""
 
 
 # ---- the map of the pages (sitemaps.org)
@@ -73,7 +80,7 @@ def write_sitemap(
 
 
 def address_of(config: Config, page: str, version: Version = ALONE) -> str:
-    """The one address of a page in a version of the site: that of the first page is its folder's."""
+    """The only address of a page in a version of the site; the first page has the address of its folder."""
     return config.address + version.folder + ("" if page == "index.html" else page)
 
 
@@ -86,14 +93,14 @@ def type_of(name: str) -> str:
 
 
 def identifier_of(config: Config) -> str:
-    """What the data of an office are called, by its names in SDMX."""
+    """The name of an office's data, from its names in SDMX."""
     return f"{config.agency}:{config.id('DF_CPI')}"
 
 
 def description_of(config: Config, series: Series, speech: Speech) -> str:
-    """What is in the data."""
+    """The description of the data."""
     return speech.t(
-        "{title} of {office}: indices, changes, weights and contributions of {count} items by COICOP 2018, each"
+        "{title} of {office}: indices, changes, weights and contributions of {count} items by COICOP 2018, for each"
         " month from {first} to {last}.",
         title=config.title,
         office=config.office,
@@ -110,8 +117,8 @@ def dataset(
     speech: Speech = SPEAKS_ENGLISH,
     version: Version = ALONE,
 ) -> Markup:
-    """What the page of the data says of the index: its months, its publisher, and each file with its bytes and its
-    SHA-256."""
+    """The description of the index on the page of the data: its months, its publisher, and each file with its bytes
+    and its SHA-256."""
     return _script(
         {
             **_published_by(config),
@@ -121,9 +128,9 @@ def dataset(
             "identifier": _identifiers(identifier_of(config), config.doi),
             "keywords": [speech.t("Consumer price index"), "CPI", "COICOP 2018"],
             "measurementTechnique": speech.t(
-                "Items are those of the classification COICOP 2018. Dutot indices of elementary aggregates make an index of"
-                " Laspeyres type, which is chained each December. The Consumer Price Index Manual: Concepts and Methods"
-                " (2020) describes both."
+                "Items follow the classification COICOP 2018. Dutot indices of elementary aggregates are combined into"
+                " an index of Laspeyres type, which is chained each December. The Consumer Price Index Manual:"
+                " Concepts and Methods (2020) describes both."
             ),
             "variableMeasured": [speech.t(it.name) for it in measures_of(config)],
             "url": address_of(config, "data.html", version),
@@ -135,7 +142,7 @@ def dataset(
 
 
 def release_dataset(config: Config, release: Release, size: int, version: Version = ALONE) -> Markup:
-    """What the page of a release says of its table, which has so many bytes."""
+    """The description of a release's table on its page; the table has so many bytes."""
     table = release.table
     return _script(
         {
@@ -157,12 +164,12 @@ def release_dataset(config: Config, release: Release, size: int, version: Versio
 
 
 def _identifiers(own: str, doi: str) -> object:
-    """What a data set is called: by its office, and by its DOI if it has one."""
+    """The identifiers of a data set: by its office, and its DOI if it has one."""
     return [f"https://doi.org/{doi}", own] if doi else own
 
 
 def _published_by(config: Config) -> dict[str, object]:
-    """What both have."""
+    """The properties that both descriptions have."""
     office: dict[str, object] = {"@type": "GovernmentOrganization", "name": config.office}
     if config.contact:
         office["contactPoint"] = {"@type": "ContactPoint", "description": config.contact}
@@ -177,7 +184,7 @@ def _published_by(config: Config) -> dict[str, object]:
 
 
 def _file(config: Config, path: str, size: int, its_sum: str) -> dict[str, object]:
-    """A file that can be taken."""
+    """A file for download."""
     name = path.rpartition("/")[2]
     words = {"name": name, "encodingFormat": type_of(name) if "/tables/" not in path else TYPES["csv"]}
     whole = {"contentSize": f"{size} B", "sha256": its_sum}
@@ -190,3 +197,201 @@ def _script(found: dict[str, object]) -> Markup:
     for sign in "<>&\u2028\u2029":
         text = text.replace(sign, f"\\u{ord(sign):04x}")
     return Markup(f'<script type="application/ld+json">{text}</script>')
+
+
+# ==== the site as a catalogue of data portals: DCAT 3 (W3C, 2024) as JSON-LD, with the words of DCAT-AP
+#
+# One data set with all files of the folder `data` and the archives of earlier years. The context is in the file, so a
+# program reads it without a network.
+
+NAME = "catalog.jsonld"
+
+PREFIXES: Mapping[str, str] = {
+    "adms": "http://www.w3.org/ns/adms#",
+    "dcat": "http://www.w3.org/ns/dcat#",
+    "dct": "http://purl.org/dc/terms/",
+    "foaf": "http://xmlns.com/foaf/0.1/",
+    "rdfs": "http://www.w3.org/2000/01/rdf-schema#",
+    "skos": "http://www.w3.org/2004/02/skos/core#",
+    "spdx": "http://spdx.org/rdf/terms#",
+    "vcard": "http://www.w3.org/2006/vcard/ns#",
+    "xsd": "http://www.w3.org/2001/XMLSchema#",
+}
+
+EU = "http://publications.europa.eu/resource/authority/"
+MONTHLY, PUBLIC, ECONOMY = f"{EU}frequency/MONTHLY", f"{EU}access-right/PUBLIC", f"{EU}data-theme/ECON"
+LANGUAGES = "http://id.loc.gov/vocabulary/iso639-{}/{}"
+MEDIA_TYPES = "https://www.iana.org/assignments/media-types/"
+
+OF_SDMX: Mapping[str, str] = {"csv": "text/csv", "xml": "application/xml"}
+"""The registered media types of SDMX, by the endings of names."""
+
+MAILBOX = re.compile(r"(?<![^\s(<:,;])[\w.+-]+@\w[\w-]*(\.\w[\w-]*)+")
+"""A mailbox in a text, without the comma or the point that ends a sentence."""
+
+Node = dict[str, object]
+
+
+class Spoken(NamedTuple):
+    """A language of the pages: its speech, the office's texts in it, and the place of its pages."""
+
+    speech: Speech
+    config: Config
+    version: Version = ALONE
+
+    @property
+    def tag(self) -> str:
+        """Its tag."""
+        return self.speech.language.tag
+
+
+def write_catalog(series: Series, languages: Sequence[Spoken], files: NewFiles) -> None:
+    """Writes the catalogue into the folder `data`, which already contains the other files; the site has an address."""
+    config = languages[0].config
+    publisher: Node = {
+        "@id": f"{config.address}#office",
+        "@type": "foaf:Agent",
+        "foaf:name": _say(languages, lambda it: it.config.office),
+        "foaf:homepage": _is(config.address),
+    }
+    own: Node = {"dct:publisher": publisher, **_licence(config)}
+    found: Node = {
+        "@context": PREFIXES,
+        "@id": f"{config.address}data/{NAME}",
+        "@type": "dcat:Catalog",
+        "dct:title": _say(languages, lambda it: it.config.title),
+        "dct:description": _say(languages, _describes(series)),
+        **own,
+        "dct:language": [_language(it.tag) for it in languages],
+        "dct:modified": _moment(series.moment),
+        "foaf:homepage": _is(config.address),
+        "dcat:dataset": _dataset(series, languages, files, own),
+    }
+    files.write(f"data/{NAME}", (json.dumps(found, ensure_ascii=False, indent=1) + "\n").encode())
+
+
+def _dataset(series: Series, languages: Sequence[Spoken], files: NewFiles, own: Node) -> Node:
+    """The data of the index."""
+    config = languages[0].config
+    first = min(it.moment for it in series.vintages)
+    found: Node = {
+        "@id": f"{config.address}data.html#index",
+        "@type": "dcat:Dataset",
+        "dct:identifier": identifier_of(config),
+        "dct:title": _say(languages, lambda it: it.config.title),
+        "dct:description": _say(languages, _describes(series)),
+        **own,
+        "dct:issued": _moment(first),
+        "dct:modified": _moment(series.moment),
+        "dct:accrualPeriodicity": _is(MONTHLY),
+        "dct:accessRights": _is(PUBLIC),
+        "dcat:theme": _is(ECONOMY),
+        "dcat:keyword": [*_say(languages, lambda it: it.speech.t("Consumer price index")), "COICOP 2018"],
+        "dct:language": [_language(it.tag) for it in languages],
+        "dct:spatial": {"@type": "dct:Location", "rdfs:label": config.country or config.area},
+        "dct:temporal": {
+            "@type": "dct:PeriodOfTime",
+            "dcat:startDate": {"@type": "xsd:gYearMonth", "@value": series.every[0]},
+            "dcat:endDate": {"@type": "xsd:gYearMonth", "@value": series.every[-1]},
+        },
+        "dcat:version": name_of(series.last.month, series.last.revision),
+        "dcat:landingPage": [_is(address_of(it.config, "data.html", it.version)) for it in languages],
+        "foaf:page": [_is(address_of(it.config, "method.html", it.version)) for it in languages],
+        "dcat:distribution": [*_distributions(languages, files)],
+    }
+    if config.doi:
+        found["adms:identifier"] = {"@type": "adms:Identifier", "skos:notation": f"https://doi.org/{config.doi}"}
+    if config.contact:
+        found["dcat:contactPoint"] = _contact(config)
+    return found
+
+
+def _distributions(languages: Sequence[Spoken], files: NewFiles) -> Iterator[Node]:
+    """Each file with its size and its sum."""
+    config, folder = languages[0].config, files.folder / "data"
+    for name in FILES:
+        if (folder / name).is_file() and name != NAME:
+            says = [_text(it.tag, text) for it in languages if (text := file_says(it.speech, it.config)[name])]
+            yield _distribution(config, f"data/{name}", says, files)
+    for path in sorted((folder / "years").glob("*.zip"), reverse=True):
+        says = [_text(it.tag, it.speech.t("Earlier years")) for it in languages]
+        yield _distribution(config, f"data/years/{path.name}", says, files)
+
+
+def _distribution(config: Config, path: str, says: object, files: NewFiles) -> Node:
+    """A file by its name in the pack."""
+    name = path.rpartition("/")[2]
+    address = config.address + path
+    return {
+        "@id": address,
+        "@type": "dcat:Distribution",
+        "dct:title": path.removeprefix("data/"),
+        "dct:description": says,
+        "dcat:accessURL": _is(address),
+        "dcat:downloadURL": _is(address),
+        "dcat:mediaType": _is(MEDIA_TYPES + _media_of(name)),
+        "dcat:byteSize": {"@type": "xsd:nonNegativeInteger", "@value": str((files.folder / path).stat().st_size)},
+        "spdx:checksum": {
+            "@type": "spdx:Checksum",
+            "spdx:algorithm": _is(f"{PREFIXES['spdx']}checksumAlgorithm_sha256"),
+            "spdx:checksumValue": {"@type": "xsd:hexBinary", "@value": files.sum_of(path)},
+        },
+        **_licence(config),
+    }
+
+
+# ---- parts
+
+
+def _is(address: str) -> Node:
+    """A reference to the resource at an address."""
+    return {"@id": address}
+
+
+def _text(tag: str, text: str) -> Node:
+    """A text in a language."""
+    return {"@value": text, "@language": tag}
+
+
+def _say(languages: Sequence[Spoken], text: Callable[[Spoken], str]) -> list[object]:
+    """A text in each language."""
+    return [_text(it.tag, text(it)) for it in languages]
+
+
+def _describes(series: Series) -> Callable[[Spoken], str]:
+    """A function that describes the data in a language."""
+    return lambda it: description_of(it.config, series, it.speech)
+
+
+def _moment(moment: int) -> Node:
+    return {"@type": "xsd:dateTime", "@value": iso(moment)}
+
+
+def _language(tag: str) -> Node:
+    """A language by the list of the Library of Congress, with two letters or three."""
+    code = tag.partition("-")[0]
+    return _is(LANGUAGES.format(len(code) - 1, code))
+
+
+def _media_of(name: str) -> str:
+    """The media type of a file, by the register of them."""
+    if name.endswith(".zip"):
+        return "application/zip"
+    found = type_of(name)
+    return OF_SDMX[name.rpartition(".")[2]] if found.startswith("application/vnd.sdmx.") else found
+
+
+def _licence(config: Config) -> Node:
+    """The licence, by its address or by its name."""
+    if not config.licence:
+        return {}
+    if is_address(config.licence):
+        return {"dct:license": _is(config.licence)}
+    return {"dct:license": {"@type": "dct:LicenseDocument", "rdfs:label": config.licence}}
+
+
+def _contact(config: Config) -> Node:
+    """The contact for questions; for a text with a mailbox also the mailbox."""
+    found: Node = {"@type": "vcard:Organization", "vcard:fn": config.office, "vcard:note": config.contact}
+    mailbox = MAILBOX.search(config.contact)
+    return {**found, "vcard:hasEmail": _is(f"mailto:{mailbox[0]}")} if mailbox else found

@@ -2,7 +2,7 @@
 for the search and for a PNG of a picture.
 
 Each page says what it knows by the latest published tables. Shown figures are rounded once from what is published;
-the files beside the pages have all digits.
+the files next to the pages have all digits.
 """
 
 from __future__ import annotations
@@ -19,26 +19,30 @@ from markupsafe import Markup
 
 from ...office.public import Source
 from ...office.tables import Row, Table, before, link_of
-from ...text.exact import ALL_ITEMS, HUNDRED, decimal, depth_of, rounded
+from ...text.exact import ALL_ITEMS, HUNDRED, decimal, depth_of, round_ratio
 from ...text.others import apart, others
 from ...text.page_templates import TEMPLATES, environment, write_page
-from ...text.speech import Speech
-from ..figures.bases import hidden_bases, hidden_months, revised_bases
+from ...text.languages import Speech
+from ..figures.measures import all_revised, hidden_bases, hidden_months, reference_level, revised_bases
 from ..figures.config import PICTURES, Config
-from ..figures.contributions import Given, lead_of, sorted_values, values_of, with_bars
-from ..figures.figures import Known
-from ..figures.headline import headline
-from ..figures.logos import LOGO, Logo
-from ..figures.measures import reference_level
-from ..figures.notes import Notes, note_names, present, said
-from ..figures.reasons import QUALITY, GivenReason, Reasons, given_reasons
-from ..figures.revised_levels import all_revised
-from ..figures.shown_figures import EXACT
+from ..releases.pictures import (
+    Chart,
+    Given,
+    base_text,
+    lead_of,
+    of_imputed,
+    of_node,
+    sorted_values,
+    values_of,
+    with_bars,
+)
+from ..figures.figures import Known, Notes, explain_letters, note_names, present
+from ..figures.shown_figures import EXACT, headline
+from ..figures.own_words import LOGO, Logo
+from ..figures.announcements import QUALITY, SEASONAL, GivenReason, Reasons, given_reasons
 from ..figures.specials import Sets, Special
-from ..forms.manifest import MANIFEST, read_manifest
-from ..forms.new_files import NewFiles
-from ..forms.profile_files import files_of
-from ..forms.signature import Signature
+from ..forms.manifest import MANIFEST, NewFiles, Signature, read_manifest
+from ..forms.structure import files_of
 from ..forms.site_texts import (
     FILES,
     RATES_TEXTS,
@@ -50,23 +54,13 @@ from ..forms.site_texts import (
     release_text,
     sections,
 )
-from ..forms.slices import series_path
-from ..releases.bar_pictures import Change
+from ..forms.years import series_path
+from ..releases.drawings import Change, drawing
 from ..releases.cards import NO_CARDS, Cards
-from ..releases.drawings import drawing
-from ..releases.figure_words import filters_of, page_of, share
-from ..releases.pictures import Chart, base_text, of_imputed, of_node
-from ..releases.quality_figures import Quality
-from ..releases.quality_files import rate_of
-from ..releases.site_languages import ALONE, Version
-from .chooser import EMBED, known_to_page, write_chooser, write_items
-from .core_page import CorePage
-from .example import change, given
-from .item_files import ItemFiles
-from .month_rows import MonthRows
-from .release_site import ReleaseSite
-from .script_words import write_words
-from .shown_words import own_words_of
+from ..releases.site_languages import ALONE, Version, filters_of, page_of, share
+from ..releases.quality_figures import Quality, rate_of
+from .site_pages import AveragesPage, CorePage, MonthRows, ReleaseSite, SeasonalPage, change, find_given, own_words_of
+from .chooser import EMBED, ItemFiles, known_to_page, write_chooser, write_items, write_words
 
 HERE = Path(__file__).resolve().parent
 
@@ -74,22 +68,22 @@ CLAUSE_DEPTH = 2
 """The calculator offers all items, divisions and groups, and special aggregates."""
 
 SHOWN_CHANGES = 12
-"""Packs whose changes the page of the data offers; the manifest has all."""
+"""The number of packs whose changes the page of the data offers; the manifest lists all."""
 
 MOST_CODES = 5
-"""Elementary aggregates that a page names one by one where others belong to a special aggregate."""
+"""The largest number of elementary aggregates that a page names one by one if others belong to a special aggregate."""
 
 Report = Callable[[int, int], None]
 
 GivenIn = Callable[[str, str, bool], tuple[list[Given], str]]
-"""What is given in a month to the change of a node, on the year or on the month before, and where zero is."""
+"""The contributions in a month to the monthly or annual change in a node, and the place of zero."""
 
 
 # ---- what pages show
 
 
 def _codes(speech: Speech, codes: set[str]) -> str:
-    """Some codes, or how many they are."""
+    """Some codes, or their number."""
     if len(codes) <= MOST_CODES:
         return speech.row(sorted(codes))
     return speech.tn("{count} elementary aggregate", "{count} elementary aggregates", len(codes))
@@ -109,8 +103,8 @@ class Site:
         version: Version = ALONE,
         versions: Sequence[Version] = (),
     ):
-        """`recent` are the figures of the months that pages show, else all of them. The pages are those of a version, of
-        a site that has some; `files` writes those of the pack."""
+        """`recent` are the figures of the months that pages show, by default all of them. The pages are those of a
+        version, of a site that has some; `files` writes those of the pack."""
         self.known, self.series, self.contributions, self.shown = known, known.series, known.contributions, known.shown
         series, self.config, self.files = known.series, config, files
         self.pack, self.folder = files.folder, files.folder / version.folder
@@ -131,7 +125,7 @@ class Site:
         self._known_ways: dict[tuple[str, str], Markup] = {}
 
     def _set_globals(self, signature: Optional[Signature]) -> None:
-        """What each template knows."""
+        """The values for each template."""
         speech, names = self.speech, note_names(self.speech)
         self.pages.globals.update(
             config=self.config,
@@ -157,7 +151,7 @@ class Site:
             provisional_months=self.notes.last,
             headline_of=partial(headline, speech=speech),
             month_lead_of=partial(month_lead, speech),
-            linked=self._linked,
+            linked=self._link_names,
             sections=sections(speech),
             ways=self._ways,
             languages=self.versions,
@@ -174,7 +168,7 @@ class Site:
         return found
 
     def write(self, items: ItemFiles, report: Report) -> None:
-        """All pages, and in the folder of the pack the file beside that of each item; tells how many of how many nodes
+        """All pages, and in the folder of the pack the file next to that of each item; says how many of how many nodes
         have theirs."""
         self._make_folders()
         self._write_own()
@@ -229,7 +223,7 @@ class Site:
             "revisions.html",
             revised=all_revised(self.series.vintages),
             sources=self._sources(),
-            unexplained=self._unexplained(),
+            unexplained=self._list_unexplained(),
             reasons=self._reasons,
             redefinitions=[(name, found) for name in self.series.specials if (found := self._definitions(name))],
         )
@@ -240,22 +234,30 @@ class Site:
         data["series_path"], data["changes"] = self._series_path(), self._changes()
         self._page("data.html", **data, files_of_profile=files_of, dataset=self.releases.dataset(files, self.files))
         self._page("method.html", **own_words_of(self.config.about, self.speech, self.versions))
-        if self.series.core:
-            self._page("core.html", core=CorePage(self.known, self.recent, self.config))
-        if self.config.has_quality:
-            quality = Quality(self.series, self.config, self.releases.releases.all)
-            self._page("quality.html", quality=quality, rate_of=rate_of, corrections=self._definitions(QUALITY))
+        self._write_chosen()
         changes = [change(self.shown, self.month, is_annual) for is_annual in (True, False)]
-        part = given(Known(self.series, self.contributions, self.shown), self.month)
+        part = find_given(Known(self.series, self.contributions, self.shown), self.month)
         self._page("how-to-read.html", changes=[*filter(None, changes)], part=part)
         has_titles = bool(self.series.other_titles)
         known = known_to_page(self.series, self.config, self._source, self.version.up, has_titles)
-        self._page("choose.html", known=known, says=said(self.speech))
+        self._page("choose.html", known=known, says=explain_letters(self.speech))
         if self.config.has(PICTURES):
             stands = self.version.standing("../", EMBED, EMBED)
             write_page(self.pages, "chosen.html", self.folder / EMBED, **stands, known=known)
         if self.pages.globals["signature"]:
             self._page("check.html")
+
+    def _write_chosen(self) -> None:
+        """The pages that only some offices have."""
+        if self.series.core:
+            self._page("core.html", core=CorePage(self.known, self.recent, self.config))
+        if self.series.seasonal:
+            self._page("seasonal.html", seasonal=self._seasonal())
+        if self.config.has_quality:
+            quality = Quality(self.series, self.config, self.releases.releases.all)
+            self._page("quality.html", quality=quality, rate_of=rate_of, corrections=self._definitions(QUALITY))
+        if self.config.has_averages:
+            self._page("average-prices.html", averages=AveragesPage(self.config, self.speech))
 
     def _page(self, template: str, **named: object) -> None:
         """Writes a page of the site's own folder, which has the name of its template."""
@@ -274,18 +276,18 @@ class Site:
             self._pictures(code, [*charts, *of_all, *bars])
 
     def _bars(self, code: str) -> list[Chart]:
-        """The picture of what the parts of a node give to its change, in the last month of which that is known: so the
-        picture of a node that left stays."""
-        return self._last_bars(code, self._given, Change.of_items) if self.series.children(code) else []
+        """The picture of the contributions of a node's parts to its change, in the last month for which they are
+        known: so the picture of a node that left stays."""
+        return self._last_bars(code, self._find_given, Change.of_items) if self.series.children(code) else []
 
     def _set_bars(self) -> list[Chart]:
-        """The same of special aggregates and all items."""
+        """The bars of special aggregates and all items."""
         return self._last_bars(ALL_ITEMS, self._given_by_sets, Change.of_sets) if self.series.specials else []
 
     def _last_bars(
         self, code: str, given: GivenIn, drawn: Callable[[Change, Sequence[Given]], list[Chart]]
     ) -> list[Chart]:
-        """The picture of the last month in which something is given to a node."""
+        """The picture of the last month in which a node has contributions."""
         for month in reversed(self.series.months):
             row = self.shown.row(month, code)
             if row:
@@ -328,12 +330,13 @@ class Site:
 
     # ---- what stands on each page
 
-    def _given(self, month: str, to: str, is_annual: bool) -> tuple[list[Given], str]:
-        """What the nodes next below one give to its change, the greatest first, and where zero is on the track."""
+    def _find_given(self, month: str, to: str, is_annual: bool) -> tuple[list[Given], str]:
+        """The contributions of the nodes directly below one to its change, the largest first, and the place of zero
+        on the track."""
         return with_bars(self.shown, month, sorted_values(self.contributions.below(month, to), is_annual))
 
     def _given_by_sets(self, month: str, to: str, is_annual: bool) -> tuple[list[Given], str]:
-        """What special aggregates give to the change of all items, and where zero is on the track."""
+        """The contributions of special aggregates to the change in all items, and the place of zero on the track."""
         found = (self.contributions.of(month, name, to) for name in self.series.specials)
         return with_bars(self.shown, month, values_of(found, is_annual))
 
@@ -341,7 +344,7 @@ class Site:
         whole = self._row(self.month, ALL_ITEMS)
         is_annual = whole.year_change is not None
         change = whole.month_change if whole.year_change is None else whole.year_change
-        rows, zero = self._given(self.month, ALL_ITEMS, is_annual)
+        rows, zero = self._find_given(self.month, ALL_ITEMS, is_annual)
         specials, special_zero = self._given_by_sets(self.month, ALL_ITEMS, is_annual)
         return {
             "bars": self._bars(ALL_ITEMS),
@@ -353,22 +356,27 @@ class Site:
             "rows": rows,
             "zero": zero,
             "lead": lead_of(rows, change),
-            "hidden": self._hidden(ALL_ITEMS),
+            "hidden": self._find_hidden(ALL_ITEMS),
             "revised": [*revised_bases(self.series, whole, self.hidden, self.speech)],
             "charts": of_node(self.shown, ALL_ITEMS),
             "letters": self.notes.by_month(ALL_ITEMS).get(self.month, ""),
             "sentences": self.notes.sentences(self.month, ALL_ITEMS),
             "imputed": of_imputed(self.series, self.speech),
             "core": CorePage(self.known, self.recent, self.config) if self.series.core else None,
+            "seasonal": self._seasonal() if self.series.seasonal else None,
         }
 
+    def _seasonal(self) -> SeasonalPage:
+        """The adjusted series."""
+        return SeasonalPage(self.known, self.recent, self._definitions(SEASONAL))
+
     def _parts(self, code: str) -> tuple[list[Given], str]:
-        """What the parts of a node give to its change in the last month; none if it isn't there."""
+        """The contributions of a node's parts to its change in the last month; none if the node isn't in it."""
         row = self.shown.row(self.month, code)
-        return self._given(self.month, code, row.year_change is not None) if row else ([], "0")
+        return self._find_given(self.month, code, row.year_change is not None) if row else ([], "0")
 
     def _node(self, code: str, rows: list[Given], zero: str) -> dict[str, object]:
-        """What the page of a node says; the rows are those of `_parts`."""
+        """The values for the page of a node; the rows come from `_parts`."""
         row = self.shown.row(self.month, code)
         is_annual = row is not None and row.year_change is not None
         months = self._months(code)
@@ -395,7 +403,7 @@ class Site:
             "rows": rows,
             "zero": zero,
             "is_untold": bool(self.series.children(code)) and (self.month, is_annual) in self.contributions.unexplained,
-            "hidden": self._hidden(code),
+            "hidden": self._find_hidden(code),
             "revised": [*revised_bases(self.series, row, self.hidden, self.speech)] if row else [],
             "path": self.series.path(code),
             "months": self.month_rows.of(code, history[::-1], notes, marks),
@@ -418,7 +426,7 @@ class Site:
         assert found
         return found
 
-    def _hidden(self, code: str) -> dict[str, str]:
+    def _find_hidden(self, code: str) -> dict[str, str]:
         """By month, the figures of the last month that rest on a revision under embargo; of a special aggregate none,
         and no change that is computed from the printed index."""
         row = self.series.row(self.month, code)
@@ -432,16 +440,16 @@ class Site:
         return given_reasons(self.config.reasons, self.series, self.config.planned)
 
     def _definitions(self, code: str) -> list[GivenReason]:
-        """Why a special aggregate has another definition, or quality other figures, in the order in which that was said;
-        nothing of a node."""
+        """The reasons why the definition of a special aggregate, or figures of quality or of adjusted series,
+        changed, in the order in which the office gave them; none for a node."""
         return [it for of, found in sorted(self._reasons.items()) if of[0] == code for it in found]
 
     def _special(self, code: str) -> Optional[Special]:
-        """What the office says of a special aggregate; None of a node."""
+        """The description of a special aggregate; None for a node."""
         return Sets(self.config.specials).last(code) if code in self.series.specials else None
 
     def _marks(self, code: str) -> dict[str, str]:
-        """By month with a mark, what is said of it."""
+        """By month with a mark, the sentence about it."""
         speech = self.speech
         found = {
             month: speech.t(
@@ -455,24 +463,24 @@ class Site:
             it = self.series.specials[code]
             for month in it.changes:
                 now, then = ({*it.members[year]} for year in (month[:4], link_of(month)[:4]))
-                found[month] = self._moved(month, now - then, then - now)
+                found[month] = self._say_moved(month, now - then, then - now)
         return found
 
-    def _moved(self, month: str, came: set[str], left: set[str]) -> str:
-        """What is said of a month in which other elementary aggregates belong to a special aggregate."""
+    def _say_moved(self, month: str, came: set[str], left: set[str]) -> str:
+        """The sentence about a month in which other elementary aggregates belong to a special aggregate."""
         speech, parts = self.speech, list[str]()
         if came:
-            parts.append(speech.t("came: {codes}", codes=_codes(speech, came)))
+            parts.append(speech.t("new: {codes}", codes=_codes(speech, came)))
         if left:
-            parts.append(speech.t("left: {codes}", codes=_codes(speech, left)))
+            parts.append(speech.t("no longer in it: {codes}", codes=_codes(speech, left)))
         return speech.t(
-            "Break: from {month} on, other elementary aggregates are in it ({changes}).",
+            "Break: from {month} on, it contains other elementary aggregates ({changes}).",
             month=speech.month(month),
             changes="; ".join(parts),
         )
 
-    def _linked(self, names: Sequence[str]) -> Markup:
-        """What a special aggregate is made of, each with the way to its page, if it has one."""
+    def _link_names(self, names: Sequence[str]) -> Markup:
+        """The parts of a special aggregate, each with the way to its page, if it has one."""
         page, code = Markup('<a href="{}">{}</a>'), Markup('<span class="code">{}</span>')
         found = (
             page.format(page_of(name), others(self.speech.inner(self.series.title(name))))
@@ -480,9 +488,9 @@ class Site:
             else code.format(name)
             for name in names
         )
-        return Markup(self.speech.listed([*map(str, found)]))
+        return Markup(self.speech.list_texts([*map(str, found)]))
 
-    def _unexplained(self) -> list[tuple[str, bool]]:
+    def _list_unexplained(self) -> list[tuple[str, bool]]:
         return sorted(self.contributions.unexplained)
 
     def _sources(self) -> list[tuple[Table, Source]]:
@@ -517,7 +525,7 @@ class Site:
         ]
 
     def _clause_items(self) -> list[str]:
-        """What the calculator offers."""
+        """The items that the calculator offers."""
         return [*self.series.down_to(CLAUSE_DEPTH), *self.series.specials]
 
     def _item(self, code: str) -> dict[str, object]:
@@ -528,7 +536,9 @@ class Site:
             None if chained is None else self.shown.of_level(chained, month, code)
             for month, chained in zip(self.clause_months, begun + levels)
         ]
-        millionths, tenths = ([it and rounded(parts * it.over, it.under) for it in found] for parts in (10**6, 10))
+        millionths, tenths = (
+            [it and round_ratio(parts * it.over, it.under) for it in found] for parts in (10**6, 10)
+        )
         hundreds = [
             [self.clause_months.index(max(before(month), self.clause_months[0])), self.speech.period(hundred), hundred]
             for month, hundred in self.shown.hundreds(code)
@@ -554,17 +564,19 @@ class Site:
                     if code in rows
                 }
                 exact = {code: self.shown.of_level(it, table.month, code) for code, it in levels.items()}
-                items = {code: [rounded(it.over * by, it.under) for by in (10**6, 10)] for code, it in exact.items()}
+                items = {
+                    code: [round_ratio(it.over * by, it.under) for by in (10**6, 10)] for code, it in exact.items()
+                }
                 named = {"month": self.clause_months.index(table.month), "revision": table.revision}
-                found.append({**named, "published": self._published(table), "sum": table.sha256, "items": items})
+                found.append({**named, "published": self._say_published(table), "sum": table.sha256, "items": items})
         return found
 
-    def _published(self, table: Table) -> str:
+    def _say_published(self, table: Table) -> str:
         """When a table was published, by the office's clock."""
         return self.config.clock.day(table.moment, self.speech)
 
     def _levels(self) -> str:
-        """What the calculator counts with, as a script: levels in millionths and in tenths of a point."""
+        """The data for the calculator, as a script: levels in millionths and in tenths of a point."""
         series, months = self.series, self.clause_months
         tables = [series.latest[month] for month in months]
         data = {
@@ -573,7 +585,7 @@ class Site:
             "months": months,
             "names": [self.speech.month(month) for month in months],
             "revisions": [table.revision for table in tables],
-            "published": [*map(self._published, tables)],
+            "published": [*map(self._say_published, tables)],
             "sums": [table.sha256 for table in tables],
             "office": self._apart(self.config.office),
             "title": self._apart(self.config.title),

@@ -1,6 +1,7 @@
-"""A map's file, as TOML: read whole, or refused in one line with the file, its line, what was read and what is wanted.
+"""A map's file, as TOML: read whole, or refused in one line with the file, its line, the text that was read and the
+form that is wanted.
 
-`examples/maps/README.md` has the words.
+`examples/maps/README.md` lists the words.
 """
 
 from __future__ import annotations
@@ -13,20 +14,17 @@ from pathlib import Path
 from typing import Any, NoReturn, Optional
 
 from ...text.terminal import Fault, because_of
-from ...text.toml_files import BadToml, Toml, toml_of
-from ..numbers_of_texts import PLAIN
-from ..office_sheets import SHEETS
+from ...text.text_files import BadToml, Toml, toml_of
+from ..sheet_numbers import PLAIN, RULES, Rule
+from ..record_rows import SHEETS
 from ..price_cells import MARKS, MISSING, REASONS
-from ..several_prices import RULES, Rule
-from .month_names import NAMES
-from .office_map import CODED, NONE, UNKNOWN, Files, Join, OfficeMap, Table
-from .patterns import Pattern
+from .office_map import CODED, NAMES, NONE, UNKNOWN, Files, Join, OfficeMap, Pattern, Table
 
 MOST_BYTES = 1 << 24
-"""No map takes more."""
+"""The most bytes of a map."""
 
 MEANINGS = (*(mark for mark in MARKS if mark != MISSING), *REASONS, NONE)
-"""What a mark, or a text in place of a price, may mean."""
+"""The possible meanings of a mark, or of a text in place of a price."""
 
 PRICE_IN_TEXT = "{price}"
 
@@ -43,7 +41,7 @@ OF_TABLE: Mapping[str, type] = {
     "units": dict, "only": dict, "sums": str, "join": dict,
 }  # fmt: skip
 ONLY_OF_PRICES = ("month", "flag", "marks", "cells", "units")
-"""Words of a table that only prices have."""
+"""Words that only tables of prices have."""
 
 NAMED = {str: "a text", int: "a whole number", list: "a list", dict: "a table"}
 
@@ -51,7 +49,7 @@ UNITS_OF_WEIGHTS = ("ppm", "permille", "percent", "money")
 
 NEAREST = "nearest"
 MEASURES = ("quantity", "unit")
-"""The columns of prices that only a map has: how much was priced, and in which unit."""
+"""The columns of prices that only a map gives: the quantity that was priced, and its unit."""
 
 
 def columns_of(sheet: str) -> tuple[str, ...]:
@@ -69,7 +67,7 @@ def read_map(path: Path) -> OfficeMap:
 
 
 class _Reader:
-    """Reads the words of a map."""
+    """Reads the words of a map, or refuses them."""
 
     def __init__(self, toml: Toml):
         self._toml = toml
@@ -77,7 +75,7 @@ class _Reader:
         self._languages: tuple[str, ...] = ()
 
     def _refuse(self, key: Sequence[str], says: str) -> NoReturn:
-        """Raises Fault with the line of a key; a value of several lines is said in one."""
+        """Raises Fault with the line of a key; a value of several lines is shown on one line."""
         raise Fault(f"{self._toml.path}, line {self._toml.line(*key)}: {' '.join(says.split())}")
 
     # ---- words
@@ -126,11 +124,11 @@ class _Reader:
         return value
 
     def _choice(self, words: Mapping[str, Any], word: str, known: Sequence[str], key: Sequence[str] = ()) -> str:
-        """One of some texts; empty if the word isn't there."""
+        """One of some texts; empty if the word is missing."""
         return self._one_of(key, words, word, words[word], known) if word in words else ""
 
     def _texts(self, key: Sequence[str], table: Any, known: Sequence[str] = ()) -> dict[str, str]:
-        """A table of texts, each one of those that are known, if there are any."""
+        """A table of texts, each of which must be a known text, if there are known texts."""
         if not isinstance(table, dict):
             self._refuse(key, f"{key[-1]} is {table!r}: wanted a table")
         for name, value in table.items():
@@ -219,11 +217,12 @@ class _Reader:
             self._texts((*key, "cells"), words.get("cells", {}), MEANINGS), self._units(key, words),
             self._only(key, words), "sums" in words, join,
         )  # fmt: skip
+        self._look_at_names(table)
         self._look_at_columns(table)
         return table
 
     def _files(self, sheet: str, key: tuple[str, ...], words: Mapping[str, Any]) -> Files:
-        """The files of a table, or of one that is joined to it."""
+        """The files of a table, or of a table that is joined to it."""
         if "files" not in words:
             self._refuse(key, 'files is missing: wanted the names of files, as files = "quotes-{year}{month}.csv"')
         columns = columns_of(sheet)
@@ -239,7 +238,7 @@ class _Reader:
         return Files(files, sheets, heading, encoding, self._columns(sheet, key, words.get("columns", {})))
 
     def _columns(self, sheet: str, key: tuple[str, ...], words: Mapping[str, Any]) -> dict[str, tuple[str, ...]]:
-        """Theirs by ours, in small letters; no column of theirs is named twice."""
+        """The office's columns by ours, in small letters; no column of the office is named twice."""
         columns: dict[str, tuple[str, ...]] = {}
         named: dict[str, str] = {}
         for ours, value in words.items():
@@ -287,7 +286,7 @@ class _Reader:
         return {name.lower(): self._texts((*key, "marks", name), each, MEANINGS) for name, each in tables}
 
     def _units(self, key: tuple[str, ...], words: Mapping[str, Any]) -> dict[str, Fraction]:
-        """What each unit is in the smallest one, `kg = "1000"`."""
+        """The size of each unit in the smallest one, `kg = "1000"`."""
         units: dict[str, Fraction] = {}
         for name, text in self._texts((*key, "units"), words.get("units", {})).items():
             if not PLAIN.fullmatch(text) or Fraction(text) <= 0:
@@ -302,6 +301,21 @@ class _Reader:
                 self._refuse((*key, "only", name), f'"{name}" is {texts!r}: wanted a list of the texts that count')
             only[name.lower()] = frozenset(texts)
         return only
+
+    def _look_at_names(self, table: Table) -> None:
+        """Refuses a table that names a column of the office by nothing: a column without a name is read for nothing."""
+        named: dict[tuple[str, ...], tuple[str, ...]] = {(*table.key, "marks", name): (name,) for name in table.marks}
+        named[(*table.key, "only")] = (*table.only,)
+        forms = [(table.form, table.key)]
+        if table.join:
+            forms.append((table.join.form, (*table.key, "join")))
+            named[(*table.key, "join", "on")] = (*table.join.on, *table.join.on.values())
+        for form, key in forms:
+            named.update({(*key, "columns", ours): theirs for ours, theirs in form.columns.items()})
+        for key, names in named.items():
+            if not all(name.strip() for name in names):
+                word = key[-1] or key[-2]
+                self._refuse(key, f"{word} has a column without a name: wanted the name of a column")
 
     def _look_at_columns(self, table: Table) -> None:
         """Refuses a table in which a column is given twice, or one of our columns by nothing."""
@@ -321,7 +335,7 @@ class _Reader:
             self._refuse((*table.key, "flag"), says)
 
     def _in_names(self, form: Files) -> list[str]:
-        """Our columns that the names of files and sheets have."""
+        """Our columns whose values come from the names of files and sheets."""
         patterns = [form.files, *([form.sheets] if form.sheets else [])]
         places = [
             place

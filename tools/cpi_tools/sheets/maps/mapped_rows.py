@@ -1,29 +1,31 @@
-"""The rows of a table of a map: those of one file or of one sheet, as rows of ours that know the office's columns."""
+"""The rows of a table of a map: those of one file or of one sheet, as rows of ours that keep the office's names of
+columns."""
 
 from __future__ import annotations
 
+import functools
 import itertools
 from collections.abc import Iterator, Mapping, Sequence
-from typing import NamedTuple, Optional
+from typing import NamedTuple, Optional, Union
 
 from ...text.message import both, message, row as row_of
 from ...text.others import of_others
-from ..cells import BadSheet, Columns, Origin, Row, Sheet, Texts
-from ..months_of_texts import told_no_month
-from ..office_sheets import SHEETS
+from ..cells import BadSheet, Columns, Origin, Quotes, Row, Sheet, Texts
+from ..sheet_numbers import told_no_month
+from ..record_rows import SHEETS
 from ..price_cells import DAY, SHARE, MISSING
-from ..sheet_files import cells_of, unmarked
-from .mapped_texts import Marks, Measures, Months, OurCodes
+from ..sheet_files import RowCells, remove_mark
+from .mapped_texts import Findings, Marks, Measures, Months, OurCodes
 from .office_map import CODED, NONE, Files, Table
-from .findings import Findings
 from .plain_rows import Head, Joined, PlaceForm, PlainRows
+from .quick_rows import QuickRows, QuickTexts, is_quick
 
 ALL_OTHERS = "*"
 """Names all columns that a table doesn't name."""
 
 
 class Place(NamedTuple):
-    """A file or a sheet of a workbook as it is named, with what its name says for columns of ours."""
+    """A file or a sheet of a workbook as it is named, with the values that its name gives for columns of ours."""
 
     label: str
     values: Mapping[str, str]
@@ -31,17 +33,17 @@ class Place(NamedTuple):
 
 
 def heading_of(place: Place, form: Files, needed: Sequence[str], others: Sequence[str], flag: str = "") -> Head:
-    """The heading of a place, whose rows are read from then on. Raises BadSheet if it lacks a column, or has one twice;
-    only the flag, which is after each month, may be there again: it is named with the column before it."""
+    """The heading of a place, whose rows are read from then on. Raises BadSheet if a column is missing or appears
+    twice; only the flag, which follows each month, may appear again: it is named with the column before it."""
     lines = [[*line] for line in itertools.islice(place.texts.rows, form.heading)]
     line = lines[-1] if len(lines) == form.heading else []
     written, before = {}, ""
     heads: list[str] = []
     for cell in line:
-        text = unmarked(cell.strip())
+        text = remove_mark(cell.strip())
         head = f"{text.lower()} ({before})" if flag and text.lower() == flag else text.lower()
         if head and head in written:
-            because = message("the column {column} is there twice", column=of_others(text))
+            because = message("the column {column} appears twice", column=of_others(text))
             raise BadSheet(Origin(place.label, form.heading, text), because, message("rename one of the two"))
         heads.append(head)
         written[head], before = text, text
@@ -49,18 +51,18 @@ def heading_of(place: Place, form: Files, needed: Sequence[str], others: Sequenc
     for column in needed:
         if column not in written:
             because = message(
-                "the map reads the column {column}, and row {row} has {names}",
+                "the map names the column {column}, but row {row} has only {names}",
                 column=of_others(column),
                 row=form.heading,
                 names=has,
             )
-            do = message("mend the map's columns, or its heading")
+            do = message("correct the map's columns, or its heading")
             raise BadSheet(Origin(place.label, form.heading, column), because, do)
     return Head(form.heading, tuple(heads), written)
 
 
 def raw_rows(place: Place, head: Head, texts: Sequence[str], findings: Findings) -> Iterator[Row]:
-    """The rows below a heading by the office's names; `texts` are those whose blanks count."""
+    """The rows below a heading by the office's names; `texts` are the columns whose blanks count."""
     for number, cells in raw_cells(place, head, texts, findings):
         yield raw_row(place, head, number, cells)
 
@@ -71,19 +73,39 @@ def raw_row(place: Place, head: Head, number: int, cells: Sequence[str]) -> Row:
 
 
 def raw_cells(place: Place, head: Head, texts: Sequence[str], findings: Findings) -> Iterator[tuple[int, list[str]]]:
-    """The rows below a heading as cells, one for each column, each behind its number."""
-    sheet = Sheet(
-        place.label, head.heads, tuple(head.written.get(name, name) for name in head.heads), (), [], findings.warnings
-    )
-    if not any(head.heads):
-        return
-    width = len(head.heads)
-    for number, cells in cells_of(sheet, iter(place.texts.rows), Columns((), texts=tuple(texts)), head.row + 1):
-        cells += [""] * (width - len(cells))
-        yield number, cells
-    for fault in (*sheet.faults, *place.texts.faults):
-        findings.faults.add(fault)
-    findings.warnings += place.texts.warnings
+    """The rows below a heading as cells, one for each column, each after its number."""
+    if any(head.heads):
+        raw = RawCells(place, head, texts, findings)
+        for number, line in enumerate(place.texts.rows, head.row + 1):
+            cells = raw.cells(number, line)
+            if cells is not None:
+                yield number, cells
+        raw.end()
+
+
+class RawCells(RowCells):
+    """Makes the cells of rows below a heading, one for each column."""
+
+    def __init__(self, place: Place, head: Head, texts: Sequence[str], findings: Findings):
+        """`texts` are the columns whose blanks count."""
+        written = tuple(head.written.get(name, name) for name in head.heads)
+        self._findings, self._texts = findings, place.texts
+        self._of = Sheet(place.label, head.heads, written, (), [], findings.warnings)
+        super().__init__(self._of, Columns((), texts=tuple(texts)), place.texts.is_plain)
+
+    def cells(self, number: int, line: Sequence[str]) -> Optional[list[str]]:
+        """The cells of a row; None if it is empty, or the heading again."""
+        cells = super().cells(number, line)
+        if cells is not None and len(cells) < len(self._of.columns):
+            cells += [""] * (len(self._of.columns) - len(cells))
+        return cells
+
+    def end(self) -> None:
+        """Reports the faults of all rows."""
+        super().end()
+        for fault in (*self._of.faults, *self._texts.faults):
+            self._findings.faults.add(fault)
+        self._findings.warnings += self._texts.warnings
 
 
 class TableRows:
@@ -95,6 +117,7 @@ class TableRows:
         self._table, self._months, self._codes, self._findings = table, months, codes, findings
         self._marks, self._measures = marks, measures
         self._joined: Optional[Joined] = None
+        self._known = QuickTexts()
         form = table.form
         beside = [name for name in table.marks if name != table.flag]
         on = table.join.on if table.join else {}
@@ -103,7 +126,7 @@ class TableRows:
         self._beside = beside
 
     def join(self, joined: Joined) -> None:
-        """The rows that a row is joined to."""
+        """Sets the rows to which a row is joined."""
         self._joined = joined
 
     # ---- the heading
@@ -126,7 +149,7 @@ class TableRows:
                     other=of_others(text),
                     month=of_others(meant),
                 )
-                self._findings.refuse(origin, because, message("leave one of the two columns"))
+                self._findings.refuse(origin, because, message("keep only one of the two columns"))
             elif meant:
                 seen[meant] = text
                 if meant != text and table.heads == "month":
@@ -142,7 +165,7 @@ class TableRows:
         return head
 
     def _meant_by_head(self, text: str) -> str:
-        """The month or the year that a column without a name in the map is."""
+        """The month or the year of a column that the map doesn't name."""
         if self._table.heads == "month":
             return self._months.of(text)[0]
         is_year = self._table.heads == "year" and text.isascii() and text.isdigit() and len(text) == 4
@@ -150,7 +173,7 @@ class TableRows:
 
     # ---- rows
 
-    def rows(self, place: Place) -> Iterator[Row]:
+    def rows(self, place: Place) -> Iterator[Union[Row, Quotes]]:
         """The rows of a place, as they are asked for. Raises BadSheet."""
         table, head = self._table, self._heading(place)
         kept = [name for ours in SHEETS[table.sheet].texts for name in table.form.columns.get(ours, ())]
@@ -159,16 +182,29 @@ class TableRows:
             names.update({ours: f"{text} ({self._joined.label})" for ours, text in self._joined.written.items()})
         form = PlaceForm(place.label, head, names, {**table.values, **place.values})
         plain = PlainRows(table, form, self._beside, self._codes.known, self._marks, self._joined)
+        if is_quick(table, form) and place.texts.is_plain and any(head.heads):
+            raw = RawCells(place, head, kept, self._findings)
+            quick = QuickRows(table, form, plain, self._marks, raw, self._known)
+            look_at = functools.partial(self._look_at, place, form, plain)
+            yield from quick.read(iter(place.texts.rows), head.row + 1, look_at)
+            raw.end()
+            return
         for number, cells in raw_cells(place, head, kept, self._findings):
-            rows = plain.rows(number, cells)
-            if rows is None:
-                rows = [*self._looked_at(raw_row(place, head, number, cells), form)]
-                if rows:
-                    plain.see(cells, self._months)
-            yield from rows
+            yield from self._look_at(place, form, plain, number, cells)
+
+    def _look_at(
+        self, place: Place, form: PlaceForm, plain: PlainRows, number: int, cells: Sequence[str]
+    ) -> Sequence[Row]:
+        """The rows of ours that the cells of a row are; its problems are reported."""
+        rows = plain.rows(number, cells)
+        if rows is None:
+            rows = [*self._looked_at(raw_row(place, form.head, number, cells), form)]
+            if rows:
+                plain.see(cells, self._months)
+        return rows
 
     def _looked_at(self, raw: Row, form: PlaceForm) -> Iterator[Row]:
-        """The rows of ours that a row of the office is; what is wrong with it is told."""
+        """The rows of ours that a row of the office gives; its problems are reported."""
         table, head = self._table, form.head
         if not self._is_wanted(raw, head):
             return
@@ -181,7 +217,7 @@ class TableRows:
             yield from self._of_prices(row, raw, form) if table.sheet == "prices" else self._of_others(row, raw, head)
 
     def _is_wanted(self, raw: Row, head: Head) -> bool:
-        """Whether a row has the texts that count."""
+        """Whether a row has the texts that the map wants."""
         for name, texts in self._table.only.items():
             if raw[name] not in texts:
                 self._findings.leave_out(raw.origin.at(head.written[name]), raw[name])
@@ -189,22 +225,22 @@ class TableRows:
         return True
 
     def _joined_to(self, raw: Row, head: Head) -> Optional[Row]:
-        """The row that a row is joined to; None, which is a problem, if there is none."""
+        """The row to which a row is joined; None, and a problem, if there is none."""
         assert self._joined and self._table.join
         here = tuple(self._table.join.on)
         key = tuple(str(raw[name]) for name in here)
         joined = self._joined.rows.get(key)
         if joined is None:
             because = message(
-                'no row of {file} has "{text}"', file=of_others(self._joined.label), text=of_others(" ".join(key))
+                'no row of {file} contains "{text}"', file=of_others(self._joined.label), text=of_others(" ".join(key))
             )
             self._findings.refuse(
-                raw.origin.at(head.written[here[0]]), because, message("add its row, or take this one out")
+                raw.origin.at(head.written[here[0]]), because, message("add its row, or delete this one")
             )
         return joined
 
     def _is_coded(self, row: Row) -> bool:
-        """Puts our codes into a row; whether it has them all."""
+        """Puts our codes into a row; returns whether it has all of them."""
         for column in CODED:
             if column in row.cells:
                 code = self._codes.of(column, row.at(column), row.cells[column])
@@ -222,16 +258,16 @@ class TableRows:
             text = row["month"]
             month, day = (text, row[DAY]) if DAY in row.cells else self._months.at(row.at("month"), text)
             if month:
-                yield from self._priced(row, row["value"], month, day, row.names, beside)
+                yield from self._price_row(row, row["value"], month, day, row.names, beside)
             return
         for (name, month, flag), names in zip(head.wide, form.wide_names):
             own = beside
             if flag:
                 at = raw.origin.at(f"{head.written[flag]} ({head.written[name]})")
                 own = [*beside, (self._table.flag, raw[flag].strip(), at)]
-            yield from self._priced(row, raw[name], month, "", names, own)
+            yield from self._price_row(row, raw[name], month, "", names, own)
 
-    def _priced(
+    def _price_row(
         self,
         row: Row,
         text: str,
@@ -270,7 +306,7 @@ class TableRows:
                 yield self._without_sum(made, raw[name], made.names)
 
     def _without_sum(self, row: Row, weight: str, names: Mapping[str, str]) -> Row:
-        """A row, without the weight of what is a sum if the map says that these aren't read."""
+        """A row; without its weight if that is a sum and the map says that sums aren't read."""
         if self._table.sheet != "classification":
             return row
         is_sum = self._table.has_sums and "-" not in row["code"]
@@ -278,12 +314,12 @@ class TableRows:
 
 
 def _text(raw: Row, theirs: Sequence[str]) -> str:
-    """The text of a column, or the texts of several with strokes between them."""
+    """The text of a column, or the texts of several, joined with slashes."""
     return raw[theirs[0]] if len(theirs) == 1 else "/".join(raw[name] for name in theirs)
 
 
 def joined_rows(places: Sequence[Place], form: Files, on: Sequence[str], findings: Findings) -> Joined:
-    """The rows of a joined table by the texts of some columns. Raises BadSheet."""
+    """The rows of a joined table, by the texts of some columns. Raises BadSheet."""
     needed = [*on, *(name for names in form.columns.values() for name in names)]
     rows: dict[tuple[str, ...], Row] = {}
     labels: list[str] = []
@@ -297,7 +333,9 @@ def joined_rows(places: Sequence[Place], form: Files, on: Sequence[str], finding
             cells = {ours: _text(raw, theirs) for ours, theirs in form.columns.items()}
             above = rows.setdefault(key, Row(raw.origin, {**place.values, **cells}, written))
             if above.origin != raw.origin:
-                because = message('row {row} has "{text}" too', row=above.origin.row, text=of_others(" ".join(key)))
-                findings.refuse(raw.origin.at(head.written[on[0]]), because, message("take one of the two rows out"))
+                because = message(
+                    'row {row} also contains "{text}"', row=above.origin.row, text=of_others(" ".join(key))
+                )
+                findings.refuse(raw.origin.at(head.written[on[0]]), because, message("delete one of the two rows"))
     names = both([*map(of_others, labels)])
     return Joined(str(names), rows, written)

@@ -1,4 +1,4 @@
-"""Texts of an office by its map: months in its languages, its codes, its marks, and the quantity that was priced."""
+"""Texts of an office by its map: months, codes, marks and quantities, and what a person has to see of them."""
 
 from __future__ import annotations
 
@@ -7,33 +7,75 @@ from collections.abc import Mapping, Sequence
 from fractions import Fraction
 from typing import NamedTuple, Optional
 
-from ...text.message import message
+from ...text.message import message, whole
 from ...text.others import of_others
-from ..cells import Numeral, Origin, cut
-from ..months_of_texts import month_of, told_no_month
-from ..numbers_of_texts import Numbers
+from ..cells import Alike, Capped, MonthRead, Numeral, Origin, SheetFault, cut
 from ..price_cells import COMPARABLE, EMPTY, LIKE, MISSING, OTHER, PRICE, REASONS, Codes
+from ..sheet_numbers import Numbers, month_of, told_no_month
 from .map_files import PRICE_IN_TEXT
-from .month_names import in_english
-from .office_map import NONE, Table, Texts
-from .patterns import Pattern
-from .findings import Findings
+from .office_map import NONE, Pattern, Table, Texts, in_english
+
+
+# ==== findings in sheets that are read with a map: problems, warnings, months in another spelling, and rows left out
+
+
+class Findings:
+    """The findings in the files of one sheet."""
+
+    def __init__(self) -> None:
+        self.faults = Capped()
+        self.warnings: list[SheetFault] = []
+        self.readings: list[MonthRead] = []
+        self._read: set[tuple[str, str, str]] = set()
+        self._left: dict[tuple[str, str, str], tuple[Origin, int]] = {}
+
+    def refuse(self, origin: Origin, because: str, do: str) -> None:
+        """Adds a problem at a cell."""
+        self.faults.add(SheetFault(origin, because, do))
+
+    def read(self, origin: Origin, text: str, month: str) -> None:
+        """Adds a month that was read from another spelling, once for each column of a file."""
+        key = (origin.file, origin.column, text)
+        if month != text and key not in self._read:
+            self._read.add(key)
+            self.readings.append(MonthRead(origin.file, origin.column, text, month))
+
+    def leave_out(self, origin: Origin, text: str) -> None:
+        """Counts a row or a cell that the map leaves out on purpose."""
+        key = (origin.file, origin.column, text)
+        first, count = self._left.get(key, (origin, 0))
+        self._left[key] = (first, count + 1)
+
+    def end(self) -> None:
+        """Adds a warning for each text that was left out, with the number of times."""
+        alike = Alike(self.warnings)
+        for (_, _, text), (origin, count) in self._left.items():
+            because = message(
+                'the map leaves "{text}" out (number of times: {count})', text=cut(text), count=whole(count)
+            )
+            alike.add(SheetFault(origin, because, message("nothing, if it isn't a price or a row of the office")))
+        alike.end()
+        self._left.clear()
+
+
+# ==== texts of an office, read with its map: months in its languages, its codes, its marks, and the quantity that was
+# priced
 
 DAY_IN_TEXT = re.compile("([0-9]{4}-[0-9]{2}-[0-9]{2})([T ].*)?")
 
 MEASURE = re.compile(r"([0-9][0-9 .,]*?) *([^\W\d_]+)\.?")
-"""The unit of an item, as `500 g`."""
+"""The unit of an item, such as `500 g`."""
 
 
 class Months:
-    """Reads months, by a pattern if there is one."""
+    """Reads months, with a pattern if there is one."""
 
     def __init__(self, pattern: Optional[Pattern], languages: Sequence[str], findings: Findings):
         self._pattern, self._languages, self._findings = pattern, tuple(languages), findings
         self._read: dict[str, tuple[str, str]] = {}
 
     def of(self, text: str) -> tuple[str, str]:
-        """Month and day of a text, empty if it has none."""
+        """The month and the day of a text; empty if it has none."""
         if text not in self._read:
             self._read[text] = self._of(text)
         return self._read[text]
@@ -46,20 +88,20 @@ class Months:
         return month_of(in_english(text, self._languages)), day[1] if day else ""
 
     def at(self, origin: Origin, text: str) -> tuple[str, str]:
-        """The same; a text that is no month is a problem, and another spelling is told."""
+        """The month and the day of a text; a text that isn't a month is a problem, and another spelling is reported."""
         month, day = self.of(text)
         if month:
             self._findings.read(origin, text, month)
         elif self._pattern and text:
             because = message('"{text}" isn\'t like {pattern}', text=cut(text), pattern=of_others(self._pattern.text))
-            self._findings.refuse(origin, because, message("mend the cell, or the month of the map"))
+            self._findings.refuse(origin, because, message("correct the cell, or the month in the map"))
         else:
             self._findings.refuse(origin, told_no_month(text), LIKE)
         return month, day
 
 
 class KnownCodes(dict[str, Optional[str]]):
-    """Our codes by those of the office that a column has; None if a text has none, or is left out."""
+    """Our codes by the office's codes in a column; None if a text has none, or is left out."""
 
     def __init__(self, codes: Texts, used: set[str]):
         super().__init__()
@@ -76,13 +118,13 @@ class KnownCodes(dict[str, Optional[str]]):
 
 
 class OurCodes:
-    """Codes of ours by those of the office."""
+    """Our codes by the office's codes."""
 
     def __init__(self, codes: Mapping[str, Texts], findings: Findings):
         self._codes, self._findings = codes, findings
         self.used: dict[str, set[str]] = {column: set() for column in codes}
         self.known = {column: KnownCodes(own, self.used[column]) for column, own in codes.items()}
-        """Those of each column that has codes, where nothing is to be told."""
+        """The codes of each column that has codes, for texts about which there is nothing to report."""
 
     def of(self, column: str, origin: Origin, text: str) -> Optional[str]:
         """Our code for a text of a column; None if the map leaves it out, or has none, which is a problem."""
@@ -103,21 +145,21 @@ class OurCodes:
 
 
 class Meaning(NamedTuple):
-    """What a cell of prices is: our mark, empty for a price by itself, and its text."""
+    """The meaning of a cell of prices: our mark, empty for a price by itself, and its text."""
 
     mark: str
     text: str
 
 
 NO_QUOTE = Meaning("", "")
-"""What a cell is that has no quote, as the empty ones below a month."""
+"""The meaning of a cell without a quote, such as an empty cell below a month."""
 
 MOST_KNOWN = 50_000
-"""Different texts of prices whose meaning is kept."""
+"""The most different texts of prices whose meaning is kept."""
 
 
 class CellTexts:
-    """What texts in place of a price mean, by the map."""
+    """The meanings that the map gives to texts in place of a price."""
 
     def __init__(self, cells: Texts, numbers: Numbers):
         plain = {text: meaning for text, meaning in cells.items() if PRICE_IN_TEXT not in text}
@@ -125,7 +167,7 @@ class CellTexts:
         self._forms = [(_form_of(text), meaning) for text, meaning in cells.items() if PRICE_IN_TEXT in text]
 
     def of(self, text: str) -> tuple[str, str]:
-        """The meaning of a text, empty if the map has none, and the price in it."""
+        """The meaning of a text, empty if the map gives none, and the price in it."""
         if meaning := self._codes.reason(text):
             return meaning, text
         for form, meaning in self._forms if not isinstance(text, Numeral) else ():
@@ -140,7 +182,7 @@ def _form_of(text: str) -> re.Pattern[str]:
 
 
 class Marks:
-    """Makes our marks of the marks of an office beside a price, and of what is in place of it."""
+    """Converts an office's marks, next to a price or in place of it, to our marks."""
 
     def __init__(self, table: Table, numbers: Numbers, findings: Findings):
         self._table, self._findings = table, findings
@@ -149,7 +191,8 @@ class Marks:
         self._kinds: dict[tuple[str, ...], Optional[Meaning]] = {}
 
     def plain(self, text: str, marks: tuple[str, ...], columns: Sequence[str]) -> Optional[Meaning]:
-        """What a cell is by the texts of the columns beside it; None if there is something to tell of it."""
+        """The meaning of a cell with the texts of the columns next to it; None if there is something to report about
+        it."""
         known = self._prices.get(text) if type(text) is str else None
         if known is None:
             meant, price = self._cells.of(text)
@@ -166,14 +209,15 @@ class Marks:
         return NO_QUOTE if self._table.heads and text.strip() in EMPTY else Meaning(kind.mark, known[1])
 
     def _kind(self, meant: str, marks: tuple[str, ...], columns: Sequence[str]) -> Optional[Meaning]:
-        """The mark of a cell by what its text means and by the marks beside it, or the reason; None if there is something to
-        tell."""
+        """The mark of a cell, or the reason, from the meaning of its text and the marks next to it; None if there is
+        something to report."""
         of_marks = [self._table.marks[column].get(mark) for column, mark in zip(columns, marks)]
         meanings = [*([meant] if meant else []), *(meaning for meaning in of_marks if meaning is not None)]
-        return None if None in of_marks or NONE in meanings else marked(meanings, meant)
+        return None if None in of_marks or NONE in meanings else find_mark(meanings, meant)
 
     def meaning(self, text: str, origin: Origin, beside: Sequence[tuple[str, str, Origin]]) -> Optional[Meaning]:
-        """What a cell is; None if it is no quote, or a mark beside it, with its column and cell, isn't in the map."""
+        """The meaning of a cell; None if it isn't a quote, or if the map has no line for a mark next to it, which is
+        given with its column and cell."""
         meant, price = self._cells.of(text)
         word = text.strip().lower()
         meant = meant or (word if word in REASONS else "")
@@ -189,7 +233,7 @@ class Marks:
         if NONE in meanings:
             self._findings.leave_out(*places[meanings.index(NONE)])
             return None
-        kind = marked(meanings, meant)
+        kind = find_mark(meanings, meant)
         if kind.mark != MISSING and self._table.heads and text.strip() in EMPTY:
             return None
         return kind if kind.mark == MISSING else Meaning(kind.mark, price)
@@ -200,8 +244,9 @@ class Marks:
         self._findings.refuse(origin, because, message("add a line for it to {table}", table=table))
 
 
-def marked(meanings: Sequence[str], meant: str) -> Meaning:
-    """Our mark by some meanings, one of which, if it isn't empty, is that of the price; or the reason why there is none."""
+def find_mark(meanings: Sequence[str], meant: str) -> Meaning:
+    """Our mark from some meanings, or the reason why there is no price; `meant` is the meaning of the price's text, if
+    it isn't empty."""
     reason = next((meaning for meaning in meanings if meaning in REASONS), "")
     if reason:
         return Meaning(MISSING, reason)
@@ -210,26 +255,26 @@ def marked(meanings: Sequence[str], meant: str) -> Meaning:
 
 
 class Measures:
-    """Prices of another quantity than the item's unit."""
+    """Converts prices of other quantities than the item's unit."""
 
     def __init__(self, table: Table, numbers: Numbers, unit_of: Mapping[str, str], findings: Findings):
-        """`unit_of` has the unit of each item."""
+        """`unit_of` gives the unit of each item."""
         self._units, self._numbers, self._unit_of, self._findings = table.units, numbers, unit_of, findings
 
     def share(self, item: str, quantity: tuple[str, Origin], unit: tuple[str, Origin]) -> str:
-        """By what a price is multiplied, so that it is one of the item's unit; empty if that isn't known, a problem."""
+        """The factor that converts a price to the item's unit; empty, and a problem, if it isn't known."""
         factor = self._factor(*unit)
         number = self._numbers.of(quantity[0])
         if number is None or number <= 0:
-            because = message('"{text}" is no quantity above 0', text=cut(quantity[0]))
-            self._findings.refuse(quantity[1], because, message("mend the cell"))
+            because = message('"{text}" isn\'t a quantity above 0', text=cut(quantity[0]))
+            self._findings.refuse(quantity[1], because, message("correct the cell"))
         size = self._size(item, quantity[1])
         if factor is None or size is None or number is None or number <= 0:
             return ""
         return str(size / (number * factor))
 
     def _factor(self, text: str, origin: Origin) -> Optional[Fraction]:
-        """What a unit is in the smallest one; without a text the map has one unit."""
+        """The size of a unit in the smallest one; if the text is empty, the map must have only one unit."""
         if not text and len(self._units) == 1:
             return next(iter(self._units.values()))
         factor = self._units.get(text.strip().lower())
@@ -246,7 +291,7 @@ class Measures:
         factor = self._units.get(match[2].lower()) if match else None
         if number is None or number <= 0 or factor is None:
             because = message(
-                'the item {item} has the unit "{text}", which is no quantity in units of the map',
+                'the item {item} has the unit "{text}", which isn\'t a quantity in a unit of the map',
                 item=of_others(item),
                 text=cut(text),
             )

@@ -1,7 +1,8 @@
-"""Rows of prices in a place whose texts were all seen before: nothing is to be told of them, so they are made at once.
+"""Rows of prices in a place whose texts have all been seen before: there is nothing to report about them, so they are
+made directly.
 
-A place has millions of cells, and few different outlets, items, months and marks. Each text is looked at when it comes
-first, by `mapped_rows`, which tells what is wrong with it; a row with a text that isn't known goes there.
+A place has millions of cells, but few different outlets, items, months and marks. `mapped_rows` checks each text when
+it occurs first, and reports its problems; it gets every row with an unknown text.
 """
 
 from __future__ import annotations
@@ -18,8 +19,8 @@ from .office_map import CODED, Table
 
 @dataclass
 class Head:
-    """A heading: the office's names in small letters and as they are written. `wide` has the columns that are months or
-    years, with the month or year, and the column of a flag after it."""
+    """A heading: the office's names in small letters and as they are written. `wide` contains the columns that are
+    months or years, with the month or year, and the column of a flag after it."""
 
     row: int
     heads: tuple[str, ...]
@@ -27,14 +28,14 @@ class Head:
     wide: list[tuple[str, str, str]] = field(default_factory=list)
 
     def names_of(self, names: Mapping[str, str], name: str, flag: str) -> Mapping[str, str]:
-        """Some names of columns with those of a month's column and of the flag after it."""
+        """Some names of columns, with the names of a month's column and of the flag after it."""
         written = self.written[name]
         own = {**names, "month": written, "value": written}
         return {**own, "mark": self.written[flag]} if flag else own
 
 
 class Joined(NamedTuple):
-    """The rows of a joined table by their keys, and what they are called."""
+    """The rows of a joined table by their keys, with the table's label and the names of its columns."""
 
     label: str
     rows: Mapping[tuple[str, ...], Row]
@@ -42,8 +43,8 @@ class Joined(NamedTuple):
 
 
 class PlaceForm:
-    """What all rows of a place share: the name of its file, its heading, the names of columns by ours, and texts that the
-    map or the name of the file gives."""
+    """The facts that all rows of a place share: the name of its file, its heading, the office's names of columns by
+    ours, and the texts from the map or the name of the file."""
 
     def __init__(self, label: str, head: Head, names: Mapping[str, str], fixed: Mapping[str, str]):
         self.label, self.head, self.names, self.fixed = label, head, names, fixed
@@ -63,40 +64,46 @@ class PlainRows:
         marks: Marks,
         joined: Optional[Joined],
     ):
-        """`beside` are the columns of marks; `codes` are those of columns that have some."""
-        places = {name: at for at, name in enumerate(form.head.heads)}
+        """`beside` are the columns of marks; `codes` are the codes of columns that have codes."""
+        # (a column without a name is read for nothing, nor is it the flag of a month that has none)
+        self.places = {name: at for at, name in enumerate(form.head.heads) if name}
+        """The places of columns with a name."""
+        places = self.places
         self._form, self._marks, self._joined = form, marks, joined
         self._is_plain = table.sheet == "prices" and not table.units
-        self._columns = [(ours, [places[name] for name in theirs]) for ours, theirs in table.form.columns.items()]
+        self.columns = [(ours, [places[name] for name in theirs]) for ours, theirs in table.form.columns.items()]
+        """The places of our columns."""
         self._only = [(places[name], texts) for name, texts in table.only.items()]
         self._on = [places[name] for name in table.join.on] if table.join else []
-        self._beside, self._places = tuple(beside), [places[name] for name in beside]
+        self.beside, self._places = tuple(beside), [places[name] for name in beside]
         self._codes = [(column, codes[column]) for column in CODED if column in codes]
-        self._wide = [(places[name], month, places.get(flag, -1)) for name, month, flag in form.head.wide]
+        self.wide = [(places[name], month, places.get(flag, -1)) for name, month, flag in form.head.wide]
+        """The place of each column that is a month, the month, and the place of its flag, -1 if it has none."""
         self._flagged = (*beside, table.flag)
         self._has_heads = bool(table.heads)
-        self._months: dict[str, tuple[str, str]] = {}
+        self.months: dict[str, tuple[str, str]] = {}
+        """Months and days of texts that were checked."""
 
     def see(self, cells: Sequence[str], months: Months) -> None:
-        """Remembers the month of a row that was looked at, and in which there is a price: of it nothing more is to be
+        """Remembers the month of a row that was checked, and in which there is a price: of it nothing more is to be
         told."""
-        row = None if self._has_heads or not self._is_plain else self._named(cells)
-        if row and len(self._months) < MOST_KNOWN:
+        row = None if self._has_heads or not self._is_plain else self.name_columns(cells)
+        if row and len(self.months) < MOST_KNOWN:
             text = row.get("month", "")
-            self._months[text] = months.of(text)
+            self.months[text] = months.of(text)
 
     def rows(self, number: int, cells: Sequence[str]) -> Optional[Sequence[Row]]:
-        """The rows that some cells are, whose row has a number; None if there is something to look at."""
+        """The rows that the cells of a numbered row give; None if there is something to check."""
         if not self._is_plain:
             return None
-        row = self._named(cells)
+        row = self.name_columns(cells)
         if row is None:
             return None
         marks = tuple([cells[at] for at in self._places])
         origin = Origin(self._form.label, number)
         return self._of_heads(origin, row, cells, marks) if self._has_heads else self._single(origin, row, marks)
 
-    def _named(self, cells: Sequence[str]) -> Optional[dict[str, str]]:
+    def name_columns(self, cells: Sequence[str]) -> Optional[dict[str, str]]:
         """Our columns of a row, with our codes; None if there is something to look at."""
         for at, texts in self._only:
             if cells[at] not in texts:
@@ -107,7 +114,7 @@ class PlainRows:
             if joined is None:
                 return None
             row.update(joined.cells)
-        for ours, places in self._columns:
+        for ours, places in self.columns:
             row[ours] = cells[places[0]] if len(places) == 1 else "/".join([cells[at] for at in places])
         for column, codes in self._codes:
             if column in row:
@@ -120,8 +127,8 @@ class PlainRows:
     def _single(self, origin: Origin, row: dict[str, str], marks: tuple[str, ...]) -> Optional[Sequence[Row]]:
         """The row of one price."""
         text = row.get("month", "")
-        month = (text, row[DAY]) if DAY in row else self._months.get(text)
-        meaning = self._marks.plain(row.get("value", ""), marks, self._beside)
+        month = (text, row[DAY]) if DAY in row else self.months.get(text)
+        meaning = self._marks.plain(row.get("value", ""), marks, self.beside)
         if month is None or not month[0] or meaning is None:
             return None
         row["month"], row[DAY] = month
@@ -135,9 +142,9 @@ class PlainRows:
     ) -> Optional[Sequence[Row]]:
         """The rows of all months."""
         rows = []
-        for (at, month, flag), names in zip(self._wide, self._form.wide_names):
+        for (at, month, flag), names in zip(self.wide, self._form.wide_names):
             if flag < 0:
-                meaning = self._marks.plain(cells[at], marks, self._beside)
+                meaning = self._marks.plain(cells[at], marks, self.beside)
             else:
                 meaning = self._marks.plain(cells[at], (*marks, cells[flag]), self._flagged)
             if meaning is None:

@@ -1,42 +1,241 @@
-"""`cpi-tools take-in FOLDER (--check | --write OUT | --propose FILE)`: the tool's words, and what it prints."""
+"""`cpi-tools take-in FOLDER (--check | --write OUT | --propose FILE)`: its words, and sheets by a map."""
 
 from __future__ import annotations
 
 import argparse
 import contextlib
+import functools
 import os
 import sqlite3
 import sys
 import tempfile
-from collections.abc import Sequence
+from collections.abc import Callable, Collection, Iterator, Mapping, Sequence
 from fractions import Fraction
 from pathlib import Path
-from typing import Optional
+from typing import NamedTuple, Optional, Union
 
-from ...office.private_files import private_file, write_rows
+from ...office.folders import private_file, write_rows
 from ...office.program import Cpi, add_program
-from ...text import csv_files
+from ...text import text_files
+from ...text.message import message
+from ...text.others import of_others
 from ...text.report_language import Teller, add_speech, chosen_speech
-from ...text.terminal import Fault, Progress, ToolWords, at_least, because_of, counted
-from ..cells import MonthRead, SheetFault, shown
-from ..numbers_of_texts import Numbers
+from ...text.terminal import Fault, Progress, ToolWords, at_least, because_of, write_count
+from ..cells import BadSheet, MonthRead, Origin, Quotes, Row, Sheet, SheetFault, Texts, label_of, quote_text, read_whole
+from ..known_rows import Known
 from ..office_files import Options
 from ..price_cells import REASONS
-from ..several_prices import Rule
+from ..record_rows import SHEETS
+from ..sheet_files import WORKBOOKS, Place as FilePlace, Source, files_of, texts_of_csv
+from ..sheet_numbers import Numbers, Rule
 from ..take_in import Opener, command, taken_in, write_check, write_records
 from ..taken_page import place, summary
-from .map_files import UNITS_OF_WEIGHTS, read_map
-from .mapped_source import MappedSource
-from .office_map import UNKNOWN, OfficeMap
-from .proposals import proposal, quoted
+from ..workbooks import Workbook
+from .map_files import MEASURES, UNITS_OF_WEIGHTS, read_map
+from .mapped_rows import Place, TableRows, joined_rows
+from .mapped_texts import Findings, Marks, Measures, Months, OurCodes
+from .office_map import UNKNOWN, Files, OfficeMap, Table
+from .proposals import proposal, quote
 
-QUESTION = quoted(UNKNOWN)
+
+# ==== the sheets of a folder read with a map: those that it names, in the office's forms; the others as without a map
+
+
+class Named(NamedTuple):
+    """A text file, or a sheet of a workbook, that a table names, with the values that its name gives for columns of
+    ours."""
+
+    place: FilePlace
+    label: str
+    values: Mapping[str, str]
+    read: Callable[[], Texts]
+
+
+class MappedSource:
+    """The sheets of a folder or a workbook, read with a map."""
+
+    def __init__(
+        self,
+        path: Path,
+        office_map: OfficeMap,
+        decimal: str,
+        known: Known,
+        ignored: Collection[str],
+        own: Collection[Path],
+        workbooks: Mapping[Path, Path],
+    ):
+        """`decimal` is the sign of quantities. Raises Fault if there is no such folder or workbook, if it can't be
+        read, or if it contains no file that a table names."""
+        self._map, self._numbers, self._known = office_map, Numbers(decimal), known
+        self._workbooks, self._books = workbooks, dict[Path, Workbook]()
+        self._stack = contextlib.ExitStack()
+        self._files = [file for file in files_of(path) if file.is_file() and file not in office_map.parts]
+        self._named: dict[Sequence[str], list[Named]] = {}
+        for table in office_map.tables:
+            self._name(table.key, table.form)
+            if table.join:
+                self._name((*table.key, "join"), table.join.form)
+        others = [each.place for named in self._named.values() for each in named]
+        others += [(part, "") for part in office_map.parts]
+        self._plain = Source(path, SHEETS, (*ignored, *office_map.ignored), own, workbooks, others)
+        self._stack.callback(self._plain.close)
+        self.unread = self._plain.unread
+        self.readings: list[MonthRead] = []
+        self.codes: dict[str, set[str]] = {column: set() for column in office_map.codes}
+        """The codes of the office that were read, by column."""
+
+    def close(self) -> None:
+        """Closes the workbooks; no sheet is read from then on."""
+        self._stack.close()
+
+    # ---- which files there are
+
+    def _name(self, key: Sequence[str], form: Files) -> None:
+        """Notes the files and sheets that a table names. Raises Fault if there are none."""
+        named: list[Named] = []
+        for file in self._files:
+            values = form.files.values(file.name)
+            if values is not None:
+                named += self._sheets_of(file, values, form)
+        if not named:
+            of = ".".join(key)
+            sheets = f" with a sheet named like {form.sheets.text}" if form.sheets else ""
+            raise Fault(f"{self._map.path}: [{of}] names no file: wanted one named like {form.files.text}{sheets}")
+        self._named[tuple(key)] = named
+
+    def _sheets_of(self, file: Path, values: Mapping[str, str], form: Files) -> Iterator[Named]:
+        """A text file itself, or the sheets of a workbook that are named."""
+        book = file if file.suffix.lower() in WORKBOOKS else self._workbooks.get(file)
+        columns = {*(name for names in form.columns.values() for name in names)}
+        if book is None:
+            read = functools.partial(texts_of_csv, file, form.encoding, columns)
+            yield Named((file, ""), label_of(file), values, read)
+            return
+        workbook = self._book(file, book)
+        titles = [title.text for title in workbook.titles()]
+        if form.sheets is None and len(titles) > 1:
+            names = ", ".join(titles)
+            raise Fault(
+                f"{self._map.path}: {label_of(file)} has the sheets {names}: wanted a line sheets that names one"
+            )
+        for title in titles:
+            own = form.sheets.values(title) if form.sheets else {}
+            if own is not None:
+                label = label_of(file) if len(titles) == 1 else f"{label_of(file)}:{title}"
+                read = functools.partial(workbook.texts, title, label)
+                yield Named((file, title), label, {**values, **own}, read)
+
+    def _book(self, file: Path, book: Path) -> Workbook:
+        if file not in self._books:
+            self._books[file] = Workbook(book, label_of(file))
+            self._stack.callback(self._books[file].close)
+        return self._books[file]
+
+    # ---- sheets
+
+    def sheet(self, name: str) -> Optional[Sheet]:
+        """A sheet by its name with all its rows; None if there is none. Raises BadSheet if it can't be read."""
+        return read_whole(self.stream(name))
+
+    def stream(self, name: str) -> Optional[Sheet]:
+        """A sheet by its name, whose rows are read once, when they are asked for. Raises BadSheet, and so do the
+        rows."""
+        tables = [table for table in self._map.tables if table.sheet == name]
+        if not tables:
+            return self._plain.stream(name)
+        if plain := self._plain.stream(name):
+            because = message("the map reads {sheet} from other files", sheet=of_others(name))
+            do = message("remove this file from the folder, or the table from the map")
+            raise BadSheet(Origin(plain.file, 0), because, do)
+        for table in tables:
+            self._look_at_columns(table)
+        first = self._named[tables[0].key][0].label
+        columns = tuple(
+            dict.fromkeys(column for table in tables for column in columns_of(table) if column not in MEASURES)
+        )
+        sheet = Sheet(first, columns, columns, (), [], [])
+        sheet.quotes = self._rows(tables, sheet)
+        return sheet
+
+    def _look_at_columns(self, table: Table) -> None:
+        """Raises BadSheet if a table doesn't give a column without which a sheet can't be read."""
+        given = {*columns_of(table)}
+        slot = ("collector", "slot") if {"collector", "slot"} <= given else ("outlet", "item")
+        for column in (*SHEETS[table.sheet].needed, *(slot if table.sheet == "prices" else ())):
+            is_of_place = table.sheet == "classification" and column == "weight"
+            if column not in given and not is_of_place:
+                because = message(
+                    "the map doesn't give the column {column} of {sheet}",
+                    column=of_others(column),
+                    sheet=of_others(table.sheet),
+                )
+                do = message("add it to the table of the map: to columns, to values, or to the name of its files")
+                raise BadSheet(Origin(self._named[table.key][0].label, table.form.heading), because, do)
+
+    def _rows(self, tables: Sequence[Table], sheet: Sheet) -> Iterator[Union[Row, Quotes]]:
+        """The rows of some tables; their problems are reported in the sheet."""
+        findings = Findings()
+        codes = OurCodes(self._map.codes, findings)
+        units = self._units() if any(table.units for table in tables) else {}
+        try:
+            for table in tables:
+                yield from self._rows_of(table, codes, units, findings)
+        finally:
+            findings.end()
+            sheet.faults += findings.faults.all()
+            sheet.warnings += findings.warnings
+            self.readings += findings.readings
+            for column, used in codes.used.items():
+                self.codes[column] |= used
+
+    def _rows_of(
+        self, table: Table, codes: OurCodes, units: Mapping[str, str], findings: Findings
+    ) -> Iterator[Union[Row, Quotes]]:
+        months = Months(table.month, self._map.languages, findings)
+        marks, measures = Marks(table, self._numbers, findings), Measures(table, self._numbers, units, findings)
+        rows = TableRows(table, months, codes, marks, measures, findings)
+        if table.join:
+            key = (*table.key, "join")
+            places = [Place(named.label, named.values, named.read()) for named in self._named[key]]
+            rows.join(joined_rows(places, table.join.form, tuple(table.join.on.values()), findings))
+        for named in self._named[table.key]:
+            try:
+                yield from rows.rows(Place(named.label, named.values, named.read()))
+            except BadSheet as bad:
+                # (the other files are read all the same)
+                findings.faults.add(bad.fault)
+
+    def _units(self) -> Mapping[str, str]:
+        """The unit of each item, from the existing office and from the sheet."""
+        units = {item: fields[2] for item, fields in self._known.items.items()}
+        items = self.sheet("items")
+        return {**units, **{row["item"]: row["unit"] for row in items.rows}} if items else units
+
+
+def columns_of(table: Table) -> Iterator[str]:
+    """Our columns that a table gives."""
+    yield from table.form.columns
+    yield from table.values
+    yield from table.join.form.columns if table.join else ()
+    forms = [table.form, *([table.join.form] if table.join else [])]
+    for pattern in (pattern for form in forms for pattern in (form.files, form.sheets) if pattern):
+        yield from (
+            place for place in pattern.places if place in SHEETS[table.sheet].needed + SHEETS[table.sheet].others
+        )
+        yield from ("month",) if pattern.has_month else ()
+    yield from {"month": ("month", "value"), "year": ("year", "weight")}.get(table.heads, ())
+    yield from ("mark",) if table.marks or table.cells else ()
+
+
+# ==== `cpi-tools take-in FOLDER (--check | --write OUT | --propose FILE)`: the tool's arguments, and its output
+
+QUESTION = quote(UNKNOWN)
 
 CODES = "codes.csv"
-"""The tables of codes of a map, written back."""
+"""The file with a map's tables of codes, written back."""
 
 MOST_SHOWN = 20
-"""Warnings that the terminal shows; `problems.csv` and `report.html` have all."""
+"""Warnings that the terminal shows; `problems.csv` and `report.html` list all of them."""
 
 IN_DOUBT = 3
 """The exit status if prices are in doubt, and nothing else is wrong."""
@@ -83,7 +282,7 @@ says what); 2 if the arguments are refused; 3 if the only doubt is whether price
 
 
 def add_words(tools: argparse._SubParsersAction[ToolWords]) -> None:
-    """The tool `take-in`."""
+    """Adds the tool `take-in`."""
     says = "Make records from an office's spreadsheets"
     words = tools.add_parser("take-in", help=says, description=DESCRIPTION, epilog=EPILOG)
     words.add_argument("folder", type=Path, metavar="FOLDER", help="the folder of the files, or one workbook (.xlsx)")
@@ -137,13 +336,13 @@ def add_words(tools: argparse._SubParsersAction[ToolWords]) -> None:
         help="confirm prices outside the tolerance, and list them, except in series that have one in doubt",
     )
     add_speech(words, "report.html")
-    csv_files.add_safe_csv(words)
+    text_files.add_safe_csv(words)
     add_program(words)
     words.set_defaults(run=run, tool="take-in", words=words)
 
 
 def run(chosen: argparse.Namespace) -> int:
-    """Runs the tool by its words; its exit status."""
+    """Runs the tool with its arguments; returns its exit status."""
     if chosen.propose:
         return propose(chosen.folder, chosen.propose)
     office_map = read_map(chosen.map) if chosen.map else None
@@ -159,9 +358,8 @@ def run(chosen: argparse.Namespace) -> int:
             with Progress("cpi-tools take-in") as progress:
                 own = [out, check]
                 opener = opener_of(chosen.folder, office_map, options, own) if office_map else None
-                result = stack.enter_context(
-                    taken_in(cpi, chosen.folder, options, chosen.zone, chosen.onto, own, progress, opener)
-                )
+                words = chosen.zone, chosen.onto, own, progress, opener, bool(chosen.write)
+                result = stack.enter_context(taken_in(cpi, chosen.folder, options, *words))
             show_warnings(result.taken.warnings)
             show_readings(result.taken.readings)
             doubts = result.taken.doubts.cells
@@ -170,7 +368,7 @@ def run(chosen: argparse.Namespace) -> int:
                 if office_map:
                     write_codes(out / CODES, office_map)
             if result.judged.problems:
-                raise Fault(f"{counted(len(result.judged.problems), 'problem')}: {out / 'problems.csv'}")
+                raise Fault(f"{write_count(len(result.judged.problems), 'problem')}: {out / 'problems.csv'}")
             if doubts:
                 show_doubts(doubts, out / "problems.csv")
                 return IN_DOUBT
@@ -187,7 +385,7 @@ def run(chosen: argparse.Namespace) -> int:
 
 
 def propose(folder: Path, out: Path) -> int:
-    """Writes a first map into a file that isn't there yet; the exit status."""
+    """Writes a first map into a new file; returns the exit status."""
     if os.path.lexists(out):
         raise Fault(f"{out} is there already: name a file that isn't")
     try:
@@ -201,7 +399,7 @@ def propose(folder: Path, out: Path) -> int:
 
 
 def opener_of(folder: Path, office_map: OfficeMap, options: Options, own: Sequence[Path]) -> Opener:
-    """Opens the sheets of a folder by a map."""
+    """The opener of a folder's sheets with a map."""
     return lambda books, known: MappedSource(folder, office_map, options.decimal, known, options.ignored, own, books)
 
 
@@ -212,7 +410,7 @@ def write_codes(path: Path, office_map: OfficeMap) -> None:
 
 
 def keep_map(records: Path, office_map: OfficeMap) -> None:
-    """Keeps a map with the records that were made by it: its files, as they are, in a folder `map`, and its codes."""
+    """Keeps a map with the records that were made with it: its unchanged files in a folder `map`, and its codes."""
     kept = records / "map"
     kept.mkdir(mode=0o700)
     for part in office_map.parts:
@@ -221,8 +419,8 @@ def keep_map(records: Path, office_map: OfficeMap) -> None:
     write_codes(records / CODES, office_map)
 
 
-def said(chosen: argparse.Namespace, word: str, office_map: Optional[OfficeMap], otherwise: object) -> object:
-    """What the words of the command or the map say of a word; what both say differently is refused."""
+def settle_word(chosen: argparse.Namespace, word: str, office_map: Optional[OfficeMap], otherwise: object) -> object:
+    """The value of a word from the command's arguments or the map; refuses different values."""
     given, mapped = getattr(chosen, word), getattr(office_map, word, None)
     if given and mapped and given != mapped:
         raise Fault(f"--{word} is {given}, and {chosen.map} says {mapped}: wanted the same, or one of the two")
@@ -230,9 +428,9 @@ def said(chosen: argparse.Namespace, word: str, office_map: Optional[OfficeMap],
 
 
 def options_of(chosen: argparse.Namespace, office_map: Optional[OfficeMap] = None) -> Options:
-    """How texts are read, by the words of the command and a map; a value that is none is refused."""
+    """The options for reading texts, from the command's arguments and a map; refuses invalid values."""
     ignored = frozenset(name.strip().lower() for name in chosen.ignore)
-    decimal_sign = str(said(chosen, "decimal", office_map, "."))
+    decimal_sign = str(settle_word(chosen, "decimal", office_map, "."))
     numbers, codes, priced = Numbers(decimal_sign), dict[str, str](), set[Fraction]()
     for text in chosen.missing:
         value, _, reason = text.rpartition("=")
@@ -245,29 +443,31 @@ def options_of(chosen: argparse.Namespace, office_map: Optional[OfficeMap] = Non
             chosen.words.error(f"--price {text}: it is no number with the decimal sign {decimal_sign}")
         else:
             priced.add(number)
-    minor, weights = int(str(said(chosen, "minor", office_map, 1))), str(said(chosen, "weights", office_map, "ppm"))
+    minor, weights = int(str(settle_word(chosen, "minor", office_map, 1))), str(
+        settle_word(chosen, "weights", office_map, "ppm")
+    )
     rule = office_map.rule if office_map else Rule()
     confirm = chosen.confirm_history
     return Options(minor, decimal_sign, weights, confirm, ignored, codes, frozenset(priced), rule)
 
 
 def show_readings(readings: Sequence[MonthRead]) -> None:
-    """Prints the first months that were read of other spellings on standard error."""
+    """Prints the first months that were read from other spellings on standard error."""
     for reading in readings[:MOST_SHOWN]:
         column = "" if reading.column == reading.text else f", {reading.column}"
         print(
-            f"cpi-tools take-in: {reading.file}{column}: {shown(reading.text)} is read as {reading.month}",
+            f"cpi-tools take-in: {reading.file}{column}: {quote_text(reading.text)} is read as {reading.month}",
             file=sys.stderr,
         )
     if len(readings) > MOST_SHOWN:
-        print(f"cpi-tools take-in: {counted(len(readings) - MOST_SHOWN, 'more month')} read so", file=sys.stderr)
+        print(f"cpi-tools take-in: {write_count(len(readings) - MOST_SHOWN, 'more month')} read so", file=sys.stderr)
 
 
 def show_doubts(doubts: Sequence[SheetFault], problems: Path) -> None:
-    """Prints the first prices that are in doubt on standard error, and that nothing is taken in."""
+    """Prints the first prices that are in doubt on standard error, and says that nothing is taken in."""
     for doubt in doubts[:MOST_SHOWN]:
         print(f"cpi-tools take-in: {place(doubt.origin)}: {doubt.because}; {doubt.do}", file=sys.stderr)
-    count = counted(len(doubts), "price")
+    count = write_count(len(doubts), "price")
     print(f"cpi-tools take-in: {count} in doubt, and nothing is taken in: {problems}", file=sys.stderr)
 
 
@@ -276,4 +476,4 @@ def show_warnings(warnings: Sequence[SheetFault]) -> None:
     for warning in warnings[:MOST_SHOWN]:
         print(f"cpi-tools take-in: warning: {place(warning.origin)}: {warning.because}", file=sys.stderr)
     if len(warnings) > MOST_SHOWN:
-        print(f"cpi-tools take-in: {counted(len(warnings) - MOST_SHOWN, 'more warning')}", file=sys.stderr)
+        print(f"cpi-tools take-in: {write_count(len(warnings) - MOST_SHOWN, 'more warning')}", file=sys.stderr)

@@ -1,4 +1,4 @@
-"""Why the draft of a coming year can't be made: a line for a terminal, and a sentence for a page."""
+"""The reasons why the draft of a coming year can't be made: a line for a terminal, and a sentence for a page."""
 
 from __future__ import annotations
 
@@ -6,7 +6,7 @@ from pathlib import Path
 
 from ...office.program import Reply
 from ...office.refusals import refusal_words, sentence
-from ...text.message import Code, Message, month_of, said_as, message as _
+from ...text.message import Code, Message, message as _, month_of, said_as
 from ...text.others import of_others
 from ...text.terminal import month_text
 from ..judge import number_of
@@ -14,16 +14,18 @@ from ..record_rows import DESK
 
 
 def no_plan(year: int) -> Message:
-    """Neither the year has a plan, nor the one before."""
+    """Neither the year nor the year before has a plan."""
     return said_as(
         f"there is no plan of {year - 1} that one of {year} could be drafted from",
-        _("There is no plan of {before}, from which one of {year} could be drafted.", before=year - 1, year=year),
+        _("There is no plan of {before} from which the plan of {year} could be drafted.", before=year - 1, year=year),
     )
 
 
 def none_frozen() -> Message:
     """No month is frozen."""
-    return said_as("no month is frozen yet", _("No month is frozen yet: freeze the first one before."))
+    return said_as(
+        "no month is frozen yet", _("No month is frozen yet: freeze the first month before you draft a year.")
+    )
 
 
 def has_begun(month: int, year: int) -> Message:
@@ -35,10 +37,10 @@ def has_begun(month: int, year: int) -> Message:
 
 
 def is_there(folder: Path) -> Message:
-    """The folder of the draft is there."""
+    """The folder of the draft already exists."""
     return said_as(
         f"{folder} is there already: name a folder that isn't",
-        _("{folder} is there already.", folder=of_others(str(folder))),
+        _("{folder} already exists.", folder=of_others(str(folder))),
     )
 
 
@@ -51,12 +53,12 @@ def no_series(month: int, code: str) -> Message:
     )
 
 
-def refused(reply: Reply, what: str, word: str) -> Message:
-    """A plan, or the freeze of a month, is refused on the copy; `word` is that of its record."""
+def explain_refusal(reply: Reply, what: str, word: str) -> Message:
+    """A plan, or the freeze of a month, is refused on the copy; `word` is the word of its record."""
     words = refusal_words(reply, DESK, word)
     return said_as(
         f"{what} is refused on a copy by {number_of(reply)}: {words.because} ({words.do})",
-        _("A step on the copy was refused by {number}.", number=number_of(reply)),
+        _("A step on the copy was refused with {number}.", number=number_of(reply)),
         _(sentence(words.because)),
         _(sentence(words.do)),
     )

@@ -1,6 +1,7 @@
-"""`cpi-tools weights`: weights of a year, moved by published levels to the December from which a plan's year begins.
+"""`cpi-tools weights`: moves the weights of a year with published levels to the December from which a plan's year
+begins.
 
-What was spent on an elementary aggregate in a year, at the prices of its twelve months, is worth at December's prices
+The spending on an elementary aggregate in a year, at the prices of its twelve months, is worth at December's prices
 `spent * level of December / mean of the twelve levels`. All of it is computed as fractions, and shared out once as
 parts per million.
 """
@@ -21,11 +22,11 @@ from ...office.table_rows import CODE
 from ...office.tables import Series
 from ...publish.figures.measures import months_linked_to, reference_level
 from ...publish.sources import add_source, read_source, test_source
-from ...text import csv_files
+from ...text import text_files
 from ...text.exact import decimal, depth_of
-from ...text.terminal import Fault, Progress, ToolWords, a_file, because_of, counted
-from ...text.whole_files import write_whole
-from ..weights import scaled
+from ...text.terminal import Fault, Progress, ToolWords, a_file, because_of, write_count
+from ...text.text_files import write_whole
+from ..sheet_numbers import scale_weights
 
 HEAD = (["code", "weight"], ["code", "weight", "of"])
 NUMBER = re.compile(r"[0-9]{1,18}(\.[0-9]{1,18})?")
@@ -33,11 +34,11 @@ PERIOD = re.compile(r"2[01][0-9]{2}(-(0[1-9]|1[0-2]))?")
 
 
 class CannotMove(Fault):
-    """Weights that can't be moved; one line."""
+    """Weights can't be moved; the message is one line."""
 
 
 class Spent(NamedTuple):
-    """A row of the sheet: an elementary aggregate, its weight, and the period at whose prices it is."""
+    """A row of the sheet: an elementary aggregate, its weight, and the period whose prices it uses."""
 
     code: str
     weight: Fraction
@@ -56,7 +57,7 @@ class Moved(NamedTuple):
 
 
 def read_spent(path: Path, of: str) -> list[Spent]:
-    """The rows of a sheet; a row that names no period of its own is of the period `of`. Raises CannotMove."""
+    """The rows of a sheet; a row without its own period has the period `of`. Raises CannotMove."""
     try:
         rows = [*csv.reader(io.StringIO(path.read_text(encoding="utf-8-sig"), newline=""), strict=True)]
     except OSError as fault:
@@ -65,7 +66,7 @@ def read_spent(path: Path, of: str) -> list[Spent]:
         raise CannotMove(f"{path}: {fault}") from fault
     if not rows or rows[0] not in HEAD:
         raise CannotMove(f"{path}: its first row is neither code,weight nor code,weight,of")
-    found = [_spent(path, number, row, of) for number, row in enumerate(rows[1:], 2) if any(row)]
+    found = [_read_spent(path, number, row, of) for number, row in enumerate(rows[1:], 2) if any(row)]
     codes = [it.code for it in found]
     twice = next((code for at, code in enumerate(codes) if code in codes[:at]), None)
     if twice:
@@ -75,7 +76,7 @@ def read_spent(path: Path, of: str) -> list[Spent]:
     return found
 
 
-def _spent(path: Path, number: int, row: Sequence[str], of: str) -> Spent:
+def _read_spent(path: Path, number: int, row: Sequence[str], of: str) -> Spent:
     """A row of the sheet."""
     code, weight, own = (*(cell.strip() for cell in row), "", "")[:3]
     if not CODE.fullmatch(code) or depth_of(code) != 5:
@@ -87,9 +88,9 @@ def _spent(path: Path, number: int, row: Sequence[str], of: str) -> Spent:
     return Spent(code, Fraction(weight), own or of)
 
 
-def moved(series: Series, spent: Sequence[Spent], link: str) -> list[Moved]:
+def move_weights(series: Series, spent: Sequence[Spent], link: str) -> list[Moved]:
     """The weights at the prices of a December, in the order of the sheet. Raises CannotMove with all rows that have no
-    level in their period, or whose levels there aren't linked to December's."""
+    level in their period, or whose levels aren't linked to December's."""
     if link not in series.months and link != series.base:
         raise CannotMove(f"the table of {link} isn't published")
     found: dict[str, Optional[tuple[Fraction, Fraction]]] = {it.code: _levels(series, it, link) for it in spent}
@@ -100,12 +101,12 @@ def moved(series: Series, spent: Sequence[Spent], link: str) -> list[Moved]:
         raise CannotMove(f"no published levels lead from its period to {link}: {text}; {advice}")
     levels = {code: pair for code, pair in found.items() if pair}
     worth = [it.weight * levels[it.code][1] / levels[it.code][0] for it in spent]
-    return [Moved(it, *levels[it.code], value, parts) for it, value, parts in zip(spent, worth, scaled(worth))]
+    return [Moved(it, *levels[it.code], value, parts) for it, value, parts in zip(spent, worth, scale_weights(worth))]
 
 
 def _levels(series: Series, it: Spent, link: str) -> Optional[tuple[Fraction, Fraction]]:
-    """The level of an aggregate in its period and in December; None if the one isn't linked to the other. A weight at
-    the prices of December itself needs no level."""
+    """The level of an aggregate in its period and in December; None if the two aren't linked. A weight at the prices of
+    December itself needs no level."""
     if it.of == link:
         return Fraction(100), Fraction(100)
     then = reference_level(series, it.code, it.of) if it.code in series.titles else None
@@ -124,7 +125,7 @@ STEPS_HEAD = ("code", "title", "weight", "of", "level_then", "level_december", "
 
 
 def step_rows(found: Sequence[Moved], titles: Mapping[str, str]) -> Iterator[Sequence[object]]:
-    """Each weight with what it was computed from, with six decimals; levels in points."""
+    """Each weight with the figures from which it was computed, with six decimals; levels are in points."""
     for it in found:
         numbers = (decimal(*number.as_integer_ratio(), 6) for number in (it.spent.weight, it.then, it.now, it.worth))
         weight, *others = numbers
@@ -134,16 +135,16 @@ def step_rows(found: Sequence[Moved], titles: Mapping[str, str]) -> Iterator[Seq
 # ---- words
 
 DESCRIPTION = """\
-Moves a year's weights to the December from which a plan's year begins, and writes the W rows of
-the plan, in parts per million. SHEET is a CSV file with the columns code and weight, in any unit:
-what was spent on each elementary aggregate in the year of --of, at that year's prices. At
-December's prices, the weight is weight * level of December / mean of the twelve levels of the
-year, from the published tables. The tool computes this exactly, and rounds only once, by greatest
-remainders, so that the rows add up to 1,000,000.
+Updates a year's weights by prices to the December before a plan's year, and writes the W rows of
+the plan, in parts per million. SHEET is a CSV file with the columns code and weight: the spending on
+each elementary aggregate in the year of --of, at that year's prices, in any unit. At December's
+prices, the weight is weight * level of December / mean of the twelve levels of the year, from the
+published tables. The tool computes this exactly, and rounds only once, by greatest remainders, so
+that the rows add up to 1,000,000.
 
-A third column, of, names another year or month for a row. A new aggregate has no levels: its
-weight is at the prices of that December, as its column of says. A plan with these rows has no R
-row, because nothing is left to move.
+A third column, of, names another year or month for a row. A new aggregate has no levels: give its
+weight at the prices of that December, and name that December in its column of. A plan with these
+rows has no R row, because the weights are already at December's prices.
 """
 
 EPILOG = """\
@@ -155,7 +156,7 @@ are refused
 
 
 def add_words(tools: argparse._SubParsersAction[ToolWords]) -> None:
-    """The tool `weights`."""
+    """Adds the tool `weights`."""
     says = "Move a year's weights by prices to December, for the next plan"
     words = tools.add_parser("weights", help=says, description=DESCRIPTION, epilog=EPILOG)
     words.add_argument("sheet", type=Path, metavar="SHEET", help="codes and weights")
@@ -163,7 +164,7 @@ def add_words(tools: argparse._SubParsersAction[ToolWords]) -> None:
     words.add_argument("--of", type=a_year, required=True, metavar="YEAR", help="the year of the weights' prices")
     words.add_argument("--for", type=a_year, required=True, dest="year", metavar="YEAR", help="the year of the plan")
     words.add_argument("--out", type=a_file, required=True, metavar="ROWS", help="where to write the rows of the plan")
-    words.add_argument("--steps", type=a_file, metavar="STEPS", help="where to show each weight with its levels")
+    words.add_argument("--steps", type=a_file, metavar="STEPS", help="where to write each weight with its levels")
     words.set_defaults(run=run, tool="weights", words=words)
 
 
@@ -175,7 +176,7 @@ def a_year(text: str) -> str:
 
 
 def run(chosen: argparse.Namespace) -> int:
-    """Runs the tool by its words; its exit status."""
+    """Runs the tool with its arguments; returns its exit status."""
     test_source(chosen)
     if chosen.at is not None and chosen.at > time.time():
         raise CannotMove(f"--at {chosen.at} is still to come: its tables may be under embargo now")
@@ -183,19 +184,19 @@ def run(chosen: argparse.Namespace) -> int:
     with Progress("cpi-tools weights") as progress:
         series = Series(read_source(chosen, progress))
     link = f"{int(chosen.year) - 1:04}-12"
-    found = moved(series, spent, link)
+    found = move_weights(series, spent, link)
     _write(chosen.out, [], plan_rows(found))
     if chosen.steps:
         _write(chosen.steps, [STEPS_HEAD], step_rows(found, series.titles))
-    rows = counted(sum(1 for it in found if it.parts), "weight")
+    rows = write_count(sum(1 for it in found if it.parts), "weight")
     print(f"{chosen.out}: {rows} of {chosen.of} at prices of {link}, parts per million")
     return 0
 
 
 def _write(to: Path, head: Sequence[Sequence[object]], rows: Iterable[Sequence[object]]) -> None:
-    """Writes a CSV file, whole or not at all."""
+    """Writes a CSV file, completely or not at all."""
     text = io.StringIO()
-    csv_files.Writer(text).writerows([*head, *rows])
+    text_files.Writer(text).writerows([*head, *rows])
     try:
         write_whole(to, text.getvalue().encode(), 0o644)
     except OSError as fault:

@@ -1,8 +1,4 @@
-"""`cpi-tools next-year FILE YEAR FOLDER`: what the desk has to see to before a year begins, and a draft of it.
-
-Who leaves the sample, what was gone for three months, which aggregates have fewer than three series; and next year's
-plan and assignments as the files that `take-in` reads.
-"""
+"""`cpi-tools next-year FILE YEAR FOLDER`: what the desk has to see to before a year begins, and a draft of it."""
 
 from __future__ import annotations
 
@@ -10,36 +6,140 @@ import argparse
 import os
 import sqlite3
 from collections import Counter, defaultdict
-from collections.abc import Iterable, Sequence
+from collections.abc import Collection, Iterable, Iterator, Sequence
 from pathlib import Path
-from typing import NamedTuple
+from typing import NamedTuple, Optional
 
 from ...office.copying import private_copy
-from ...office.private_files import write_rows
-from ...office.program import Cpi, add_program
-from ...office.rooms import new_room
+from ...office.folders import new_room, write_rows
+from ...office.program import LAST_MOMENT, Cpi, Reply, Session, add_program, record
 from ...office.stored import Assignment, Plan, Release, Series, Slot, StoredOffice, stored_office
-from ...text.terminal import Fault, Progress, ToolWords, at_least, because_of, counted, month_text
+from ...text.terminal import Fault, Progress, ToolWords, at_least, because_of, month_text, write_count
+from ..record_rows import DESK
 from ..take_out import COLUMNS, Held, Line, held_by
 from . import draft_faults
-from .next_sample import next_sample, sample_of
+
+
+# ==== finds the series in the sample of a coming year: the months up to its January are frozen on a copy, and read
+# there
+#
+# The program decides which series are in a sample. Weights don't affect this, so on the copy an aggregate without
+# series gives its weight to another one.
+
+FIRST = 1
+"""The revision of a month that is frozen for the first time."""
+
+MOST_WEIGHT = 1_000_000
+
+
+def months_after(month: int, last: int) -> Iterator[int]:
+    """The months after one, up to another."""
+    while month < last:
+        month = month + 1 if month % 100 < 12 else month + 89
+        yield month
+
+
+def sample_of(stored: StoredOffice, release: Release, plan: Plan) -> dict[Series, str]:
+    """The aggregate of each series with a carried price in a release."""
+    return {series: plan.places[it.item] for series, it in stored.read_carried(release).items()}
+
+
+def next_sample(cpi: Cpi, copy: Path, plan: Plan, last_frozen: int) -> dict[Series, str]:
+    """The sample that a year's plan would have, as the aggregate of each series: the copy is frozen month by month to
+    find it.
+
+    Months that aren't frozen yet are frozen with the quotes that they have. Raises Fault if that is refused.
+    """
+    january = plan.year * 100 + 1
+    with stored_office(copy) as stored:
+        windows, keys = {it.month for it in stored.calendar()}, [*stored.keys().values()]
+    with cpi.session(db=copy) as session:
+        for month in months_after(last_frozen, january):
+            if month not in windows:
+                session.ask(record(0, DESK, "calendar", month_text(month), 0, 1, LAST_MOMENT))
+            code = freeze(session, month) if month < january else None
+            if code is not None:
+                raise Fault(draft_faults.no_series(month, code))
+        is_frozen = freeze_january(session, plan, priced_items(session, keys, january))
+    with stored_office(copy) as stored:
+        return sample_of(stored, Release(january, FIRST, ()), plan) if is_frozen else {}
+
+
+def priced_items(session: Session, keys: Sequence[str], month: int) -> set[str]:
+    """The items on the work lists of a month."""
+    asked = (session.ask(record(LAST_MOMENT, key, "work", month_text(month))) for key in keys)
+    return {row[3] for reply in asked for row in reply["work"]}
+
+
+def freeze_january(session: Session, plan: Plan, items: Collection[str]) -> bool:
+    """Freezes the first month of a plan, without the aggregates that have no series; returns whether any aggregate has
+    one.
+
+    Aggregates whose items nobody prices are left out at once, the others when a refusal names them.
+    """
+    priced = {plan.places[item] for item in items if item in plan.places}
+    weights = {code: weight for code, weight in plan.aggregates().items() if code in priced}
+    while weights:
+        must(session.ask(plan_record(plan, weights)), f"the plan of {plan.year}")
+        code = freeze(session, plan.year * 100 + 1)
+        if code is None:
+            return True
+        del weights[code]
+    return False
+
+
+def freeze(session: Session, month: int) -> Optional[str]:
+    """Freezes a month with the carry list that it needs; returns the code of an aggregate without a sample, if there is
+    one."""
+    carry: list[str] = []
+    while True:
+        reply = session.ask(record(LAST_MOMENT, DESK, "freeze", month_text(month), *carry))
+        if reply.get("refused") == 49 and reply["fault"] == 2:
+            carry.append(reply["code"])
+        elif reply.get("refused") == 49 and reply["fault"] == 1:
+            return str(reply["code"])
+        else:
+            must(reply, f"the freeze of {month_text(month)}", "freeze")
+            return None
+
+
+def must(reply: Reply, what: str, word: str = "plan") -> None:
+    """Raises Fault if something was refused, in the words of the refusal."""
+    if "refused" in reply:
+        raise Fault(draft_faults.explain_refusal(reply, what, word))
+
+
+def plan_record(plan: Plan, weights: dict[str, int]) -> str:
+    """The record of a plan of some of its aggregates: the first also gets the weights of those that are left out."""
+    first, *others = weights
+    shared = {first: MOST_WEIGHT - sum(weights[code] for code in others), **{code: weights[code] for code in others}}
+    rows = [record("T", code, title) for code, title in plan.titles.items()]
+    rows += [record("W", code, weight) for code, weight in shared.items()]
+    rows += [record("I", item, code) for item, code in plan.places.items() if code in shared]
+    return record(0, DESK, "plan", plan.year, "\n".join(rows))
+
+
+# ==== `cpi-tools next-year FILE YEAR FOLDER`: lists what the desk must do before a year begins, and drafts the year
+#
+# It lists the series that leave the sample, the series that were gone for three months, and the aggregates with fewer
+# than three series; and it writes next year's plan and assignments as the files that `take-in` reads.
 
 MOST_SLOTS = 400
-"""How many slots a collector has."""
+"""The most slots of a collector."""
 
 GONE_MONTHS = 3
-"""For how many months a series is gone before it is told."""
+"""The number of months for which a series is gone before it is reported."""
 
 FEW = 3
-"""An aggregate with fewer series than this is told."""
+"""An aggregate with fewer series than this is reported."""
 
 
 class Now(NamedTuple):
-    """What an office says before the year begins.
+    """The state of an office before the year begins.
 
-    Who has each series; the collectors' numbers, the outlets' names, the items' texts; the last frozen release and the
-    sample that it was computed from; next year's plan as it stands, or else this year's; the months that were looked at
-    for what is gone, and the series that were.
+    The holder of each series; the collectors' numbers, the outlets' names, the items' texts; the last frozen release
+    and the sample that it was computed from; next year's plan if it exists, or else this year's; the months in which
+    gone series were searched, and these series.
     """
 
     held: Held
@@ -54,7 +154,7 @@ class Now(NamedTuple):
 
 
 def read(stored: StoredOffice, year: int) -> Now:
-    """What the copy of an office says. Raises Fault where the year can't be the next."""
+    """The state in the copy of an office. Raises Fault if the year can't be the next one."""
     plans = {plan.year: plan for plan in stored.plans()}
     plan = plans.get(year) or plans.get(year - 1)
     releases = stored.releases()
@@ -77,12 +177,12 @@ def read(stored: StoredOffice, year: int) -> Now:
         sample=sample_of(stored, last, current) if current else {},
         plan=plan._replace(year=year),
         months=months,
-        gone=gone(stored, held, months),
+        gone=find_gone(stored, held, months),
     )
 
 
-def gone(stored: StoredOffice, held: Held, months: Sequence[int]) -> set[Series]:
-    """The series that were `gone` in each of three months, whoever had them."""
+def find_gone(stored: StoredOffice, held: Held, months: Sequence[int]) -> set[Series]:
+    """The series that were `gone` in each of three months, whoever held them."""
     series = {(it.collector, it.slot): it.series for own in held.values() for it in own}
     counts: Counter[Series] = Counter()
     for month in months:
@@ -94,7 +194,7 @@ def gone(stored: StoredOffice, held: Held, months: Sequence[int]) -> set[Series]
 
 
 class Lists(NamedTuple):
-    """The rows of each list, and those of the draft's new series; and the collectors who need a new number for them."""
+    """The rows of each list, the rows of the draft's new series, and the collectors who need a new number for them."""
 
     leaving: list[Line]
     gone: list[Line]
@@ -112,7 +212,7 @@ HEADS = {
 
 
 def lists(now: Now, sample: dict[Series, str]) -> Lists:
-    """What the desk has to see to, by the sample that the program would take."""
+    """The lists of what the desk must do, from the sample that the program would take."""
     leaving: list[Line] = []
     drafted: list[Line] = []
     slots = Slots(now.held, now.collectors)
@@ -134,12 +234,12 @@ def lists(now: Now, sample: dict[Series, str]) -> Lists:
 
 
 def _series_cells(now: Now, it: Assignment, code: str) -> Line:
-    """A series as the lists have it."""
+    """The cells of a series in the lists."""
     return it.collector, it.slot, it.outlet, now.outlets[it.outlet], it.item, now.texts[it.item], code
 
 
 class Slots:
-    """The next free slot of each collector; who has used up all has a new number, with slots of its own."""
+    """The next free slot of each collector; a collector without a free slot gets a new number, with its own slots."""
 
     def __init__(self, held: Held, numbers: Iterable[int]):
         self._last: Counter[int] = Counter()
@@ -148,10 +248,10 @@ class Slots:
                 self._last[it.collector] = max(self._last[it.collector], it.slot)
         self._greatest = max(numbers)
         self.renumbered: dict[int, int] = {}
-        """By the number of a collector without a free slot the new one."""
+        """The new numbers of collectors without a free slot, by their old ones."""
 
     def next(self, collector: int) -> Slot:
-        """A slot that nothing is in yet."""
+        """The next free slot of a collector."""
         number = self.renumbered.get(collector, collector)
         if self._last[number] >= MOST_SLOTS:
             self._greatest += 1
@@ -166,7 +266,7 @@ def draft_row(it: Assignment, slot: Slot, year: int) -> Line:
 
 
 def gone_rows(now: Now) -> list[Line]:
-    """What was gone in all of the last months."""
+    """The series that were gone in all of the last months."""
     because = "gone in " + ", ".join(map(month_text, now.months))
     do = "look for another in its place: the draft doesn't have it again"
     found: list[Line] = []
@@ -179,7 +279,7 @@ def gone_rows(now: Now) -> list[Line]:
 
 
 def few_rows(now: Now, sample: dict[Series, str], drafted: Sequence[Line]) -> list[Line]:
-    """The aggregates with fewer than three series in the sample, those without any among them."""
+    """The aggregates with fewer than three series in the sample, including those without any."""
     outlets: dict[str, list[int]] = defaultdict(list)
     for series, code in sample.items():
         outlets[code].append(now.held[series][-1].outlet)
@@ -201,7 +301,7 @@ def few_rows(now: Now, sample: dict[Series, str], drafted: Sequence[Line]) -> li
 
 
 def write_next_year(folder: Path, now: Now, found: Lists) -> None:
-    """Writes the lists, and the draft beside them, into a folder that is there."""
+    """Writes the lists, and the draft next to them, into an existing folder."""
     for name, rows in zip(HEADS, (found.leaving, found.gone, found.few)):
         write_rows(folder / f"{name}.csv", HEADS[name], rows)
     draft, plan = folder / "draft", now.plan
@@ -217,9 +317,9 @@ def write_next_year(folder: Path, now: Now, found: Lists) -> None:
 
 
 def next_year(cpi: Cpi, file: Path, year: int, folder: Path) -> tuple[Now, Lists]:
-    """Writes a new folder with the lists and the draft, whole or not at all.
+    """Writes a new folder with the lists and the draft, completely or not at all.
 
-    FILE is copied, and not a byte of it changes. Raises Fault where no right copy can be made, or the year can't be the
+    FILE is copied, and not a byte of it changes. Raises Fault if no right copy can be made, or the year can't be the
     next one.
     """
     if os.path.lexists(folder):
@@ -264,7 +364,7 @@ exit status: 0 if the folder was written; 1 if it wasn't, and nothing is left (o
 
 
 def add_words(tools: argparse._SubParsersAction[ToolWords]) -> None:
-    """The tool `next-year`."""
+    """Adds the tool `next-year`."""
     says = "Draft next year's plan, and list the series that leave the sample"
     words = tools.add_parser("next-year", help=says, description=DESCRIPTION, epilog=EPILOG)
     words.add_argument("file", type=Path, metavar="FILE", help="the office's file, which is only read")
@@ -275,7 +375,7 @@ def add_words(tools: argparse._SubParsersAction[ToolWords]) -> None:
 
 
 def run(chosen: argparse.Namespace) -> int:
-    """Runs the tool by its words; its exit status."""
+    """Runs the tool with its arguments; returns its exit status."""
     try:
         with Progress("cpi-tools next-year") as progress:
             progress.now(f"freezing a copy up to {chosen.year}-01")
@@ -286,7 +386,7 @@ def run(chosen: argparse.Namespace) -> int:
         raise Fault(f"{chosen.file} can't be read: {fault}") from fault
     print(f"leave the sample of {now.plan.year - 1}: {len(found.leaving):,} of {len(now.sample):,} series")
     print(f"gone in {', '.join(map(month_text, now.months))}: {len(found.gone):,} series")
-    print(f"fewer than {FEW} series in {chosen.year} so far: {counted(len(found.few), 'aggregate')}")
+    print(f"fewer than {FEW} series in {chosen.year} so far: {write_count(len(found.few), 'aggregate')}")
     print(f"go on in {chosen.folder / 'draft'}: {len(found.series):,} series")
     for number, new in found.renumbered.items():
         print(f"collector {number} has no slot left, and is {new} in the draft, with a key that take-in draws")

@@ -35,8 +35,9 @@ const clause = (amount, then, now) => rounded(amount * now, then);
 function faultOf(amount, item, levels, digits, text = "") {
   const title = item.title;
   if (amount === null) return badAmount(digits, text);
-  if (levels[0] === null || levels[levels.length - 1] === null) return t("{title} has no index in one of these months.", { title });
-  return levels.includes(null) ? t("{title} left the index between these months and came again, so its indices can't be compared.", { title }) : "";
+  if (levels[0] === null || levels[levels.length - 1] === null) return t("{title} has no index for one of these months.", { title });
+  return levels.includes(null) ? t("{title} left the index between these months and came back, so its indices "
+    + "can't be compared.", { title }) : "";
 }
 
 /** How an amount is written. */
@@ -44,9 +45,9 @@ function badAmount(digits, text) {
   const readings = amountRead(text, digits)?.readings, wanted = figureText(`1234${digits ? `.${"5".padEnd(digits, "0")}` : ""}`);
   if (readings) {
     const [whole, decimal] = readings.map(figureText);
-    return t("{text} can be read as {whole} or as {decimal}. Write the amount such as {wanted}.", { text, whole, decimal, wanted });
+    return t("{text} can be read as {whole} or as {decimal}. Write the amount like this: {wanted}.", { text, whole, decimal, wanted });
   }
-  return digits ? t("Write the amount as a number with at most {decimals} decimals, such as {wanted}.", { decimals: figureText(String(digits)), wanted })
+  return digits ? t("Write the amount as a number with at most {decimals} decimal places, such as {wanted}.", { decimals: figureText(String(digits)), wanted })
     : t("Write the amount as a whole number, such as {wanted}.", { wanted });
 }
 
@@ -80,14 +81,14 @@ const span = (data) => t("{first} to {last}", { first: data.names[0], last: data
 /** Whether a value of a name of an address is one, and what is said if it isn't. */
 function wanted(data) {
   const isMonth = (text) => data.months.includes(text);
-  const month = (given) => t("The address has {given}. It has to be a month such as {month}, from {span}.", { given, month: data.months[0], span: span(data) });
+  const month = (given) => t("The address contains {given}. The value has to be a month such as {month}, from {span}.", { given, month: data.months[0], span: span(data) });
   return {
-    code: [(text) => Object.hasOwn(data.items, text), (given) => t("The address has {given}. It has to be an item that the form offers.", { given })],
+    code: [(text) => Object.hasOwn(data.items, text), (given) => t("The address contains {given}. The value has to be an item that the form offers.", { given })],
     then: [isMonth, month],
     now: [isMonth, month],
-    decimals: [(text) => ["1", "6"].includes(text), (given) => t("The address has {given}. It has to be 1 or 6.", { given })],
-    later: [(text) => ["first", "day"].includes(text), (given) => t("The address has {given}. It has to be {one} or {other}.", { given, one: "first", other: "day" })],
-    fall: [(text) => ["follows", "stays"].includes(text), (given) => t("The address has {given}. It has to be {one} or {other}.", { given, one: "follows", other: "stays" })],
+    decimals: [(text) => ["1", "6"].includes(text), (given) => t("The address contains {given}. The value has to be 1 or 6.", { given })],
+    later: [(text) => ["first", "day"].includes(text), (given) => t("The address contains {given}. The value has to be {one} or {other}.", { given, one: "first", other: "day" })],
+    fall: [(text) => ["follows", "stays"].includes(text), (given) => t("The address contains {given}. The value has to be {one} or {other}.", { given, one: "follows", other: "stays" })],
   };
 }
 
@@ -99,7 +100,8 @@ function readAddress(text, data) {
   for (const [name, value] of new URLSearchParams(text)) {
     const isKnown = NAMES.includes(name);
     const [isRight, says] = (isKnown && rules[name]) || [() => true];
-    if (!isKnown) asked.faults.push(t("The address has “{name}”, which this page doesn't know. It knows {names}.", { name, names: NAMES.join(", ") }));
+    if (!isKnown) asked.faults.push(t("The address contains “{name}”, which this page doesn't know. It knows "
+      + "{names}.", { name, names: NAMES.join(", ") }));
     else if (!isRight(value)) asked.faults.push(says(`${name}=${value}`));
     else if (name === "hundred") asked.hundred = value;
     else if (name.endsWith("-revision")) asked.revisions[name.split("-")[0]] = value;
@@ -110,8 +112,8 @@ function readAddress(text, data) {
     if (month >= 0 && /^[1-9]$/.test(number) && revisionOf(data, month, Number(number))) asked.revisions[at] = Number(number);
     else {
       const [given, last] = [`${at}-revision=${number}`, figureText(String(data.revisions[month]))];
-      asked.faults.push(month < 0 ? t("The address has {given}. It needs the month too.", { given })
-        : t("The address has {given}. {month} has the revisions {first} to {last}.", { given, month: data.names[month], first: figureText("1"), last }));
+      asked.faults.push(month < 0 ? t("The address contains {given}, so it needs the month too.", { given })
+        : t("The address contains {given}. {month} has the revisions {first} to {last}.", { given, month: data.names[month], first: figureText("1"), last }));
       delete asked.revisions[at];
     }
   }
@@ -163,20 +165,20 @@ function clauseText(chosen, data) {
   const { then, decimals, item, code, hundred, later, fall } = chosen;
   const of = { title: data.title, item: item.title, code, office: data.office };
   return [
-    decimals === 1 ? t("The amount follows the {title}, {item} ({code}), of {office}, as it is printed, with one decimal.", of)
-      : t("The amount follows the {title}, {item} ({code}), of {office}, with all six decimals.", of),
-    t("It counts from the index of {month}: {index} (revision {revision}, published {moment}), with {period} = 100.", { ...indexValues(then, decimals), period: hundred }),
-    t("At each adjustment date the index of the latest month is due that the office has published by then."),
-    later === "first" ? t("It counts as it was first published: a later revision of that month changes nothing.")
-      : t("It counts by its latest revision at the adjustment date: a revision after that date changes nothing."),
-    t("The new amount is the amount, times the index that is due, divided by the index from which it counts."),
-    data.digits ? t("It is rounded once, to the nearest {unit}, halves upwards.", { unit: figureText(`0.${"1".padStart(data.digits, "0")}`) })
-      : t("It is rounded once, to the nearest whole unit, halves upwards."),
-    fall === "follows" ? t("If the index that is due is lower than the one before, the amount falls with it.")
-      : t("If the new amount would be lower than the amount that is paid, the amount stays as it is."),
-    t("If the index has another reference period later, both indices are those with that period."),
-    code === "00" ? t("If the office publishes this index no longer, the index that it names as the successor takes its place, linked at the last month that has both.")
-      : t("If the office publishes this index no longer, the index that it names as the successor takes its place, linked at the last month that has both; if it names none, that of all items does."),
+    decimals === 1 ? t("The amount follows the {title}, {item} ({code}), of {office}, as printed, with one decimal place.", of)
+      : t("The amount follows the {title}, {item} ({code}), of {office}, with all six decimal places.", of),
+    t("The base index is the index of {month}: {index} (revision {revision}, published {moment}), with {period} = 100.", { ...indexValues(then, decimals), period: hundred }),
+    t("At each adjustment date, the index that applies is the index of the latest month that the office has published by then."),
+    later === "first" ? t("It applies as first published: a later revision of that month changes nothing.")
+      : t("Its latest revision at the adjustment date applies: a revision after that date changes nothing."),
+    t("The new amount is the amount, multiplied by the index that applies and divided by the base index."),
+    data.digits ? t("It is rounded once, to the nearest {unit}, with halves rounded up.", { unit: figureText(`0.${"1".padStart(data.digits, "0")}`) })
+      : t("It is rounded once, to the nearest whole unit, with halves rounded up."),
+    fall === "follows" ? t("If the index that applies is lower than the one before, the amount falls with it.")
+      : t("If the new amount would be lower than the amount paid until then, the amount stays unchanged."),
+    t("If the index later gets another reference period, both indices are used with that period."),
+    code === "00" ? t("If the office no longer publishes this index, the index that it names as the successor replaces it, linked in the last month for which both exist.")
+      : t("If the office no longer publishes this index, the index that it names as the successor replaces it, linked in the last month for which both exist. If it names none, the index of all items replaces it."),
   ].join(" ");
 }
 
@@ -185,8 +187,8 @@ function resultText(chosen, data, address) {
   const { minor, then, now, decimals, item, code, hundred, result } = chosen;
   const of = { title: data.title, item: item.title, code, office: data.office, period: hundred };
   return [
-    decimals === 1 ? t("{title}, {item} ({code}), of {office}, as it is printed, with one decimal, {period} = 100.", of)
-      : t("{title}, {item} ({code}), of {office}, with all six decimals, {period} = 100.", of),
+    decimals === 1 ? t("{title}, {item} ({code}), of {office}, as printed, with one decimal place, {period} = 100.", of)
+      : t("{title}, {item} ({code}), of {office}, with all six decimal places, {period} = 100.", of),
     indexText(then, decimals), indexText(now, decimals),
     `${money(minor, data)} \u00d7 ${levelText(now.level, decimals)} / ${levelText(then.level, decimals)} = ${money(result, data)}.`,
     address,
@@ -200,22 +202,24 @@ function noticesOf(chosen, { revisions, hundred }, data) {
   for (const [name, at] of item.isSet ? [["then", then], ["now", now]] : []) {
     if ((revisions[name] ?? at.revision) !== at.revision) {
       const values = { asked: figureText(String(revisions[name])), month: at.says, revision: numberText(at) };
-      said.push(t("The address asks for revision {asked} of {month}. A special aggregate is computed from the latest revisions, so this is the amount by revision {revision}.", values));
+      said.push(t("The address asks for revision {asked} of {month}. A special aggregate is computed from the "
+        + "latest revisions, so this amount uses revision {revision}.", values));
     }
   }
   for (const at of [then, now]) {
     if (!at.isLatest) {
       const latest = revisionOf(data, at.month);
       const values = { month: at.says, earlier: numberText(at), index: levelText(levelBy(latest, code, decimals), decimals), revision: numberText(latest), moment: latest.published };
-      said.push(t("{month} was revised after revision {earlier}: its index is {index} by revision {revision}, published {moment}.", values));
+      said.push(t("{month} was revised after revision {earlier}: its index is {index} in revision {revision}, "
+        + "published {moment}.", values));
     }
   }
   if (!then.isLatest || !now.isLatest) {
     const latest = computed({ ...chosen, then: then.name, now: now.name }, {}, data);
-    if (!latest.fault) said.push(t("By the latest revisions the new amount is {amount}.", { amount: money(latest.result, data) }));
+    if (!latest.fault) said.push(t("With the latest revisions, the new amount is {amount}.", { amount: money(latest.result, data) }));
   }
   if (![null, chosen.hundred, chosen.period].includes(hundred)) {
-    said.push(t("This address was made for an index with {then} = 100. The office publishes it with {now} = 100 now, so the amount may differ by the rounding of the indices.", { then: /^\d{4}-\d\d$/.test(hundred) ? monthText(hundred) : hundred, now: chosen.hundred }));
+    said.push(t("This address was made for an index with {then} = 100. The office now publishes it with {now} = 100, so the amount may differ because indices are rounded.", { then: /^\d{4}-\d\d$/.test(hundred) ? monthText(hundred) : hundred, now: chosen.hundred }));
   }
   return said;
 }
@@ -290,7 +294,7 @@ async function copy(button) {
     said.textContent = t("Copied.");
   } catch {
     getSelection().selectAllChildren(from);
-    said.textContent = t("The text is selected: copy it by the keyboard.");
+    said.textContent = t("The text is selected: copy it with the keyboard.");
   }
 }
 

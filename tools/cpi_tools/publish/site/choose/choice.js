@@ -7,14 +7,14 @@ export const MOST_ITEMS = 20;
 /** The measures by their words in an address: name, unit, and the column of an item's file. */
 export const MEASURES = new Map([
   ["index", { name: t("Index"), unit: "", column: "chained" }],
-  ["year", { name: t("Change on the year before"), unit: t("Percent"), column: "shown_year_change" }],
-  ["month", { name: t("Change on the month before"), unit: t("Percent"), column: "shown_month_change" }],
+  ["year", { name: t("Annual change"), unit: t("Percent"), column: "shown_year_change" }],
+  ["month", { name: t("Monthly change"), unit: t("Percent"), column: "shown_month_change" }],
   ["contribution-year", {
-    name: t("Contribution to the change of all items on the year before"), unit: t("Percentage points"),
+    name: t("Contribution to the annual change in all items"), unit: t("Percentage points"),
     column: "contribution_year",
   }],
   ["contribution-month", {
-    name: t("Contribution to the change of all items on the month before"), unit: t("Percentage points"),
+    name: t("Contribution to the monthly change in all items"), unit: t("Percentage points"),
     column: "contribution_month",
   }],
   ["weight", { name: t("Weight in use"), unit: t("Parts of the weight of all items in that month"), column: "weight" }],
@@ -66,13 +66,13 @@ export function choiceOf(search, known) {
   const choice = { ...DEFAULTS }, faults = [];
   for (const [word, text] of new URLSearchParams(search)) {
     const read = READERS[word];
-    const found = read ? read(text.trim(), known) : { fault: t("it is no word of this page; its words are {words}", { words: WORDS }) };
+    const found = read ? read(text.trim(), known) : { fault: t("this page doesn’t know this name; it knows {words}", { words: WORDS }) };
     if (found.fault) faults.push({ read: `${word}=${text}`, fault: found.fault });
     if ("value" in found) choice[word] = found.value;
   }
   const last = choice.to || known.last;
   if (choice.from > last) {
-    faults.push({ read: `from=${choice.from}`, fault: t("it is after {month}, the last month that is chosen", { month: monthText(last) }) });
+    faults.push({ read: `from=${choice.from}`, fault: t("it is after {month}, the last month that you chose", { month: monthText(last) }) });
     choice.from = "";
   }
   return { choice, faults };
@@ -105,18 +105,18 @@ const READERS = {
   items: (text) => {
     const all = parts(text), bad = all.filter((code) => !CODE.test(code)), good = all.filter((code) => CODE.test(code));
     const many = good.length > MOST_ITEMS
-      ? t("it names {given} items, and the page takes {most}", { given: figureText(String(good.length)), most: figureText(String(MOST_ITEMS)) }) : "";
+      ? t("it names {given} items, and the page shows at most {most}", { given: figureText(String(good.length)), most: figureText(String(MOST_ITEMS)) }) : "";
     const odd = bad.length
-      ? t("{codes} is no code such as 01.1.1, and no id of a special aggregate", { codes: bad.join(", ") }) : "";
+      ? t("{codes} is neither a code such as 01.1.1 nor the id of a special aggregate", { codes: bad.join(", ") }) : "";
     const value = good.length ? good.slice(0, MOST_ITEMS) : DEFAULTS.items;
-    return { value, fault: odd || many || (good.length ? "" : t("it names no item, such as items=00+01.1")) };
+    return { value, fault: odd || many || (good.length ? "" : t("it names no item; an example is items=00+01.1")) };
   },
   show: (text) => {
     const all = parts(text), bad = all.filter((word) => !MEASURES.has(word));
     const value = [...MEASURES.keys()].filter((word) => all.includes(word));
     const words = [...MEASURES.keys()].join(", "), read = bad.join(", ");
     const none = value.length ? "" : t("the measures are {words}", { words });
-    const fault = bad.length ? t("{read} is no measure; the measures are {words}", { read, words }) : none;
+    const fault = bad.length ? t("{read} isn’t a measure; the measures are {words}", { read, words }) : none;
     return { value: value.length ? value : DEFAULTS.show, fault };
   },
   from: (text, known) => monthOf(text, known),
@@ -126,17 +126,17 @@ const READERS = {
     if (isPeriod || text === "same" || text === "own") return { value: text };
     const span = { first: known.base, last: known.last };
     return { fault: YEAR.test(text)
-      ? t("it is neither same nor own, nor a year with twelve months or a month from {first} to {last}", span)
-      : t("it is neither same nor own, nor a year or a month from {first} to {last}", span) };
+      ? t("it has to be same, own, a year with twelve months, or a month from {first} to {last}", span)
+      : t("it has to be same, own, a year, or a month from {first} to {last}", span) };
   },
   revision: (text) => (text === "latest" || /^[1-9]$/.test(text) || isMoment(text) ? { value: text }
-    : { fault: t("it is neither latest, nor a revision from 1 to 9, nor a moment such as 2026-01-28T08:30:00Z") }),
-  decimals: (text) => (text === "shown" || text === "all" ? { value: text } : { fault: t("it is neither shown nor all") }),
+    : { fault: t("it has to be latest, a revision from 1 to 9, or a time such as 2026-01-28T08:30:00Z") }),
+  decimals: (text) => (text === "shown" || text === "all" ? { value: text } : { fault: t("it has to be shown or all") }),
 };
 
 const parts = (text) => [...new Set(text.split(/[\s,]+/).filter(Boolean))];
 
 function monthOf(text, { first, last }) {
   if (text === "" || (MONTH.test(text) && text >= first && text <= last)) return { value: text };
-  return { fault: t("it is no month from {first} to {last}", { first, last }) };
+  return { fault: t("it isn’t a month from {first} to {last}", { first, last }) };
 }

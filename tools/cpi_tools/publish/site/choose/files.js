@@ -12,7 +12,7 @@ export const site = { root: "", top: "", isListed: false };
 export class NoFile extends Error {
   constructor(name, status) {
     const values = { name: isolated(name), status: figureText(String(status)) };
-    super(status ? t("{name}: the server answers {status}", values) : t("{name}: the server doesn’t answer", values));
+    super(status ? t("{name}: the server answered with status {status}", values) : t("{name}: the server doesn’t respond", values));
     this.status = status;
   }
 }
@@ -61,5 +61,5 @@ export async function itemsOf({ items, revision }) {
 
 /** Why an item isn't shown. */
 const faultOf = ({ status, message }) => (status === 404
-  ? t("no item and no special aggregate of this site has this code")
-  : t("{fault}. Load the page again in a moment", { fault: message }));
+  ? t("this code belongs to no item and no special aggregate of this site")
+  : t("{fault}. Reload the page in a moment", { fault: message }));

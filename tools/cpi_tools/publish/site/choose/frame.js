@@ -24,4 +24,4 @@ async function show() {
 byId("without").hidden = true;
 byId("choose").href = `../choose.html${location.search}`;
 show().catch((fault) => tellIn(byId("fault"),
-  [{ read: t("This page"), fault: t("it met a fault, {fault}", { fault: isolated(fault.message) }) }]));
+  [{ read: t("This page"), fault: t("an error occurred: {fault}", { fault: isolated(fault.message) }) }]));

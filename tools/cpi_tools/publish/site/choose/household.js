@@ -65,9 +65,9 @@ function lineOfLevels(title, levels) {
 /** What the two changes mean, in a sentence. */
 function meaning(own, all) {
   const difference = own.over * all.under - all.over * own.under;
-  if (changeText(own.over, own.under) === changeText(all.over, all.under)) return t("Your household’s prices changed as the index did.");
+  if (changeText(own.over, own.under) === changeText(all.over, all.under)) return t("Your household’s prices changed by as much as the index.");
   return difference > 0n
-    ? t("Compared with what all households buy, your purchases became dearer.")
+    ? t("Compared with what all households buy, your purchases became more expensive.")
     : t("Compared with what all households buy, your purchases became cheaper.");
 }
 
@@ -76,7 +76,7 @@ let asked = 0; // which answer is the last one's
 /** Shows what the form says. */
 async function show() {
   const mine = (asked += 1), { found, isBad } = spending();
-  byId("fault").textContent = isBad ? t("Write the amount with figures, such as {wanted}.", { wanted: figureText("250") }) : "";
+  byId("fault").textContent = isBad ? t("Write the amount in digits, such as {wanted}.", { wanted: figureText("250") }) : "";
   byId("result").hidden = isBad || found.size === 0;
   if (byId("result").hidden) return;
   // (the files of all fields, so that none says what is bought)
@@ -88,7 +88,7 @@ async function show() {
   const months = monthsBetween(byId("from").value, known.last), gone = unlinked([...spent, all], months);
   if (gone) {
     byId("result").hidden = true;
-    byId("fault").textContent = t("{title} has no index in one of these months.", { title: isolated(gone.title) });
+    byId("fault").textContent = t("{title} has no index for one of these months.", { title: isolated(gone.title) });
     return;
   }
   tell(spent, all, months);
@@ -158,7 +158,7 @@ function changed() {
 
 function failed(fault) {
   byId("result").hidden = true;
-  byId("fault").textContent = t("{fault}. Load the page again in a moment", { fault: isolated(fault.message) });
+  byId("fault").textContent = t("{fault}. Reload the page in a moment", { fault: isolated(fault.message) });
 }
 
 form.hidden = false;

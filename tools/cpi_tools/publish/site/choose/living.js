@@ -59,7 +59,7 @@ function revive(svg) {
       readout.replaceChildren();
       return;
     }
-    const said = await say(n).catch((fault) => t("{fault}. Load the page again in a moment", { fault: fault.message }));
+    const said = await say(n).catch((fault) => t("{fault}. Reload the page in a moment", { fault: fault.message }));
     if (at === n) readout.replaceChildren(...[said].flat());
   };
   listenTo(svg, months.length, placeOf(svg, months.length), told);

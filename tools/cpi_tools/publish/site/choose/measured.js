@@ -5,7 +5,7 @@ import { decimal, indexIn, NONE, shortened, signed } from "./lines.js";
 
 const DECIMALS = { index: 1, "contribution-year": 2, "contribution-month": 2 };
 
-const EACH_ITS_OWN = t("each item with a period of its own = 100");
+const EACH_ITS_OWN = t("each item with its own reference period");
 
 /** `December 2025 = 100`, or `2025 = 100`. */
 const saysHundred = (period) => t("{period} = 100", { period: period.length === 4 ? figureText(period) : monthText(period) });
@@ -58,7 +58,7 @@ function said(hundreds, months) {
   let told = "", before = "";
   for (const [n, text] of hundreds.entries()) {
     const values = { bases: told, month: monthText(months[n]), base: text };
-    if (text && text !== before) told = told ? t("{bases}, from {month} on {base}", values) : text;
+    if (text && text !== before) told = told ? t("{bases}; since {month}, {base}", values) : text;
     before = text || before;
   }
   return told;

@@ -30,14 +30,14 @@ const option = (value, text) => made("option", { value }, text);
 function fillForm() {
   const months = monthsBetween(known.first, known.last).reverse();
   const named = (values) => values.map((value) => option(value, value.length === 4 ? figureText(value) : monthText(value)));
-  byId("from").append(option("", t("Two years before")), ...named(months));
+  byId("from").append(option("", t("Two years earlier")), ...named(months));
   byId("to").append(option("", t("The newest, {month}", { month: monthText(known.last) })), ...named(months));
   byId("hundred").append(option("same", t("The same for all items")), option("own", t("Each item’s own")),
     ...named(fullYears(known).reverse()), ...named([...months, known.base]));
   const numbers = Array.from({ length: Number(known.revisions) }, (_, n) => String(n + 1));
   byId("revision").append(option("latest", t("The latest of each month")), ...numbers.map((number) =>
     option(number, number === "1" ? t("The first of each month")
-      : t("Revision {number}, or the one before it", { number: figureText(number) }))));
+      : t("Revision {number}, or the previous one", { number: figureText(number) }))));
   byId("show").append(...[...MEASURES].map(([word, { name }]) => made("label", {},
     made("input", { type: "checkbox", value: word, onchange: () => choose({ show: ticked() }) }), " ", name)));
 }
@@ -80,14 +80,14 @@ function follow() {
 const tell = (faults) => tellIn(byId("fault"), faults);
 
 const guarded = (work) => (...words) => Promise.resolve().then(() => work(...words)).catch(failed);
-const failed = (fault) => tell([{ read: t("This page"), fault: t("it met a fault, {fault}", { fault: isolated(fault.message) }) }]);
+const failed = (fault) => tell([{ read: t("This page"), fault: t("an error occurred: {fault}", { fault: isolated(fault.message) }) }]);
 
 /** Asks for the files of the chosen items, and shows them. `faults` are those of the address. */
 async function show(faults) {
   const mine = (asked += 1);
   setForm();
   tell(faults);
-  byId("said").textContent = t("The figures are on their way.");
+  byId("said").textContent = t("The figures are loading.");
   const answers = await itemsOf(choice);
   if (mine !== asked) return;
   tell([...faults, ...answers.faults]);
@@ -124,7 +124,7 @@ function takeOf(measure, n) {
   const asPng = async () => save(await png(`data:image/svg+xml;charset=utf-8,${encodeURIComponent(svg())}`), named("png"));
   const embed = known.embed ? [made("a", { href: place, "aria-label": t("Page to embed: {name}", { name: measure.name }) },
     t("Page to embed"))] : [];
-  return made("p", { class: "take" }, t("Take this picture:"), " ", button("SVG", asSvg), " ", button("PNG", asPng), " ",
+  return made("p", { class: "take" }, t("Download this chart:"), " ", button("SVG", asSvg), " ", button("PNG", asPng), " ",
     ...embed, " ", said);
 }
 

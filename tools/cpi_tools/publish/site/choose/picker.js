@@ -35,7 +35,7 @@ async function seek() {
 
 function add(code) {
   if (picker.codes.length >= MOST_ITEMS) {
-    byId("match-count").textContent = t("The page takes {most} items: take one out first.", { most: figureText(String(MOST_ITEMS)) });
+    byId("match-count").textContent = t("The page shows at most {most} items: remove one first.", { most: figureText(String(MOST_ITEMS)) });
     return;
   }
   byId("seek").value = "";
@@ -49,10 +49,10 @@ function add(code) {
 export function showChosen(items) {
   picker.codes = items.map(({ code }) => code);
   byId("chosen").replaceChildren(...items.map(({ code, title }) => made("li", {}, made("button", {
-    type: "button", disabled: items.length === 1, title: items.length === 1 ? t("The last item stays") : t("Take it out"),
+    type: "button", disabled: items.length === 1, title: items.length === 1 ? t("The last item stays") : t("Remove"),
     onclick: () => picker.chosen(picker.codes.filter((other) => other !== code)),
   }, others(title), " ", made("span", { class: "code" }, code), made("span", { "aria-hidden": "true" }, " ×"),
-  made("span", { class: "hidden" }, t(", take it out"))))));
+  made("span", { class: "hidden" }, t(", remove"))))));
 }
 
 export function listenToPicker() {

@@ -41,7 +41,7 @@ export function pictureOf({ name, months, lines, hasZero, width }, told) {
   const x = (n) => LEFT + (months.length < 2 ? 0.5 : n / (months.length - 1)) * (width - LEFT - RIGHT);
   const y = (value) => TOP + (axis.high - value) / (axis.high - axis.low) * (height - TOP - FOOT);
   const place = { width, height, x, y };
-  const said = t("{name}. {lines}. Arrow keys tell the months.", { name, lines: summary(lines, months) });
+  const said = t("{name}. {lines}. The arrow keys read out the months.", { name, lines: summary(lines, months) });
   const svg = drawn("svg", { viewBox: `0 0 ${width} ${height}`, role: "img", tabindex: 0, "aria-label": said });
   const breaks = new Set(lines.flatMap((line) => line.breaks));
   // (the first line is drawn last, above the others)

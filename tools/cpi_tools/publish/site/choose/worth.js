@@ -21,10 +21,10 @@ const money = (minor) => `${moneyText(minor, digits)} ${known.currency}`.trim();
 
 /** What is wrong with the choice, or an empty text. */
 function whyNone(title, rows, minor, then, now) {
-  if (minor === undefined) return t("Write the amount with figures, such as {wanted}.", { wanted: figureText(USUAL.amount) });
-  if (!then || !now) return t("{title} has no index in one of these months.", { title: isolated(title) });
+  if (minor === undefined) return t("Write the amount in digits, such as {wanted}.", { wanted: figureText(USUAL.amount) });
+  if (!then || !now) return t("{title} has no index for one of these months.", { title: isolated(title) });
   return then.base === now.base ? ""
-    : t("{title} left the index between these months and came again, so its indices can't be compared.", { title: isolated(title) });
+    : t("{title} left the index between these months and came back, so its indices can't be compared.", { title: isolated(title) });
 }
 
 /** By how much an index has changed, such as `+6.3 %`. */
@@ -51,7 +51,7 @@ async function show() {
   const result = rounded(minor * levelOf(now), levelOf(then));
   const values = { amount: money(minor), then: monthText(from), result: money(result), now: monthText(to), change: changeOf(then, now) };
   byId("value").textContent = money(result);
-  const sentence = t("What cost {amount} in {then} costs {result} in {now}, by the index of {title} ({change}).",
+  const sentence = t("What cost {amount} in {then} costs {result} in {now}, according to the index of {title} ({change}).",
     { ...values, title: PLACE }).split(PLACE);
   byId("sentence").replaceChildren(sentence[0], others(title), ...sentence.slice(1));
   byId("formula").textContent = `${moneyText(minor, digits)} × ${figureText(now.chained)} / ${figureText(then.chained)} = ${moneyText(result, digits)}`;
@@ -72,7 +72,7 @@ async function follow() {
     const wanted = words.get(id);
     if (!wanted) continue;
     if ([...byId(id).options].some(({ value }) => value === wanted)) byId(id).value = wanted;
-    else faults.push(t("The address has {given}. It has to be a month such as {month}.", { given: isolated(`${id}=${wanted}`), month: byId(id).value }));
+    else faults.push(t("The address contains {given}. The value has to be a month such as {month}.", { given: isolated(`${id}=${wanted}`), month: byId(id).value }));
   }
   byId("address-faults").textContent = faults.join(" ");
   await show();
@@ -97,7 +97,7 @@ function changed() {
 
 function failed(fault) {
   byId("result").hidden = true;
-  byId("fault").textContent = t("{fault}. Load the page again in a moment", { fault: isolated(fault.message) });
+  byId("fault").textContent = t("{fault}. Reload the page in a moment", { fault: isolated(fault.message) });
 }
 
 form.hidden = false;

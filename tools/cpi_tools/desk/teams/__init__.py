@@ -1,0 +1,1 @@
+"""A supervisor's page: how far the collectors of a team are."""

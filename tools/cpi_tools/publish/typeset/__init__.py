@@ -1,0 +1,1 @@
+"""A release on paper: two sheets as a PDF."""
