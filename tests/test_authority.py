@@ -2,8 +2,8 @@
 
 Whoever holds it may print, make or remove any file and open sockets, and no contract says that it doesn't. A function
 without it can only do what it is handed: memory, a reader, a writer, files that a cabinet gave. So no other file names
-its type by either name, or the place of a file, which lends it; and only those of connections ask for a part of what it can
-do: a network.
+its type by either name; and only a few ask for a part of what it can do, by a trait of the project whose methods say
+what they do: a network, a folder, the world of a run.
 """
 
 from __future__ import annotations
@@ -18,20 +18,25 @@ from lib.places import ROOT
 COMMENT = re.compile(r"//.*")
 USE = re.compile(r"^\s*(?:(?:ghost|pub(?:\([a-z]+\))?) )?use [^;]*;", re.M)
 
-RUNTIME = re.compile(r"\b(?:HostRuntime|LibcRuntime|FileAt)\b")
-"""The type of the runtime, by both of its names, and the place of a file, by which one has it too."""
+RUNTIME = re.compile(r"\b(?:HostRuntime|LibcRuntime)\b")
+"""The type of the runtime, by both of its names."""
 
 BOUND = re.compile(
     r"(?:\b[A-Z]\w*: (?:[^;{}()]*\+\s*)?|\bimpl )"
-    r"(?:Runtime|Files|Net|Network|Env|Input|Print|RandomSource|Threads|Wait|Abort)\b"
+    r"(?:Runtime|Files|Folder|Net|Network|World|Env|Input|Print|RandomSource|Threads|Wait|Abort)\b"
 )
 """A type that can do some of what the runtime can. (`Eprint` isn't one: it only prints to standard error.)"""
 
-RENAMED = re.compile(r"\b(?:HostRuntime|LibcRuntime|FileAt) as\b|\btype\s+\w+\s*=\s*&?(?:HostRuntime|LibcRuntime)\b")
+RENAMED = re.compile(
+    r"\b(?:HostRuntime|LibcRuntime) as\b|^(?:pub(?:\([a-z]+\))? )?type\s+\w+\s*=\s*&?(?:HostRuntime|LibcRuntime)\b",
+    re.M,
+)
+"""Another name of it. (A type within an impl is one of a trait, and no name for others.)"""
+
 
 HOLDERS = {
-    "cpi/src/main.rt": "hands streams, memory, the clock and the place of a file on",
-    "cpi_files/src/file.rt": "opens the file at a path",
+    "cpi/src/main.rt": "begins a run",
+    "cpi_files/src/host.rt": "is the folder of the machine, and the world of a run on it",
     "cpi_app/src/machine.rt": "is the network of the machine, with its clock",
 }
 """The files that name the runtime, and what each does with it."""
@@ -40,6 +45,10 @@ ASKERS = {
     "cpi_app/src/machine.rt": "is the network",
     "cpi_app/src/peer.rt": "hangs up after a response",
     "cpi_app/src/port.rt": "listens at a port of this machine, and says so",
+    "cpi_files/src/file.rt": "takes an office's files from a folder",
+    "cpi_files/src/host.rt": "is the folder, and the world of a run",
+    "cpi_files/src/program.rt": "does a job in the world of a run",
+    "cpi_files/src/world.rt": "says that a world has a folder and a network",
 }
 """The files that ask for a part of what the runtime can do, and for what."""
 
@@ -89,7 +98,7 @@ def test_proof_lists_these_files_with_their_lines() -> None:
     ]
 
 
-def test_only_the_files_of_connections_ask_for_a_part_of_it() -> None:
+def test_only_these_files_ask_for_a_part_of_it() -> None:
     assert find_askers(read_sources()) == set(ASKERS)
 
 
@@ -102,8 +111,6 @@ def test_the_runtime_has_no_other_name() -> None:
     [
         ("fn job(rt: &HostRuntime)", True),
         ("fn job(rt: &LibcRuntime)", True),
-        ("fn job(at: &FileAt)", True),
-        ("pub use crate::file::FileAt;", False),
         ("// a HostRuntime", False),
         ("fn job(alloc: Global)", False),
     ],
@@ -120,6 +127,7 @@ def test_a_file_that_names_the_runtime_is_found(line: str, is_found: bool) -> No
         ("impl<'a, R: Net<Stream = S>> Port<'a, R>", True),
         ("fn job(rt: &impl Print)", True),
         ("fn job<N: Network + Clock>(rt: &N)", True),
+        ("fn job<'a, W: World>(world: &'a W)", True),
         ("fn job<R: Eprint>(rt: &R)", False),
         ("use std::rt::{Files, Net};", False),
     ],
@@ -132,10 +140,10 @@ def test_a_file_that_asks_for_a_part_of_it_is_found(line: str, is_found: bool) -
     ("line", "is_found"),
     [
         ("use std::rt::{HostRuntime as Host};", True),
-        ("pub use crate::file::FileAt as Place;", True),
         ("pub type Host = HostRuntime;", True),
         ("type Host = &LibcRuntime;", True),
         ("use std::rt::HostRuntime;", False),
+        ("    type Folder = HostRuntime;", False),
     ],
 )
 def test_another_name_of_it_is_found(line: str, is_found: bool) -> None:

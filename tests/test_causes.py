@@ -96,15 +96,27 @@ NOTES = {
         "cpi_http",
         Place("serve::serve_one", "let (mut read_note, mut write_note) = (ReadNote::new(), WriteNote::new());"),
     ): "of the caller's streams",
-    ("cpi_app", Place("connection::serve_buffered", "let mut read_note = ReadNote::new();")): "of the peer's reader",
+    ("cpi_app", Place("connection::serve_front", "let mut note = ReadNote::new();")): "of the peer's reader",
     (
         "cpi_app",
-        Place("connection::OfficeAtDeskService::serve", "let (alloc, mut note) = (self.alloc, WriteNote::new());"),
-    ): "of the peer's writer",
+        Place("peer::serve_peer", "let (mut read_note, mut write_note) = (BufferNote::new(), WriteNote::new());"),
+    ): "of the peer's streams",
+    (
+        "cpi_app",
+        Place(
+            "backlog::BacklogListener::serve_next",
+            "let (mut read_note, mut write_note) = (BufferNote::new(), WriteNote::new());",
+        ),
+    ): "of the peer's streams",
     ("cpi_app", Place("replay::replay_over_office", "let mut note = WriteNote::new();")): "of the caller's writer",
     ("cpi_app", Place("offered::Offered::new", "note: OfferNote::new(),")): "of the peer's writer",
     ("cpi_app", Place("table::print_table", "note.write_line(err, fault);")): "the line of a fault",
     ("cpi_files", Place("table::PrintBookJob::run", "let mut note = OfferNote::new();")): "of standard error",
+    ("cpi_files", Place("program::run", "note.write_line(&mut ends.errors, fault);")): "the line of a fault",
+    (
+        "cpi",
+        Place("main", "ExitCode::from(run(rt.alloc(), &rt, &mut OfferNote::new()))"),
+    ): "of standard error",
     (
         "cpi_app",
         Place("offered::OfferedWrite::write", "if let Some(count) = self.note.write_some(&mut self.writer, buf) {"),
@@ -125,13 +137,6 @@ MESSAGES = ("cpi_wire", "cpi_http", "cpi_app")
 GROWTHS = {
     ("cpi_wire", Place("fields::field_list", "let mut fields = Vec::with_capacity(alloc, row.len())?;")): "its fields",
     ("cpi_wire", Place("line::work_row_value", "let mut fields = Vec::with_capacity(alloc, 9)?;")): "its nine values",
-    ("cpi_wire", Place("line::work_value", "let mut values = Vec::with_capacity(alloc, rows.len())?;")): "its rows",
-    ("cpi_wire", Place("line::quotes_value", "let mut rows = Vec::with_capacity(alloc, quotes.len())?;")): "the quotes",
-    ("cpi_wire", Place("line::items_value", "let mut rows = Vec::with_capacity(alloc, items.len())?;")): "the items",
-    (
-        "cpi_wire",
-        Place("line::tables_value", "let mut rows = Vec::with_capacity(alloc, frozen_months.len())?;"),
-    ): "the tables",
     ("cpi_http", Place("body::receive_body", "let mut body = vec![in alloc; 0; n]?;")): "its length, up to the limit",
     ("cpi_http", Place("bytes::head_text", "format!(in alloc;")): "a head",
 }

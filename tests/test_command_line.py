@@ -190,6 +190,20 @@ def test_a_table_of_a_file_that_is_not_there(program: Program, room: str) -> Non
     assert run_without_a_job(program, room, table("none.db")) == failed("no table")
 
 
+def test_a_table_in_a_folder_that_is_not_there(program: Program, room: str) -> None:
+    assert run_without_a_job(program, room, table("none/office.db")) == failed("database failed")
+
+
+def test_a_log_that_cannot_be_looked_at_is_refused_before_a_file_is_made(program: Program, room: str) -> None:
+    os.symlink("none.db-wal", Path(room, "none.db-wal"))
+    assert run_without_a_job(program, room, ["replay", "--db", "none.db"]) == failed("database failed")
+
+
+def test_the_usage_of_serve_has_both_ways_to_give_the_key(program: Program, room: str) -> None:
+    usage = run_without_a_job(program, room, ["serve", "--help"]).out.partition(b"\n\nOptions:")[0]
+    assert b"<--desk-key-file <desk-key-file>|--desk-key <desk-key>>" in usage
+
+
 @pytest.mark.parametrize("words, name", BAD, ids=names_of(BAD))
 def test_a_zone_a_key_or_a_month_that_is_none(program: Program, room: str, words: Words, name: str) -> None:
     assert run_without_a_job(program, room, words) == failed(f"bad {name}")

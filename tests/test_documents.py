@@ -29,11 +29,12 @@ from typing import NamedTuple
 
 import pytest
 
-from lib.documents import all_words, document_faults
+from lib.documents import all_words, document_faults, draw_arrows, drawing_faults
 from lib.fault import Fault
 from lib.places import ROOT
 from lib.program import Going, Program
 from lib.served import free_port
+from lib.statements import functions_outside, statements_named, statements_outside
 from lib.tried import fault_in
 
 pytestmark = pytest.mark.spread
@@ -158,6 +159,67 @@ def test_a_document(name: str) -> None:
 
 def test_the_words_of_all_documents() -> None:
     assert all_words() is None
+
+
+def test_the_functions_that_run_a_statement_outside_of_a_transaction_are_named() -> None:
+    assert statements_named(content("docs/develop/ARCHITECTURE.md")) == statements_outside(ROOT / "crates")
+
+
+SOURCE = """\
+pub fn ask(conn: &mut Connection<S>, text: &str) -> Result<usize, Error>
+{
+    conn.execute(text, &[])
+}
+
+fn put_within(tx: &mut Transaction<'_, S>, text: &str) {
+    tx.execute(text, &[]);
+}
+
+pub(crate) fn put_both(conn: &mut Connection<S>) {
+    let mut tx = conn.transaction();
+    tx.execute("DELETE", &[]);
+    conn.query("SELECT", &[]);
+}
+"""
+
+
+def test_a_statement_is_outside_of_a_transaction_by_what_is_called() -> None:
+    assert [*functions_outside(SOURCE)] == ["ask", "put_both"]
+    assert [*functions_outside(SOURCE.replace("    conn.query", "    tx.query"))] == ["ask"]
+
+
+WAY = """\
+       begin      cpi_files  the first
+       put_both   cpi_files  to ask, as above
+       Job::run   cpi_files  the last
+"""
+CALLS = """\
+fn begin() {
+    put_both();
+}
+
+fn put_both() {}
+
+fn ask() {
+    job.run();
+}
+
+impl Other for Job {
+    fn run() {}
+}
+"""
+
+
+def test_a_drawn_function_calls_the_next_one(tmp_path: Path) -> None:
+    (tmp_path / "cpi_files/src").mkdir(parents=True)
+    source = tmp_path / "cpi_files/src/job.rt"
+    source.write_text(CALLS, encoding="utf-8")
+    assert [*drawing_faults(WAY, tmp_path)] == []
+    source.write_text(CALLS.replace("    put_both();", "    ask();"), encoding="utf-8")
+    assert [*drawing_faults(WAY, tmp_path)] == ["begin of cpi_files doesn't call put_both"]
+    source.write_text(CALLS.replace("fn ask", "fn asks"), encoding="utf-8")
+    assert [*drawing_faults(WAY, tmp_path)] == ["there is no ask in cpi_files"]
+    assert len([*draw_arrows(content("docs/develop/ARCHITECTURE.md"))]) == 26
 
 
 # ---- the helps

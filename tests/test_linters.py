@@ -1,12 +1,13 @@
 """Reads all sources by linters: types, layout, names, spelling, and the faults that shells and browsers don't tell.
 
-- mypy --strict: tools/, ops/, cpi-build, the tests but tests/outside, and the examples that are typed
+- mypy --strict: each file in Python
 - black -l 120: each file in Python
 - pyflakes: names that are imported and not used, or used and not there
 - shellcheck: each shell script, known by its ending or its first line
 - codespell: code and documents, but for tests/linters/words.txt: words of the toolchain, and names in proofs
 - merges: no file has lines that git leaves where two changes met
 - imports: a module of the companions imports what its folder's README allows
+- docstrings: each public function of the tools, the companions and the benches has one
 - tsc --checkJs: the scripts of web/ and of the pages that the tools write, with tests/linters/*.d.ts
 
 What a file is known to have is in tests/linters/known.txt, a line `LINTER COUNT FILE`; with more findings it fails, and

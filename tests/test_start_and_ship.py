@@ -345,6 +345,22 @@ def edits_beside_the_tests(it: Repository) -> Iterator[Seen]:
     yield "they begin when the gate ends", "tests | the edits have begun" in ran.out.splitlines() and ran.status == 0
 
 
+def which_goes_first(it: Repository) -> Iterator[Seen]:
+    """Field 19 of /proc/PID/stat is the niceness of a process."""
+    begin_test(it)
+    own = os.getpriority(os.PRIO_PROCESS, 0)
+    told = ["#!/bin/sh", "read -r fields < /proc/$$/stat", "set -- $fields", 'echo "niceness ${19}"']
+    told += ["read -r group < /proc/$$/autogroup && echo ${group##*/*[0-9] }"] * Path("/proc/self/autogroup").exists()
+    for path in ("tests/run", "tools/gate", "tools/refused"):
+        put(it.top / path, "\n".join([*told, "echo 1 passed, 0 failed", ""]), 0o755)
+    it.ship()
+    lines = it.run("test").out.splitlines()
+    yield "the proofs go before the tests", f"tests | niceness {own + 5}" in lines and f"gate | niceness {own}" in lines
+    yield "and before the edits", f"refused edits | niceness {own + 5}" in lines
+    if Path("/proc/self/autogroup").exists():
+        yield "so do their sessions", {"tests | nice 5", "refused edits | nice 5", "gate | nice 0"} <= {*lines}
+
+
 def what_is_tried(it: Repository) -> Iterator[Seen]:
     begin_test(it)
     built, shipped = f"--program={it.crates}/cpi/out/cpi", f"--program={it.shipped}"
@@ -486,7 +502,7 @@ CASES: dict[str, Callable[[Repository], Iterator[Seen]]] = {
     },
     **{case.__name__: case for case in (a_fresh_clone, sources_that_did_not_change, many_at_once, damage, lanes, sums)},
     **{case.__name__: case for case in (a_checkout_that_can_not_be_written, sources_that_changed, programs_of_no_use)},
-    **{case.__name__: case for case in (proofs_that_fail, notices_of_libraries, names_of_failures)},
+    **{case.__name__: case for case in (proofs_that_fail, notices_of_libraries, names_of_failures, which_goes_first)},
     **{f"broken_off_by_{it.name}": partial(broken_off, number=it) for it in signal.Signals if it in (2, 9, 15)},
     **{
         f"tests_broken_off_by_{it.name}": partial(tests_broken_off, number=it) for it in signal.Signals if it in (2, 15)

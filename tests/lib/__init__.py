@@ -1,1 +1,2 @@
-"""What the scripts of tests/ share: the harness, the program and how it is run, offices, cases, files, connections."""
+"""The modules that the scripts of tests/ share: the harness, the program and its runs, offices, cases, files,
+connections."""

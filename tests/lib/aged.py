@@ -1,8 +1,8 @@
 """An office that has aged: its file as years leave it, with each price three times: quoted, frozen and carried.
 
-SQLite fills the tables that `cpi` made. An office has collectors with 400 slots each, one item a slot and one elementary
-aggregate an item, in five subclasses. No price changes, so that each index is 100, and a drill finds nothing wrong. The
-quotes of a month come by all collectors in turn.
+SQLite fills the tables that `cpi` made. An office has collectors with 400 slots each, one item per slot and one
+elementary aggregate per item, in five subclasses. No price changes, so that each index is 100, and a drill finds
+nothing wrong. The quotes of a month come by all collectors in turn.
 """
 
 from __future__ import annotations
@@ -19,10 +19,10 @@ SLOTS, SUBCLASSES, FIRST_YEAR = 400, 5, 2016
 DAY = 86_400
 
 FIRST_DECEMBER = 100 * (FIRST_YEAR - 1) + 12
-"""The month whose prices those of the first January are held against. A month is year * 100 + month."""
+"""The month with whose prices the prices of the first January are compared. A month is year * 100 + month."""
 
 FAR = 2_000_000_000
-"""A moment that is far ahead: when the window of the last month closes, in seconds since 1970 UTC."""
+"""A moment far ahead, at which the window of the last month closes, in seconds since 1970 UTC."""
 
 NUMBERS = "WITH RECURSIVE number (at) AS (SELECT 1 UNION ALL SELECT at + 1 FROM number LIMIT :many)"
 PRICE = "50 + (collector * 7919 + slot * 104729) % 49950"
@@ -39,7 +39,8 @@ SURVEY = (
         True,
     ),
 )
-"""What fills the tables of the survey: a table, its rows, and whether they are by slots, or else by collectors."""
+"""The statements that fill the tables of the survey: a table, its rows, and whether they are made per slot, or else per
+collector."""
 
 QUOTES = f"""
 INSERT INTO quote_2 SELECT collector, slot, :month, 'price', {PRICE}, :before + row_number() OVER (PARTITION BY collector
@@ -85,7 +86,7 @@ def after(month: int) -> int:
 
 
 def turn_of(month: int) -> int:
-    """How many months after the first December it is."""
+    """The number of months after the first December."""
     return 12 * (month // 100) + month % 100 - 12 * FIRST_YEAR
 
 
@@ -96,7 +97,7 @@ def last_month(years: int) -> int:
 
 @contextlib.contextmanager
 def opened(path: Path) -> Iterator[sqlite3.Connection]:
-    """The file of an office for one transaction, whose log is in the file in the end."""
+    """The file of an office for one transaction, whose log is merged into the file at the end."""
     office = sqlite3.connect(path, isolation_level=None)
     office.execute("PRAGMA synchronous = OFF")
     office.execute("BEGIN")
@@ -107,7 +108,7 @@ def opened(path: Path) -> Iterator[sqlite3.Connection]:
 
 
 def begin(program: str, path: Path, collectors: int) -> None:
-    """Makes the file of an office that is no year old: its survey, and its first December."""
+    """Makes the file of an office in its first year: its survey, and its first December."""
     subprocess.run([program, "replay", "--db", path], input=b"", stdout=subprocess.DEVNULL, check=True)
     with opened(path) as office:
         for table, rows, is_by_slots in SURVEY:
@@ -118,7 +119,7 @@ def begin(program: str, path: Path, collectors: int) -> None:
 
 
 def grow(path: Path, year: int) -> None:
-    """Lives through one year more: each month is quoted and frozen, with its carried prices and its table."""
+    """Adds one year: each month is quoted and frozen, with its carried prices and its table."""
     with opened(path) as office:
         plan(office, year)
         for month in range(100 * year + 1, 100 * year + 13):
@@ -130,8 +131,8 @@ def grow(path: Path, year: int) -> None:
 
 
 def go_on(path: Path, years: int) -> None:
-    """Adds what an office of so many years does today: a month that is quoted whole and isn't frozen yet, and the next
-    one, whose window is open."""
+    """Adds the current months of an office of so many years: a month with all quotes that isn't frozen yet, and the
+    next one, whose window is open."""
     month = after(last_month(years))
     with opened(path) as office:
         plan(office, month // 100)

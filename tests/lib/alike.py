@@ -1,4 +1,4 @@
-"""Two offices of which a caller sees the same, and what a request is answered if one of its calls is refused.
+"""Two offices that look the same to a caller, and the answers to a request if one of its calls is refused.
 
 They differ in what the collector of the key KA and the public mustn't see: the key of the other collector, their prices,
 and the table of a month that is frozen and not yet published at the moment AT.
@@ -20,7 +20,7 @@ KA = "a" * 32
 """The key of the collector who asks."""
 
 AT = 2500
-"""When is asked: January is frozen then, and published at 3000."""
+"""The moment of the requests: January is frozen then, and published at 3000."""
 
 PLAN = """T,00,All items
 T,01,Food and drink
@@ -37,7 +37,7 @@ FILED = ["memory", "disk", "log", "database"]
 
 
 class Hidden(NamedTuple):
-    """What differs: the other collector's key, and their prices of three months."""
+    """The difference between the offices: the other collector's key, and that collector's prices in three months."""
 
     key: str
     prices: tuple[int, int, int]
@@ -73,11 +73,11 @@ HIGH = Hidden("c" * 32, (260, 299, 310))
 OWN = ["items", "tables", "table,2026-01,text", "table,2025-12,csv", "work,2026-02", "quotes,2025-12,2026-02"]
 REQUESTS = [f"{AT},{KA},{words}" for words in [*OWN, "quote,1,2026-02,price,215", "quote,1,2026-02,price,9999"]]
 REQUESTS += [f"{AT},public,{words}" for words in OWN[:4]]
-"""What is asked, each once."""
+"""The requests, each once."""
 
 
 class Asked(NamedTuple):
-    """A request to an office in memory, or in a file, of which a call is refused."""
+    """A request to an office in memory, or in a file, one of whose calls is refused."""
 
     request: bytes
     is_filed: bool
@@ -109,7 +109,7 @@ class Office:
 
     @functools.lru_cache(None)
     def count(self, asked: Asked) -> int:
-        """How many calls of the kind a run with this request makes."""
+        """The number of calls of the kind that a run with this request makes."""
         return self.library.counted(asked.kind, lambda env: self.run_asked(asked, env).status)
 
     def calls(self, asked: Asked) -> range:
@@ -122,7 +122,8 @@ class Office:
         return range(max(1, 2 * before - count if asked.is_filed else before + 1), count + 1)
 
     def answer(self, asked: Asked, number: int) -> Ran:
-        """What a request is answered, and how the run ends, if the call of that number is refused; none if it is 0."""
+        """The answer to a request, and the end of its run, if the call of that number is refused; no call is refused if
+        it is 0."""
         ran = self.run_asked(asked, self.library.environment(asked.kind, number))
         lines = ran.out.split(b"\n")[0 if asked.is_filed else len(self.made.lines()) :]
         return ran._replace(out=b"\n".join(lines))

@@ -20,7 +20,7 @@ Series = tuple[int, int]
 
 
 class Given(NamedTuple):
-    """What is known of a series beside its prices: its item, and its last month."""
+    """The facts about a series besides its prices: its item, and its last month."""
 
     item: str
     last_month: int
@@ -39,7 +39,7 @@ class Price(NamedTuple):
 
 
 class Carried(NamedTuple):
-    """What a series is carried at: C(m, s), the scale, and whether it is imputed."""
+    """The carried price of a series: C(m, s), the scale, and whether it is imputed."""
 
     ticks: int
     scale: tuple[int, int]
@@ -106,7 +106,7 @@ def change(old: int, new: int) -> int:
 
 
 class Index:
-    """The releases of an office so far, by month, and what is known of each series."""
+    """The releases of an office so far, by month, and the facts about each series."""
 
     def __init__(self, given: Mapping[Series, Given]) -> None:
         self.given = given
@@ -139,7 +139,7 @@ class Month:
         return self.past[self.d].carried.get(s)
 
     def S(self, e: str) -> list[Series]:
-        """Those with a base, a last month in January or later, and an item that the plan places in e."""
+        """The series with a base, a last month in January or later, and an item that the plan places in e."""
         of_year = (s for s in self.bases if self.given[s].last_month >= self.d + 1)
         return [s for s in of_year if self.plan.places.get(self.given[s].item) == e]
 
@@ -163,7 +163,7 @@ class Month:
         return (sum(map(self.at_scale, matched)), sum(self.before[s].ticks for s in matched)) if matched else (1, 1)
 
     def C(self, s: Series, move: tuple[int, int]) -> Carried:
-        """What a series is carried at."""
+        """The carried price of a series."""
         if self.p(s) is not None:
             return self.before[s]._replace(ticks=self.at_scale(s), is_imputed=False)
         v = rounded(self.before[s].ticks * move[0], move[1])
@@ -216,7 +216,7 @@ def printed(row: Level) -> list[str]:
 
 
 def tenths(change_in: Optional[int]) -> str:
-    """A change in percent; nothing if there is none."""
+    """A change in percent; empty if there is none."""
     if change_in is None:
         return ""
     return f"{'-' if change_in < 0 else ''}{abs(change_in) // 10}.{abs(change_in) % 10}"

@@ -1,4 +1,4 @@
-"""Plans and quotes of many aggregates, made by a rule, as the records of a desk and of collectors."""
+"""Plans and quotes of many aggregates, made with a rule, as the records of a desk and of collectors."""
 
 from __future__ import annotations
 
@@ -63,7 +63,7 @@ def is_in_year(n: int, year: int) -> bool:
 
 
 class Plan:
-    """The plan of a year: from each year to the next, one aggregate in twenty is gone and another one is new."""
+    """The plan of a year: from each year to the next, one aggregate in twenty leaves and another one is new."""
 
     def __init__(self, size: Size, year: int) -> None:
         count, first = size.aggregates, year * (size.aggregates // 20)
@@ -139,7 +139,8 @@ def entry_of(n: int, turn: int) -> str | None:
 
 
 def begins_replaced(n: int) -> bool:
-    """Whether the first price of a series from the December on is that of a replacement, which needs one before it."""
+    """Whether the first price of a series from the December on is the price of a replacement, which needs a price
+    before it."""
     marks = (mark_of(n, turn) for turn in itertools.count())
     return next(kind for kind, price in marks if price) != "price"
 

@@ -1,6 +1,6 @@
-"""The tables of examples/national by the formulas of the Consumer Price Index Manual (2020), in fractions.
+"""The tables of examples/national, computed with the formulas of the Consumer Price Index Manual (2020), in fractions.
 
-Only the rounding is that of docs/reference/OFFICE.md.
+Only the rounding follows docs/reference/OFFICE.md.
 """
 
 from __future__ import annotations
@@ -30,7 +30,7 @@ Levels = dict[str, Fraction]
 
 
 class Row(NamedTuple):
-    """A row of a table: index, chained index, changes on the month and on the year."""
+    """A row of a table: index, chained index, monthly and annual change."""
 
     code: str
     weight: int
@@ -50,7 +50,7 @@ class Month(NamedTuple):
 
 
 Id = tuple[str, int]
-"""A month and a revision of it."""
+"""A month and one of its revisions."""
 
 
 def nearest(number: Fraction, parts: int) -> Fraction:
@@ -98,9 +98,9 @@ class Year:
         return int(nearest(self.weights[code] * self.links[code] / then[code], 1))
 
     def worth_in_december(self, months: list[Levels]) -> dict[str, int]:
-        """What was spent in a year of some months, at the prices of the link month, as shares of a million: the whole
-        parts of them, and one more for those with the greatest remainders. An aggregate that is new was counted at the
-        prices of the link month."""
+        """The spending in a year of some months, at the prices of the link month, as shares of a million: the whole
+        parts, and one more for the greatest remainders. An aggregate that is new was counted at the prices of the link
+        month."""
         worth = {code: Fraction(weight) for code, weight in self.weights.items()}
         for code in worth:
             if code in self.links:
@@ -114,7 +114,7 @@ class Year:
         return found
 
     def carry(self, code: str, kept: Prices, now: Quotes, before: Quotes) -> tuple[Prices, bool]:
-        """The carried prices of one aggregate, and whether there was nothing to move a missing one by."""
+        """The carried prices of one aggregate, and whether no price could move a missing one."""
         found: Prices = {}
         lacking: list[tuple[Place, Optional[int]]] = []
         for place in self.samples[code]:
@@ -134,8 +134,8 @@ class Year:
         return found, bool(lacking and not matched)
 
     def carried(self, kept: Prices, now: Quotes, before: Quotes) -> tuple[Prices, dict[str, bool], list[str]]:
-        """The carried prices of all aggregates, whether something was imputed in each, and those with nothing to move a
-        missing price by."""
+        """The carried prices of all aggregates, whether something was imputed in each, and the aggregates in which no
+        price could move a missing one."""
         found: Prices = {}
         flags, carry = dict[str, bool](), list[str]()
         for code in sorted(self.weights):
@@ -152,7 +152,8 @@ class Year:
         return nearest(100 * now / base, MILLIONTHS)
 
     def rows(self, kept: Prices, flags: dict[str, bool], levels: dict[str, Levels], month: str) -> Iterator[Row]:
-        """Code, weight, index, level, the levels that changes are against, whether something was imputed, title."""
+        """Code, weight, index, level, the levels with which changes are computed, whether something was imputed,
+        title."""
         indices = {code: self.dutot(code, kept) for code in self.weights}
         for node in sorted(self.nodes):
             below = self.nodes[node]
@@ -169,7 +170,7 @@ class Year:
 
 
 def change(before: Fraction | None, now: Fraction) -> Fraction | None:
-    """In percent, rounded to a tenth; a fall as a rise of its size."""
+    """In percent, rounded to a tenth; a fall is rounded like a rise of its size."""
     if before is None:
         return None
     size = nearest(100 * abs(now - before) / before, 10)
@@ -177,8 +178,8 @@ def change(before: Fraction | None, now: Fraction) -> Fraction | None:
 
 
 def tables(survey: Survey) -> dict[Id, Month]:
-    """By month and revision, in the order in which they were frozen: the rows of the table, and the aggregates that had to
-    be carried. A month is computed from the last revisions of those before it."""
+    """By month and revision, in the order in which they were frozen: the rows of the table, and the aggregates that had
+    to be carried. A month is computed from the last revisions of the months before it."""
     year: Year | None = None
     kept: Prices = {}
     levels, found = dict[str, Levels](), dict[Id, Month]()
@@ -203,8 +204,9 @@ def latest(found: Mapping[Id, Month]) -> dict[str, Month]:
 
 
 def moving(found: dict[str, Month]) -> Iterator[str]:
-    """What is wrong with the weights of the four years: those that the program moved by prices, from a reference month,
-    don't add up to a million any more; all others do, and those that the office moved aren't what was spent."""
+    """The fault of the weights of the four years, if any: weights that the program moved by prices, from a reference
+    month, no longer add up to a million; all others do, and the weights that the office moved differ from the
+    spending."""
     januaries = [month for month in sorted(found) if month.endswith("-01")]
     sums = [found[month].rows[0].weight for month in januaries]
     if [total == 1_000_000 for total in sums] != [True, True, True, False]:
@@ -218,8 +220,8 @@ def moving(found: dict[str, Month]) -> Iterator[str]:
 
 
 def coming_and_going(found: dict[str, Month]) -> Iterator[str]:
-    """What is wrong with the aggregates that the example shows: one that comes in the second year, and one that isn't in
-    the plan of the second year and is back in the third, where it begins at 100 in December before."""
+    """The fault of the aggregates that the example shows, if any: one comes in the second year, and one isn't in the
+    plan of the second year and returns in the third, where it begins at 100 in the December before."""
     by_month = {month: {row.code: row for row in it.rows} for month, it in found.items()}
     years = sorted({month[:4] for month in found})
     codes = [{code for code in by_month[f"{year}-01"] if "-" in code} for year in years]

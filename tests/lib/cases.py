@@ -1,4 +1,4 @@
-"""The cases of tests/cases: what is sent, and what has to be written."""
+"""The cases of tests/cases: the input, and the output that must be written."""
 
 from __future__ import annotations
 
@@ -15,13 +15,14 @@ NAMES = ("args", "stdin", "stdout", "status")
 
 
 def content(*path: str) -> bytes:
-    """What a file holds."""
+    """The content of a file."""
     with open(os.path.join(*path), "rb") as file:
         return file.read()
 
 
 class Case:
-    """A folder with the files args (the program's arguments, one a line), stdin, stdout, status and perhaps stderr."""
+    """A folder with the files args (the program's arguments, one per line), stdin, stdout, status and perhaps
+    stderr."""
 
     def __init__(self, name: str) -> None:
         self.name = name
@@ -35,7 +36,7 @@ class Case:
 
     @property
     def lines(self) -> list[bytes]:
-        """The lines that have to be written, with their ends."""
+        """The lines that must be written, with their ends."""
         return self.wanted.splitlines(keepends=True)
 
 
@@ -45,7 +46,7 @@ def names() -> list[str]:
 
 
 def fault_of(program: Program, name: str) -> Fault:
-    """What a program writes or ends with otherwise, in a fresh folder."""
+    """The difference between the case and what a program writes, or the status with which it ends, in a new folder."""
     case = Case(name)
     with tempfile.TemporaryDirectory() as room:
         ran = program.run(*case.words, given=case.given, cwd=room, seconds=SECONDS)
@@ -56,7 +57,7 @@ def fault_of(program: Program, name: str) -> Fault:
 
 
 def difference(name: str, wrote: bytes, wanted: bytes) -> list[str]:
-    """Where the one first departs from the other, if it does."""
+    """The place at which two texts first differ, if they do."""
     if wrote == wanted:
         return []
     lines, others = wrote.split(b"\n"), wanted.split(b"\n")

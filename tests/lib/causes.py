@@ -1,7 +1,8 @@
-"""What the types leave open of a reply 90, of what a caller sees, and of giving up: found in the sources.
+"""Finds in the sources what the types leave open about a reply 90, about the view of a caller, and about giving up.
 
-A reply 90 has its cause by the contracts, but for a fault that a body makes by hand; and only `callers.rt` may make the
-tokens by which a function sees an office. A message is given up only by a `Failure`, which only `cpi_wire` makes.
+By the contracts a reply 90 has its cause, except for a fault that a body makes by hand; and only `callers.rt` may make
+the tokens with which a function sees an office. A message is given up only through a `Failure`, which only `cpi_wire`
+makes.
 
 `find_made_faults`    the faults that a body makes by hand, and each reply that says that the office is unavailable.
 `find_named_faults`   the same in any crate: errors of memory, and what says that the office is unavailable.
@@ -26,7 +27,8 @@ MADE = re.compile(r"\b(?:AllocError|StoreFault)\b(?!\s*>)|(?:^|\W)(?:Cause|Self)
 """A fault, a cause or the refusal 90 within a body: not the last type of a `Result<.., AllocError>`."""
 
 NAMED = re.compile(r"\bAllocError\b(?!\s*>)|\bUnavailable\b")
-"""The same without what only `cpi_office` makes and without the faults of a store, which the stores themselves make."""
+"""The faults of MADE, without those that only `cpi_office` makes and the faults of a store, which the stores themselves
+make."""
 
 GROWTH = re.compile(r"\b(?:with_capacity\w*|reserve\w*|resize\w*|repeat\w*)\b|\[in |format!|vec!")
 
@@ -85,39 +87,40 @@ def find_growths(crate: Crate) -> list[Place]:
 
 
 def find_renamed(crate: Crate) -> list[str]:
-    """These lines, or parts of lines."""
+    """The lines, or parts of lines, that give a fault, a token or a sight another name, and those of a macro."""
     texts = (drop_comments(text) for path, text in sorted(crate.texts.items()) if path.endswith(".rt"))
     return [found[0].strip() for text in texts for found in RENAMED.finditer(text)]
 
 
 def find_made_tokens(crate: Crate) -> list[Place]:
-    """Those that a file other than `callers.rt` makes."""
+    """The tokens that a file other than `callers.rt` makes."""
     return find_places(crate, TOKEN, lambda file: file != CALLERS)
 
 
 def find_tokens_of_callers(crate: Crate) -> list[Place]:
-    """Those that `callers.rt` makes."""
+    """The tokens that `callers.rt` makes."""
     return find_places(crate, TOKEN_OR_SELF, lambda file: file == CALLERS)
 
 
 def find_held_books(crate: Crate) -> list[str]:
-    """The names of these functions."""
+    """The names of the functions that answer from a sight and also name a book."""
     functions = (item for item in crate.items if item.kind == "fn")
     return [item.name for item in functions if SIGHT.search(item.text) and BOOK.search(drop_comments(item.text))]
 
 
 def find_made_failures(crate: Crate) -> list[Place]:
-    """Those outside the file that has the type."""
+    """The failures that are made outside the file that defines the type."""
     return find_places(crate, FAILURE, lambda file: file != "src/failure.rt")
 
 
 def find_notes(crate: Crate) -> list[Place]:
-    """A reader that never fails uses a note up, which is a failure too."""
+    """The places that make a note, or read or write with one. A reader that never fails uses a note up, which is a
+    failure too."""
     return find_places(crate, NOTE)
 
 
 def find_streams(crate: Crate) -> list[str]:
-    """Their names."""
+    """The names of the readers and writers that a crate writes itself."""
     texts = (drop_comments(text) for path, text in sorted(crate.texts.items()) if path.endswith(".rt"))
     return [found[1] for text in texts for found in STREAM.finditer(text)]
 

@@ -1,4 +1,4 @@
-"""Analytical core inflation a second time, from the bytes of published tables: nothing of `cpi_tools` is used.
+"""Computes analytical core inflation a second time, from the bytes of published tables, without `cpi_tools`.
 
 Each aggregate is a piece of a line as long as all weight, in the order of changes. A trimmed mean is the mean over the
 part of the line that is left; a median is the least change that at least half of the line doesn't exceed.
@@ -19,8 +19,8 @@ HUNDRED = Fraction(100)
 
 
 class Measure(NamedTuple):
-    """What is asked for: `median`, `trimmed-mean`, `items-rising` or `weight-rising`, and what is left out at the ends, in
-    percent of all weight."""
+    """A measure: `median`, `trimmed-mean`, `items-rising` or `weight-rising`, and the part that is left out at each
+    end, in percent of all weight."""
 
     name: str
     lower: Fraction = Fraction(0)
@@ -43,8 +43,8 @@ def earlier(month: str, by: int) -> str:
 
 
 def changes_of(tables: Mapping[str, Levels], month: str, is_annual: bool) -> list[tuple[Fraction, Fraction]]:
-    """The change of each aggregate that has one, and its weight: against the month or the year before. What came with the
-    year has 100 in December before."""
+    """The change of each aggregate that has one, and its weight: from the month or the year before. An aggregate that
+    is new in the year has 100 in the December before."""
     against = earlier(month, 12 if is_annual else 1)
     then, is_december = tables.get(against, {}), against.endswith("-12")
     found = []

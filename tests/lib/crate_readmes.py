@@ -1,7 +1,7 @@
-"""What the README of a crate owes: it is short, its example is code that is built, and it names each wrong program.
+"""The rules for the README of a crate: it is short, its example is code that is built, and it names each wrong program.
 
-`crate_readme_faults`  at most 60 lines; each example is in the file that the line before it names; each edit that must be refused.
-`all_numbers`          the numbers of the decisions in them.
+`crate_readme_faults`  at most 60 lines; each example is in the file that the line before it names; each edit that must be
+refused; its choices have names and no numbers.
 """
 
 from __future__ import annotations
@@ -28,13 +28,15 @@ def unindented(text: str) -> str:
 
 
 def crate_readme_faults(name: str, text: str) -> Iterator[str]:
-    """What is wrong with a README by its name from the top of the repository; nothing if it is no crate's."""
+    """The faults of a README, given by its name from the top of the repository; none if it doesn't belong to a
+    crate."""
     crate = CRATE.fullmatch(name)
     if not crate:
         return
     lines = text.count("\n")
     if lines > MOST_LINES:
         yield f"{lines} lines, over {MOST_LINES}"
+    yield from (f"a choice has the number {it} in place of a name" for it in numbers_in(text))
     examples = list(EXAMPLE.finditer(text))
     if len(examples) != text.count("```rust"):
         yield "an example without its file"
@@ -44,9 +46,3 @@ def crate_readme_faults(name: str, text: str) -> Iterator[str]:
             yield f"its example isn't in {it['file']}"
     edits = (ROOT / "crates" / crate[1]).glob("must-*/*.edit")
     yield from (f"no word of the wrong program {it.stem}" for it in sorted(edits) if f"`{it.stem}`" not in text)
-
-
-def all_numbers() -> list[int]:
-    """The numbers of the decisions in the READMEs of all crates."""
-    files = sorted((ROOT / "crates").glob("*/README.md"))
-    return [number for file in files for number in numbers_in(file.read_text(encoding="utf-8"))]

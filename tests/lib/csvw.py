@@ -1,5 +1,5 @@
-"""A reader of CSV on the Web (W3C recommendation, 2015) by its own rules: where the metadata of a file is, what each column
-has, and which cells aren't as it says."""
+"""A reader of CSV on the Web (W3C recommendation, 2015) with its own rules: the place of a file's metadata, the
+contents of each column, and the cells that differ from the metadata."""
 
 from __future__ import annotations
 
@@ -24,7 +24,7 @@ FORMS = {
     "dateTimeStamp": r"\d{4}-(0[1-9]|1[0-2])-\d\dT\d\d:\d\d:\d\d(\.\d+)?(Z|[+-]\d\d:\d\d)",
     "boolean": r"true|false|1|0",
 }
-"""The built-in datatypes that are used here, as XML Schema writes them."""
+"""The forms of the built-in datatypes that are used here, as in XML Schema."""
 
 
 def metadata_of(path: Path) -> Optional[tuple[dict[str, Any], dict[str, Any]]]:
@@ -42,7 +42,7 @@ def metadata_of(path: Path) -> Optional[tuple[dict[str, Any], dict[str, Any]]]:
 
 
 def schema_of(path: Path, table: dict[str, Any], group: dict[str, Any]) -> dict[str, Any]:
-    """The columns of a table: its own, or those of its group; a text is the name of a file that has them."""
+    """The columns of a table: its own, or the columns of its group; a text is the name of a file that contains them."""
     found = table.get("tableSchema", group.get("tableSchema"))
     if isinstance(found, str):
         found = json.loads((path.parent / found).read_text(encoding="utf-8"))
@@ -52,7 +52,7 @@ def schema_of(path: Path, table: dict[str, Any], group: dict[str, Any]) -> dict[
 
 
 def faults_of(path: Path) -> Iterator[str]:
-    """What is in a CSV file otherwise than its metadata say."""
+    """The differences between a CSV file and its metadata."""
     found = metadata_of(path)
     if found is None:
         yield f"{path}: no metadata"
@@ -82,7 +82,7 @@ def faults_of(path: Path) -> Iterator[str]:
 
 
 def cell_faults(columns: list[dict[str, Any]], row: list[str]) -> Iterator[str]:
-    """The cells of a row that aren't as their columns say."""
+    """The cells of a row that don't fit their columns."""
     for column, cell in zip(columns, row):
         if cell == column.get("null", ""):
             if column.get("required"):

@@ -13,7 +13,7 @@ from .stored import change, copied
 from .tried import fault_in
 
 Begin = Callable[[Program, str], str]
-"""What makes a file in a folder."""
+"""Makes a file in a folder."""
 
 Way = list[str]
 """Statements that change a file."""
@@ -27,7 +27,7 @@ OTHER_VERSIONS: list[Way] = [
 OTHER_LEVEL = ["DROP TABLE level", "CREATE TABLE level (month INTEGER NOT NULL, code TEXT NOT NULL) STRICT"]
 
 NO_YEARS = (-1, 0, 1999, 2200, 10**12)
-"""Numbers that are no year of a plan."""
+"""Numbers that aren't years of a plan."""
 
 # Rows of the tables of both schemas that can't be in an office.
 NO_ROWS: list[Way] = [
@@ -45,7 +45,7 @@ NO_ROWS: list[Way] = [
 
 
 def of_no_type(table: str, row: str) -> Way:
-    """Puts a row that the types of its table refuse, which are let go meanwhile."""
+    """Puts a row that the types of its table refuse, which are ignored meanwhile."""
     begin, end = "PRAGMA writable_schema = ON", "PRAGMA writable_schema = RESET"
     free = f"UPDATE sqlite_schema SET sql = replace(sql, ' STRICT', '') WHERE name = '{table}'"
     bind = f"UPDATE sqlite_schema SET sql = sql || ' STRICT' WHERE name = '{table}'"
@@ -53,8 +53,8 @@ def of_no_type(table: str, row: str) -> Way:
 
 
 def opened(program: Program, path: str, line: str) -> Fault:
-    """What is wrong with a replay over a path that can't be opened: one line, status 1, nothing read, and the file as
-    it was."""
+    """The fault of a replay over a path that can't be opened, if any: it must print one line, end with status 1, read
+    nothing, and leave the file unchanged."""
     before = content(path) if os.path.isfile(path) else None
     ran = program.replay(QUOTE, path)
     if ran != failed(line):
@@ -64,19 +64,20 @@ def opened(program: Program, path: str, line: str) -> Fault:
 
 
 def opened_each(program: Program, room: str, ways: Sequence[Way], line: str, begin: Begin) -> Fault:
-    """The same for each of some ways to change a file."""
+    """The fault of `opened` for each of some ways to change a file."""
     made = begin(program, room)
     return fault_in((way, opened(program, changed(made, f"{room}/{at}.db", way), line)) for at, way in enumerate(ways))
 
 
 def changed(path: str, copy: str, way: Way) -> str:
-    """A copy of a file that is changed so."""
+    """A copy of a file, changed in this way."""
     change(copied(path, copy), way)
     return copy
 
 
 def read_in_part(program: Program, path: str, told: Sequence[bytes], refused: Sequence[bytes]) -> Fault:
-    """What is wrong, if not only the latter records are refused by 90, between the former and these once more."""
+    """The fault, if the latter records aren't the only ones that are refused with 90; the former are sent before and
+    after them."""
     ran = program.replay(b"".join([*told, *refused, *told]), path)
     found = [line == b'{"refused":90}' for line in ran.out.splitlines()]
     wanted = [False] * len(told) + [True] * len(refused) + [False] * len(told)

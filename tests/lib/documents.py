@@ -1,4 +1,4 @@
-"""What a document owes besides commands that run: a layout within bounds, and names of things that are there.
+"""The rules for a document, besides commands that run: a layout within bounds, and names of existing things.
 
 `layout_faults`  no paragraph, list item or cell of a table is too long to read; README is two screens.
 `length_faults`  a document has at most 5,000 words, and all of docs/ have no more than their bound (`all_words`).
@@ -24,7 +24,7 @@ from dataclasses import dataclass, field
 from functools import lru_cache
 from pathlib import Path
 
-from .crate_readmes import all_numbers, crate_readme_faults, numbers_in
+from .crate_readmes import crate_readme_faults, numbers_in
 from .plain_english import english_faults
 from .theorem import theorem_faults
 
@@ -43,7 +43,7 @@ def prose(text: str) -> str:
 
 
 def seen(text: str) -> str:
-    """The text as a reader sees it: a link without where it leads."""
+    """The text as a reader sees it: links without their targets."""
     return re.sub(r"\]\([^)]*\)", "]", " ".join(text.split()))
 
 
@@ -88,18 +88,27 @@ def readme_faults(text: str) -> Iterator[str]:
 
 # ---- the length
 
-MOST_WORDS, MOST_OF_ALL = 5000, 49219
-"""Words as `wc -w` counts them, beside what is printed from the specs: of a document, and of the English pages of docs/
-together."""
+MOST_WORDS, MOST_OF_ALL = 5000, 49389
+"""Words as `wc -w` counts them, beside what is printed from the specs and the rows that are compared with the code: of a
+document, and of the English pages of docs/ together."""
 
 SHORT = {"docs/develop/THEOREM.md": 1500}
-"""Documents with a bound of their own: two pages of paper."""
+"""Documents with their own bound: two pages of paper."""
 
 PRINTED = re.compile(r"^```antt .*\n(?:.*\n)*?```$", re.M)
 
+DRAWN = re.compile(r"^ {7}(\w+(?:::\w+)?) +(cpi_\w+) +(?:to (\w+), as above$|\S.*)", re.M)
+"""A row of a drawn way through the program: a function, its crate, and what it adds; or the function at which a drawing
+above goes on."""
+
+
+def count_words(text: str) -> int:
+    """The words of a document that its bound counts."""
+    return len(DRAWN.sub("", PRINTED.sub("", text)).split())
+
 
 def length_faults(name: str, text: str) -> Iterator[str]:
-    most, count = SHORT.get(name, MOST_WORDS), len(PRINTED.sub("", text).split())
+    most, count = SHORT.get(name, MOST_WORDS), count_words(text)
     if name.startswith("docs/") and count > most:
         yield f"{count} words, over {most}"
 
@@ -110,8 +119,8 @@ def pages() -> list[Path]:
 
 
 def all_words() -> str | None:
-    """What is wrong with the length of the English pages of docs/ together, if it is."""
-    count = sum(len(PRINTED.sub("", it.read_text(encoding="utf-8")).split()) for it in pages())
+    """The fault of the total length of the English pages of docs/, if any."""
+    count = sum(count_words(it.read_text(encoding="utf-8")) for it in pages())
     return f"{count} words, over {MOST_OF_ALL}" if count > MOST_OF_ALL else None
 
 
@@ -120,7 +129,7 @@ def all_words() -> str | None:
 
 @dataclass
 class Code:
-    """What is declared in crates/."""
+    """The declarations in crates/."""
 
     # the clauses of each public function, by its name, plain and behind its type, and by its crate
     clauses: dict[str, dict[str, set[str]]] = field(default_factory=dict)
@@ -184,7 +193,7 @@ TOKEN = re.compile(r"`([^`]+)`|\b(clause|part)s?(?= `)|\bby(?= `)|[;:.](?= )")
 
 
 def claims(part: str) -> Iterator[tuple[str, list[str]]]:
-    """The names of a sentence, by what they are said to be: functions, clauses, and the definitions of a file."""
+    """The names in a sentence, by their kinds: functions, clauses, and the definitions of a file."""
     kind, names = "function", list[str]()
     for quoted, word in TOKEN.findall(part):
         if quoted.endswith(".antt"):
@@ -199,7 +208,7 @@ def claims(part: str) -> Iterator[tuple[str, list[str]]]:
 
 
 def claim_faults(text: str, code: Code) -> Iterator[str]:
-    """What isn't so of sentences like: `f` and `g`, clause `c`; `D` in `crate/specs/File.antt`."""
+    """The false claims in sentences like: `f` and `g`, clause `c`; `D` in `crate/specs/File.antt`."""
     functions: list[str] = []
     for is_row, part in paragraphs(text):
         # (an item that names no function goes on from the one before)
@@ -234,20 +243,21 @@ EXAMPLE = re.compile(r"\b[A-Z]{4,}\b|/out/")
 OUTSIDE = {
     *("xz", "pytest", "jinja2", "openpyxl", "sqlite3", "cc", "curl", "objdump"),
     *("fn", "returns", "_open", "_writes", "_reads", "UTC0"),
+    *("HEAD", "Expect", "Host", "Accept", "Date", "Server", "ETag", "ANALYZE", "sqlite_stat1"),
 }
 
 
 @lru_cache(maxsize=1)
 def files() -> list[Path]:
-    """Each file and folder of the repository, but for what was built or written."""
+    """Each file and folder of the repository, except built or written ones."""
     left_out = {".git", "out", "__pycache__"}
     return [it for it in sorted(ROOT.rglob("*")) if not left_out & set(it.relative_to(ROOT).parts)]
 
 
 def found_path(quoted: str, base: Path) -> Path | None:
-    """Where a path leads: beside the one before it, from the top, from crates/ or from a crate.
+    """The target of a path: beside the path before it, from the top, from crates/ or from a crate.
 
-    A file's name alone, but of a definition or of code, may stand in any folder.
+    A file's name by itself, except the name of a definition or of code, may be in any folder.
     """
     for folder in (base, base.parent, ROOT, ROOT / "crates"):
         if found := next(folder.glob(quoted.rstrip("/")), None):
@@ -292,6 +302,39 @@ def name_faults(text: str, code: Code) -> Iterator[str]:
             yield f"{quoted} is declared nowhere"
 
 
+# ---- ways through the program that a document draws
+
+
+def draw_arrows(text: str) -> Iterator[tuple[str, str, str]]:
+    """The crate and the name of each drawn function, and the name of the next one, which it calls."""
+    before = None
+    for line in text.splitlines():
+        row = DRAWN.match(line)
+        if row and before:
+            yield *before, row[1]
+        before = (row[2], row[3] or row[1]) if row else None
+
+
+def bodies_of(crate: Path, name: str) -> Iterator[str]:
+    """The bodies of the functions of a crate that have a name; one like `Type::name` is in an `impl` of that type."""
+    owner, _, plain = name.rpartition("::")
+    head = re.compile(rf"^( *)(?:pub )?fn {plain}\b.*?\n\1\}}$", re.M | re.S)
+    for path in sorted(crate.glob("src/**/*.rt")):
+        text = path.read_text(encoding="utf-8")
+        parts = re.findall(rf"^impl[^\n]*\b{owner}\b.*?^\}}$", text, re.M | re.S) if owner else [text]
+        yield from (found[0] for part in parts for found in head.finditer(part))
+
+
+def drawing_faults(text: str, crates: Path = ROOT / "crates") -> Iterator[str]:
+    """Drawn functions that aren't there, or don't call the next one."""
+    for crate, name, callee in draw_arrows(text):
+        bodies = [*bodies_of(crates / crate, name)]
+        if not bodies:
+            yield f"there is no {name} in {crate}"
+        elif not any(re.search(rf"\b{callee.rpartition('::')[2]}\(", body.partition("{\n")[2]) for body in bodies):
+            yield f"{name} of {crate} doesn't call {callee}"
+
+
 # ---- what single documents owe
 
 
@@ -308,7 +351,7 @@ def script_faults(folder: Path, text: str) -> Iterator[str]:
 
 
 def example_faults(text: str) -> Iterator[str]:
-    """Its blocks are the records of the case, and what its last two records print."""
+    """The page's blocks are the records of the case, and the output of its last two records."""
     example = text[text.index("### An example") :]
     named = re.search(r"The case `(\S+)`", example)
     if not named:
@@ -322,7 +365,7 @@ def example_faults(text: str) -> Iterator[str]:
 
 
 def running_faults(text: str) -> Iterator[str]:
-    """What the shipped program needs is told, and what to do at each line of a fault."""
+    """The page names the needs of the shipped program, and says what to do at each line of a fault."""
     made = (ROOT / "dist/MADE").read_text(encoding="utf-8") if (ROOT / "dist/MADE").exists() else ""
     needed = re.findall(r"^machine: (\S+)$|\b(GLIBC_[\d.]+)", made, re.M)
     yield from (f"no word of {it}, which dist/MADE names" for pair in needed for it in pair if it and it not in text)
@@ -335,20 +378,23 @@ def running_faults(text: str) -> Iterator[str]:
 RECORD = re.compile(r"^\*\*(\d+)\. ", re.M)
 DATED = re.compile(r"\*\*\d+\. .*?\*\* \(\d{4}-\d{2}-\d{2}\)")
 
+ALTERNATIVE = re.compile(r"\binstead of\b|, not \w|\bwould")
+"""The words with which a decision names its alternative: what it was chosen instead of, or what that would do."""
+
 
 def record_faults(text: str) -> Iterator[str]:
-    """Each record has a date and says what it replaced, and a number that no other decision has."""
+    """Each record has a date, the alternative, and a number that no other decision has."""
     for part in (it for _, it in paragraphs(text) if RECORD.match(it)):
         if not DATED.match(part):
             yield f"a record without a date: {part[:60]}.."
-        if "nstead of" not in part:
+        if not ALTERNATIVE.search(part):
             yield f"a record that doesn't say what it replaced: {part[:60]}.."
-    every = [*numbers_in(text), *all_numbers()]
+    every = numbers_in(text)
     yield from (f"two decisions have the number {it}" for it in sorted({it for it in every if every.count(it) > 1}))
 
 
 CLAIMING = {"README.md", "docs/develop/PROOF.md", "docs/develop/THEOREM.md", "docs/data/AUDIT.md"}
-NAMED = {*CLAIMING, *(f"docs/develop/{it}.md" for it in ("ARCHITECTURE", "CONTRIBUTING", "TERMS"))}
+NAMED = {*CLAIMING, *(f"docs/develop/{it}.md" for it in ("ARCHITECTURE", "CONTRIBUTING", "DEVIATIONS", "TERMS"))}
 ALONE = {
     "docs/develop/DECISIONS.md": record_faults,
     "docs/reference/FORMATS.md": example_faults,
@@ -359,7 +405,7 @@ ALONE = {
 
 
 def document_faults(name: str, text: str) -> Iterator[str]:
-    """What is wrong with a document, by its name from the top of the repository."""
+    """The faults of a document, given by its name from the top of the repository."""
     yield from layout_faults(name, text)
     yield from length_faults(name, text)
     yield from english_faults(name, text)
@@ -369,6 +415,7 @@ def document_faults(name: str, text: str) -> Iterator[str]:
         yield from name_faults(text, the_code())
     if name in CLAIMING:
         yield from claim_faults(text, the_code())
+    yield from drawing_faults(text)
     if name in ALONE:
         yield from ALONE[name](text)
     if name in ("tests/README.md", "bench/README.md"):

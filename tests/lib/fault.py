@@ -1,4 +1,4 @@
-"""What a look at something answers: what is wrong with it, or None."""
+"""The result of a check: the fault that it found, or None."""
 
 from __future__ import annotations
 

@@ -1,4 +1,4 @@
-"""Offices in files: cases that are replayed over them, what is stored there, what is listed."""
+"""Offices in files: the cases that are replayed over them, the rows that are stored, and the lists."""
 
 from __future__ import annotations
 
@@ -26,7 +26,7 @@ KEY = "a" * 32
 """The key of the collector of the office below."""
 
 MOST_READ = 100_000
-"""Bytes of a case that the second office reads; it looks all quotes through for each."""
+"""Bytes of a case that the second office reads; it searches all quotes for each."""
 
 QUOTE = f"1500,{KEY},quotes,2025-12,2026-01\n".encode()
 
@@ -48,7 +48,7 @@ def office(program: Program, room: str) -> str:
 
 
 def empty(program: Program, room: str) -> str:
-    """The file of an office that holds nothing."""
+    """The file of an empty office."""
     program.replay(b"", f"{room}/office.db")
     return f"{room}/office.db"
 
@@ -75,7 +75,7 @@ def rows_in(given: bytes) -> list[Record]:
 
 
 def unsound(case: Case, path: str) -> Fault:
-    """What the C library of SQLite finds wrong with the file."""
+    """The faults that the C library of SQLite finds in the file."""
     if not os.path.exists(path):
         return None if case.status else "there is no file"
     with closing(sqlite3.connect(path)) as file:
@@ -84,7 +84,7 @@ def unsound(case: Case, path: str) -> Fault:
 
 
 def stored_otherwise(case: Case, path: str) -> Fault:
-    """Which table hasn't the rows of the second office, where that gives the lines of the case. It has the clock of
+    """The table whose rows differ from the second office's, if that gives the lines of the case. It has the clock of
     UTC0."""
     office, lines = answered(case.given)
     if case.status or "--zone" in case.words or lines != case.lines:
@@ -113,7 +113,7 @@ def asked_tables(case: Case) -> Iterator[tuple[str, str, str, str, Any]]:
 
 
 def printed_otherwise(program: Program, case: Case, path: str) -> Fault:
-    """Which of these tables is printed otherwise from the file."""
+    """The table that is printed differently from the file."""
     for at, month, form, revision, reply in asked_tables(case):
         words = ["--db", path, "--month", month, "--form", form, "--at", at]
         wanted = failed("bad month") if reply.get("refused") == 10 else failed("no table")
@@ -126,12 +126,12 @@ def printed_otherwise(program: Program, case: Case, path: str) -> Fault:
 
 
 def kept_otherwise(program: Program, case: Case, path: str) -> Fault:
-    """What is wrong with a file that holds the records of a case."""
+    """The fault of a file that contains the records of a case."""
     return unsound(case, path) or stored_otherwise(case, path) or printed_otherwise(program, case, path)
 
 
 def listing(office: Kept) -> Iterator[Record]:
-    """What everybody and each collector may list, and each revision of each table."""
+    """The requests for everything that everybody and each collector may list, and for each revision of each table."""
     yield from ([str(LAST), "public", word] for word in ("items", "tables"))
     months = [month_text(month) for month in sorted(office.calendar)]
     for key in office.keys.values():
@@ -144,12 +144,12 @@ def listing(office: Kept) -> Iterator[Record]:
 
 
 def told_otherwise(program: Program, path: str, office: Kept, sent: Sequence[Record]) -> Fault:
-    """What is wrong with the lines of records over a file that is to hold this second office."""
+    """The fault of the lines of records over a file that should contain this second office."""
     wanted = "".join(f"{office.line(record)}\n" for record in sent).encode()
     ran = program.replay(text_of(sent).encode(), path)
     return None if ran == (0, wanted, b"") else f"{ran}, wanted {wanted[:160]!r}"
 
 
 def listed_otherwise(program: Program, path: str, office: Kept) -> Fault:
-    """What is wrong with the lists of a file that is to hold this second office."""
+    """The fault of the lists of a file that should contain this second office."""
     return told_otherwise(program, path, office, [*listing(office)])

@@ -1,11 +1,11 @@
 #!/usr/bin/python3
-"""What a guide in another language owes to the English one that it follows.
+"""The rules for a guide in another language, which follows an English one.
 
-A translation has the same name, in the folder of its language: `docs/desk/fr/PHONE.md`. In a comment at its head
-stands the sum of each part of the English guide that it was made of, so a part that has changed since is named. Its
-commands are those of the English guide, and each name of a button is that of the page.
+A translation has the same name, in the folder of its language: `docs/desk/fr/PHONE.md`. A comment at its head contains
+the sum of each part of the English guide from which it was made, so that a part that has changed since is named. Its
+commands are those of the English guide, and each name of a button is the name on the page.
 
-A translation that has been brought up to date gets the new sums by `tests/lib/guides.py docs/desk/fr/PHONE.md`.
+`tests/lib/guides.py docs/desk/fr/PHONE.md` writes the new sums into a translation that has been brought up to date.
 """
 
 from __future__ import annotations
@@ -31,7 +31,7 @@ NAMED = re.compile(r"(?<![*\w])\*([^*\n]+)\*(?![*\w])")
 """A button or a view of a page."""
 
 STATE = re.compile(r"^\| ([^|]+) \| [^|]+ \|$", re.M)
-"""A row of a table with two columns: what a row of the page says."""
+"""A row of a table with two columns: the text of a row on the page."""
 
 PLACE = re.compile(r"\\\{[a-z_]+\\\}")
 
@@ -43,13 +43,13 @@ def translations() -> list[str]:
 
 
 def parts(text: str) -> list[tuple[str, str]]:
-    """The parts of a guide, each with its heading; the first one is what comes before them."""
+    """The parts of a guide, each with its heading; the first one is the text before them."""
     found = re.split(r"^(?=## )", text, flags=re.M)
     return [(part.partition("\n")[0].lstrip("# "), part) for part in found]
 
 
 def sum_of(part: str) -> str:
-    """The sum of a part, by its words: a line that is broken elsewhere is the same."""
+    """The sum of a part, computed from its words: a line that is broken elsewhere doesn't change it."""
     return hashlib.sha256(" ".join(part.split()).encode()).hexdigest()[:8]
 
 
@@ -61,7 +61,8 @@ def catalogue(code: str) -> Catalog:
 
 
 def told(code: str, text: str) -> list[re.Pattern[str]]:
-    """How the page says a text of the source in a language, in each of its contexts; its places hold anything."""
+    """The texts of the page in a language for a text of the source, in each of its contexts; its places match
+    anything."""
     found = [it.string for it in catalogue(code) if it.id == text or (isinstance(it.id, str) and fits(it.id, text))]
     return [pattern(it) for it in found if isinstance(it, str) and it]
 
@@ -71,12 +72,12 @@ def pattern(text: str) -> re.Pattern[str]:
 
 
 def fits(source: str, text: str) -> bool:
-    """Whether a text is one of the source with something in its places."""
+    """Whether a text is a text of the source with its places filled."""
     return "{" in source and not source.startswith("{") and bool(pattern(source).fullmatch(text))
 
 
 def guide_faults(name: str) -> Iterator[str]:
-    """What is wrong with a guide in another language, a line each."""
+    """The faults of a guide in another language, one line each."""
     text = (ROOT / name).read_text(encoding="utf-8")
     head = FOLLOWS.search(text)
     if not head or head[1] != Path(name).name or not (DOCS / head[1]).exists():
@@ -118,7 +119,7 @@ def name_faults(code: str, text: str, source: str) -> Iterator[str]:
 
 
 def bring_up_to_date(name: str) -> None:
-    """Writes the sums of the English guide as it is now into the head of a translation."""
+    """Writes the sums of the current English guide into the head of a translation."""
     path = ROOT / name
     sums = " ".join(sum_of(part) for _, part in parts((DOCS / path.name).read_text(encoding="utf-8")))
     text = path.read_text(encoding="utf-8")

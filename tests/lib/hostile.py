@@ -1,4 +1,4 @@
-"""Texts that would be more than text, if a page let them: thirteen kinds."""
+"""Texts that would be more than text if a page let them: thirteen kinds."""
 
 from __future__ import annotations
 

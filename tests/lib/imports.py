@@ -1,4 +1,5 @@
-"""What a module of the companions may import: its folder, and those that the folder's README names.
+"""The rule for the imports of the companions' modules: a module may import from its folder, and from the folders that
+the folder's README names.
 
 The last paragraph of each README of tools/cpi_tools begins with "May import:" and names folders below tools/cpi_tools.
 """
@@ -16,12 +17,12 @@ from .places import ROOT
 PACKAGE = ROOT / "tools/cpi_tools"
 RULE = re.compile(r"^May import: (.*)$", re.M)
 TOOLS_BY_NAME = "command_line.py"
-"""The one module that reads others by their names."""
+"""The only module that imports others by their names."""
 
 
 @lru_cache(maxsize=None)
 def allowed(folder: Path) -> frozenset[Path]:
-    """The folders that the modules of a folder may import from: its own, and those of its README."""
+    """The folders that the modules of a folder may import from: its own, and the folders in its README."""
     rule = RULE.search((folder / "README.md").read_text(encoding="utf-8"))
     if not rule:
         raise ValueError(f"{folder / 'README.md'} has no line that begins with May import")

@@ -1,4 +1,4 @@
-"""What tests need of Debian's packages, which the repository's own scripts install."""
+"""The Debian packages that tests need, which the repository's own scripts install."""
 
 from __future__ import annotations
 
@@ -12,7 +12,7 @@ from .places import ROOT
 
 
 def fault_of(script: str) -> Optional[str]:
-    """Runs a script that installs packages unless they are there, in one process at a time; its fault, in one line."""
+    """Runs a script that installs missing packages, in one process at a time; returns its fault, in one line."""
     with (ROOT / script).open("rb") as file:
         fcntl.flock(file, fcntl.LOCK_EX)
         ran = subprocess.run([ROOT / script], stdin=subprocess.DEVNULL, capture_output=True, text=True, check=False)
@@ -21,7 +21,7 @@ def fault_of(script: str) -> Optional[str]:
 
 
 def need(script: str) -> None:
-    """Fails if the packages that a script installs can't be had."""
+    """Fails if the packages that a script installs can't be installed."""
     fault = fault_of(script)
     if fault:
         pytest.fail(fault, pytrace=False)

@@ -1,4 +1,4 @@
-"""What one reader is told, whatever the others send: runs with the records of others left out or changed."""
+"""The answers to one reader, whatever the others send: runs with the records of others left out or changed."""
 
 from __future__ import annotations
 
@@ -37,13 +37,13 @@ def is_of_others(record: Record, key: str) -> bool:
 
 
 def lines_to(reader: str, run: Run) -> Run:
-    """What one reader asks and is told."""
+    """The requests of one reader, and the answers."""
     pairs = [(record, line) for record, line in zip(*run) if record[1] == reader]
     return Run([record for record, _ in pairs], [line for _, line in pairs])
 
 
 def told_otherwise(readers: Iterable[str], one: Run, other: Run) -> Fault:
-    """What is told otherwise to one of the readers in one of two runs."""
+    """The answers to one of the readers that differ between two runs."""
     for reader in readers:
         told, wanted = lines_to(reader, one), lines_to(reader, other)
         fault = first_difference(told.records, told.lines, wanted.lines)
@@ -64,7 +64,8 @@ def is_freeze(record: Record) -> bool:
 
 
 def instead(drawn: random.Random, record: Record) -> list[Record]:
-    """What comes in place of another collector's record: nothing, the quote with another mark or price, or one more."""
+    """The replacement of another collector's record: nothing, the quote with another mark or price, or an additional
+    quote."""
     if record[2] != "quote" or len(record) < 7 or drawn.random() < 0.4:
         return []
     price = str(1 + int(record[6]) // 2) if record[5] != "missing" and record[6].isdecimal() else "100"
@@ -74,7 +75,7 @@ def instead(drawn: random.Random, record: Record) -> list[Record]:
 
 
 Changes = dict[int, list[Record]]
-"""By the place of a record what comes instead."""
+"""The replacement of a record, by its place."""
 
 
 class Watched:
@@ -97,7 +98,8 @@ class Watched:
 
 
 def former_of(office: Office, new: Assignment) -> Place:
-    """The slot whose assignment of the series ended when the new one began; the first, where it ends sooner by now."""
+    """The slot whose assignment of the series ended when the new one began; the first one, if that has been shortened
+    since."""
     ends = (new.series, before(new.first))
     return next((at for at, one in office.assignments.items() if (one.series, one.last) == ends), new.series)
 
@@ -110,8 +112,8 @@ def quotes_of(office: Office, place: Place) -> Quotes:
 def changed_alike(
     drawn: random.Random, records: list[Record], number: int, end: int
 ) -> tuple[list[Record], Iterator[str]]:
-    """The records with those of other collectors from a place on changed, so that this collector has the same
-    assignments all the time; and what there is to tell of hand-overs to it."""
+    """The records, with the records of other collectors changed from a place on, so that this collector always has the
+    same assignments; and the facts about hand-overs to this collector."""
     key = KEYS[number - 1]
     others = [at for at in range(end, len(records)) if is_of_others(records[at], key)]
     changes: Changes = {at: instead(drawn, records[at]) for at in others if drawn.random() < 0.7}
@@ -126,7 +128,8 @@ def changed_alike(
 
 
 def take_back(drawn: random.Random, changes: Changes, records: list[Record], end: int) -> None:
-    """Takes back some changes before a record of the desk: of a hand-over first those of the former collector."""
+    """Takes back some changes before a record of the desk: of a hand-over, first the changes of the former
+    collector."""
     earlier = [at for at in changes if at < end]
     if records[end][2] == "handover" and records[end][3] in ("1", "2", "3"):
         own = [at for at in earlier if records[at][1] == KEYS[int(records[end][3]) - 1]]
@@ -171,7 +174,7 @@ def freeze_done(record: Record, line: str) -> str | None:
 
 
 def publishes(month: str, pairs: Iterable[tuple[Record, str]]) -> int:
-    """The moment of publishing in the calendar row of a month, as it stands after these records and lines."""
+    """The publication time in the calendar row of a month, after these records and lines."""
     done = [record for record, line in pairs if record[2:4] == ["calendar", month] and "done" in line]
     return int(done[-1][6])
 

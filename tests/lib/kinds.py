@@ -1,4 +1,4 @@
-"""The kinds of replies that random records are to meet: words, refusals and faults by their numbers."""
+"""The kinds of replies that random records must produce: words, refusals and faults by their numbers."""
 
 from __future__ import annotations
 
@@ -23,24 +23,24 @@ KINDS |= {"fault 3 of an index, above the aggregates"}
 
 Reply = dict[str, Any]
 Request = list[Optional[str]]
-"""The word and the arguments; of a row of an import they aren't known."""
+"""The word and the arguments; for a row of an import they aren't known."""
 
 
 def replies_of(record: Record, line: str) -> list[tuple[Reply, Request]]:
-    """Each reply of a line, with the word and the arguments of its request where they are known."""
+    """Each reply of a line, with the word and the arguments of its request if they are known."""
     reply = json.loads(line)
     unknown: Request = [None]
     return [(reply, [*record[2:]]), *((row, unknown) for row in reply.get("rows", []))]
 
 
 def of_weights(text: str) -> str:
-    """What is said of a printed table whose weights were moved by prices: they have another sum."""
+    """The kind of a printed table whose weights were moved by prices: they have another sum."""
     weight = re.search("^00[ ,]+([0-9]+)", text, re.M)
     return " with moved weights" if weight and weight[1] != "1000000" else ""
 
 
 def kind_of(reply: Reply, request: Request) -> str:
-    """What a reply is called in KINDS."""
+    """The name of a reply in KINDS."""
     if "tables" in reply:
         most = max((revision for _, revision, _ in reply["tables"]), default=0)
         return f"tables, of up to {most} revisions" if most > 1 else "tables"

@@ -1,4 +1,4 @@
-"""The linters: which files each reads, and what it finds in them, file by file.
+"""The linters: the files that each reads, and its findings in them, file by file.
 
 A linter prints a finding as `FILE:LINE: what` or `FILE(LINE,COLUMN): what`, and ends with a status that isn't 0 if there
 is one. A linter that can't run has no such lines, so what it prints instead is raised.
@@ -13,36 +13,34 @@ from collections.abc import Iterable, Sequence
 from pathlib import Path
 from typing import Callable, NamedTuple
 
+from .docstrings import docstring_findings
 from .imports import import_findings
 from .places import TOP
 
 WORDS = "tests/linters/words.txt"
-"""Words that codespell would change, and that are right."""
+"""Correct words that codespell would change."""
 
 IN_ANOTHER_LANGUAGE = re.compile(r"(docs/desk|examples/national/about)/(?!en/)[a-z]{2,3}/")
 """Guides, and an office's own words, that are translated."""
 
 WORKER = "web/collect/sw.js"
-"""The one script that runs in no page."""
+"""The only script that runs in no page."""
 
-UNTYPED = ("bench/", "examples/", "tests/outside/")
-"""Folders that mypy doesn't read: benches and examples have few types, and tests/outside needs packages of its own."""
-
-TYPED = ("examples/gaps", "examples/national/report", "examples/recompute")
-"""The examples that it reads all the same."""
+APART = ("bench/", "examples/national/", "examples/worked/")
+"""Folders that it reads in separate runs, since their modules have the names of other modules."""
 
 AT = re.compile(r"(?P<file>[^ :(][^:(]*)(:\d|\(\d+,\d+\): )")
 """The place of a finding, at the beginning of its line."""
 
 MARKS = ("<" * 7 + " ", ">" * 7 + " ")
-"""How lines begin that git writes round two changes of the same lines."""
+"""The beginnings of the lines that git writes around two changes of the same lines."""
 
 Found = dict[str, list[str]]
-"""By file, its findings, a line each."""
+"""The findings by file, one line each."""
 
 
 class Linter(NamedTuple):
-    """A linter, the languages that it reads (tools/tree.py), and what finds its findings in files."""
+    """A linter, the languages that it reads (tools/tree.py), and the function that gives its findings in files."""
 
     name: str
     languages: tuple[str, ...]
@@ -61,7 +59,8 @@ def findings(lines: Iterable[str], files: Sequence[str]) -> Found:
 
 
 def ran(files: Sequence[str], *words: str, **environment: str) -> Found:
-    """What a linter finds in files, given these words before them. RuntimeError: it ended otherwise than by findings."""
+    """The findings of a linter in files, with these arguments before them. RuntimeError: it ended in another way than
+    with findings."""
     if not files:
         return {}
     where = {**os.environ, **environment}
@@ -73,23 +72,26 @@ def ran(files: Sequence[str], *words: str, **environment: str) -> Found:
 
 
 def kept_types() -> Path:
-    """The user's folder in which mypy keeps what it knows of modules, by their contents and by its words."""
+    """The user's folder in which mypy keeps its knowledge of modules, by their contents and its arguments."""
     return Path(os.environ.get("XDG_CACHE_HOME") or Path.home() / ".cache") / "sabrethog/mypy"
 
 
 def by_mypy(files: Sequence[str]) -> Found:
-    """One run, with the folders that tests and tools import from. It reads anew what changed since an earlier run, and what
-    imports that."""
-    typed = [it for it in files if it in TYPED or not it.startswith(UNTYPED)]
+    """Some runs, with the folders that tests and tools import from. They read again the modules that changed since an
+    earlier run, and the modules that import these."""
+    parts = [[it for it in files if it.startswith(folder)] for folder in APART]
     words = ["mypy", "--strict", "--scripts-are-modules", "--no-error-summary", "--hide-error-context"]
     kept = kept_types()
     kept.mkdir(parents=True, exist_ok=True)
-    found = ran(typed, *words, f"--cache-dir={kept}", MYPYPATH="tests:tools")
+    found: Found = {}
+    for number, part in enumerate([[it for it in files if not it.startswith(APART)], *parts]):
+        # (modules of two runs may have one name)
+        found.update(ran(part, *words, f"--cache-dir={kept}/{number}", MYPYPATH="tests:tools:bench"))
     return {name: [it for it in lines if ": note: " not in it] for name, lines in found.items()}
 
 
 def by_black(files: Sequence[str]) -> Found:
-    """Black names a file that it would lay out otherwise, and no line of it."""
+    """Black names a file that it would reformat, but no line."""
     run = subprocess.run(
         ["black", "--check", "-l", "120", *files], cwd=TOP, capture_output=True, text=True, check=False
     )
@@ -100,12 +102,12 @@ def by_black(files: Sequence[str]) -> Found:
 
 
 def by_codespell(files: Sequence[str]) -> Found:
-    """It knows English words only, so it reads no guide in another language."""
+    """Codespell knows only English words, so it reads no guide in another language."""
     return ran([it for it in files if not IN_ANOTHER_LANGUAGE.match(it)], "codespell", "-I", WORDS)
 
 
 def by_tsc(files: Sequence[str]) -> Found:
-    """Scripts of pages with what pages have, and the service worker with what it has."""
+    """Checks the scripts of pages with the types of pages, and the service worker with its own types."""
     pages, worker = [it for it in files if it != WORKER], [it for it in files if it == WORKER]
     words = "tsc --checkJs --allowJs --noEmit --target es2022 --module es2022 --moduleResolution node --lib".split()
     return {
@@ -136,5 +138,6 @@ LINTERS = [
     Linter("codespell", TEXTS, by_codespell),
     Linter("merges", TEXTS, by_merges),
     Linter("imports", ("python",), import_findings),
+    Linter("docstrings", ("python",), docstring_findings),
 ]
-"""The slow ones first."""
+"""The linters, the slow ones first."""

@@ -16,7 +16,7 @@ FORWARD = ["2025-12", "2027-12"]
 
 
 def office_of(collectors: Sequence[int]) -> Iterator[Record]:
-    """An office with its plan, and the months 2025-12 and 2026-01, the second of which is open for ever."""
+    """An office with its plan, and the months 2025-12 and 2026-01, the second of which stays open."""
     yield from registered(collectors, SLOTS, ITEMS, FORWARD)
     yield ["0", "desk", "calendar", "2025-12", "0", "1000", "1000"]
     yield ["0", "desk", "calendar", "2026-01", "1000", str(LAST), str(LAST)]
@@ -29,7 +29,7 @@ def entries(month: str, price: int) -> list[Record]:
 
 
 def second_year() -> Iterator[Record]:
-    """The months after January, in which all is carried but half of December's prices, and then a January whose
+    """The months after January, in which everything but half of December's prices is carried, and then a January whose
     plan's weights are moved by these prices."""
     for at in range(2, 14):
         month = f"2026-{at:02}" if at < 13 else "2027-01"
@@ -44,7 +44,7 @@ def second_year() -> Iterator[Record]:
 
 
 def handed_over() -> Iterator[Record]:
-    """Half of the first collector's series go to the second, one by one and in an import, and are looked at."""
+    """Half of the first collector's series go to the second, one by one and in an import, and are listed."""
     yield ["0", "desk", "calendar", "2027-03", "9000", "9500", "9500"]
     hand_overs = [["handover", "1", str(slot), "2", str(200 + slot), "2027-03"] for slot in SLOTS[:100]]
     yield from (["9000", "desk", *each] for each in hand_overs[:50])
@@ -53,8 +53,8 @@ def handed_over() -> Iterator[Record]:
 
 
 def years() -> Iterator[Record]:
-    """An office, its quotes one by one and by imports, two freezes, of which the second is made again, a year and a
-    January more, series that are handed over, and tables."""
+    """An office, its quotes one by one and by imports, two freezes, the second of which is repeated, another year and a
+    January, series that are handed over, and tables."""
     yield from office_of([1, 2])
     for number in (1, 2):
         yield ["500", key_of(number), "import", text_of(entries("2025-12", 1000))]

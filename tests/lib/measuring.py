@@ -1,8 +1,8 @@
-"""Notes which lines of cpi-tools a process of Python runs. `untested.py` has each process of a test begin with this.
+"""Notes the lines of cpi-tools that a Python process runs. `untested.py` makes each process of a test begin with this.
 
-It begins when the process reads cpi-tools, so that any other program loses no time. A process may be killed at any moment,
-so its lines go to a file of its own five times a second, and not only at its end. A test sees nothing of it: the thread
-that writes is none of `threading`, gets no signal, and writes by functions that were taken before a test replaced them.
+It begins when the process reads cpi-tools, so that other programs lose no time. A process may be killed at any moment,
+so its lines go to its own file five times a second, not only at its end. A test sees nothing of it: the thread that
+writes is none of `threading`, gets no signal, and writes by functions that were taken before a test replaced them.
 """
 
 from __future__ import annotations
@@ -54,14 +54,14 @@ class Measuring:
             signal.pthread_sigmask(signal.SIG_SETMASK, before)
 
     def note_for_ever(self) -> None:
-        """Notes new lines from time to time."""
+        """Notes new lines from time to time, without end."""
         while True:
             # (`time.sleep` fails under faketime)
             select([], [], [], SECONDS)
             self.note()
 
     def note(self) -> None:
-        """Notes the lines that are new."""
+        """Notes the new lines."""
         # (in a process that was forked meanwhile nobody gives it back)
         if not self.writing.acquire(timeout=5):
             return
@@ -76,7 +76,7 @@ class Measuring:
             self.writing.release()
 
     def is_written(self, data: bytes) -> bool:
-        """Whether all of it was written. A test may forbid all writes for a while, or take all descriptors."""
+        """Whether everything was written. A test may forbid all writes for a while, or take all descriptors."""
         try:
             file = opened(f"{self.notes}/{getpid()}", O_WRONLY | O_APPEND | O_CREAT, 0o666)
         except OSError:
@@ -98,7 +98,7 @@ class Measuring:
 
 
 def contents(file: str) -> Optional[bytes]:
-    """What a file has; nothing if it can't be read."""
+    """The content of a file; empty if it can't be read."""
     try:
         with open(file, "rb") as found:
             return found.read()

@@ -1,6 +1,7 @@
-"""Messages of HTTP to a small office: as they should be, at their limits, odd, cut, changed, of random bytes.
+"""HTTP messages to a small office: valid, at their limits, odd, cut, changed, or made of random bytes.
 
-The office is served beside a second reading, by docs/reference/FORMATS.md over the second office.
+The office is served, and compared with a second reading of the messages, which follows docs/reference/FORMATS.md over
+the second office.
 """
 
 from __future__ import annotations
@@ -102,7 +103,7 @@ def limits() -> Iterator[bytes]:
 
 
 def odd_bytes() -> Iterator[bytes]:
-    """Heads with each byte in places where most of them have no business."""
+    """Heads with each byte in places where most of them don't belong."""
     for byte in range(256):
         yield from (head.replace(b"%s", bytes([byte])) for head in HEADS)
         for text in FIELDS:
@@ -110,13 +111,13 @@ def odd_bytes() -> Iterator[bytes]:
 
 
 def odd() -> Iterator[bytes]:
-    """What messages have seldom or never."""
+    """Messages with parts that are rare or never occur."""
     yield from odd_bytes()
     yield from odd_words()
 
 
 def odd_words() -> Iterator[bytes]:
-    """Lines, targets, versions, fields and bodies that messages have seldom or never."""
+    """Lines, targets, versions, fields and bodies that messages rarely or never contain."""
     yield from (message(line, end="\n") for line in ("GET /items", "GET /nothing"))
     for line in LINES:
         yield from (message(line), message(line, "Host: one", "Host: two"), message(line, "X: y", " folded"))
@@ -135,18 +136,18 @@ def odd_words() -> Iterator[bytes]:
 
 
 def cuts() -> Iterator[bytes]:
-    """The valid ones, each after each of its bytes."""
+    """The valid messages, each cut after each of its bytes."""
     return (text[:at] for text in VALID for at in range(len(text)))
 
 
 def drawn_bytes(drawn: random.Random, count: int) -> Iterator[bytes]:
-    """So many of random bytes."""
+    """So many messages of random bytes."""
     for _ in range(count):
         yield drawn.randbytes(drawn.choice([1, 8, 60, 200])) + drawn.choice([b"", b"\n", b"\r\n\r\n"])
 
 
 def changed(drawn: random.Random, count: int) -> Iterator[bytes]:
-    """So many valid ones with one byte changed."""
+    """So many valid messages with one byte changed."""
     for _ in range(count):
         text = bytearray(drawn.choice(VALID))
         text[drawn.randrange(len(text))] = drawn.randrange(256)
@@ -154,7 +155,7 @@ def changed(drawn: random.Random, count: int) -> Iterator[bytes]:
 
 
 class Compared(Served):
-    """The office of these messages in a new file, served, beside the second reading of what it is sent."""
+    """The office of these messages in a new file, served, and the second reading of the messages sent to it."""
 
     def __init__(self, program: Program, room: str, limit: int) -> None:
         self.path = office(program, room, SETUP)
@@ -172,7 +173,7 @@ class Compared(Served):
         return self.ask(text, ends=True).decode()
 
     def fault(self, text: bytes) -> Fault:
-        """What is answered otherwise to a message whose peer then ends what it sends."""
+        """The difference between the answers to a message whose peer then stops sending."""
         wanted = self.wanted(text)
         try:
             got = self.ask(text, ends=True)

@@ -1,4 +1,4 @@
-"""The survey of examples/national, from its data files and the quotes that its collectors send: which quotes stand."""
+"""The survey of examples/national, from its data files and the quotes that its collectors send: the stored quotes."""
 
 from __future__ import annotations
 
@@ -18,11 +18,11 @@ EXAMPLE = os.path.join(TOP, "examples/national")
 ZONE = "CET-1CEST,M3.5.0,M10.5.0/3"
 
 Place = tuple[int, int]
-"""Collector and slot; of a series those that it was first given to."""
+"""Collector and slot; for a series, those to which it was first given."""
 
 
 class Quote(NamedTuple):
-    """A mark, and a price where there is one."""
+    """A mark, and a price if there is one."""
 
     mark: str
     price: Optional[int]
@@ -48,7 +48,7 @@ def year_before(month: str) -> str:
 
 
 class Survey:
-    """The data files, and the quotes that stand of what was sent."""
+    """The data files, and the stored quotes."""
 
     def __init__(self, prices: list[Record]) -> None:
         self.items = {row["item"]: row for row in data("items")}
@@ -70,7 +70,7 @@ class Survey:
             self.hand_over(row["month"], int(row["collector"]), int(row["to"]), slots)
         self.quotes: dict[str, dict[Place, Quote]] = {month: {} for month in self.months}
         self.at_first: dict[str, dict[Place, Quote]] = {}
-        """Those of the first revision of a month that was reopened."""
+        """The quotes of the first revision of a reopened month."""
         self.last: dict[Place, dict[str, int]] = {}
         self.refused = collections.Counter[int]()
         for moment, key, _, body in prices:
@@ -83,7 +83,8 @@ class Survey:
                     self.refused[22] += 1
 
     def hand_over(self, month: str, collector: int, to: int, slots: collections.Counter[int]) -> None:
-        """Ends the slots of one collector before a month, and goes on with the same series in new slots of another."""
+        """Ends the slots of one collector before a month, and continues the same series in new slots of another
+        collector."""
         for former in sorted(place for place in self.slots if place[0] == collector):
             series, first, last = self.slots[former]
             if first < month <= last:
@@ -95,7 +96,7 @@ class Survey:
     # windows of the months before have closed, so the copied price is the last one of the series)
 
     def of_revision(self, month: str, revision: int) -> dict[Place, Quote]:
-        """The quotes that stood when a revision of a month was frozen."""
+        """The quotes that were stored when a revision of a month was frozen."""
         return self.at_first.get(month, self.quotes[month]) if revision == 1 else self.quotes[month]
 
     def take(self, moment: int, place: Place, month: str, quote: Quote, is_confirmed: bool) -> None:
@@ -143,7 +144,8 @@ def window(month: str, moment: int = 0) -> tuple[int, int]:
 
 
 def published_at(month: str, revision: int = 1) -> int:
-    """The 28th at 09:30 of Central Europe, in seconds since 1970; of a further revision what its calendar row says."""
+    """The 28th at 09:30 of Central Europe, in seconds since 1970; for a later revision, the time in its calendar
+    row."""
     return seconds(f"{month}-28T09:30" if revision == 1 else CALENDAR[month][revision - 1]["publishes"])
 
 
@@ -158,6 +160,6 @@ def last_sunday(year: int, month: int) -> datetime.date:
 
 
 CALENDAR: dict[str, list[dict[str, str]]] = {}
-"""By month the rows of the office's calendar: a second one reopens the month."""
+"""The rows of the office's calendar by month: a second one reopens the month."""
 for _row in data("calendar"):
     CALENDAR.setdefault(_row["month"], []).append(_row)

@@ -1,4 +1,4 @@
-"""What offices of the tests are made of: keys, and plans of many aggregates."""
+"""The parts of the tests' offices: keys, and plans of many aggregates."""
 
 from __future__ import annotations
 
@@ -45,7 +45,7 @@ def aggregates(count: int, shift: int = 0) -> list[str]:
 def plan_of(
     codes: Sequence[str], items: Sequence[str], title: str, least: int = 1, references: Iterable[str] = ()
 ) -> str:
-    """The body of a plan, each title with its code behind it. All aggregates but the first have the same weight."""
+    """The body of a plan, each title with its code after it. All aggregates but the first have the same weight."""
     nodes = sorted({"00", "01", "01.1", *(code[:6] for code in codes), *(code[:8] for code in codes), *codes})
     weights = [1_000_000 - least * (len(codes) - 1), *[least] * (len(codes) - 1)]
     rows = [["T", node, f"{title} {node}"] for node in nodes]

@@ -1,4 +1,4 @@
-"""An office with one slot whose month is always open: what it is asked over HTTP, and its responses."""
+"""An office with one slot whose month is always open: the requests over HTTP, and its responses."""
 
 from __future__ import annotations
 
@@ -7,7 +7,7 @@ from .program import Program
 from .served import message, response
 
 KA, KC = "a" * 32, "c" * 32
-"""The key of its collector, and one that nobody bears."""
+"""The key of its collector, and one that nobody has."""
 
 OPEN = f"""0,desk,item,RICE,"Rice, white",1 kg,700,1500
 0,desk,outlet,10,Corner shop

@@ -1,7 +1,7 @@
-"""What the pictures and the cards of a pack show, beside the figures that were computed here.
+"""Compares the pictures and the cards of a pack with the figures that were computed here.
 
-A picture is read as a reader does: where its lines and columns are, between the marks of its axis, and what it says in
-words. A card is read from what `rsvg-convert` was handed, which its PNG names by its SHA-256.
+A picture is read as a reader reads it: the places of its lines and columns, between the marks of its axis, and its
+description in words. A card is read from the SVG that was passed to `rsvg-convert`, which its PNG names by its SHA-256.
 """
 
 from __future__ import annotations
@@ -26,10 +26,10 @@ from .site import signed
 SVG = "{http://www.w3.org/2000/svg}"
 CARD_MONTHS = 24
 NEAR = 0.11
-"""Pixels by which a place may be off: places are written with one decimal."""
+"""The most pixels by which a place may differ: places are written with one decimal."""
 
 Values = list[tuple[str, Fraction]]
-"""By month."""
+"""Values by month."""
 
 
 # ---- pictures
@@ -41,19 +41,19 @@ def pictures_in(page: Texts) -> dict[str, str]:
 
 
 def scale_of(picture: str) -> Callable[[float], float]:
-    """What turns a height in a picture into a value, by the lowest and the highest mark of its axis."""
+    """The function that converts a height in a picture to a value, from the lowest and the highest mark of its axis."""
     marks = re.findall(r'<text class="end" x="34" y="([0-9.]+)">([^<]*)</text>', picture)
     (y, low), (top, high) = ((float(at) - 4, float(said.replace("\u2212", "-"))) for at, said in (marks[0], marks[-1]))
     return lambda at: low + (high - low) * (y - at) / (y - top)
 
 
 def is_near(scale: Callable[[float], float], at: float, value: Fraction) -> bool:
-    """Whether a place is that of a value."""
+    """Whether a place is the place of a value."""
     return abs(scale(at) - float(value)) <= abs(scale(0) - scale(NEAR))
 
 
 def line_faults(picture: str, values: Values) -> Wanted:
-    """The line of the index, and what the picture says of it."""
+    """The faults of the line of the index, and of its description."""
     (path,) = re.findall(r'<path class="line own" d="M([^"]*)"', picture)
     places = [tuple(map(float, it.split(" "))) for it in path.split("L")]
     scale = scale_of(picture)
@@ -65,7 +65,7 @@ def line_faults(picture: str, values: Values) -> Wanted:
 
 
 def column_faults(picture: str, values: Values) -> Wanted:
-    """The columns of some changes, from zero up or down."""
+    """The faults of the columns of some changes, from zero up or down."""
     found = []
     for kind, path in re.findall(r'<path class="bar([a-z ]*)" d="([^"]*)"', picture):
         for x, y, height in re.findall(r"M([0-9.]+) ([0-9.]+)h[0-9.]+v([0-9.]+)", path):
@@ -81,7 +81,7 @@ def column_faults(picture: str, values: Values) -> Wanted:
 
 
 def change_says(values: Values) -> str:
-    """What a picture of changes says in words."""
+    """The description of a picture of changes."""
     told = [(value, month) for month, value in values]
     low, high = min(told, key=lambda it: it[0]), max(told, key=lambda it: it[0])
     if len(told) == 1:
@@ -97,7 +97,7 @@ def number(value: Fraction) -> str:
 
 
 def changes(known: Figures, month: str, is_annual: bool) -> Values:
-    """Those of all items up to a month."""
+    """The changes of all items up to a month."""
     found = ((it, known.changes(ALL, it)[is_annual]) for it in known.months if it <= month)
     return [(it, value) for it, value in found if value is not None]
 
@@ -111,7 +111,7 @@ def levels(known: Figures, month: str) -> Values:
 
 
 def of_page(pictures: Mapping[str, str], known: Figures, month: str) -> Wanted:
-    """The index and the changes of all items, those that a page has."""
+    """The faults of the pictures of a page: the index and the changes of all items."""
     for kind, picture in pictures.items():
         if kind == "level":
             looked_at = line_faults(picture, levels(known, month))
@@ -128,12 +128,12 @@ def of_page(pictures: Mapping[str, str], known: Figures, month: str) -> Wanted:
 
 
 def drawn(markup: str) -> list[str]:
-    """The paths of a picture, whatever colours it has."""
+    """The paths of a picture, without its colours."""
     return re.findall(r'<path [^>]*\bd="([^"]*)"', markup)
 
 
 def bar_faults(picture: str, then: Then, codes: Sequence[str], is_sorted: bool) -> Wanted:
-    """The bars of what some items give to the change of all items, with their labels and values."""
+    """The faults of the bars of some items' contributions to the change of all items, with their labels and values."""
     found = [(value, code) for code in codes if (value := then.given(code)) is not None]
     found = sorted(found, key=lambda it: (-it[0], it[1])) if is_sorted else found
     titles = [then.known.titles[code] for _, code in found]
@@ -158,7 +158,7 @@ def bar_faults(picture: str, then: Then, codes: Sequence[str], is_sorted: bool) 
 
 
 def of_release(site: Path, then: Then) -> Wanted:
-    """The pictures of a release: in its page, as files, and in its page for frames."""
+    """The faults of the pictures of a release: in its page, as files, and in its page for frames."""
     pictures = pictures_in(Texts.of_page(site / f"release/{then.name}.html"))
     yield "pictures", [*pictures], ["year" if then.is_annual else "month", "level"]
     yield from of_page(pictures, then.known, then.month)
@@ -178,8 +178,8 @@ def of_release(site: Path, then: Then) -> Wanted:
 
 
 def keeping(folder: Path) -> Mapping[str, str]:
-    """The environment of a run whose cards are kept as SVG in a folder: a program of the same name is found first, which
-    hands all to the right one."""
+    """The environment of a run whose cards are kept as SVG in a folder: a program of the same name is found first,
+    which passes everything on to the right one."""
     real = shutil.which("rsvg-convert")
     assert real, "rsvg-convert isn't installed"
     tool = folder / "rsvg-convert"
@@ -207,8 +207,8 @@ def of_card(site: Path, kept: Mapping[str, bytes], then: Then) -> Wanted:
     values = [it for it in values if it[0] >= first]
     yield "card: head", texts[0][1], f"{NAME}, {then.called}"
     yield "card: headline", " ".join(said for size, said in texts if size == "46"), then.headline
-    of = "year" if then.is_annual else "month"
-    said = f"Change on the {of} before, in percent, {named(values[0][0])} to {named(then.month)}"
+    change = "Annual change" if then.is_annual else "Monthly change"
+    said = f"{change} in percent, {named(values[0][0])} to {named(then.month)}"
     yield "card: figures", [it[1] for it in texts if it[0] in ("22", "26")][:2], [number(then.change), said]
     yield from bars_of_card(root, values)
 

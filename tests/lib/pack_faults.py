@@ -1,6 +1,6 @@
-"""The forms of a pack of `cpi-tools publish`, each figure of them, beside the figures that were computed here.
+"""Compares each figure in the forms of a pack of `cpi-tools publish` with the figures that were computed here.
 
-A fault is a line; there is none if a form has each figure, in the digits that DATA names, and nothing else.
+A fault is a line; there is none if a form contains each figure, with the digits that DATA names, and nothing else.
 """
 
 from __future__ import annotations
@@ -28,7 +28,7 @@ Key = TypeVar("Key")
 
 
 def text(number: Optional[Fraction], digits: int) -> str:
-    """A number with some decimals, rounded once, halves away from zero; what rounds to nothing has no sign."""
+    """A number with some decimals, rounded once, halves away from zero; a number that rounds to zero has no sign."""
     if number is None:
         return ""
     size = (2 * abs(number.numerator) * 10**digits + number.denominator) // (2 * number.denominator)
@@ -38,7 +38,7 @@ def text(number: Optional[Fraction], digits: int) -> str:
 
 @cache
 def moment(month: str, revision: int = 1) -> str:
-    """When a revision of a month is published, UTC."""
+    """The publication time of a revision of a month, in UTC."""
     at = datetime.datetime.fromtimestamp(published_at(month, revision), datetime.timezone.utc)
     return at.strftime("%Y-%m-%dT%H:%M:%SZ")
 
@@ -49,14 +49,14 @@ def latest_of(month: str) -> int:
 
 
 def differing(name: str, wrote: Iterable[Row], wanted: Iterable[Row]) -> Iterator[str]:
-    """The rows of a file that aren't those that are wanted, in their order."""
+    """The rows of a file that differ from the wanted ones, in their order."""
     for own, want in zip_longest(wrote, wanted):
         if own != want:
             yield f"{name}: wrote {own}, wanted {want}"
 
 
 def apart(name: str, wrote: Mapping[Key, object], wanted: Mapping[Key, object]) -> Iterator[str]:
-    """The figures of a form, by what names them, that aren't those that are wanted."""
+    """The figures of a form, by their names, that differ from the wanted ones."""
     for key in wrote.keys() | wanted.keys():
         if wrote.get(key) != wanted.get(key):
             yield f"{name}: {key} is {wrote.get(key)}, wanted {wanted.get(key)}"
@@ -99,8 +99,7 @@ def earlier_row(known: Figures, tables: Reopened, month: str, revision: int, cod
 
 
 def vintage_rows(known: Figures, tables: Reopened, all_tables: Mapping[Id, Month]) -> Iterator[Row]:
-    """The rows that a revision changed: as they were at first, and as it has them; in each month those of sets come
-    last."""
+    """The rows that a revision changed, before and after; in each month the rows of sets come last."""
     of_sets = set_vintages(known, all_tables)
     for month in sorted({month for month, _ in [*known.first, *of_sets]}):
         for code in sorted(code for at, code in known.first if at == month):
@@ -110,7 +109,7 @@ def vintage_rows(known: Figures, tables: Reopened, all_tables: Mapping[Id, Month
 
 
 def set_vintages(known: Figures, tables: Mapping[Id, Month]) -> dict[tuple[str, str], list[Row]]:
-    """By month and set the rows that a later publication changed, as each publication had them."""
+    """By month and set the rows that a later publication changed, as they were in each publication."""
     found, last, revision_of = dict[tuple[str, str], list[Row]](), dict[str, Month](), dict[str, int]()
     for (month, revision), table in by_moment(tables):
         last[month], revision_of[month] = table, revision
@@ -128,26 +127,26 @@ OF_A_FIGURE = ("weight", "index", "chained", "month_change", "year_change", "imp
 
 
 def earlier_rows(known: Figures, tables: Reopened, code: str) -> Iterator[Row]:
-    """The rows of an item in the tables that a further revision came after."""
+    """The rows of an item in the tables that a later revision replaced."""
     for month, revision in sorted(tables):
         if revision < latest_of(month) and code in tables[month, revision]:
             yield earlier_row(known, tables, month, revision, code)
 
 
 def reason_rows() -> Iterator[Row]:
-    """Why months were revised."""
+    """The reasons for the revisions of months."""
     for (month, revision), found in sorted(reasons().items()):
         own = {"month": month, "revision": str(revision), "added": moment(month, revision)}
         yield from ({**own, **said} for said in found)
 
 
 ADDED = ("shown_month_change", "shown_year_change", "contribution_month", "contribution_year")
-"""What the file of an item has of the changes of its pages and of its contributions, in percent and points."""
+"""The columns in the file of an item for the changes on its pages and for its contributions, in percent and points."""
 
 
 def item_rows(known: Figures, code: str) -> Iterator[Row]:
-    """The rows of the file of an item: what it gives to all items, which give their own change to themselves, the changes
-    of pages, and the letters of its notes."""
+    """The rows of the file of an item: its contributions to all items (all items contribute their own change to
+    themselves), the changes on pages, and the letters of its notes."""
     for row in table_rows(known, [code]):
         changes = [text(it, 1) for it in known.changes(code, row["month"])]
         given = known.given(row["month"], code, ALL)
@@ -181,7 +180,7 @@ def full_years(known: Figures) -> list[str]:
 
 
 def mean_rows(known: Figures) -> Iterator[Row]:
-    """The means of levels over a year: as they are shown, and of chained levels."""
+    """The means over a year of shown levels and of chained levels."""
     for code in known.lines:
         for year in full_years(known):
             mean, changed = known.mean(code, year), known.mean_change(code, year)
@@ -251,8 +250,8 @@ def reopened_of(tables: Mapping[Id, Month]) -> Reopened:
 
 
 def rows_of_files(known: Figures, tables: Mapping[Id, Month], folder: Path) -> dict[str, Iterator[Row]]:
-    """The rows of all CSV files of the folder `data` but those of SDMX, by their names; the folder has the tables as the
-    program printed them."""
+    """The rows of all CSV files of the folder `data` except those for SDMX, by their names; the folder contains the
+    tables as the program printed them."""
     return {
         "cpi": table_rows(known, known.nodes),
         "vintages": vintage_rows(known, reopened_of(tables), tables),
@@ -270,7 +269,7 @@ def rows_of_files(known: Figures, tables: Mapping[Id, Month], folder: Path) -> d
 
 
 def csv_faults(site: Path, known: Figures, tables: Mapping[Id, Month], folder: Path) -> Iterator[str]:
-    """All CSV files but those of SDMX."""
+    """The faults of all CSV files except those for SDMX."""
     reopened, wanted = reopened_of(tables), rows_of_files(known, tables, folder)
     wrote = {path.stem for path in (site / "data").glob("*.csv")}
     if wrote != {*wanted, "cpi.sdmx"}:
@@ -300,7 +299,7 @@ def item_id(code: str) -> str:
 
 
 def observations(known: Figures) -> Observations:
-    """All figures as SDMX has them."""
+    """All figures in the form of SDMX."""
     found: Observations = {}
     for code, lines in known.lines.items():
         for month in known.months:
@@ -348,12 +347,12 @@ def figures_of(
 
 
 def observed(rows: Iterable[Attributes]) -> Observations:
-    """The observations of a form; an attribute that isn't there is empty."""
+    """The observations of a form; a missing attribute is empty."""
     return {tuple(row[name] for name in DIMENSIONS): tuple(row.get(name, "") for name in ATTRIBUTES) for row in rows}
 
 
 def sdmx_faults(site: Path, known: Figures) -> Iterator[str]:
-    """SDMX-CSV and SDMX-ML."""
+    """The faults of SDMX-CSV and SDMX-ML."""
     wanted = observations(known)
     yield from apart("cpi.sdmx.csv", observed(rows_of_csv(site / "data/cpi.sdmx.csv")), wanted)
     yield from apart("cpi.sdmx.xml", observed(read_sdmx_ml(site / "data/cpi.sdmx.xml")), wanted)
@@ -373,7 +372,7 @@ Cells = dict[tuple[str, ...], Decimal]
 
 
 def cells(known: Figures) -> Cells:
-    """All figures as cubes have them."""
+    """All figures in the form of cubes."""
     found: dict[tuple[str, str, str], Optional[Fraction]] = {}
     for code, lines in known.lines.items():
         for month, line in lines.items():
@@ -392,7 +391,7 @@ def cells(known: Figures) -> Cells:
 
 
 def cube_faults(site: Path, known: Figures) -> Iterator[str]:
-    """JSON-stat with the statuses of levels, and PX, in which a break is a note."""
+    """The faults of JSON-stat with the statuses of levels, and of PX, in which a break is a note."""
     wanted = cells(known)
     read_strictly((site / "data/cpi.px").read_text(encoding="utf-8"))
     px: Cells = {key: Decimal(cell) for key, cell in px_cells(site / "data/cpi.px").items()}
@@ -417,7 +416,7 @@ AFTER_BREAK = 5
 
 
 def column(number: int) -> str:
-    """`A` of 0, `Z` of 25, `AA` of 26."""
+    """The letters of a column: `A` for 0, `Z` for 25, `AA` for 26."""
     return (column(number // 26 - 1) if number > 25 else "") + chr(ord("A") + number % 26)
 
 
@@ -443,7 +442,7 @@ def break_cells(known: Figures) -> Iterator[str]:
 
 
 def sheet_value(known: Figures, figure: str, code: str, month: str, line: Optional[Line]) -> str:
-    """A figure of a sheet; what an item that left gives to the change on the year is there without a level."""
+    """A figure of a sheet; the contribution of an item that left to the annual change is given without a level."""
     if figure == "Contributions":
         return "" if code == ALL else text(known.given(month, code, ALL).to_year, 6)
     if not line:
@@ -458,7 +457,7 @@ def sheet_value(known: Figures, figure: str, code: str, month: str, line: Option
 
 
 def workbook_faults(site: Path, known: Figures, sheets: Iterable[str] = SHEETS) -> Iterator[str]:
-    """Some sheets of figures, and the mark of a break."""
+    """The faults of some sheets of figures, and of the marks of breaks."""
     all_cells = read_sheets(site / "data/cpi.xlsx")
     for name in sheets:
         wrote = {place: value for place, (value, _) in all_cells[name].items()}

@@ -1,9 +1,9 @@
-"""Every figure of a pack of `cpi-tools publish` once more, from the tables that were computed from prices.
+"""Computes every figure of a pack of `cpi-tools publish` a second time, from the tables that were computed from prices.
 
-The formulas are those of docs/data/DATA.md (*What is computed*) and docs/data/METHOD.md (*Special aggregates and
-regions*), in fractions, rounded once. It has nothing in common with `cpi_tools`. An item is the code of a node, or the
-id of a set of elementary aggregates. Levels and indices are in points, changes in percent, contributions in percentage
-points.
+The formulas come from docs/data/DATA.md (*What is computed*) and docs/data/METHOD.md (*Special aggregates and
+regions*); they are computed in fractions and rounded once. The module shares nothing with `cpi_tools`. An item is the
+code of a node, or the id of a set of elementary aggregates. Levels and indices are in points, changes in percent,
+contributions in percentage points.
 """
 
 from __future__ import annotations
@@ -36,22 +36,22 @@ class Line(NamedTuple):
 
 
 Lines = dict[str, Line]
-"""By month."""
+"""Lines by month."""
 
 
 class Named(NamedTuple):
-    """A set of elementary aggregates: its title, and what says whether a code is in it."""
+    """A set of elementary aggregates: its title, and the function that says whether it contains a code."""
 
     title: str
     is_in: Set
 
 
 Sets = Mapping[str, Named]
-"""By id."""
+"""Sets by their ids."""
 
 
 def sets_of_the_nation() -> Sets:
-    """The special aggregates of its file, which a code or another set is in by its lists."""
+    """The special aggregates of the nation's file, whose lists name the codes and the other sets in them."""
     rows = {row["id"]: row for row in data("aggregates")}
 
     @cache
@@ -65,14 +65,14 @@ def sets_of_the_nation() -> Sets:
 
 
 def above(code: str) -> Optional[str]:
-    """The node next above a node; of all items and of a set there is none."""
+    """The node next above a node; all items and sets have none."""
     if code == ALL or not code[0].isdigit():
         return None
     return code[:8] if "-" in code else code[:-2] if "." in code else ALL
 
 
 def depth(code: str) -> int:
-    """How far below all items a node is."""
+    """The depth of a node below all items."""
     up = above(code)
     return 0 if up is None else 1 + depth(up)
 
@@ -86,7 +86,8 @@ def months_of(year: str) -> list[str]:
 
 
 def lines_of_nodes(found: Mapping[str, Month]) -> dict[str, Lines]:
-    """All nodes: a level begins at 100 in December before it comes, and again if it left and is back."""
+    """All nodes: a level begins at 100 in the December before the node comes, and again if the node left and
+    returns."""
     lines: dict[str, Lines] = {}
     for month, it in sorted(found.items()):
         for row in it.rows:
@@ -115,16 +116,16 @@ def lines_of_sets(found: Mapping[str, Month], sets: Sets) -> dict[str, Lines]:
 
 
 class Given(NamedTuple):
-    """Percentage points that an item gives to the changes of another on the month and on the year before."""
+    """The contributions of an item to the monthly and annual changes of another, in percentage points."""
 
     to_month: Optional[Fraction]
     to_year: Optional[Fraction]
 
 
 class Figures:
-    """All figures of the items of a pack, with the year in which the index is 100, and whether changes are those between
-    printed indices. Items are in the order of the pack, nodes by their codes and then sets. `first` has by month and code
-    the rows that were published first, of which the last ones are others."""
+    """All figures of the items of a pack, with the year in which the index is 100, and whether changes are computed
+    between printed indices. Items are in the order of the pack, nodes by their codes and then sets. `first` contains,
+    by month and code, the rows that were published first, if later ones differ."""
 
     def __init__(
         self,
@@ -151,7 +152,7 @@ class Figures:
     # ---- contributions
 
     def _given(self, month: str, code: str, to: str) -> Given:
-        """What an item gives to another."""
+        """The contribution of an item to another."""
         return Given(self._to_month(month, code, to), self._to_year(month, code, to))
 
     def _to_month(self, month: str, code: str, to: str) -> Optional[Fraction]:
@@ -191,12 +192,12 @@ class Figures:
         return sum(levels, Fraction()) / len(months) if len(levels) == len(months) else None
 
     def mean_change(self, code: str, year: str) -> Optional[Fraction]:
-        """Of the means of a year and of the year before."""
+        """The change between the means of the year before and a year."""
         now, then = self.mean(code, year), self.mean(code, str(int(year) - 1))
         return 100 * (now - then) / then if now and then else None
 
     def rate(self, code: str, month: str) -> Optional[Fraction]:
-        """The mean of twelve months against that of the twelve before."""
+        """The rate between the means of twelve months and of the twelve months before."""
         back = [month]
         while len(back) < 24:
             back.append(previous(back[-1]))
@@ -220,7 +221,7 @@ class Figures:
     # ---- changes as they are shown
 
     def changes(self, code: str, month: str) -> tuple[Optional[Fraction], Optional[Fraction]]:
-        """On the month and on the year before."""
+        """The monthly and the annual change."""
         line = self.lines[code][month]
         if not self.is_from_printed:
             return line.monthly, line.annual
@@ -233,7 +234,7 @@ class Figures:
         return nearest(self.shown(code, line.base, line.level), 10)
 
     def printed_change(self, code: str, month: str, then: str) -> Optional[Fraction]:
-        """The change between the printed indices of two months; an item that came has 100 in December before."""
+        """The change between the printed indices of two months; a new item has 100 in the December before."""
         base = self.lines[code][month].base
         if then == base and not self.line(code, then):
             return change(nearest(self.shown(code, base, HUNDRED), 10), self.printed(code, month))
@@ -242,22 +243,22 @@ class Figures:
     # ---- notes
 
     def notes(self, code: str, month: str) -> str:
-        """The letters of a figure: a price was imputed, the figure was revised, the level isn't linked to the earlier
-        ones."""
+        """The letters of a figure: a price was imputed, the figure was revised, the level isn't linked to earlier
+        levels."""
         line = self.lines[code][month]
         return "i" * line.is_imputed + "r" * ((month, code) in self.first) + "b" * line.is_break
 
     # ---- pairs of items
 
     def below(self, code: str) -> list[str]:
-        """The nodes next below one; of a set the greatest nodes all of whose elementary aggregates are in it."""
+        """The nodes next below one; for a set, the largest nodes that lie completely in it."""
         if code not in self.sets:
             return [it for it in self.nodes if above(it) == code]
         return [it for it in self.nodes if it in self._whole(code) and above(it) not in self._whole(code)]
 
     @cache
     def _whole(self, name: str) -> frozenset[str]:
-        """The nodes all of whose elementary aggregates are in a set."""
+        """The nodes that lie completely in a set."""
         inside, outside = set[str](), set[str]()
         for code in (code for code in self.nodes if "-" in code):
             to = inside if self.sets[name].is_in(code) else outside
@@ -273,7 +274,8 @@ class Figures:
             yield from ((code, to) for to in dict.fromkeys((ALL, above(code))) if to)
 
     def pairs_of_sets(self, month: str) -> Iterator[tuple[str, str]]:
-        """Each set with all items, and each elementary aggregate that is in it, or was a year ago, with the set."""
+        """Each set with all items, and each elementary aggregate that is in the set, or was a year ago, with the
+        set."""
         old = previous(f"{month[:4]}-01")
         for name, (_, is_in) in self.sets.items():
             yield name, ALL

@@ -33,7 +33,7 @@ def read_json_stat(path: Path) -> tuple[dict[str, Any], dict[tuple[str, ...], in
 
 def read_px(path: Path) -> tuple[dict[str, list[str]], list[str]]:
     """The keywords of a file with their values, and the cells after DATA: a keyword ends with `;` outside of quotation
-    marks, strings that follow each other without a comma are one, and a comma parts values."""
+    marks, strings that follow each other without a comma are one, and a comma separates values."""
     text = path.read_text(encoding="utf-8")
     head, _, data = text.partition("DATA=")
     found: dict[str, list[str]] = {}
@@ -52,7 +52,8 @@ def read_px(path: Path) -> tuple[dict[str, list[str]], list[str]]:
 
 
 def px_cells(path: Path) -> dict[tuple[str, str, str], str]:
-    """The cells of a file by the codes of item, figure and month like `2026-01`; those without a figure are left out."""
+    """The cells of a file by the codes of item, figure and month like `2026-01`; cells without a figure are left
+    out."""
     head, cells = read_px(path)
     codes = [head[f'CODES("{name}")'] for name in (*head["STUB"], *head["HEADING"])]
     keys = [*itertools.product(*codes)]

@@ -1,4 +1,4 @@
-"""What the pages of releases, the first page, the list of releases, the feed and the calendar say, beside the figures that
+"""Compares the pages of releases, the first page, the list of releases, the feed and the calendar with the figures that
 were computed here."""
 
 from __future__ import annotations
@@ -26,7 +26,8 @@ LAST = 24
 
 
 def day(month: str, revision: int) -> str:
-    """When a revision was published, by the office's clock and in UTC: `28 January 2026, 09:30 CET (08:30 UTC)`."""
+    """The publication time of a revision, by the office's clock and in UTC: `28 January 2026, 09:30 CET (08:30
+    UTC)`."""
     at = datetime.datetime.fromtimestamp(published_at(month, revision), datetime.timezone.utc)
     ahead = 1 if seconds(f"{at:%Y-%m-%dT%H:%M}") == at.timestamp() - 3600 else 2
     local = at + datetime.timedelta(hours=ahead)
@@ -34,7 +35,7 @@ def day(month: str, revision: int) -> str:
 
 
 Wanted = Iterator[tuple[str, object, object]]
-"""What is looked at, what the page says, and what is wanted."""
+"""A checked part, its text on the page, and the wanted text."""
 
 # ---- what both the first page and a release say
 
@@ -48,8 +49,8 @@ def headline_faults(then: Then, page: Texts) -> Wanted:
     yield "lead", page.of('p class="lead"'), [lead(then)]
     monthly, annual = then.known.changes(ALL, then.month)
     index, hundred = then.indexed(ALL)
-    cards = {"Against the year before": percent(annual)} if then.is_annual else {}
-    cards |= {"Against the month before": percent(monthly), f"Index, {hundred}\u00a0=\u00a0100": index}
+    cards = {"Annual change": percent(annual)} if then.is_annual else {}
+    cards |= {"Monthly change": percent(monthly), f"Index, {hundred}\u00a0=\u00a0100": index}
     figures = re.sub(r"<sup.*?</sup>", "", page.markup, flags=re.S)
     found = Texts("".join(re.findall('<dl class="cards">(.*?)</dl>', figures, flags=re.S)))
     yield "figures", dict(zip(found.of("dt"), found.of("dd"))), cards
@@ -61,7 +62,7 @@ def headline_faults(then: Then, page: Texts) -> Wanted:
 
 
 def contribution_table(then: Then, part: Texts, codes: list[str], has_total: bool) -> Wanted:
-    """What some items give to the change of all items, and the bars of the rows."""
+    """The contributions of some items to the change of all items, and the bars of the rows."""
     values = [(value, code) for code in codes if (value := then.given(code)) is not None]
     if has_total:
         values.sort(key=lambda it: (-it[0], it[1]))
@@ -84,9 +85,9 @@ def page_of(site: Path, tables: Path, then: Then) -> Wanted:
     """All figures of the page of a release."""
     page = Texts.of_page(site / f"release/{then.name}.html")
     yield from headline_faults(then, page)
-    yield from contribution_table(then, page.part("What contributed"), then.known.below(ALL), True)
+    yield from contribution_table(then, page.part("Contributions"), then.known.below(ALL), True)
     yield "divisions and groups", page.part("Divisions and groups").rows, divisions(then)
-    yield "why", page.part("Why figures differ from those of the month before").of("li"), [*why(then)]
+    yield "why", page.part("Why figures differ from the previous month’s").of("li"), [*why(then)]
     (notes,) = re.findall('<div id="notes" class="note">(.*?)</div>', page.markup, flags=re.S) or [""]
     yield "notes", [it.replace("\u2002", " ") for it in Texts(notes).of("p")], [*notes_of(then)]
     yield from revisions_of(then, page)
@@ -97,22 +98,23 @@ def page_of(site: Path, tables: Path, then: Then) -> Wanted:
 
 
 def notes_of(then: Then) -> Iterator[str]:
-    """What the letters of the headline say, by what was known on the day of the release."""
+    """The notes for the letters of the headline, from the figures that were known on the day of the release."""
     if "i" in then.letters:
         yield (
-            "i At least one price at or below this item was imputed in that month: it moved as the others of its"
-            " elementary aggregate did."
+            "i At least one price of this item, or of an item below it, was imputed in that month: it was moved like"
+            " the other prices in its elementary aggregate."
         )
     if "r" in then.letters:
         now, old = then.indexed(ALL)[0], then.shown_level(then.month, then.known.first[then.month, ALL].level)
         if now != old:
-            yield f"r Revised: the index of {named(then.month)} was published as {old} first."
+            yield f"r Revised: the index for {named(then.month)} was first published as {old}."
         else:
-            yield f"r Revised: what was published first of {named(then.month)} differed by less than the index shows."
+            yield f"r Revised: the figure first published for {named(then.month)} differed by less than the digits shown."
 
 
 def revisions_of(then: Then, page: Texts) -> Wanted:
-    """What a release says of revisions: its own and why, those since the release before, and those that came later."""
+    """The texts of a release about revisions: its own with the reason, the revisions since the release before, and the
+    later ones."""
     part = page.part("Revisions")
     yield "revisions", [*part.of("p"), *part.of("li")], [*says_of_revisions(then)]
     it = then.change_of_it
@@ -135,40 +137,45 @@ def says_of_revisions(then: Then) -> Iterator[str]:
     it, before = then.change_of_it, previous(then.month)
     if it:
         yield (
-            f"This is a further revision of {named(then.month)}. Revision {it.revision - 1} was published"
-            f" {day(it.month, it.revision - 1)}, and stays. {it.counted}"
+            f"This is a further revision of {named(then.month)}. Revision {it.revision - 1}, published"
+            f" {day(it.month, it.revision - 1)}, stays online. {it.counted}"
         )
     elif len(then.known.months) == 1:
         yield "This is the first release."
     elif then.since:
-        yield f"After the release of {named(before)} and up to this one the office revised:"
+        yield f"Between the release of {named(before)} and this one, the office revised:"
         for it in then.since:
             now, old = (then.shown_level(it.month, rows[ALL].level) for rows in (it.new, it.old))
-            says = f"is {now}, and was {old} before" if now != old else "differs by less than is shown"
+            is_said = f"The index of all items is {now}, and was {old} before."
+            is_less = "The revision of the index of all items is smaller than the digits shown."
             yield (
                 f"{named(it.month)}, revision {it.revision}, published {day(it.month, it.revision)}: {it.counted}"
-                f" The index of all items {says}."
+                f" {is_said if now != old else is_less}"
             )
     else:
-        yield f"Nothing was revised after the release of {named(before)} and up to this one."
+        yield f"Nothing was revised between the release of {named(before)} and this one."
 
 
 def based_on(then: Then) -> Iterator[str]:
-    """Below the figures: the revised months that those of all items are computed from."""
+    """The note below the figures: the revised months from which the figures of all items are computed."""
     line = then.known.lines[ALL][then.month]
     figures = {december_before(then.month): ["the index"]}
-    figures.setdefault(previous(then.month), []).append("the change on the month before")
+    figures.setdefault(previous(then.month), []).append("the monthly change")
     if line.annual is not None:
-        figures.setdefault(year_before(then.month), []).append("the change on the year before")
+        figures.setdefault(year_before(then.month), []).append("the annual change")
     for it in then.revised:
         if it.month in figures and it.old[ALL].level != it.new[ALL].level:
             now, old = (then.shown_level(it.month, rows[ALL].level) for rows in (it.new, it.old))
             found = figures[it.month]
             counts = ", ".join(found[:-2] + [" and ".join(found[-2:])])
-            says = f"is {now}, and was {old} before" if now != old else "differs by less than is shown"
+            is_said = (
+                f"its index is {now}, and was {old} before"
+                if now != old
+                else "the revision is smaller than the digits shown"
+            )
             yield (
-                f"{named(it.month)} was revised on {day(it.month, it.revision)}: its index {says}."
-                f" The revised one counts in {counts} (revisions)."
+                f"{named(it.month)} was revised on {day(it.month, it.revision)}: {is_said}."
+                f" The revised index is used in {counts} (revisions)."
             )
 
 
@@ -187,25 +194,28 @@ def divisions(then: Then) -> Rows:
 
 
 def why(then: Then) -> Iterator[str]:
-    """Why figures differ from those of the month before."""
-    yield "Prices moved: the contributions above say which."
+    """The reasons why figures differ from the previous month's."""
+    yield "Prices moved: the contributions above show which."
     if then.month.endswith("-01"):
         year, link = then.month[:4], named(december_before(then.month))
         yield (
-            f"From this month on the weights of {year} count. The index is linked in {link}, so other weights by"
+            f"From this month on, the weights of {year} apply. The index is linked in {link}, so new weights by"
             " themselves don’t move it."
         )
-        for begin, items, others in (("Came", then.items, then.before), ("Left", then.before, then.items)):
+        for begin, items, others in (
+            ("New this month", then.items, then.before),
+            ("No longer in the index from this month on", then.before, then.items),
+        ):
             apart = items.keys() - others.keys() if then.before else set[str]()
             found = [f"{items[it]} {it}" for it in sorted(apart) if above(it) not in apart]
             if found:
-                yield f"{begin} with this month: {', '.join(found)}."
+                yield f"{begin}: {', '.join(found)}."
     if then.since or then.revision > 1:
-        yield "Revised figures are counted here, also as those of the month or the year before."
+        yield "Revised figures are used here, also for the previous month and the previous year."
     if then.known.lines[ALL][then.month].is_imputed:
         yield (
-            "Some prices were missing or couldn’t be compared, and were imputed (i): each was moved as the other prices"
-            " of its aggregate moved."
+            "Some prices were missing or couldn’t be compared, and were imputed (i): each was moved like the other"
+            " prices in its aggregate."
         )
 
 
@@ -234,7 +244,7 @@ def lists(site: Path, all_of_them: list[Then]) -> Wanted:
     for then, earlier in zip(all_of_them[::-1], [*all_of_them[-2::-1], all_of_them[0]]):
         is_other = then.hundred(ALL) != earlier.hundred(ALL)
         note = " (revised)" if then.revision < latest_of(then.month) else ""
-        note += f" (from this month on {then.hundred(ALL)} = 100)" if is_other else ""
+        note += f" (since this month, {then.hundred(ALL)} = 100)" if is_other else ""
         changes = map(percent, then.known.changes(ALL, then.month))
         wanted.append([f"{then.called}{note}", then.indexed(ALL)[0], *changes])
     yield "releases.html", [row[:4] for row in rows], wanted
@@ -252,7 +262,7 @@ def lists(site: Path, all_of_them: list[Then]) -> Wanted:
     since = all_of_them[-1].month
     for _ in range(LAST - 1):
         since = previous(since)
-    yield "calendar.ics", says, [f"{it.headline}." for it in all_of_them if it.month >= since]
+    yield "calendar.ics", says, [f"{it.headline}.".replace(",", "\\,") for it in all_of_them if it.month >= since]
 
 
 def imputed(known: Figures, month: str) -> list[tuple[str, Fraction]]:
@@ -266,17 +276,17 @@ def imputed(known: Figures, month: str) -> list[tuple[str, Fraction]]:
 
 
 def first_page_faults(site: Path, known: Figures) -> Iterator[str]:
-    """The first page: what the last release says, and what special aggregates give."""
+    """The first page: the texts of the last release, and the contributions of special aggregates."""
     month = known.months[-1]
     then, page = Then(month, known), Texts.of_page(site / "index.html")
     looked_at = [
         *headline_faults(then, page),
-        *contribution_table(then, page.part("What contributed"), known.below(ALL), True),
+        *contribution_table(then, page.part("Contributions"), known.below(ALL), True),
         *contribution_table(then, page.part("Special aggregates"), [*known.sets], False),
     ]
     shares = [[named(it), text(value, 0)] for it, value in imputed(known, month)][::-1]
     says = page.part("How much was imputed").of("p")[0]
-    wanted = f"elementary aggregates that have {shares[0][1]} percent of all weight."
+    wanted = f"elementary aggregates that account for {shares[0][1]} percent of the total weight."
     looked_at.append(("imputed", says.endswith(wanted), True))
     looked_at.append(("figures of the picture", page.part("How much was imputed").rows, shares))
     for what, found, right in looked_at:

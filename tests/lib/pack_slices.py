@@ -1,4 +1,5 @@
-"""The slices of a pack of `cpi-tools publish` and its files at paths, beside every figure once more (`pack_figures`)."""
+"""The slices of a pack of `cpi-tools publish` and its files at paths, compared with every figure, computed a second
+time (`pack_figures`)."""
 
 from __future__ import annotations
 
@@ -35,7 +36,7 @@ from .pack_forms import px_cells, read_json_stat, read_sdmx_ml, read_sheets, row
 AREA, FLOW = "XX", "DF_CPI"
 
 DESCRIBED = "csv-metadata.json"
-"""What describes the CSV files of a folder."""
+"""The file that describes the CSV files of a folder."""
 
 INDEX = ("M", "CPI", "IX", "N")
 """Frequency, measure, unit and transformation of the series that each item has at a path."""
@@ -78,7 +79,7 @@ def newest_faults(folder: Path, known: Figures, wanted: Observations) -> Iterato
 
 
 def newest_of(known: Figures) -> Figures:
-    """The same figures, of which the newest month is written: items that are in it, or were in the year before."""
+    """The figures of which the newest month is written: of items that are in it, or were in it a year before."""
     only, last = copy.copy(known), known.months[-1]
     only.months = [last]
     only.lines = {code: lines for code, lines in known.lines.items() if max(lines) >= year_before(last)}
@@ -102,7 +103,7 @@ def csv_rows(known: Figures) -> dict[str, Iterator[Row]]:
 
 
 def part_faults(folder: Path, known: Figures, wanted: Observations) -> Iterator[str]:
-    """The slices of SDMX, which are the whole together."""
+    """The slices of SDMX, which together are the whole."""
     divisions = sorted({code[:2] for code in known.nodes} - {ALL})
     parts: dict[str, Callable[[str], bool]] = {
         "headline": lambda code: len(code) == 2,

@@ -1,4 +1,4 @@
-"""The file of SQLite of a pack, each figure of it, read by Python's sqlite3 beside the rows that are wanted.
+"""Compares each figure in the SQLite file of a pack, read with Python's sqlite3, with the wanted rows.
 
 A number is written with the decimals that DATA names, and so compared as text; an empty cell is NULL.
 """
@@ -11,7 +11,7 @@ from collections.abc import Iterable, Iterator, Mapping
 from pathlib import Path
 
 NAMES = {"index": "index_value", "break": "is_break", "of": "of_code"}
-"""The columns that have other names there than in CSV files."""
+"""The columns that have other names in the SQLite file than in CSV files."""
 
 DECIMALS = {"month_change": 1, "year_change": 1, "change": 1, "twelve_month_rate": 1, "monthly": 1, "annual": 1}
 """Decimals of figures that don't have six."""
@@ -20,7 +20,7 @@ PRINTED_INDEX = ("printed", "index_value")
 
 
 def shown(table: str, column: str, value: object) -> str:
-    """A value as a cell of a CSV file has it."""
+    """A value in the form of a CSV cell."""
     if value is None:
         return ""
     if isinstance(value, float):
@@ -46,7 +46,7 @@ def rows_of_sqlite(path: Path) -> dict[str, list[dict[str, str]]]:
 
 
 def sqlite_faults(path: Path, wanted: Mapping[str, Iterable[Mapping[str, str]]]) -> Iterator[str]:
-    """The tables and rows that aren't those of some CSV files, by the names of these without their ending."""
+    """The tables and rows that differ from some CSV files, by the files' names without their ending."""
     own = {name.replace("-", "_"): [{**row} for row in rows] for name, rows in wanted.items()}
     own = {name: [{key.replace("-", "_"): it for key, it in row.items()} for row in rows] for name, rows in own.items()}
     wrote = rows_of_sqlite(path)

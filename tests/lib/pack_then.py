@@ -1,5 +1,5 @@
-"""A release of the nation: what it says, by the tables that were published up to it. A figure that a later table would
-change is no part of it."""
+"""A release of the nation: its texts, from the tables that were published up to it. A figure that a later table would
+change isn't part of it."""
 
 from __future__ import annotations
 
@@ -17,12 +17,12 @@ from .site import ABSENT, percent, signed
 
 
 def named(month: str) -> str:
-    """`January 2026`."""
+    """The name of a month, `January 2026`."""
     return datetime.date.fromisoformat(f"{month}-01").strftime("%B %Y")
 
 
 def period(of: str) -> str:
-    """A year as it is, and a month by its name."""
+    """A period as text: a year unchanged, and a month by its name."""
     return named(of) if "-" in of else of
 
 
@@ -39,44 +39,44 @@ class Then(NamedTuple):
 
     @property
     def name(self) -> str:
-        """That of its files."""
+        """The name of the release's files."""
         return f"{self.month}-r{self.revision}"
 
     @property
     def called(self) -> str:
-        """What it is called: its month, and its revision if it is a further one."""
+        """The title of the release: its month, and its revision if it is a later one."""
         return named(self.month) + (f", revision {self.revision}" if self.revision > 1 else "")
 
     @property
     def revised(self) -> list[Revised]:
-        """What was revised up to it."""
+        """The revisions up to the release."""
         return revised(self.tables)
 
     @property
     def change_of_it(self) -> Optional[Revised]:
-        """What it changed of the revision before, if it is a further one."""
+        """The changes from the revision before, if it is a later one."""
         return next((it for it in self.revised if (it.month, it.revision) == (self.month, self.revision)), None)
 
     @property
     def since(self) -> list[Revised]:
-        """What was revised after the first release of the month before, up to the first one of this month."""
+        """The revisions after the first release of the month before, up to the first release of this month."""
         last = published_at(previous(self.month))
         later = (it for it in self.revised if published_at(it.month, it.revision) > last and it.month != self.month)
         return [*later] if self.revision == 1 else []
 
     @property
     def reasons(self) -> list[str]:
-        """Why the month was revised."""
+        """The reasons why the month was revised."""
         return [it["reason"] for it in reasons().get((self.month, self.revision), [])]
 
     @property
     def letters(self) -> str:
-        """Those of its headline, as they were on its day."""
+        """The letters of its headline, as they were on its day."""
         return self.known.notes(ALL, self.month)
 
     @property
     def change(self) -> Fraction:
-        """That which the headline has: on the year before, or else on the month before."""
+        """The change in the headline: the annual change, or else the monthly change."""
         monthly, annual = self.known.changes(ALL, self.month)
         return annual if annual is not None else monthly or Fraction(0)
 
@@ -87,18 +87,18 @@ class Then(NamedTuple):
     @property
     def headline(self) -> str:
         """The sentence of the release."""
-        begin, size = f"In {named(self.month)} consumer prices", text(abs(self.change), 1)
+        begin, size = f"In {named(self.month)}, consumer prices", text(abs(self.change), 1)
         if self.is_annual:
             way = "higher" if self.change > 0 else "lower"
             return (
-                f"{begin} were {size} percent {way} than a year before"
+                f"{begin} were {size} percent {way} than a year earlier"
                 if self.change
-                else (f"{begin} were as high as a year before")
+                else (f"{begin} were as high as a year earlier")
             )
-        return f"{begin} {moved(self.change)} against the month before"
+        return f"{begin} {moved(self.change)} from the previous month"
 
     def given(self, code: str) -> Optional[Fraction]:
-        """What an item gives to that change, in percentage points."""
+        """The contribution of an item to that change, in percentage points."""
         found = self.known.given(self.month, code, ALL)
         return found.to_year if self.is_annual else found.to_month
 
@@ -126,14 +126,14 @@ class Then(NamedTuple):
 
 
 def moved(change: Fraction) -> str:
-    """What prices did, in words."""
+    """The movement of prices in words."""
     way = "rose" if change > 0 else "fell" if change < 0 else "didn't change"
     return f"{way} by {text(abs(change), 1)} percent" if change else way
 
 
 def releases(tables: Mapping[Id, Month], year: str, is_from_printed: bool = False) -> list[Then]:
-    """Each release, by month and revision, with what was known then of all items, divisions and groups; the year and the
-    rule are those of `Figures`."""
+    """Each release, by month and revision, with the figures of all items, divisions and groups that were known then;
+    the year and the rule come from `Figures`."""
     found, out, last = list[Then](), dict[Id, Month](), dict[str, Month]()
     for (month, revision), table in by_moment(tables):
         out[month, revision] = last[month] = table
@@ -147,7 +147,7 @@ def releases(tables: Mapping[Id, Month], year: str, is_from_printed: bool = Fals
 
 
 def lead(then: Then) -> str:
-    """What gives most to the change, and what works most against it."""
+    """The largest contribution to the change, and the largest one against it."""
     values = [(value, code) for code in then.known.below(ALL) if (value := then.given(code)) is not None]
     way = -1 if then.change < 0 else 1
     ends = sorted(values, key=lambda it: (-it[0] * way, it[1]))
@@ -159,7 +159,7 @@ def lead(then: Then) -> str:
         if begin and value * way > 0:
             told.append(f"{begin} {title}, {signed(value, 2)} of {total} percentage points")
         elif not begin and value * way < 0:
-            told.append(f"{title} worked against it ({signed(value, 2)})")
+            told.append(f"the largest in the other direction came from {title} ({signed(value, 2)})")
     sentence = "; ".join(told) + "." if told else ""
     monthly = then.known.changes(ALL, then.month)[0] or Fraction(0)
-    return f"{sentence} Against the month before, prices {moved(monthly)}." if then.is_annual else sentence
+    return f"{sentence} Compared with the previous month, prices {moved(monthly)}." if then.is_annual else sentence

@@ -1,4 +1,5 @@
-"""What a pack says of the nation's revisions: the tables that others came after, and the rows that they changed."""
+"""The texts of a pack about the nation's revisions: the tables that later ones replaced, and the rows that these
+changed."""
 
 from __future__ import annotations
 
@@ -9,11 +10,12 @@ from .by_the_manual import Id, Month, Row, printed
 from .nation import data, published_at
 
 GREATEST = 10
-"""Items whose levels a revision changed that a page shows."""
+"""The most items with changed levels that a page shows for a revision."""
 
 
 class Revised(NamedTuple):
-    """A revision with the one before: how many levels differ, and the greatest differences, each a row before and now."""
+    """A revision with the one before: the number of levels that differ, and the greatest differences, each as the row
+    before and now."""
 
     month: str
     revision: int
@@ -28,7 +30,7 @@ class Revised(NamedTuple):
 
     @property
     def counted(self) -> str:
-        """How many levels differ, as pages say it."""
+        """The number of levels that differ, as text on pages."""
         return f"{len(self.differing)} of {len(self.new)} levels differ."
 
 
@@ -46,7 +48,7 @@ def revised(tables: Mapping[Id, Month]) -> list[Revised]:
 
 
 def changed(tables: Mapping[Id, Month]) -> dict[tuple[str, str], Row]:
-    """By month and code the rows that were published first, of which the last one of the month is another."""
+    """The rows that were published first, by month and code, if the month's last row differs."""
     found = {}
     for month, last in {it.month: it.new for it in revised(tables)}.items():
         first = rows_by_code(tables[month, 1])
@@ -55,8 +57,8 @@ def changed(tables: Mapping[Id, Month]) -> dict[tuple[str, str], Row]:
 
 
 def reasons() -> dict[Id, list[dict[str, str]]]:
-    """Why the office revised months, in its own words: the columns of its file that begin so, `reason` and others in
-    languages."""
+    """The office's reasons for revising months, in its own words: the columns of its file whose names begin with
+    `reason`, one per language."""
     found: dict[Id, list[dict[str, str]]] = {}
     for row in data("revisions"):
         said = {name: text for name, text in row.items() if name.startswith("reason")}

@@ -13,13 +13,13 @@ Rows = list[list[str]]
 
 
 def plain(markup: str) -> str:
-    """The text of some markup, with one blank where it has any, but for narrow ones that belong to a figure."""
+    """The text of some markup, with one blank in place of several, except narrow ones that belong to a figure."""
     text = html.unescape(re.sub("<[^>]*>", "", re.sub('<span class="narrow">.*?</span>', "", markup)))
     return " ".join(re.split("[ \n\t]+", text.translate(HIDDEN))).strip()
 
 
 class Texts:
-    """A page, or a part of one."""
+    """A page, or a part of a page."""
 
     def __init__(self, markup: str) -> None:
         self.markup = markup
@@ -35,12 +35,12 @@ class Texts:
         return [plain(it) for it in re.findall(rf"{form}(.*?)</{name}>", self.markup, flags=re.S)]
 
     def said(self, name: str) -> list[str]:
-        """What its elements `meta` say under a name."""
+        """The contents of its `meta` elements with a name."""
         found = re.findall(rf'<meta (?:name|property)="{name}" content="([^"]*)">', self.markup)
         return [html.unescape(it) for it in found]
 
     def part(self, heading: str) -> Texts:
-        """What is between a heading and the next one."""
+        """The part between a heading and the next one."""
         for it in re.split(r"<h2\b[^>]*>", self.markup)[1:]:
             head, _, rest = it.partition("</h2>")
             if plain(head) == heading:
@@ -49,7 +49,7 @@ class Texts:
 
     @property
     def rows(self) -> Rows:
-        """The cells of its tables, row by row, without those of heads."""
+        """The cells of its tables, row by row, without the cells of heads."""
         found = re.findall(r"<tr\b[^>]*>(.*?)</tr>", self.markup, flags=re.S)
         cells = [
             re.findall(r"<t[hd]\b[^>]*>(.*?)</t[hd]>", row, flags=re.S) for row in found if 'scope="col"' not in row
@@ -58,8 +58,8 @@ class Texts:
 
     @property
     def bars(self) -> list[tuple[float, float]]:
-        """Where the bars of its tables begin and how long they are, in percent of their track; none if those for narrow
-        screens are others."""
+        """The starts and lengths of the bars in its tables, in percent of their track; none if the bars for narrow
+        screens differ."""
         form = r'<span class="track (?:narrow)?" aria-hidden="true"><i[^>]* style="left:([0-9.]+)%;width:([0-9.]+)%">'
         found = [(float(left), float(width)) for left, width in re.findall(form, self.markup)]
         return found[::2] if found[::2] == found[1::2] else []

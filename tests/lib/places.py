@@ -1,4 +1,4 @@
-"""Where things are in the repository."""
+"""The places of files in the repository."""
 
 from pathlib import Path
 
@@ -6,4 +6,4 @@ ROOT = Path(__file__).resolve().parents[2]
 """The folder of the repository."""
 
 TOP = str(ROOT)
-"""The same, as a text."""
+"""The folder of the repository, as a text."""

@@ -1,5 +1,5 @@
 #!/usr/bin/python3
-"""Forms of sentences that an editor of plain English changes first, and how many a document may have.
+"""Forms of sentences that an editor of plain English changes first, and the number of them that a document may contain.
 
 `english_faults`  no more sentences of a document have such a form than its bound allows.
 
@@ -34,7 +34,8 @@ LEAST_WORDS = 5
 """A shorter sentence is a heading or a label."""
 
 MOST, MOST_FOR_READERS = 8, 5
-"""Percent of the sentences of a document, and of those that people read who are no programmers."""
+"""The bounds in percent of a document's sentences: for all documents, and for documents whose readers aren't
+programmers."""
 
 FOR_READERS = {
     "README.md",
@@ -47,7 +48,7 @@ LINK = re.compile(r"\]\([^)]*\)")
 NAME = re.compile(r"`[^`]*`")
 ITEM = re.compile(r"\n\s*\n|\n(?=\s*(?:[-*]|\d+\.)\s)|^\|.*$|^#.*$", re.M)
 LABEL = re.compile(r"(?:[-*] )?\[[^]]*\][,.]?")
-"""A line of a list of contents: its text is that of a heading."""
+"""A line of a list of contents: its text is the text of a heading."""
 
 END = re.compile(r"(?<=[.!?])\s+(?=[A-Z`*\[])")
 

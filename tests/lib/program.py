@@ -1,4 +1,4 @@
-"""The program that is tried: its runs, and what a run may have of memory and of the disk."""
+"""The program under test: its runs, and the memory and disk that a run may use."""
 
 from __future__ import annotations
 
@@ -12,7 +12,7 @@ from typing import IO, Any, NamedTuple
 
 
 class Ran(NamedTuple):
-    """How a run ended: its status, standard output and standard error."""
+    """The result of a run: its status, standard output and standard error."""
 
     status: int
     out: bytes
@@ -22,7 +22,7 @@ class Ran(NamedTuple):
         return f"status {self.status}, {self.out[:160]!r}, {self.err[:160]!r}"
 
     def lines(self) -> list[bytes]:
-        """What was written, by lines without their ends; what stands behind the last end is none."""
+        """The lines that were written, without their ends; text after the last end isn't a line."""
         return self.out.split(b"\n")[:-1]
 
 
@@ -31,17 +31,17 @@ WELL = Ran(0, b"", b"")
 
 
 def failed(line: str) -> Ran:
-    """A run that writes nothing but the line of its fault."""
+    """A run that writes only the line of its fault."""
     return Ran(1, b"", f"cpi: {line}\n".encode())
 
 
 PATIENCE = 900
-"""How many seconds a run goes on at most."""
+"""The most seconds of a run."""
 
 
 class Going:
-    """A run that goes on, with pipes to it; where a `with` ends it is killed, if it is still there, and so it is after
-    `patience` seconds, so that nobody waits for it for ever."""
+    """A run that goes on, with pipes to it; at the end of a `with` it is killed if it still runs, and also after
+    `patience` seconds, so that nobody waits for it without end."""
 
     def __init__(self, words: Sequence[str], patience: float = PATIENCE, **how: Any) -> None:
         how = {"stdin": subprocess.PIPE, "stdout": subprocess.PIPE, **how}
@@ -75,7 +75,7 @@ class Going:
         return self.process.stdout
 
     def send(self, data: bytes) -> None:
-        """Sends it at once."""
+        """Sends bytes to the run at once."""
         self.given.write(data)
         self.given.flush()
 
@@ -84,7 +84,7 @@ class Going:
         return self.out.readline()
 
     def end(self, seconds: float = 60) -> Ran:
-        """Ends its input, and gives what it wrote since it was read last, once it is at its end."""
+        """Ends its input, and returns its output since the last read, once it has ended."""
         out, err = self.process.communicate(timeout=seconds)
         self.timer.cancel()
         return Ran(self.process.returncode, out or b"", err or b"")
@@ -97,7 +97,7 @@ class Program:
         self.path = path
 
     def run(self, *words: str | bytes, given: bytes = b"", seconds: float = 300, **how: Any) -> Ran:
-        """A run with these words over this standard input; `how` goes to subprocess."""
+        """A run with these arguments and this standard input; `how` is passed to subprocess."""
         how = {"stdout": subprocess.PIPE, "stderr": subprocess.PIPE, **how}
         how = how if "stdin" in how else {"input": given, **how}
         ran = subprocess.run([self.path, *words], timeout=seconds, check=False, **how)
@@ -116,18 +116,18 @@ class Program:
 
 
 def with_memory(size: int) -> Callable[[], None]:
-    """So many bytes of addresses."""
+    """Limits the program to so many bytes of addresses."""
     return lambda: resource.setrlimit(resource.RLIMIT_AS, (size, size))
 
 
 def with_data(size: int) -> Callable[[], None]:
-    """So many bytes of memory that a program asks for. Its stack doesn't count: the system grows it by itself, and ends
-    a program whose stack can't grow, whatever that program does."""
+    """Limits the program to so many bytes of requested memory. Its stack doesn't count: the system grows it by itself,
+    and ends a program whose stack can't grow, whatever that program does."""
     return lambda: resource.setrlimit(resource.RLIMIT_DATA, (size, size))
 
 
 def with_disk(most: int) -> Callable[[], None]:
-    """Files of at most so many bytes; a write past that fails, and kills nobody."""
+    """Limits the program to files of so many bytes; a write past that fails, but doesn't kill the program."""
 
     def limit() -> None:
         signal.signal(signal.SIGXFSZ, signal.SIG_IGN)

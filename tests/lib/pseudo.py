@@ -1,6 +1,7 @@
-"""Languages that nobody speaks, made of the source's texts: each word is 40 percent longer, and in letters of a script that
-no English text has. Greek letters go from left to right, Hebrew ones from right to left; by the codes el and he a browser
-writes its months in the same script, so that each Latin word on the page is one that isn't in a catalogue.
+"""Languages that nobody speaks, made from the source's texts: each word is 40 percent longer, and in the letters of a
+script that no English text contains. Greek letters go from left to right, Hebrew ones from right to left; with the
+codes el and he, a browser writes its months in the same script, so that each Latin word on the page is a word that
+isn't in a catalogue.
 """
 
 from __future__ import annotations
@@ -23,7 +24,7 @@ LETTERS = {
 """For each language a letter of its script for each of ours."""
 
 KEPT = re.compile(r"(\{[a-z_]+\}|%\([a-z_]+\)s|<[^>]*>|&[a-z]+;)")
-"""What stays in a text: places, tags and signs by their names."""
+"""The parts that stay in a text: places, tags and named signs."""
 
 
 def pseudo(text: str, language: str) -> str:
@@ -39,7 +40,7 @@ def pseudo(text: str, language: str) -> str:
 
 
 def catalogue(language: str) -> Catalog:
-    """The catalogue of a language, of all texts of the source."""
+    """The catalogue of a language, with all texts of the source."""
     with (ROOT / "po/cpi.pot").open("rb") as file:
         source = read_po(file)
     made = Catalog(locale=language, fuzzy=False)

@@ -1,7 +1,8 @@
-"""PX by the list of keywords of its format (PC-Axis file format 2013): their order, what each is, and which a file must have.
+"""Reads PX by the list of keywords of its format (PC-Axis file format 2013): their order, their meanings, and the
+keywords that a file must have.
 
-The list was written from what is publicly known of the format, without the tool's own code; PxWeb itself wasn't there to
-try. `read_strictly` refuses a file that breaks a rule of the list, with a line that names the keyword.
+The list was written from public knowledge about the format, without the tool's own code; PxWeb itself wasn't available
+for a test. `read_strictly` refuses a file that breaks a rule of the list, with a line that names the keyword.
 """
 
 from __future__ import annotations
@@ -11,8 +12,8 @@ from collections.abc import Callable, Iterable, Iterator, Mapping, Sequence
 from typing import NamedTuple, Optional
 
 TEXT, TEXTS, YES_NO, NUMBER, MOMENT, TIMES, NAMES = "text", "texts", "YES or NO", "number", "moment", "times", "names"
-"""What a value is: a text, several texts, one of two words, a whole number, `CCYYMMDD hh:mm`, a list of times, or names of
-variables."""
+"""The kinds of values: a text, several texts, one of two words, a whole number, `CCYYMMDD hh:mm`, a list of times, or
+names of variables."""
 
 
 class Keyword(NamedTuple):
@@ -56,29 +57,30 @@ ORDER: Sequence[Keyword] = (
     _l("VALUENOTEX", TEXT, 10_000, 2), _l("VALUENOTE", TEXT, 10_000, 2), _l("CELLNOTEX", TEXT, 10_000, None),
     _l("CELLNOTE", TEXT, 10_000, None), _k("DATASYMBOL1", TEXT, 20), _k("DATASYMBOL2", TEXT, 20),
 )  # fmt: skip
-"""The keywords before the data, in the order of the list. UNITS is in it twice: of the file, and of a figure."""
+"""The keywords before the data, in the order of the list. UNITS is in it twice: for the file, and for a figure."""
 
 MANDATORY = ("DECIMALS", "MATRIX", "SUBJECT-CODE", "SUBJECT-AREA", "TITLE", "CONTENTS", "UNITS", "STUB", "HEADING",
              "VALUES")  # fmt: skip
-"""What a file must have, besides DATA: of STUB and HEADING the format wants one, and our cube has both."""
+"""The keywords that a file must have, besides DATA: the format requires STUB or HEADING, and our cube has both."""
 
 MOMENTS = re.compile(r"(19|20)[0-9]{2}(0[1-9]|1[0-2])(0[1-9]|[12][0-9]|3[01]) ([01][0-9]|2[0-3]):[0-5][0-9]")
 WITHIN_YEAR = {"A": "", "H": "[12]", "Q": "[1-4]", "M": "(0[1-9]|1[0-2])", "W": "(0[1-9]|[1-4][0-9]|5[0-3])"}
-"""What follows the year of a time: nothing, or the half, the quarter, the month or the week."""
+"""The part after the year in a time: nothing, or the half, the quarter, the month or the week."""
 
 PERIODS: Mapping[str, str] = {f"{letter}1": f"[12][0-9]{{3}}{within}" for letter, within in WITHIN_YEAR.items()}
-"""What a time is, by the scale that TLIST names: `202401` is January 2024."""
+"""The form of a time, by the scale that TLIST names: `202401` is January 2024."""
 
 HEAD = re.compile(r"([A-Z][A-Z0-9-]*)(?:\[([a-zA-Z-]+)\])?(?:\((.*)\))?", re.DOTALL)
 LONGEST_LINE = 256
 
 
 class NotPx(Exception):
-    """A file that breaks a rule of the format."""
+    """A file breaks a rule of the format."""
 
 
 class Said(NamedTuple):
-    """A keyword of a file: its name, its language (empty: the file's own), of what it is said, and its values."""
+    """A keyword of a file: its name, its language (empty: the file's own), the things that it describes, and its
+    values."""
 
     name: str
     language: str
@@ -87,13 +89,13 @@ class Said(NamedTuple):
 
 
 class Px(NamedTuple):
-    """A file: what its keywords say, and its cells."""
+    """A file: its keywords, and its cells."""
 
     said: Sequence[Said]
     cells: Sequence[str]
 
     def values(self, name: str, *of: str, language: str = "") -> tuple[str, ...]:
-        """The values of a keyword; none if it isn't there."""
+        """The values of a keyword; none if the keyword is missing."""
         found = (it.values for it in self.said if (it.name, it.language, it.of) == (name, language, of))
         return next(found, ())
 
@@ -172,7 +174,7 @@ def _keyword(name: str, has_brackets: bool) -> Optional[Keyword]:
 
 
 def _values(keyword: Keyword, value: str) -> tuple[str, ...]:
-    """The values of a keyword, which have to be what the list says."""
+    """The values of a keyword, which must be of the kind in the list."""
     found = FORMS[keyword.kind](value)
     if found is None:
         raise NotPx(f"{keyword.name}: {value[:40]!r} isn't {keyword.kind}")
@@ -233,7 +235,7 @@ def _test_once(_: str, found: Px) -> None:
 
 
 def _test_order(_: str, found: Px) -> None:
-    """In each language keywords come in the order of the list."""
+    """Tests that keywords are in the order of the list, in each language."""
     last: dict[str, tuple[int, str]] = {}
     for it in found.said:
         keyword = _keyword(it.name, bool(it.of))
@@ -259,7 +261,7 @@ def _languages(found: Px) -> list[str]:
 
 
 def _test_languages(_: str, found: Px) -> None:
-    """The languages of keywords are those that LANGUAGES names."""
+    """Tests that the languages of keywords are those that LANGUAGES names."""
     own, named = found.values("LANGUAGE"), found.values("LANGUAGES")
     if named and own[:1] != named[:1]:
         raise NotPx("LANGUAGES: the first one isn't that of LANGUAGE")
@@ -318,10 +320,10 @@ def _of(it: Said) -> str:
 
 
 def statements_of(text: str) -> list[str]:
-    """The keywords of a file as they stand there, for tests that change them."""
+    """The keywords of a file as they are written, for tests that change them."""
     return [f"{head}={value};\n" for head, value in _statements(text)]
 
 
 def joined(statements: Iterable[str]) -> str:
-    """The file of some keywords."""
+    """A file made of some keywords."""
     return "".join(statements)

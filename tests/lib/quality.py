@@ -1,7 +1,8 @@
-"""Quality in figures once more: from the records of an office, its published tables, and moments; nothing of `cpi_tools`.
+"""Computes the quality figures a second time, from the records of an office, its published tables, and moments, without
+`cpi_tools`.
 
-The rule of few outlets is said here in another way than there: which shown figures can be added and subtracted to get
-those of a group of divisions, and how many outlets that group has.
+The rule of few outlets is written in another way than there: it finds the shown figures that can be added and
+subtracted to get the figures of a group of divisions, and the number of outlets in that group.
 """
 
 from __future__ import annotations
@@ -21,7 +22,7 @@ COUNTS = ("outlets", "asked", "priced", "replaced", "missing", "silent")
 
 
 class Slot(NamedTuple):
-    """What a collector was to price: the division of its item, its outlet, and what came, if anything did."""
+    """A slot that a collector should price: the division of its item, its outlet, and the quote, if one came."""
 
     division: str
     outlet: int
@@ -39,7 +40,7 @@ def response(slots: Sequence[Slot], division: str) -> tuple[int, ...]:
 
 
 def percent(part: int, whole: int) -> str:
-    """With one decimal; nothing of nothing."""
+    """A percentage with one decimal; empty for a share of nothing."""
     return text(Fraction(100 * part, whole), 1) if whole else ""
 
 
@@ -47,7 +48,8 @@ def percent(part: int, whole: int) -> str:
 
 
 def derivable(shown: Iterable[str], divisions: Iterable[str]) -> Iterator[frozenset[str]]:
-    """The groups of divisions whose figures are those of all items less some that are shown, and each shown one."""
+    """The groups of divisions whose figures follow from all items minus some shown divisions, and each shown
+    division."""
     every, own = frozenset(divisions), [division for division in shown if division != "00"]
     yield from (frozenset({division}) for division in own)
     if "00" in shown:
@@ -56,7 +58,8 @@ def derivable(shown: Iterable[str], divisions: Iterable[str]) -> Iterator[frozen
 
 
 def exposed(shown: Iterable[str], outlets: Mapping[str, frozenset[int]], least: int) -> list[frozenset[str]]:
-    """The groups that can be computed and have fewer outlets than the rule wants, or are a single hidden division."""
+    """The groups that can be computed and have fewer outlets than the rule requires, or are a single hidden
+    division."""
     shown = [*shown]
     return [
         group
@@ -67,7 +70,7 @@ def exposed(shown: Iterable[str], outlets: Mapping[str, frozenset[int]], least: 
 
 
 class Shown(NamedTuple):
-    """A release: the outlets of each division, and what has figures, of which `00` is all items."""
+    """A release: the outlets of each division, and the codes with figures; `00` is all items."""
 
     outlets: Mapping[str, frozenset[int]]
     names: frozenset[str]
@@ -79,13 +82,13 @@ class Shown(NamedTuple):
 
     @property
     def sums(self) -> list[frozenset[str]]:
-        """The divisions that each of its figures is the sum of."""
+        """The divisions whose sum each of its figures is."""
         return [frozenset(self.outlets) if name == "00" else frozenset({name}) for name in sorted(self.names)]
 
 
 def are_spanned(sums: Iterable[frozenset[str]], wanted: frozenset[str]) -> bool:
-    """Whether the figure of some divisions is what sums, added and subtracted, give, if figures stay from release to release
-    (elimination by Gauss, exactly)."""
+    """Whether the figure of some divisions follows from sums by addition and subtraction, if figures stay from release
+    to release (elimination by Gauss, exactly)."""
     rest, rows = {name: Fraction(1) for name in wanted}, list[tuple[str, dict[str, Fraction]]]()
     for each in [*({name: Fraction(1) for name in it} for it in sums), rest]:
         row = each
@@ -102,8 +105,8 @@ def are_spanned(sums: Iterable[frozenset[str]], wanted: frozenset[str]) -> bool:
 
 
 def exposed_between(one: Shown, other: Shown, least: int) -> list[frozenset[str]]:
-    """The groups of hidden divisions of a release, single ones or of too few outlets, that its figures and those of another
-    release give by subtraction, but for those that the other one shows by itself."""
+    """The groups of hidden divisions of a release, single ones or of too few outlets, that its figures and those of
+    another release give by subtraction, except those that the other release shows itself."""
     groups = (frozenset(it) for size in range(1, len(one.hidden) + 1) for it in combinations(sorted(one.hidden), size))
     return [
         group
@@ -149,7 +152,7 @@ def triangle(
     tables: Sequence[Table], is_annual: bool, columns: int, rows: int
 ) -> tuple[list[list[str]], dict[str, list[str]]]:
     """The heads of the last columns, by month and revision, and of the last months the change after each publication,
-    with an `r` if it isn't that of the publication before."""
+    with an `r` if it differs from the publication before."""
     own = [table for table in tables if table[3]]
     moments = sorted({moment for _, _, moment, _ in own})[-columns:]
     heads = [[f"{month} {revision}" for month, revision, at, _ in own if at == moment] for moment in moments]
@@ -176,6 +179,6 @@ def imputed_weight(table: bytes, code: str) -> str:
 
 
 def days_after(month: str, moment: int, zone: datetime.tzinfo) -> int:
-    """The days from the first of the month after to that of the moment, and the one from the last day to it."""
+    """The days from the first of the month after to that of the moment, and the days from the last day to it."""
     first = datetime.date(int(month[:4]) + (month[5:] == "12"), int(month[5:]) % 12 + 1, 1)
     return (datetime.datetime.fromtimestamp(moment, zone).date() - first).days + 1

@@ -1,4 +1,4 @@
-"""Records and their lines: where they end, how they are read, what differs first."""
+"""Records and their lines: their ends, their fields, and the first difference."""
 
 from __future__ import annotations
 
@@ -10,7 +10,7 @@ from .fault import Fault
 
 
 def record_ends(text: bytes) -> list[int]:
-    """Where the records of a CSV text end: at a line's end outside quotation marks."""
+    """The ends of the records of a CSV text: the ends of lines outside quotation marks."""
     ends, place, begins, quoted = [], 0, True, False
     while place < len(text):
         byte = text[place : place + 1]
@@ -40,7 +40,7 @@ def rows_of(text: str) -> list[list[str]]:
 
 
 def first_difference(records: Iterable[object], lines: Sequence[object], wanted: Sequence[object]) -> Fault:
-    """The first record whose line is another one; or that there are more lines, or fewer."""
+    """The first record whose line differs; or the fault that there are more lines, or fewer."""
     for record, line, other in zip(records, lines, wanted):
         if line != other:
             return f"{str(record)[:300]}: wrote {str(line)[:200]}, wanted {str(other)[:200]}"

@@ -1,7 +1,8 @@
-"""Programs of which one call is refused, of memory or of the system: a library that is preloaded, and what is sent.
+"""Programs in which one call, for memory or to the system, is refused: a preloaded library, and the records that are
+sent.
 
-The library (refused.c) is built by `cc`. What is sent are the records of cases, and then views: what everybody, the
-desk and each collector may list.
+`cc` builds the library (refused.c). The tests send the records of cases, and then views: the requests for everything
+that everybody, the desk and each collector may list.
 """
 
 from __future__ import annotations
@@ -17,7 +18,7 @@ from .records import records_of
 from .sample import Sample
 
 PIECE = 7
-"""So many bytes are read and written at a time, where calls of that kind are counted."""
+"""The number of bytes that are read and written at a time when such calls are counted."""
 
 FIRST, LAST = "2025-11", "2026-06"
 MONTHS = ["2025-12", "2026-01", "2026-02", "2026-03", "2026-04", "2027-01"]
@@ -40,7 +41,7 @@ class Library:
         return {**os.environ, **asked, **more}
 
     def counted(self, kind: str, run: Callable[[dict[str, str]], int]) -> int:
-        """How many calls of that kind a run meets, none of which is refused; it gives its status."""
+        """The number of calls of that kind in a run in which none is refused, and the run's status."""
         status = run(self.environment(kind, 0, REFUSED_COUNT=self.counter))
         if status:
             raise ChildProcessError(f"with the library: status {status}")
@@ -49,7 +50,7 @@ class Library:
 
 
 def without_imports(records: Sequence[bytes]) -> Iterator[bytes]:
-    """The records with each row of an import as a record of its own."""
+    """The records with each row of an import as a separate record."""
     for record in records:
         head, word, body = record.partition(b',import,"')
         if word:
@@ -60,12 +61,12 @@ def without_imports(records: Sequence[bytes]) -> Iterator[bytes]:
 
 
 def records_of_case(name: str) -> list[bytes]:
-    """The records of a case, with each row of an import as a record of its own."""
+    """The records of a case, with each row of an import as a separate record."""
     return [*without_imports(records_of(Case(name).given))]
 
 
 def views_of(records: Sequence[bytes]) -> list[bytes]:
-    """What may be listed after these records, as further records."""
+    """The requests for everything that may be listed after these records."""
     keys = sorted({record.split(b",")[4].strip().decode() for record in records if b",desk,collector," in record})
     views = [f"{AT},public,items", f"{AT},public,tables"]
     views += [f"{AT},public,table,{month},{form}" for month in MONTHS for form in ("text", "csv", "csv,1", "csv,2")]
@@ -88,30 +89,30 @@ class Stream:
         return self.program.replay(b"".join(records), db, seconds=SECONDS, env=env)
 
     def answered(self, records: Sequence[bytes], db: str | None = None) -> list[bytes]:
-        """The lines of a run in which nothing is refused."""
+        """The lines of a run without a refused call."""
         ran = self.run(records, db)
         if ran.status or ran.err or len(ran.lines()) != len(records):
             raise ChildProcessError(f"{self.name}: {ran}")
         return ran.lines()
 
     def told(self, records: Sequence[bytes]) -> tuple[list[bytes], list[bytes]]:
-        """The lines of records in memory, and then those of the views."""
+        """The lines of records in memory, and then the lines of the views."""
         lines = self.answered([*records, *self.views])
         return lines[: len(records)], lines[len(records) :]
 
     def counted(self, library: Library, kind: str, records: Sequence[bytes], db: str | None = None) -> int:
-        """How many calls of a kind a replay of these records meets."""
+        """The number of calls of a kind in a replay of these records."""
         return library.counted(kind, lambda env: self.run(records, db, env).status)
 
 
 def is_of_lines(out: bytes) -> bool:
-    """Whether it ends where a line does."""
+    """Whether a text ends at the end of a line."""
     return out == b"" or out.endswith(b"\n")
 
 
 def numbers_of(sample: Sample, name: str, count: int, short: int, whole: int) -> Sequence[int]:
-    """Which calls of so many a run refuses: up to so many in a long run, evenly spread; in a short one fewer, drawn, with
-    the first and the last."""
+    """The numbers of the calls that a run refuses: up to so many in a long run, evenly spread; in a short run fewer,
+    drawn, with the first and the last."""
     if sample.is_long:
         return spread(count, whole)
     calls = range(1, count + 1)

@@ -1,5 +1,5 @@
-"""A reader of RIS by the format's own rules: a record begins with `TY` and ends with `ER`, and each line is a tag of two
-characters, two spaces, a hyphen, a space, and the value."""
+"""A reader of RIS with the format's own rules: a record begins with `TY` and ends with `ER`, and each line is a tag of
+two characters, two spaces, a hyphen, a space, and the value."""
 
 from __future__ import annotations
 
@@ -9,7 +9,7 @@ LINE = re.compile(r"([A-Z][A-Z0-9])  - ?(.*)")
 
 
 def read_ris(data: bytes) -> list[dict[str, list[str]]]:
-    """The records of a file, each with the values of its tags. Raises ValueError if a line isn't one."""
+    """The records of a file, each with the values of its tags. Raises ValueError if a line doesn't follow the rules."""
     text = data.decode("utf-8")
     if "\n" in text.replace("\r\n", "") or not text.endswith("\r\n"):
         raise ValueError("a line doesn't end with CR and LF")

@@ -1,4 +1,4 @@
-"""A random run of records, whose lines are compared with those of the second office."""
+"""A random run of records, whose lines are compared with the second office's."""
 
 from __future__ import annotations
 
@@ -31,11 +31,11 @@ from .records import first_difference
 RECORDS = 600
 
 Way = Callable[[random.Random, Run, Again, set[str]], Fault]
-"""What else a run is tried by."""
+"""A further test of a run."""
 
 
 def answered(records: Records | Years) -> Run:
-    """The records of a run and their lines by the second office; a life of an office is sent the reply to each."""
+    """The records of a run, and the second office's lines for them; a life of an office is sent the reply to each."""
     office, run, script = Office(), Run([], []), iter(records)
     record: Record | None = next(script)
     while record is not None:
@@ -57,7 +57,8 @@ def replayed(program: Program, end: str, records: Iterable[Record], db: str | No
 
 
 def over_a_file(program: Program, run: Run, end: str, place: int) -> Fault:
-    """What differs in two runs over one new file, cut before the record of that place, or in its tables afterwards."""
+    """The difference between two runs over one new file, cut before the record at that place, or in its tables
+    afterwards."""
     with tempfile.TemporaryDirectory() as room:
         parts, path = (run.records[:place], run.records[place:]), f"{room}/office.db"
         filed = [line for part in parts for line in replayed(program, end, part, path)]
@@ -65,7 +66,7 @@ def over_a_file(program: Program, run: Run, end: str, place: int) -> Fault:
 
 
 def printed_otherwise(program: Program, path: str, records: Iterable[Record]) -> Fault:
-    """Which table of the file is printed otherwise than the second office prints it, if one is."""
+    """The table of the file that is printed in another way than the second office prints it, if any."""
     office = Office()
     for record in records:
         office.reply(record)
@@ -85,7 +86,7 @@ def tables_of(office: Office) -> Iterator[tuple[Month, str] | tuple[Month, str, 
 
 
 def drawn_run(drawn: random.Random, seed: int) -> tuple[Records | Years, list[Way]]:
-    """What is sent, and what else it is tried by."""
+    """The records that are sent, and the further tests of the run."""
     if seed % 4 == 0:
         return Records(drawn, RECORDS, False), [without_others, with_others_changed]
     if seed % 4 == 2:
@@ -94,7 +95,7 @@ def drawn_run(drawn: random.Random, seed: int) -> tuple[Records | Years, list[Wa
 
 
 def fault_of(program: Program, seed: int, met: set[str]) -> Fault:
-    """What differs first in one run, if anything does; the kinds of replies that it met go to `met`."""
+    """The first difference in one run, if any; the kinds of replies that occurred are added to `met`."""
     drawn = random.Random(seed)
     records, ways = drawn_run(drawn, seed)
     run = answered(records)

@@ -1,4 +1,4 @@
-"""What the scripts next to the tests share: the words that they are given."""
+"""The arguments that the scripts next to the tests share."""
 
 from __future__ import annotations
 
@@ -12,7 +12,7 @@ DEFAULT = "crates/cpi/out/cpi"
 
 
 def words_of(text: str | None) -> argparse.ArgumentParser:
-    """The words of a script whose head this is, with the program that it tries."""
+    """The arguments of a script with this head, with the program that it tests."""
     form = argparse.RawDescriptionHelpFormatter
     words = argparse.ArgumentParser(description=text, formatter_class=form)
     words.add_argument("--program", default=ROOT / DEFAULT, metavar="FILE", help=f"the program cpi (else {DEFAULT})")

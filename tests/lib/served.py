@@ -1,4 +1,4 @@
-"""An office that is served, and who talks to it: messages of HTTP/1.1, responses byte for byte, connections."""
+"""An office that is served, and its peers: HTTP/1.1 messages, responses byte for byte, connections."""
 
 from __future__ import annotations
 
@@ -20,11 +20,11 @@ DESK = "d" * 31 + "e"
 S = TypeVar("S", bound="Served")
 
 SECONDS = 40
-"""How long a peer waits at most, and who waits for the end of the program."""
+"""The most seconds that a peer waits, and that a test waits for the end of the program."""
 
 
 def message(line: str, *fields: str, key: str | None = None, body: bytes | None = None, end: str = "\r\n") -> bytes:
-    """A message with these fields; it may bear a key, and the length of a body is told."""
+    """A message with these fields; it may contain a key, and it gives the length of its body."""
     lines = [f"{line} HTTP/1.1", *fields]
     lines += [f"Authorization: CPI-Key {key}"] if key else []
     lines += [] if body is None else [f"Content-Length: {len(body)}"]
@@ -53,23 +53,24 @@ FULL = refused("503 Service Unavailable", 90)
 REFUSED = b"cpi: a request was refused by 90"
 REOPENING = REFUSED + b", opening the file again\n"
 REOPENED = REOPENING + b"cpi: the file is open again\n"
-"""The lines on standard error after a connection with a 90 in its response, if there are more connections to serve."""
+"""The lines on standard error after a connection with a 90 in its response, if more connections are to be served."""
 
 LIMIT = b"cpi: served as many connections as --limit says\n"
 """The line on standard error at the end of the limit."""
 
 ENDED = Ran(0, b"", LIMIT)
-"""The end of a program that served as many connections as it was asked for, none of them with a 90."""
+"""The end of a program that served the requested number of connections, none of them with a 90."""
 
 
 SHAKES = [REFUSED, b"cpi: out of memory"]
-"""Why the book is opened again, as the lines on standard error begin; after the last connection they end there."""
+"""The reasons why the book is reopened: the beginnings of lines on standard error; after the last connection the lines
+end there."""
 
 REPORTS = {*(it + b", opening the file again\n" for it in SHAKES), b"cpi: the file is open again\n", LIMIT}
-"""The lines on standard error that aren't the fault of an end."""
+"""The lines on standard error that don't name the fault of an end."""
 
 LAST_REPORTS = {it + b"\n" for it in SHAKES}
-"""Those after the last connection, if the program ends well; else the same words can be the fault."""
+"""The reports after the last connection, if the program ends well; otherwise the same words can be the fault."""
 
 
 def without_reports(ran: Ran) -> Ran:
@@ -92,7 +93,7 @@ on to whoever connects, or asks for any.)"""
 
 
 def own_port(number: int) -> int:
-    """A port of those that only this process of the run has."""
+    """A port from the range that only this process of the run has."""
     worker = re.sub(r"\D", "", os.environ.get("PYTEST_XDIST_WORKER", ""))
     part = (int(worker) + 1) % PARTS if worker else 0
     return FIRST_PORT + EACH * part + number % EACH
@@ -103,7 +104,7 @@ PORTS = map(own_port, itertools.count(7 * os.getpid()))
 
 
 def free_port() -> int:
-    """A port of this machine that nobody listens at now, and that no other process of the run is given."""
+    """A port of this machine on which nothing listens now, and that no other process of the run gets."""
     for port in itertools.islice(PORTS, EACH):
         with contextlib.suppress(OSError), socket.socket() as one:
             one.bind(("", port))
@@ -112,12 +113,12 @@ def free_port() -> int:
 
 
 def words_of(path: str, port: int, limit: int, *more: str, key: str = DESK) -> list[str]:
-    """The words of cpi that serve a file for so many connections."""
+    """The arguments with which cpi serves a file for so many connections."""
     return ["serve", "--db", path, "--port", str(port), "--desk-key", key, "--limit", str(limit), *more]
 
 
 def peer_of(port: int, is_narrow: bool = False) -> socket.socket:
-    """A connection; of a narrow one little goes out before the peer takes any."""
+    """A connection; on a narrow one, little is sent before the peer accepts any."""
     one = socket.socket()
     if is_narrow:
         one.setsockopt(socket.SOL_SOCKET, socket.SO_RCVBUF, 4096)
@@ -133,12 +134,12 @@ def reset(peer: socket.socket) -> None:
 
 
 def heard(peer: socket.socket) -> bytes:
-    """All that a peer is told from now on."""
+    """Everything that a peer receives from now on."""
     return b"".join(iter(lambda: peer.recv(1 << 16), b""))
 
 
 def heard_until_reset(peer: socket.socket) -> bytes:
-    """The same, where the connection may be broken off."""
+    """Everything that a peer receives from now on, if the connection may be broken off."""
     parts = []
     with contextlib.suppress(ConnectionError):
         while part := peer.recv(1 << 16):
@@ -147,7 +148,7 @@ def heard_until_reset(peer: socket.socket) -> bytes:
 
 
 class Served:
-    """A program that serves a file, for so many connections; where a `with` ends it is killed, if it is still there."""
+    """A program that serves a file, for so many connections; at the end of a `with` it is killed if it still runs."""
 
     def __init__(self, program: Program, path: str, limit: int, *more: str, **how: Any) -> None:
         for _ in range(5):
@@ -177,7 +178,7 @@ class Served:
         return peer_of(self.port, is_narrow)
 
     def ask(self, text: bytes, ends: bool = False) -> bytes:
-        """The whole response to a message; the peer may end what it sends, and else keeps that open."""
+        """The whole response to a message; the peer may end its side, and otherwise keeps it open."""
         with self.peer() as one:
             one.sendall(text)
             if ends:
@@ -185,7 +186,7 @@ class Served:
             return heard(one)
 
     def ask_until_reset(self, text: bytes, ends: bool = False) -> bytes:
-        """What is heard of the response to a message, where the connection may be broken off."""
+        """The received part of the response to a message, if the connection may be broken off."""
         with contextlib.suppress(ConnectionError), self.peer() as one:
             one.sendall(text)
             if ends:
@@ -194,7 +195,7 @@ class Served:
         return b""
 
     def ask_and_go(self, text: bytes) -> bytes:
-        """The first bytes of a long response to a message, whose peer resets the connection behind them."""
+        """The first bytes of a long response to a message, whose peer resets the connection after them."""
         with self.peer(is_narrow=True) as one:
             one.sendall(text)
             begun = one.recv(8)
@@ -202,5 +203,5 @@ class Served:
         return begun
 
     def end(self) -> Ran:
-        """Status, what was written after the first line, and the faults, once the program is at its end."""
+        """The status, the output after the first line, and the faults, once the program has ended."""
         return self.going.end(SECONDS)

@@ -1,4 +1,4 @@
-"""What makes a run of pytest a part of ./test: its options, its sample, its minutes, second tries, and its last line.
+"""Makes a run of pytest a part of ./test: its options, its sample, its minutes, second tries, and its last line.
 
     tests/run tests -n 4 --program dist/cpi --seed 7
 
@@ -29,7 +29,7 @@ from .sample import Sample, sample_of
 SECOND_TRIES = "second_tries.txt"
 PROCESSOR = "processor seconds"
 SECONDS = pytest.StashKey[float]()
-"""What this process and those that it waited for had used when the last test ended."""
+"""The seconds that this process, and the processes for which it waited, had used when the last test ended."""
 
 FIRST = (
     "test_linters.py",
@@ -87,13 +87,13 @@ def file_of(name: str) -> str:
 
 
 def without_group(name: str) -> str:
-    """A test's name, without the group behind it by which pytest-xdist gives it to a process."""
+    """A test's name, without the group after it, by which pytest-xdist assigns it to a process."""
     plain, at, group = name.rpartition("@")
     return plain if at and "]" not in group and "::" not in group else name
 
 
 def drawn_of(sample: Sample, items: list[pytest.Item]) -> set[str]:
-    """Which cases of the sampled functions a run takes."""
+    """The cases of the sampled functions that a run takes."""
     cases: dict[str, list[str]] = defaultdict(list)
     most: dict[str, int] = {}
     for item in items:
@@ -106,7 +106,8 @@ def drawn_of(sample: Sample, items: list[pytest.Item]) -> set[str]:
 
 @pytest.hookimpl(tryfirst=True)  # type: ignore[misc]
 def pytest_collection_modifyitems(config: pytest.Config, items: list[pytest.Item]) -> None:
-    """Leaves out what a short run doesn't take, puts the longest files first, and keeps a file's tests together."""
+    """Leaves out the tests that a short run doesn't take, puts the longest files first, and keeps a file's tests
+    together."""
     sample = sample_of(config)
     taken = drawn_of(sample, items)
     kept, left = list[pytest.Item](), list[pytest.Item]()
@@ -123,7 +124,7 @@ def pytest_collection_modifyitems(config: pytest.Config, items: list[pytest.Item
 
 
 def pytest_assertrepr_compare(op: str, left: object, right: object) -> list[str] | None:
-    """Prints a fault as it is, if `assert fault is None` fails."""
+    """Prints a fault unchanged if `assert fault is None` fails."""
     return left.splitlines() if op == "is" and right is None and isinstance(left, str) else None
 
 
@@ -131,7 +132,7 @@ def pytest_assertrepr_compare(op: str, left: object, right: object) -> list[str]
 
 
 def processor_seconds() -> float:
-    """The processor seconds of this process, and of those that it waited for."""
+    """The processor seconds of this process, and of the processes for which it waited."""
     used = [resource.getrusage(who) for who in (resource.RUSAGE_SELF, resource.RUSAGE_CHILDREN)]
     return sum(it.ru_utime + it.ru_stime for it in used)
 
@@ -143,7 +144,7 @@ def pytest_collection_finish(session: pytest.Session) -> None:
 
 @pytest.hookimpl(hookwrapper=True)  # type: ignore[misc]
 def pytest_runtest_makereport(item: pytest.Item, call: pytest.CallInfo[None]) -> Iterator[None]:
-    """Notes with a test's last report what it took, with what was made for it."""
+    """Notes the time of a test, including its fixtures, with its last report."""
     outcome: Any = yield
     if call.when == "teardown":
         now = processor_seconds()
@@ -155,20 +156,20 @@ def pytest_runtest_makereport(item: pytest.Item, call: pytest.CallInfo[None]) ->
 
 
 def known_second_tries(text: str) -> tuple[int, list[str]]:
-    """How many tests may pass only at their second try, and those that were seen to."""
+    """The number of tests that may pass only at their second try, and the names of those that did."""
     lines = [line for line in text.splitlines() if line and not line.startswith("#")]
     return int(lines[0]), [line.split()[0] for line in lines[1:]]
 
 
 def minutes_of(seconds: dict[str, float]) -> str:
-    """The minutes that all files took, and those of the twelve that took longest."""
+    """The minutes that all files took, and the minutes of the twelve slowest files."""
     longest = sorted(seconds, key=lambda file: -seconds[file])[:12]
     minutes = [f"{file} {seconds[file] / 60:.1f}" for file in longest]
     return f"{sum(seconds.values()) / 60:.1f}: {', '.join(minutes)} .."
 
 
 class Counts:
-    """Counts what passed and what failed, and tells it at the end."""
+    """Counts the tests that passed and failed, and prints the counts at the end."""
 
     def __init__(self, config: pytest.Config) -> None:
         self.config = config
@@ -181,12 +182,12 @@ class Counts:
         self.waited: dict[str, float] = defaultdict(float)
 
     def pytest_sessionstart(self) -> None:
-        """The first line names what is taken."""
+        """Prints the first line, which names the sample."""
         option = self.config.option
         print("a long run" if option.long else f"a short run: --seed {option.seed} takes the same sample", flush=True)
 
     def pytest_runtest_logreport(self, report: pytest.TestReport) -> None:
-        """A test counts once: by its call, or by a fault before or after it."""
+        """Counts a test once: by its call, or by a fault before or after it."""
         name = without_group(report.nodeid)
         if report.failed:
             self.failed.add(name)
@@ -201,12 +202,12 @@ class Counts:
         self.waited[file_of(name)] += report.duration
 
     def pytest_collectreport(self, report: pytest.CollectReport) -> None:
-        """A file that can't be read is one failure."""
+        """Counts a file that can't be read as one failure."""
         self.unread += report.failed
 
     @pytest.hookimpl(tryfirst=True)  # type: ignore[misc]
     def pytest_sessionfinish(self, session: pytest.Session) -> None:
-        """Tries a few tests that failed once more."""
+        """Runs a few tests that failed once more."""
         most, known = known_second_tries((self.config.rootpath / SECOND_TRIES).read_text(encoding="utf-8"))
         again = sorted(self.failed)
         if not self.unread and not self.config.option.one_try and 0 < len(again) <= most:
@@ -218,7 +219,7 @@ class Counts:
         self.second = [f"{name}{'' if name in known else ' (new)'}" for name in self.second]
 
     def passes_by_itself(self, name: str) -> bool:
-        """Whether a test passes in a process of its own, with nothing left of the tests before it."""
+        """Whether a test passes in a separate process, with nothing left from earlier tests."""
         option = self.config.option
         words = [f"--seed={option.seed}", *["--long"] * option.long]
         words += [f"--program={os.path.abspath(option.program)}"] if option.program else []
@@ -235,7 +236,7 @@ class Counts:
 
     @pytest.hookimpl(trylast=True)  # type: ignore[misc]
     def pytest_unconfigure(self, config: pytest.Config) -> None:
-        """The last lines."""
+        """Prints the last lines."""
         session: Any = config.pluginmanager.get_plugin("session")
         status = int(session.exitstatus) if session else 3
         # (a file that can't be read ends a run of one process so too)

@@ -1,7 +1,7 @@
-"""Sets of elementary aggregates once more, in fractions: their indices, levels, changes and what they give.
+"""Computes sets of elementary aggregates a second time, in fractions: their indices, levels, changes and contributions.
 
-It takes the weights and indices of elementary aggregates, which its callers have from prices or from printed tables,
-and has nothing in common with `cpi_tools`. A set is a function that says whether a code is in it.
+It takes the weights and indices of elementary aggregates, which its callers take from prices or from printed tables,
+and shares nothing with `cpi_tools`. A set is a function that says whether a code is in it.
 """
 
 from __future__ import annotations
@@ -22,8 +22,7 @@ class Elementary(NamedTuple):
 
 
 class Figures(NamedTuple):
-    """A month of a set: weight, index, level, changes on the month and on the year, imputed, and the December that is
-    100."""
+    """A month of a set: weight, index, level, monthly and annual change, imputed, and the December that is 100."""
 
     weight: int
     within: Fraction
@@ -44,7 +43,7 @@ def nearest(number: Fraction, parts: int) -> Fraction:
 
 
 def change(then: Fraction, now: Fraction) -> Fraction:
-    """In percent, rounded to a tenth; a fall as a rise of its size."""
+    """In percent, rounded to a tenth; a fall is rounded like a rise of its size."""
     size = nearest(100 * abs(now - then) / then, 10)
     return size if now >= then else -size
 
@@ -55,14 +54,14 @@ def earlier(month: str, by: int) -> str:
 
 
 def within(weighed: Iterable[Elementary]) -> Fraction:
-    """The mean of indices by their weights."""
+    """The weighted mean of indices."""
     found = [*weighed]
     summed = sum((Fraction(it.weight) * it.within for it in found), Fraction())
     return nearest(summed / sum(it.weight for it in found), 10**6)
 
 
 def figures(months: Months, is_in: Set) -> dict[str, Figures]:
-    """A set in each month in which something belongs to it."""
+    """A set in each month in which it contains something."""
     found: dict[str, Figures] = {}
     for month, rows in sorted(months.items()):
         own = [row for code, row in rows.items() if is_in(code)]
@@ -84,10 +83,10 @@ def figures(months: Months, is_in: Set) -> dict[str, Figures]:
 
 
 def given(months: Months, month: str, code: str, to: Set) -> tuple[Optional[Fraction], Optional[Fraction]]:
-    """Percentage points that an elementary aggregate gives to the changes of a set on the month and on the year.
+    """The contributions of an elementary aggregate to the monthly and annual changes of a set, in percentage points.
 
-    The sum over all of a set is the set's own change before it is rounded to tenths: on the year it goes through the
-    December between, from which on other weights count.
+    The sum over all of a set is the set's own change before it is rounded to tenths: the annual change goes through the
+    December between, from which other weights apply.
     """
     now, then = ({each: it for each, it in months.get(at, {}).items() if to(each)} for at in (month, earlier(month, 1)))
     row, monthly = months[month].get(code), None

@@ -1,4 +1,4 @@
-"""The pages of a pack of examples/national, beside the figures that were computed here."""
+"""Compares the pages of a pack of examples/national with the figures that were computed here."""
 
 from __future__ import annotations
 
@@ -20,14 +20,14 @@ from .pack_figures import ALL, Figures
 from .pack_forms import rows_of_csv
 
 ADDRESS = "https://prices.example/"
-"""Where the site is, as office.ini says."""
+"""The address of the site, from office.ini."""
 
 ABSENT = "\u2013"
-"""What pages have for a figure that isn't there."""
+"""The text on pages for a missing figure."""
 
 
 class Page(html.parser.HTMLParser):
-    """The cells of the tables of a page, the titles of its pictures, and what it leads to."""
+    """The cells of the tables of a page, the titles of its pictures, and the targets of its links."""
 
     def __init__(self, *path: str) -> None:
         super().__init__()
@@ -59,7 +59,7 @@ class Page(html.parser.HTMLParser):
 
 
 def contribution_faults(site: str, found: dict[str, Month], first: str) -> Iterator[str]:
-    """What the divisions give has to add up to the change of all items, as it is before rounding."""
+    """The fault, if the contributions of the divisions don't add up to the change of all items before rounding."""
     levels = {month: {row.code: row.level for row in it.rows}["00"] for month, it in found.items()}
     levels[first] = Fraction(100)
     sums: dict[tuple[str, str], Fraction] = collections.defaultdict(Fraction)
@@ -75,12 +75,12 @@ def contribution_faults(site: str, found: dict[str, Month], first: str) -> Itera
 
 
 def month_of(name: str) -> str:
-    """`2026-01` of the text January 2026."""
+    """`2026-01` for the text January 2026."""
     return datetime.datetime.strptime(name, "%B %Y").strftime("%Y-%m")
 
 
 def signed(number: Optional[Fraction], digits: int) -> str:
-    """A change or a contribution as pages have it."""
+    """A change or a contribution as text on pages."""
     if number is None:
         return ABSENT
     told = text(number, digits)
@@ -88,7 +88,7 @@ def signed(number: Optional[Fraction], digits: int) -> str:
 
 
 def percent(number: Optional[Fraction]) -> str:
-    """A change as pages have it."""
+    """A change as text on pages."""
     return f"{signed(number, 1)}\u202f%" if number is not None else ABSENT
 
 
@@ -114,7 +114,7 @@ def line_faults(known: Figures, code: str, page: Page) -> Iterator[str]:
 
 
 def parts_faults(known: Figures, code: str, page: Page) -> Iterator[str]:
-    """What an item is made of in the last month: share of all weight, change and contribution to the item."""
+    """The parts of an item in the last month: share of all weight, change and contribution to the item."""
     month = known.months[-1]
     whole, found = known.lines[ALL][month].weight, list[list[str]]()
     for below in known.below(code):
@@ -131,7 +131,7 @@ def parts_faults(known: Figures, code: str, page: Page) -> Iterator[str]:
 
 
 def page_faults(site: str, known: Figures) -> Iterator[str]:
-    """The page of each item that is in the last table: figures, pictures, and where it leads."""
+    """The page of each item that is in the last table: figures, pictures, and links."""
     for code in known.lines:
         page = Page(site, "node", f"{code}.html")
         yield from line_faults(known, code, page)

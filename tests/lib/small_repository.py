@@ -1,7 +1,7 @@
 """A small repository of five crates, with the scripts that start, build and ship the program, and stand-ins.
 
-The stand-in of `rt` builds a crate only where all below it is built, keeps the folders that it works in to itself as
-`rt` does, and writes down what it does.
+The stand-in for `rt` builds a crate only if everything below it is built, reserves the folders in which it works as
+`rt` does, and logs its actions.
 """
 
 from __future__ import annotations
@@ -28,7 +28,7 @@ SCRIPTS = [
     "tools/proved.py",
 ]
 SETUPS = ["tools/setup", "tests/linters/setup.sh", "tests/web/setup.sh"]
-"""What ./test installs first; here nothing."""
+"""The scripts with which ./test installs packages first; here they install nothing."""
 
 CRATES = "low:\nleft: low\nright: low\ncpi: low left right # the program\ncpi_tests: low left right\n"
 KIT = "rattle-kit-0 logic 0123"
@@ -117,7 +117,7 @@ class Ran(NamedTuple):
         return self.err.splitlines()
 
     def is_refused(self, *words: str) -> bool:
-        """Whether it ended with one line, which has these words, and ran nothing."""
+        """Whether it ended with one line, which contains these words, and ran nothing."""
         return (self.status, self.out, len(self.lines())) == (1, "", 1) and all(it in self.err for it in words)
 
 
@@ -136,7 +136,7 @@ def made_of(values: dict[str, str]) -> str:
 
 
 class Repository:
-    """A small repository in a folder of its own, with the stand-ins beside it."""
+    """A small repository in its own folder, with the stand-ins beside it."""
 
     def __init__(self, room: Path) -> None:
         self.room, self.top, self.last = room, room / "a folder/repository", Ran(0, "", "")
@@ -177,7 +177,7 @@ class Repository:
         put(self.top / name, f"{text}exit {status}\n", 0o755)
 
     def take_tests(self) -> None:
-        """Takes what test_shipped_program.py needs as it is, in place of the stand-in, with one case."""
+        """Copies the files that test_shipped_program.py needs, in place of the stand-in, with one case."""
         names = ["tests/run", "tests/pytest.ini", "tests/conftest.py", "tests/second_tries.txt"]
         names += ["tests/test_shipped_program.py", *(f"tests/lib/{it.name}" for it in (TOP / "tests/lib").glob("*.py"))]
         for name in names:
@@ -186,7 +186,7 @@ class Repository:
             put(self.top / "tests/cases/one" / name, text)
 
     def calls(self, name: str, keep: bool = False) -> list[str]:
-        """The words of each call of a stand-in since this was asked last."""
+        """The words of each call of a stand-in since the last call."""
         file = self.room / "calls" / name
         lines = file.read_text(encoding="utf-8").splitlines() if file.exists() else []
         if not keep:
@@ -216,7 +216,7 @@ class Repository:
         return self.run("tools/sources", **how).out.strip()
 
     def ship(self, other: bytes = b"", **values: str) -> None:
-        """Makes dist/ as of the sources at hand, with a program that says so, or with another one."""
+        """Makes dist/ from the current sources, with a program that says so, or with another one."""
         program = other or f"#!/bin/bash\ntext='as shipped'\n{PROGRAM}".encode()
         made = {"sources": self.sources(), "program": hashlib.sha256(program).hexdigest(), "kit": KIT}
         made.update(machine=os.uname().machine, needs="libc.so.6 GLIBC_2.34")
@@ -225,13 +225,13 @@ class Repository:
         self.shipped.chmod(0o755)
 
     def told(self) -> list[str]:
-        """What the stand-in of rt did since this was asked last."""
+        """The actions of rt's stand-in since the last call."""
         lines = (self.room / "log").read_text().splitlines()
         put(self.room / "log", "")
         return lines
 
     def kept(self) -> list[str]:
-        """What stands in out/ beside the files of a build."""
+        """The files in out/ besides the files of a build."""
         return sorted({it.name for it in self.out.glob("*")} - {"logs", "lock", "proved"})
 
     def copies(self) -> int:

@@ -1,4 +1,4 @@
-"""Files of offices as Python's sqlite3 reads and changes them."""
+"""Reads and changes files of offices with Python's sqlite3."""
 
 from __future__ import annotations
 
@@ -12,7 +12,7 @@ from collections.abc import Iterable
 from second_office.rows import Rows
 
 ENDS = ("", "-wal")
-"""Of the file and of the log beside it."""
+"""The endings of the file and of the log beside it."""
 
 
 def copied(path: str, copy: str) -> str:
@@ -35,7 +35,7 @@ def rows_in(file: sqlite3.Connection) -> Rows:
 
 
 def faults_of(file: sqlite3.Connection) -> list[object]:
-    """What is wrong with the file, by its own integrity and its foreign keys."""
+    """The faults of the file's integrity and its foreign keys."""
     faults: list[object] = [row for (row,) in file.execute("PRAGMA integrity_check") if row != "ok"]
     return faults + file.execute("PRAGMA foreign_key_check").fetchall()
 
@@ -47,7 +47,7 @@ def stored(path: str) -> Rows:
 
 
 def stored_in_copy(path: str) -> tuple[list[object], Rows]:
-    """What is wrong with a copy of a file and its log, and the rows of its tables."""
+    """The faults of a copy of a file and its log, and the rows of its tables."""
     with tempfile.TemporaryDirectory() as room:
         try:
             with contextlib.closing(sqlite3.connect(copied(path, f"{room}/copy.db"))) as copy:
@@ -57,7 +57,7 @@ def stored_in_copy(path: str) -> tuple[list[object], Rows]:
 
 
 def change(path: str, statements: Iterable[str]) -> None:
-    """Changes a file as another program would, which looks at no foreign key."""
+    """Changes a file as another program would, which ignores foreign keys."""
     with contextlib.closing(sqlite3.connect(path)) as file:
         with file:
             file.execute("PRAGMA foreign_keys = OFF")

@@ -36,7 +36,8 @@ def line_of(reply: Reply) -> bytes:
 
 class Stream:
     """Records over a second office, with the line of each, and the rows before them and after each command: a record is
-    one, but for an import, whose rows are. The file that it begins with is made by a setup, or has rows of schema 1."""
+    a command, except an import, whose rows are commands. The file with which it begins is made by a setup, or contains
+    rows of schema 1."""
 
     def __init__(self, setup: list[Record], office: Kept, records: list[Record], is_of_schema_1: bool = False) -> None:
         self.setup, self.records = setup, records
@@ -56,7 +57,7 @@ class Stream:
         return reply
 
     def begin(self, program: Program, path: str) -> Rows:
-        """Makes the file, if there is one, and gives the rows that it is to have."""
+        """Makes the file, if there is one, and gives the rows that it should contain."""
         if self.first:
             make_first(path, self.first)
             return self.first
@@ -75,12 +76,12 @@ def items_of(count: int) -> list[str]:
 
 
 def even_plan(codes: Sequence[str], items: Sequence[str], title: str, *references: str) -> str:
-    """A plan whose aggregates weigh alike but for the first."""
+    """A plan whose aggregates have the same weight, except the first."""
     return plan_of(codes, items, title, 1_000_000 // len(codes), references)
 
 
 def office_of(setup: list[Record]) -> Kept:
-    """The second office after records that are all done."""
+    """The second office after records that were all accepted."""
     office = Kept()
     for record in setup:
         if "refused" in office.reply(record):
@@ -125,8 +126,8 @@ def caller_and_month(record: Record) -> tuple[str, str]:
 
 
 def partly_imported(drawn: random.Random, sent: list[Record]) -> Iterator[Record]:
-    """The same records; some that follow each other come by imports, one for each collector and month, in which a slot
-    comes once: so what is sent again after a kill is answered as before."""
+    """The records, some consecutive ones as imports, one for each collector and month, in which a slot occurs once: so
+    records that are sent again after a kill get the same answers."""
     at = 0
     while at < len(sent):
         here = sent[at : at + (30 if drawn.random() < 0.01 else 1)]
@@ -175,8 +176,8 @@ def months_priced(
 
 
 def freezes(drawn: random.Random) -> Stream:
-    """The quotes stand before, but for those by which a month that is frozen again differs. The reference month and the
-    link month of the second plan are two of these."""
+    """The quotes are stored before, except the quotes by which a month that is frozen again differs. The reference
+    month and the link month of the second plan are two of these."""
     months = ["2025-12", *(f"2026-{at:02}" for at in range(1, 13)), "2027-01"]
     slots, records = range(1, 401), list[Record]()
     setup, office = months_priced(drawn, months, slots, 20, ["price"])
@@ -247,4 +248,4 @@ STREAMS: dict[str, tuple[Callable[[random.Random], Stream], int]] = {
     "a new file": (new_file, 2),
     "a file of schema 1": (of_schema_1, 2),
 }
-"""By name, with how many of twenty kills it gets."""
+"""The streams by name, with the number of kills, out of twenty, that each gets."""

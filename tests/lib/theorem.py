@@ -1,9 +1,9 @@
-"""How many definitions a statement of the proofs rests on: itself, and every one that its text leads to.
+"""Counts the definitions on which a statement of the proofs rests: itself, and every definition to which its text
+leads.
 
-`definitions_of`  all definitions of crates/*/specs, each with those that its text names.
-`rests_on`        those that a statement leads to, itself among them.
-`theorem_faults`  THEOREM says of each statement in its tables as many as there are.
-`import_faults`   no file of specs/ imports a definition of which it has only the name, as that of an argument.
+`definitions_of` all definitions of crates/*/specs, each with the definitions that its text names. `rests_on` those that
+a statement leads to, itself among them. `theorem_faults` THEOREM says of each statement in its tables as many as there
+are. `import_faults` no file of specs/ imports a definition of which it has only the name, as that of an argument.
 
 A definition is named by its crate, its file and its own name. A name in a text is one of the same file or one that the
 file imports; an argument with the name of a definition that the file imports counts as that definition. What the code declares (types,
@@ -60,7 +60,7 @@ def texts_of(path: Path, heads: dict[Name, Name]) -> Texts:
 
 
 def imports_of(path: Path) -> dict[str, Name]:
-    """What each name that a file imports means there; for a whole file, the name is empty."""
+    """The meaning of each name that a file imports; for a whole file, the name is empty."""
     names: dict[str, Name] = {}
     for crate, file, listed, alias in IMPORT.findall(path.read_text(encoding="utf-8")):
         for one in filter(None, map(str.strip, listed.split(","))):
@@ -72,7 +72,7 @@ def imports_of(path: Path) -> dict[str, Name]:
 
 
 def named_in(text: str, own: Name, imports: Mapping[str, Name], heads: Mapping[Name, Name]) -> Iterator[Name]:
-    """The definitions that the text of one names."""
+    """The definitions that the text of a definition names."""
     for owner, word in WORD.findall(text):
         if owner:
             whole = imports.get(owner)
@@ -87,7 +87,7 @@ def named_in(text: str, own: Name, imports: Mapping[str, Name], heads: Mapping[N
 
 @lru_cache(maxsize=1)
 def definitions_of() -> dict[Name, frozenset[Name]]:
-    """Each definition of crates/*/specs, with those that its text names."""
+    """Each definition of crates/*/specs, with the definitions that its text names."""
     heads: dict[Name, Name] = {}
     files = [(path, texts_of(path, heads)) for path in sorted(ROOT.glob("crates/*/specs/*.antt"))]
     return {
@@ -98,7 +98,8 @@ def definitions_of() -> dict[Name, frozenset[Name]]:
 
 
 def rests_on(*statements: Name) -> set[Name]:
-    """Every definition that statements lead to, these among them. KeyError: there is no such definition."""
+    """Every definition to which statements lead, including the statements themselves. KeyError: there is no such
+    definition."""
     every, reached, waiting = definitions_of(), set[Name](), list(statements)
     while waiting:
         if (name := waiting.pop()) not in reached:
@@ -115,7 +116,8 @@ def bound_in(name: str, text: str) -> set[str]:
 
 
 def import_faults(path: Path) -> Iterator[str]:
-    """The definitions that a file imports, and whose names it only binds: so counts would have what nothing rests on."""
+    """The definitions that a file imports, and whose names it only binds: counts would include definitions on which
+    nothing rests."""
     texts = {it.name: "\n".join(lines) for it, lines in texts_of(path, {}).items()}
     for name, meant in imports_of(path).items():
         users = {own for own, text in texts.items() if re.search(rf"(?<![\w.]){re.escape(name)}(?!\w)", text)}
@@ -124,7 +126,7 @@ def import_faults(path: Path) -> Iterator[str]:
 
 
 def theorem_faults(text: str) -> Iterator[str]:
-    """The rows of THEOREM whose number is another one, and the last row, if it is; and the imports that count too much."""
+    """The rows of THEOREM with a wrong number, the last row if it is wrong, and the imports that count too much."""
     for path in sorted(ROOT.glob("crates/*/specs/*.antt")):
         yield from import_faults(path)
     statements = list[Name]()

@@ -1,4 +1,4 @@
-"""Many like things that are tried, one after the other: what is wrong with them is told as one fault."""
+"""Many similar checks, one after the other, whose faults are reported as one."""
 
 from __future__ import annotations
 
@@ -7,11 +7,12 @@ from collections.abc import Iterable
 from .fault import Fault
 
 SHOWN, LONGEST = 3, 1000
-"""So many faults are told, and of each so many characters."""
+"""The most faults that are shown, and the most characters of each."""
 
 
 def fault_in(tried: Iterable[tuple[object, Fault]]) -> Fault:
-    """How many of those that were tried are wrong, and the first few; or that there was none to try."""
+    """The number of checks that found a fault, with the first few faults; or the fault that there was nothing to
+    check."""
     count, faults = 0, list[str]()
     for name, fault in tried:
         count += 1

@@ -1,4 +1,4 @@
-"""Tells which lines of cpi-tools no test reaches: `tests/run tests --long --coverage`.
+"""Lists the lines of cpi-tools that no test reaches: `tests/run tests --long --coverage`.
 
 It measures each process that reads cpi-tools: those of pytest, and those that tests start, by Debian's python3-coverage.
 A process is found by the folder of a user's packages, which the variable PYTHONUSERBASE names; a test that hands on no
@@ -30,11 +30,11 @@ import measuring
 
 measuring.wait({sources!r}, {notes!r})
 """
-"""What each process of Python does at its start."""
+"""The code that each Python process runs at its start."""
 
 
 def pytest_addoption(parser: pytest.Parser) -> None:
-    """The option."""
+    """Adds the option."""
     told = "tell which lines of tools/cpi_tools no test reaches"
     parser.getgroup("cpi").addoption("--coverage", action="store_true", help=told)
 
@@ -46,7 +46,7 @@ def pytest_configure(config: pytest.Config) -> None:
 
 
 class Reached(NamedTuple):
-    """The statements of a file by their lines, those that no test reaches, and these as they are told."""
+    """The statements of a file by their lines, the statements that no test reaches, and these as text."""
 
     file: str
     statements: list[int]
@@ -55,7 +55,7 @@ class Reached(NamedTuple):
 
 
 def reached(lines: Mapping[str, set[int]]) -> list[Reached]:
-    """What tests reach of each file, by the lines that were run."""
+    """The statements of each file that tests reach, from the lines that were run."""
     from coverage import Coverage  # type: ignore[import]
 
     found = Coverage(data_file=None, config_file=False)
@@ -93,7 +93,7 @@ def prepare(folder: Path) -> Path:
 
 
 class Untested:
-    """Measures until it tells, which it does before the last lines."""
+    """Measures until it prints the result, before the last lines."""
 
     def __init__(self) -> None:
         self.folder = Path(tempfile.mkdtemp(prefix="cpi-coverage-"))
@@ -105,13 +105,13 @@ class Untested:
         self.measuring.begin()
 
     def pytest_terminal_summary(self, terminalreporter: Any) -> None:
-        """Tells it."""
+        """Prints the result."""
         self.measuring.note()
         for line in told_of(reached(measuring.lines_of(str(self.notes)))):
             terminalreporter.write_line(line)
 
     def pytest_unconfigure(self) -> None:
-        """Leaves nothing behind."""
+        """Removes the folders."""
         if self.before is None:
             del os.environ[VARIABLE]
         else:

@@ -2,6 +2,7 @@
 
 from __future__ import annotations
 
+import importlib
 import re
 import subprocess
 from collections.abc import Callable, Iterator
@@ -43,8 +44,7 @@ def opened(needed: Needed) -> Iterator[Browser]:
 
 def read_by_zbar(picture: Path) -> list[str]:
     """What zbar reads in a picture in gray (PGM)."""
-    import zbar
-
+    zbar = importlib.import_module("zbar")
     head = re.match(rb"P5\s+(\d+)\s+(\d+)\s+255\s", picture.read_bytes())
     assert head
     scanned = zbar.Image(int(head[1]), int(head[2]), "Y800", picture.read_bytes()[head.end() :])

@@ -10,7 +10,7 @@ from pathlib import Path
 
 import pytest
 
-from cpi_tools.sheets.office_sheets import SHEETS
+from cpi_tools.sheets.record_rows import SHEETS
 from cpi_tools.office.program import Cpi
 from cpi_tools.sheets.sheet_files import Source
 from lib.places import ROOT
@@ -34,8 +34,8 @@ def converted(home: Path, form: str, to: Path, files: Sequence[Path], reads: str
         "--convert-to",
         form,
         "--outdir",
-        to,
-        *files,
+        str(to),
+        *map(str, files),
     ]
     subprocess.run(words, check=True, capture_output=True, timeout=240)
     assert len(os.listdir(to)) == len(files)
@@ -154,8 +154,10 @@ def test_a_spreadsheet_program_that_reads_decimal_commas_and_dates(cpi: Cpi, tmp
     found = told(run(cpi, "take-in", tmp_path / "books", *WORDS, "--check"), tmp_path / "books")
     assert found == [("5", "code", "10"), ("12", "code", "10"), ("4", "2026-01", "10"), ("6", "2026-01", "26")]
     rows = rows_of(tmp_path / "books/check/problems.csv")
-    assert rows[0]["because"].startswith("the plan of 2026: the cell is the date 2001-01-01, as a spreadsheet takes ")
-    assert rows[2]["because"] == '"2.10" is no number with the decimal sign ","'
+    assert rows[0]["because"].startswith(
+        "the plan of 2026: the cell contains the date 2001-01-01: a spreadsheet turns "
+    )
+    assert rows[2]["because"] == '"2.10" isn\'t a number with the decimal sign ","'
 
 
 def test_numbers_of_formulas_are_those_that_its_csv_shows(cpi: Cpi, tmp_path: Path) -> None:

@@ -6,6 +6,7 @@ Each figure that they find is one that `cpi table` prints. Pages are opened at t
 from __future__ import annotations
 
 import csv
+import importlib
 import io
 import json
 import subprocess
@@ -196,8 +197,7 @@ def test_r_reads_the_tidy_file(needed: Needed, pack: Path, latest: Latest) -> No
 
 def test_pandas_reads_the_files(needed: Needed, pack: Path, latest: Latest) -> None:
     needed("pandas")
-    import pandas
-
+    pandas = importlib.import_module("pandas")
     tidy = pandas.read_csv(pack / "data/cpi.csv", dtype={"code": str})
     found = {(row.month, row.code): (row.weight, row.chained, row.title) for row in tidy.itertuples()}
     assert found == {key: (int(row[1]), float(row[3]), row[7]) for key, row in latest.items()}
@@ -309,7 +309,9 @@ def test_the_calculator_in_its_page(opened: Browser, pack: Path, latest: Latest)
     six = [int(latest[month, "07"][3].replace(".", "")) for month in (then, now)]
     assert amount_in(opened, pack, then, now, "1234.56", "07", 6) == money(round_half_up(123_456 * six[1], six[0]))
     assert amount_in(opened, pack, then, now, "1000", "08", 6) is None
-    assert opened.value("document.getElementById('fault').textContent").endswith("has no index in one of these months.")
+    assert opened.value("document.getElementById('fault').textContent").endswith(
+        "has no index for one of these months."
+    )
     assert opened.told == []
 
 

@@ -70,7 +70,7 @@ def networks(needed: Callable[[str], str], tmp_path: Path) -> Iterator[Networks]
     with two_networks():
         sshd = subprocess.Popen([*enter[1], needed("sshd"), "-D", "-e", "-f", str(tmp_path / "sshd_config")])
         try:
-            yield Networks(*enter, (f"root@{SECOND}:.", "--ssh", ssh), dest)
+            yield Networks(enter[0], enter[1], (f"root@{SECOND}:.", "--ssh", ssh), dest)
         finally:
             sshd.terminate()
             sshd.wait()

@@ -23,7 +23,7 @@ Tables = dict[str, str]
 def nation(cpi: Cpi, tmp_path_factory: pytest.TempPathFactory) -> Path:
     """The file of the example's office, which no test writes to; beside it, in out, what the example wrote."""
     folder = tmp_path_factory.mktemp("nation")
-    words = [EXAMPLE, "--db", folder / "office.db", "--program", cpi.path, "--out", folder / "out"]
+    words = [str(EXAMPLE), "--db", f"{folder}/office.db", "--program", str(cpi.path), "--out", f"{folder}/out"]
     subprocess.run(words, check=True, capture_output=True)
     return folder / "office.db"
 

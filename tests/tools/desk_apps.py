@@ -8,15 +8,14 @@ import re
 import time
 from collections.abc import Iterator
 from pathlib import Path
-from typing import Any, Optional
+from typing import Any, NamedTuple, Optional
 
-from cpi_tools.desk.serve.app import make_app
+from cpi_tools.desk.serve.app import Reached, make_app
 from cpi_tools.desk.serve.desk import Desk, Given
-from cpi_tools.desk.serve.reach import Reached
-from cpi_tools.desk.serve.sent_twice import Once
+from cpi_tools.desk.serve.sent_forms import Once
 from cpi_tools.text.clocks import clock_of
 from cpi_tools.office.program import Cpi
-from cpi_tools.text.speech import SPEAKS_ENGLISH, Speech
+from cpi_tools.text.languages import SPEAKS_ENGLISH, Speech
 from lib.served import free_port
 from .loads import DESK_KEY, served
 from .page_forms import PageForm, forms_of
@@ -82,15 +81,20 @@ def words_of(page: str) -> str:
     return " ".join(html.unescape(re.sub("<[^>]*>", " ", page.partition("<main")[2])).split())
 
 
-class Application:
-    """An application over an office's file, which is served meanwhile or not; notes of the field are kept for so many
-    months, 0 if none are taken."""
+class Chosen(NamedTuple):
+    """What an application is given beside its office and its folder: for how many months notes of the field are kept,
+    0 if none are taken; its language; the file of supervisors, if there is one."""
 
-    def __init__(
-        self, cpi: Cpi, file: Path, room: Path, port: int, field_months: int = 0, speech: Speech = SPEAKS_ENGLISH
-    ):
-        self.cpi, self.file, self.room, self.port = cpi, file, room, port
-        self.field_months, self.speech = field_months, speech
+    field_months: int = 0
+    speech: Speech = SPEAKS_ENGLISH
+    supervisors: Optional[Path] = None
+
+
+class Application:
+    """An application over an office's file, which is served meanwhile or not."""
+
+    def __init__(self, cpi: Cpi, file: Path, room: Path, port: int, chosen: Chosen = Chosen()):
+        self.cpi, self.file, self.room, self.port, self.chosen = cpi, file, room, port, chosen
         self.desk = self._begun()
 
     def _begun(self) -> Desk:
@@ -98,10 +102,8 @@ class Application:
         copies = self.room.parent / "copies"
         copies.mkdir(mode=0o700, exist_ok=True)
         url = f"http://127.0.0.1:{self.port}"
-        given = Given(
-            url, self.file, self.room, str(self.cpi.path), 1800, CLOCK, copies, 8, self.field_months, speech=self.speech
-        )
-        desk = Desk(given)
+        given = Given(url, self.file, self.room, str(self.cpi.path), 1800, CLOCK, copies, 8, self.chosen.field_months)
+        desk = Desk(given._replace(speech=self.chosen.speech, supervisors=self.chosen.supervisors))
         # (tests send a form again at once to see that it is refused)
         desk.once = Once(known_for=0.0)
         self.app = make_app(desk, Reached(LISTEN, None))
@@ -125,13 +127,11 @@ class Application:
 
 
 @contextlib.contextmanager
-def applied(
-    cpi: Cpi, file: Path, room: Path, field_months: int = 0, speech: Speech = SPEAKS_ENGLISH
-) -> Iterator[Application]:
+def applied(cpi: Cpi, file: Path, room: Path, chosen: Chosen = Chosen()) -> Iterator[Application]:
     """An application over an office that is served."""
     port = free_port()
     with served(cpi, file, port, 100_000):
-        application = Application(cpi, file, room, port, field_months, speech)
+        application = Application(cpi, file, room, port, chosen)
         try:
             yield application
         finally:

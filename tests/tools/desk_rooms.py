@@ -9,7 +9,7 @@ from cpi_tools.desk.field import field_questions as question
 from cpi_tools.desk.records.desk_log import SAID, DeskLog
 from cpi_tools.desk.field.field_notes import FieldNotes, Of, Said
 from cpi_tools.desk.field.field_questions import FieldQuestions
-from cpi_tools.desk.looks.price_marks import NOTE, Marks, Price
+from cpi_tools.desk.looks.looks import NOTE, Marks, Price
 from cpi_tools.guard.copies.desk_files import seen_in
 
 MONTHS = 1200

@@ -15,7 +15,7 @@ import pytest
 
 from cpi_tools.office.copying import log_beside
 from cpi_tools.guard.follow import NOT_CARRIED, Follower
-from cpi_tools.guard.copies.office_marks import LAST_QUOTES, Marks, NotCarried
+from cpi_tools.guard.copies.mirrors import LAST_QUOTES, Marks, NotCarried
 from cpi_tools.guard.copies.places import Folder
 from cpi_tools.office.program import Cpi, record
 from cpi_tools.guard.copies.second_copies import NAMES, NOTE, OFFICE, REFUSED, fault_of, note_in, note_text, state_of
@@ -279,7 +279,7 @@ def test_a_place_at_which_sqlite_reads_nothing_gets_copies_too(
             raise sqlite3.OperationalError("locking protocol")
         return unchanged_office(path)
 
-    monkeypatch.setattr("cpi_tools.guard.copies.office_marks.unchanged_office", unread)
+    monkeypatch.setattr("cpi_tools.guard.copies.mirrors.unchanged_office", unread)
     follower = Follower(office, Folder(dest))
     assert follower.round() == "" and len(refused) == 1
     note = state_of(dest).last()

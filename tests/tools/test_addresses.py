@@ -19,7 +19,7 @@ import pytest
 import rdflib
 
 from cpi_tools.publish.figures.config import Config
-from cpi_tools.publish.figures.planned import Planned
+from cpi_tools.publish.figures.announcements import Planned
 from cpi_tools.office.public import Published
 from cpi_tools.publish.pack import publish
 from .published import LONG_AFTER, REVISED
@@ -205,7 +205,7 @@ def test_pages_are_html(site: Path) -> None:
 def test_the_page_for_a_wrong_address_works_at_any_depth(site: Path) -> None:
     """It has its style in it, and leads by whole addresses to pages that are there."""
     text = (site / "404.html").read_text(encoding="utf-8")
-    assert "<style>" in text and 'rel="stylesheet"' not in text and "There is no page at this address" in text
+    assert "<style>" in text and 'rel="stylesheet"' not in text and "Page not found" in text
     links = [it for it in re.findall(r'(?:href|src)="([^"]*)"', text) if it not in ("#main", "data:,")]
     assert links and all(it.startswith(ADDRESS) for it in links)
     assert all((site / (it.removeprefix(ADDRESS) or "index.html")).is_file() for it in links)

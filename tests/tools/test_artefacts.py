@@ -10,7 +10,7 @@ from xml.etree import ElementTree
 
 import pytest
 
-from cpi_tools.publish.forms.artefact_versions import Artefact, BadArtefacts, Versions, versions_after
+from cpi_tools.publish.forms.artefacts import Artefact, BadArtefacts, Versions, versions_after
 from cpi_tools.publish.figures.config import Config
 from cpi_tools.office.public import Published
 from cpi_tools.publish.figures.specials import Special

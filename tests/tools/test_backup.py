@@ -199,7 +199,7 @@ def test_what_can_not_be_backed_up_is_one_line_and_leaves_nothing(what: str, cpi
         "none": f"{office}: No such file or directory",
         "folder": f"{office} is no file",
         "empty": f"{office} is empty, so it is no office",
-        "text": f"{office}: cpi: database failed (the file is no office, another program holds it, or the disk failed;",
+        "text": f"{office}: cpi: database failed (the file isn't an office, another program holds it, or the disk failed;",
         "itself": f"{office} is the office itself",
         "its log": f"{log_beside(office)} is the office's log",
         "a pipe": f"{tmp_path}/pipe is no file, so nothing takes its place",

@@ -14,12 +14,12 @@ from zipfile import ZIP_DEFLATED, ZipFile
 import pytest
 
 from cpi_tools.sheets.cells import MOST_TOLD
-from cpi_tools.sheets.office_sheets import SHEETS
+from cpi_tools.sheets.record_rows import SHEETS
 from cpi_tools.sheets.price_store import PriceStore
 from cpi_tools.office.program import Cpi
 from cpi_tools.sheets.sheet_files import Source
 from cpi_tools.text.terminal import Fault
-from cpi_tools.sheets.workbook_parts import MOST_CELLS, MOST_HELD, MOST_SHEET_ROWS, MOST_TEXT, MOST_UNPACKED
+from cpi_tools.sheets.workbooks import MOST_CELLS, MOST_HELD, MOST_SHEET_ROWS, MOST_TEXT, MOST_UNPACKED
 from lib.places import ROOT
 from .habits import base, book, unpacks_to_much
 from .ran import rows_of, run
@@ -51,7 +51,7 @@ def measured(cpi: Cpi, folder: Path, *words: str) -> tuple[int, int]:
 def fault_of(path: Path) -> str:
     """The line that a workbook is refused by."""
     with pytest.raises(Fault) as told:
-        found = Source(path, SHEETS).streamed("prices")
+        found = Source(path, SHEETS).stream("prices")
         assert found
         for _ in found.rows:
             pass

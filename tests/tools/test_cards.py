@@ -9,7 +9,7 @@ from pathlib import Path
 
 import pytest
 
-from cpi_tools.publish.releases import card_drawing
+from cpi_tools.publish.releases import cards
 from cpi_tools.publish import pack as publishing
 from cpi_tools.publish.releases.cards import NO_CARDS, Cards, Drawing, is_from, with_source
 from cpi_tools.publish.figures.config import Config
@@ -74,20 +74,20 @@ class Counted:
 
     def png_of(self, svg: str) -> bytes:
         self.count += 1
-        return card_drawing.png_of(svg)
+        return cards.png_of(svg)
 
 
 def test_only_new_cards_are_drawn(monkeypatch: pytest.MonkeyPatch, tmp_path: Path) -> None:
     """Month by month each card is drawn once; another office's name draws them anew, and so does another version."""
     counted = Counted()
-    monkeypatch.setattr(card_drawing, "drawing", lambda: counted.drawing)
+    monkeypatch.setattr(cards, "drawing", lambda: counted.drawing)
     out, drawn = tmp_path / "public", []
     for tables, config in ((3, CONFIG), (4, CONFIG), (4, CONFIG), (4, CONFIG._replace(office="Prices"))):
         publish(two_years()[:tables], config, out, None, quiet)
         drawn.append(counted.count)
     assert drawn == [2, 3, 3, 6]
     another = Counted("one more")
-    monkeypatch.setattr(card_drawing, "drawing", lambda: another.drawing)
+    monkeypatch.setattr(cards, "drawing", lambda: another.drawing)
     publish(two_years()[:4], CONFIG._replace(office="Prices"), out, None, quiet)
     assert another.count == 3
 
@@ -124,7 +124,7 @@ def test_a_line_says_that_there_are_none(
 ) -> None:
     (tmp_path / "office.ini").write_text("[office]\nagency = N\narea = X\noffice = P\naddress = https://p.example\n")
     (tmp_path / "plain.ini").write_text("[office]\nagency = N\narea = X\noffice = P\n")
-    monkeypatch.setattr(card_drawing, "drawing", lambda: None)
+    monkeypatch.setattr(cards, "drawing", lambda: None)
     words = "publish", "--db", public_office.file, "--at", 5000  # type: ignore[attr-defined]
     told = run(cpi, *words, "--config", tmp_path / "office.ini", "--out", tmp_path / "public")  # type: ignore[arg-type]
     assert told.status == 0 and told.err.startswith("cpi-tools publish: releases have no cards: rsvg-convert")
@@ -138,7 +138,7 @@ def test_a_program_that_fails_is_told_in_a_line(tmp_path: Path, monkeypatch: pyt
     program.chmod(0o755)
     monkeypatch.setenv("PATH", str(tmp_path), prepend=":")
     with pytest.raises(Fault, match="^rsvg-convert ended with status 3: no room$"):
-        card_drawing.png_of("<svg/>")
+        cards.png_of("<svg/>")
     with pytest.raises(Fault, match="a card was drawn that is no PNG"):
         with_source(b"GIF89a", b"source")
 

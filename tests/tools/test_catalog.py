@@ -11,9 +11,9 @@ from rdflib import RDF, Literal, URIRef
 from rdflib.namespace import DCAT, DCTERMS, FOAF, XSD  # type: ignore[attr-defined]
 
 from cpi_tools.publish.releases.cards import NO_CARDS
-from cpi_tools.publish.site.catalog import MAILBOX
+from cpi_tools.publish.site.addresses import MAILBOX
 from cpi_tools.publish.figures.config import Config
-from cpi_tools.publish.figures.office_languages import OfficeLanguages, Own
+from cpi_tools.publish.figures.own_words import OfficeLanguages, Own
 from cpi_tools.office.public import Published
 from cpi_tools.publish.pack import publish
 

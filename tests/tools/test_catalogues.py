@@ -22,7 +22,7 @@ from lib.places import ROOT
 sys.path.insert(0, str(ROOT / "tools"))
 
 import catalogues  # noqa: E402
-from cpi_tools.sheets.months_of_texts import NAMES as NAMES_OF_MONTHS  # noqa: E402
+from cpi_tools.sheets.sheet_numbers import NAMES as NAMES_OF_MONTHS  # noqa: E402
 
 LANGUAGES = catalogues.codes(ROOT / "po")
 
@@ -154,7 +154,7 @@ NOT_YET = set[str]()
 
 OF_NO_LANGUAGE = re.compile(
     r"<(pre|script|style)\b.*?</\1>|<[^>]*>|&[a-z]+;|[\w.-]*\.(?:csv|xlsx|xml|json|px|html|zip)|https://doi\.org/"
-    r"|\b(?:SDMX|CSV|ML|SVG|SHA|DataCite)\b",
+    r"|\b(?:SDMX|CSV|ML|SVG|SHA|DataCite|PDF)\b",
     re.S,
 )
 """What every language has: tags, what a machine reads, names of files and of forms of data."""
@@ -185,14 +185,15 @@ def test_a_text_of_a_template_that_is_not_marked_is_found() -> None:
     assert left_in(template) == ["Some", "left"]
 
 
-CALLS = ("_", "message", "message_of", "columns", "heads", "marked", "of_others")
+CALLS = ("_", "message", "message_of", "columns", "heads", "mark_text", "of_others")
 """The functions whose strings catalogues have, and the one whose texts have no language."""
 
 MODULES = sorted(
     path
     for path in (ROOT / "tools/cpi_tools/desk").glob("*/*.py")
     # (what a command prints, and what the log's file has, is English)
-    if path.name not in ("serve_cli.py", "server.py", "desk_log.py") and path.parent.name not in ("month", "keys")
+    if path.name not in ("serve_cli.py", "server.py", "desk_log.py", "supervisor_rows.py")
+    and path.parent.name not in ("month", "keys")
 )
 
 
@@ -284,7 +285,7 @@ def test_there_are_three_languages_besides_the_source() -> None:
     arabic = catalogues.read(ROOT / "po", "ar")
     assert arabic.num_plurals == 6
     assert all(len(set(catalogues.forms_of(it))) > 1 for it in arabic if isinstance(it.id, tuple) and "count" in it.id[1]
-               and it.id[1] not in ("{count} to look at",))  # fmt: skip
+               and it.id[1] not in ("{count} to check",))  # fmt: skip
 
 
 def spoiled(text: str, string: Any, flags: Iterable[str] = ()) -> list[str]:
@@ -313,7 +314,7 @@ def test_what_is_wrong_with_a_catalogue_is_said() -> None:
     assert spoiled("One line.", ("Une ligne.", "La liste %(of_lines)s lignes.")) == [
         "'One line.': its places are ['lines'], and the translation has ['of_lines']"
     ]
-    link = 'The office signed it: <a href="check.html">how to check that</a>.'
+    link = 'The office signed it: <a href="check.html">how to check the signature</a>.'
     assert spoiled(link, "L’office l’a signé.") == [
         f"{link!r}: its tags are ['</a>', '<a href=\"check.html\">'], and the translation has []"
     ]
@@ -429,6 +430,6 @@ def test_a_language_that_is_gone_leaves_nothing(copied: Path) -> None:
 def test_a_shop_that_refuses_isnt_one_that_doesnt_answer(language: str, refusal: str, silence: str) -> None:
     """The reason `refused`, on the phone and in its list."""
     catalog = catalogues.read(ROOT / "po", language)
-    for text in ("The shop doesn’t tell", "Shop doesn’t tell"):
+    for text in ("The shop refused", "Shop refused"):
         told = str(catalog[text].string).lower()
         assert re.search(refusal, told) and not re.search(silence, told), told

@@ -9,9 +9,8 @@ from pathlib import Path
 
 import pytest
 
-from cpi_tools.guard.copies.carriers import SSH, Rsync, carrier_of
+from cpi_tools.guard.copies.carriers import CAME, CHANGES, SSH, Rsync, carrier_of
 from cpi_tools.guard.follow import Follower
-from cpi_tools.guard.copies.page_changes import CAME, CHANGES
 from cpi_tools.guard.copies.places import Elsewhere, Folder
 from cpi_tools.office.program import Cpi
 from cpi_tools.guard.promote import promote

@@ -9,8 +9,16 @@ from pathlib import Path
 
 import pytest
 
-from cpi_tools.guard.watch.certificates import Certificate, Place, Server, certificate_at, place
-from cpi_tools.guard.watch.machine_clock import MachineClock, machine_clock, timex
+from cpi_tools.guard.watch.probe_looks import (
+    Certificate,
+    MachineClock,
+    Place,
+    Server,
+    certificate_at,
+    machine_clock,
+    place,
+    timex,
+)
 from cpi_tools.text.terminal import Fault
 from lib.served import free_port
 from .needs import needed

@@ -15,7 +15,7 @@ import pytest
 from cpi_tools.publish.forms.pack_changes import LostChanges
 from cpi_tools.publish.figures.config import Config
 from cpi_tools.office.public import Published
-from cpi_tools.publish.figures.reasons import Reason
+from cpi_tools.publish.figures.announcements import Reason
 from cpi_tools.publish.figures.specials import Special
 from cpi_tools.publish.pack import check, publish
 from lib.pack_forms import Attributes, read_sdmx_ml
@@ -204,6 +204,21 @@ def test_an_observation_that_is_gone_is_deleted(published: list[Published], tmp_
     assert {it["TIME_PERIOD"][:4] for it in gone} == {"2025"}
 
 
+@pytest.mark.parametrize("years", [(1, 3), (3, 1), (1, 2), (2, 1)])
+def test_other_years_in_the_files_change_no_observation(
+    published: list[Published], tmp_path: Path, years: tuple[int, int]
+) -> None:
+    """A year moves from its archive into the files of all, or back: nothing of it is another one."""
+    then, now = (CONFIG._replace(years=it) for it in years)
+    out = written(until(first(published), "2027-02"), then, tmp_path / "public")
+    before, manifest = whole(out), (out / "manifest.json").read_bytes()
+    written(until(first(published), "2027-02"), now, out)
+    assert (changes(out), (out / "manifest.json").read_bytes()) == ([], manifest) and whole(out) == before
+    written(until(first(published), "2027-02"), then, out)
+    before, row = follow(out, until(first(published), "2027-03"), now, before)
+    assert {it["TIME_PERIOD"] for it in rows_of(read(out, row["name"], "csv"))} == {"2027-03"}
+
+
 # ---- what stays, and what is refused
 
 
@@ -257,6 +272,20 @@ def test_a_pack_elsewhere_is_followed(published: list[Published], tmp_path: Path
     for row in changes(one):
         for name in row["files"]:
             assert (tmp_path / "other" / name).read_bytes() == (one / name).read_bytes()
+
+
+def test_an_archive_of_a_pack_elsewhere_is_compared(published: list[Published], tmp_path: Path) -> None:
+    """The pack that is replaced has the archive that the new one takes, and the pack that is followed has another one."""
+    config, tables = CONFIG._replace(years=1), until(first(published), "2027-02")
+    out, elsewhere = tmp_path / "public", tmp_path / "elsewhere"
+    written(tables, config, out)
+    written(tables, config._replace(reference="2025"), elsewhere)
+    before = whole(elsewhere)
+    publish(until(first(published), "2027-03"), config, out, elsewhere / "manifest.json", quiet)
+    (row,) = changes(out)
+    found = rows_of(read(out, row["name"], "csv"))
+    assert applied(before, found) == whole(out)
+    assert {it["TIME_PERIOD"][:4] for it in found} == {"2025", "2026", "2027"}
 
 
 def test_an_office_without_sdmx_has_none(published: list[Published], tmp_path: Path) -> None:

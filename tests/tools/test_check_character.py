@@ -7,7 +7,7 @@ from collections.abc import Iterator
 
 import pytest
 
-from cpi_tools.desk.keys.sign_in import CHARACTERS, check_character
+from cpi_tools.desk.keys.keys_cli import CHARACTERS, check_character
 
 HEXADECIMAL = CHARACTERS[:16]
 

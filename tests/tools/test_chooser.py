@@ -270,22 +270,27 @@ def test_what_is_taken_home_has_all_digits(pack: Path, modules: Path) -> None:
 # ---- the address
 
 FAULTS = [
-    ("items=00+01.1.9x", "items", ["00"], "01.1.9x is no code such as 01.1.1, and no id of a special aggregate"),
-    ("items=../secret", "items", ["00"], "../secret is no code such as 01.1.1, and no id of a special aggregate"),
-    ("items=", "items", ["00"], "it names no item, such as items=00+01.1"),
-    ("show=index+level", "show", ["index"], "level is no measure; the measures are index, year, month, "),
-    ("from=2024-12", "from", "", "it is no month from 2025-01 to 2027-05"),
-    ("to=2027-13", "to", "", "it is no month from 2025-01 to 2027-05"),
-    ("from=2027-01&to=2026-12", "from", "", "it is after December 2026, the last month that is chosen"),
+    ("items=00+01.1.9x", "items", ["00"], "01.1.9x is neither a code such as 01.1.1 nor the id of a special aggregate"),
+    (
+        "items=../secret",
+        "items",
+        ["00"],
+        "../secret is neither a code such as 01.1.1 nor the id of a special aggregate",
+    ),
+    ("items=", "items", ["00"], "it names no item; an example is items=00+01.1"),
+    ("show=index+level", "show", ["index"], "level isn’t a measure; the measures are index, year, month, "),
+    ("from=2024-12", "from", "", "it isn’t a month from 2025-01 to 2027-05"),
+    ("to=2027-13", "to", "", "it isn’t a month from 2025-01 to 2027-05"),
+    ("from=2027-01&to=2026-12", "from", "", "it is after December 2026, the last month that you chose"),
     (
         "hundred=2027",
         "hundred",
         "same",
-        "it is neither same nor own, nor a year with twelve months or a month from 2024-12",
+        "it has to be same, own, a year with twelve months, or a month from 2024-12",
     ),
-    ("hundred=2024-11", "hundred", "same", "it is neither same nor own, nor a year or a month from 2024-12 to 2027-05"),
-    ("revision=0", "revision", "latest", "it is neither latest, nor a revision from 1 to 9, nor a moment such as "),
-    ("decimals=6", "decimals", "shown", "it is neither shown nor all"),
+    ("hundred=2024-11", "hundred", "same", "it has to be same, own, a year, or a month from 2024-12 to 2027-05"),
+    ("revision=0", "revision", "latest", "it has to be latest, a revision from 1 to 9, or a time such as "),
+    ("decimals=6", "decimals", "shown", "it has to be shown or all"),
 ]
 
 
@@ -300,8 +305,8 @@ def test_a_wrong_address_says_what_was_read(modules: Path, address: str, word: s
 def test_a_word_that_the_page_does_not_know_and_too_many_items(modules: Path) -> None:
     many = "+".join(f"01.1.1.1-{at:02}" for at in range(1, 22))
     found = told(modules, "return choice.choiceOf(words[0], words[1]);", f"?colour=red&items={many}", KNOWN)
-    words = "it is no word of this page; its words are items, show, from, to, hundred, revision, decimals"
-    assert [it["fault"] for it in found["faults"]] == [words, "it names 21 items, and the page takes 20"]
+    words = "this page doesn’t know this name; it knows items, show, from, to, hundred, revision, decimals"
+    assert [it["fault"] for it in found["faults"]] == [words, "it names 21 items, and the page shows at most 20"]
     assert len(found["choice"]["items"]) == 20
 
 

@@ -12,10 +12,10 @@ import pytest
 from bibtexparser.bparser import BibTexParser  # type: ignore[import]
 
 from cpi_tools.publish.releases.cards import NO_CARDS
-from cpi_tools.publish.releases.citations import Citation, bibtex, datacite, ris
+from cpi_tools.publish.releases.release_feeds import Citation, bibtex, datacite, ris
 from cpi_tools.text.clocks import clock_of
 from cpi_tools.publish.figures.config import BadConfig, Config, read_config
-from cpi_tools.publish.figures.office_languages import OfficeLanguages, Own
+from cpi_tools.publish.figures.own_words import OfficeLanguages, Own
 from cpi_tools.office.public import Published
 from cpi_tools.publish.pack import publish
 from lib.ris import read_ris

@@ -96,16 +96,16 @@ def test_a_later_revision_is_told_with_what_it_comes_to(levels: Path, published:
     revised, latest = asked(levels, notices, address("2025-06", REVISED, 1, "&now-revision=1"))
     index = rounded_up(level(published, NEW, "01"), 1)
     assert revised.startswith(
-        f"March 2026 was revised after revision 1: its index is {index // 10}.{index % 10} by revision 2"
+        f"March 2026 was revised after revision 1: its index is {index // 10}.{index % 10} in revision 2"
     )
     minor = amount(published, ("2025-06-r1.csv", NEW), "01", 1)
-    assert f"By the latest revisions the new amount is {minor[:-5]}\u202f{minor[-5:-2]}.{minor[-2:]} " in latest
+    assert f"With the latest revisions, the new amount is {minor[:-5]}\u202f{minor[-5:-2]}.{minor[-2:]} " in latest
     assert asked(levels, notices, address("2025-06", REVISED, 1)) == []
     # (addresses of earlier versions have the period in words)
     for same in ("2024-12", "December+2024"):
         assert asked(levels, notices, address("2025-06", REVISED, 1, f"&hundred={same}")) == []
     (other,) = asked(levels, notices, address("2025-06", REVISED, 1, "&hundred=2025"))
-    assert "with 2025 = 100. The office publishes it with December 2024 = 100 now" in other
+    assert "with 2025 = 100. The office now publishes it with December 2024 = 100, so" in other
     (of_set,) = asked(levels, notices, address("2025-06", REVISED, 1, "&now-revision=1", "FOOD"))
     assert "asks for revision 1 of March 2026. A special aggregate is computed from the latest revisions" in of_set
 
@@ -113,18 +113,22 @@ def test_a_later_revision_is_told_with_what_it_comes_to(levels: Path, published:
 @pytest.mark.parametrize(
     ("text", "said"),
     [
-        ("code=99", "The address has code=99. It has to be an item that the form offers."),
-        ("code=toString", "The address has code=toString. It has to be an item that the form offers."),
-        ("toString=1", "The address has \u201ctoString\u201d, which this page doesn't know. It knows amount, code,"),
+        ("code=99", "The address contains code=99. The value has to be an item that the form offers."),
+        ("code=toString", "The address contains code=toString. The value has to be an item that the form offers."),
+        (
+            "toString=1",
+            "The address contains \u201ctoString\u201d, which this page doesn't know. It knows amount, code,",
+        ),
         (
             "then=2031-01",
-            "The address has then=2031-01. It has to be a month such as 2024-12, from December 2024 to May 2027.",
+            "The address contains then=2031-01. The value has to be a month such as 2024-12, from December 2024 to May"
+            " 2027.",
         ),
-        ("decimals=2", "The address has decimals=2. It has to be 1 or 6."),
-        ("now=2026-03&now-revision=3", "The address has now-revision=3. March 2026 has the revisions 1 to 2."),
-        ("now=2026-03&now-revision=x", "The address has now-revision=x. March 2026 has the revisions 1 to 2."),
-        ("then-revision=1", "The address has then-revision=1. It needs the month too."),
-        ("item=00", "The address has \u201citem\u201d, which this page doesn't know. It knows amount, code,"),
+        ("decimals=2", "The address contains decimals=2. The value has to be 1 or 6."),
+        ("now=2026-03&now-revision=3", "The address contains now-revision=3. March 2026 has the revisions 1 to 2."),
+        ("now=2026-03&now-revision=x", "The address contains now-revision=x. March 2026 has the revisions 1 to 2."),
+        ("then-revision=1", "The address contains then-revision=1, so it needs the month too."),
+        ("item=00", "The address contains \u201citem\u201d, which this page doesn't know. It knows amount, code,"),
     ],
 )
 def test_an_address_that_asks_in_vain_is_told_so(levels: Path, text: str, said: str) -> None:
@@ -143,11 +147,11 @@ def test_the_texts_to_take(levels: Path, published: list[Published]) -> None:
     plain = {ord(it): None for it in "\u2068\u2069"}
     then, now = (rounded_up(level(published, name, "00"), 1) for name in ("2025-06-r1.csv", OLD))
     then_text, now_text = (f"{it // 10}.{it % 10}" for it in (then, now))
-    begins = "The amount follows the Consumer price index, All items (00), of Office of prices, as it is printed, with one decimal."
+    begins = "The amount follows the Consumer price index, All items (00), of Office of prices, as printed, with one decimal place."
     assert clause.translate(plain).startswith(
-        f"{begins} It counts from the index of June 2025: {then_text} (revision 1, "
+        f"{begins} The base index is the index of June 2025: {then_text} (revision 1, "
     )
-    assert "with December 2024 = 100" in clause and "to the nearest 0.01, halves upwards" in clause
+    assert "with December 2024 = 100" in clause and "to the nearest 0.01, with halves rounded up" in clause
     assert f"March 2026: {now_text} (revision 1, published 1 January 1970" in result and result.endswith(
         ". https://there"
     )
@@ -173,17 +177,18 @@ def test_a_clause_names_the_month_the_revision_and_what_follows(levels: Path) ->
     falls, the amount falls or stays; if it ends, a successor counts, and of a part else all items."""
     first = clause_of(levels, "01", "")
     assert (
-        "At each adjustment date the index of the latest month is due that the office has published by then." in first
+        "At each adjustment date, the index that applies is the index of the latest month that the office has"
+        " published by then." in first
     )
-    assert "It counts as it was first published: a later revision of that month changes nothing." in first
-    assert "If the index that is due is lower than the one before, the amount falls with it." in first
-    assert first.endswith("linked at the last month that has both; if it names none, that of all items does.")
+    assert "It applies as first published: a later revision of that month changes nothing." in first
+    assert "If the index that applies is lower than the one before, the amount falls with it." in first
+    assert first.endswith(
+        "linked in the last month for which both exist. If it names none, the index of all items replaces it."
+    )
     other = clause_of(levels, "00", "&later=day&fall=stays")
-    assert (
-        "It counts by its latest revision at the adjustment date: a revision after that date changes nothing." in other
-    )
-    assert "If the new amount would be lower than the amount that is paid, the amount stays as it is." in other
-    assert other.endswith("takes its place, linked at the last month that has both.")
+    assert "Its latest revision at the adjustment date applies: a revision after that date changes nothing." in other
+    assert "If the new amount would be lower than the amount paid until then, the amount stays unchanged." in other
+    assert other.endswith("replaces it, linked in the last month for which both exist.")
 
 
 def test_an_address_keeps_what_a_contract_says_of_revisions_and_falls(levels: Path) -> None:
@@ -192,7 +197,7 @@ def test_an_address_keeps_what_a_contract_says_of_revisions_and_falls(levels: Pa
     assert "&decimals=1&later=day&fall=stays&then-revision=" in kept
     assert "later" not in asked(levels, read, address("2025-06", REVISED, 1, "&later=first&fall=follows"))
     found = asked(levels, "c.readAddress(given[0], data)", "later=never")
-    assert found["faults"] == ["The address has later=never. It has to be first or day."]
+    assert found["faults"] == ["The address contains later=never. The value has to be first or day."]
 
 
 AMOUNTS = {
@@ -220,5 +225,5 @@ def test_an_amount_is_read_in_the_digits_of_any_keyboard(levels: Path) -> None:
     found = asked(levels, "given[0].map(([text, digits]) => c.amountOf(text, digits))", given)
     assert dict(zip(given, found)) == AMOUNTS
     said = asked(levels, "c.badAmount(2, '1,234')")
-    assert said == "1,234 can be read as 1234 or as 1.234. Write the amount such as 1234.50."
-    assert asked(levels, "c.badAmount(2, 'x')").endswith("with at most 2 decimals, such as 1234.50.")
+    assert said == "1,234 can be read as 1234 or as 1.234. Write the amount like this: 1234.50."
+    assert asked(levels, "c.badAmount(2, 'x')").endswith("with at most 2 decimal places, such as 1234.50.")

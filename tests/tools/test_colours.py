@@ -7,7 +7,7 @@ from pathlib import Path
 
 import pytest
 
-from cpi_tools.publish.figures.colours import DARK_GROUNDS, LIGHT_GROUNDS, Colours, contrast, mixed
+from cpi_tools.publish.figures.own_words import DARK_GROUNDS, LIGHT_GROUNDS, Colours, contrast, mix
 from cpi_tools.publish.figures.config import BadConfig, Config, read_config
 from cpi_tools.publish.pack import publish
 from cpi_tools.text.page_templates import TEMPLATES
@@ -26,7 +26,7 @@ def test_contrasts_are_those_of_wcag() -> None:
     assert contrast("#000000", "#ffffff") == contrast("#ffffff", "#000000") == pytest.approx(21)
     assert contrast("#777777", "#ffffff") == pytest.approx(4.48, abs=0.005)
     assert contrast("#767676", "#ffffff") == pytest.approx(4.54, abs=0.005)
-    assert mixed("#000000", "#ffffff") == "#595959"  # 0.35 * 255 is 89.25
+    assert mix("#000000", "#ffffff") == "#595959"  # 0.35 * 255 is 89.25
 
 
 def test_the_grounds_are_those_of_the_style() -> None:
@@ -67,6 +67,6 @@ def test_it_is_on_each_page_and_nowhere_without_the_words(tmp_path: Path) -> Non
     plain = (TEMPLATES / "style.css").read_text(encoding="utf-8")
     assert (tmp_path / "plain/assets/style.css").read_text(encoding="utf-8") == plain
     assert style.startswith(plain) and style.removeprefix(plain) == Colours(WINE, ROSE).style
-    assert f"--accent: {WINE}; --accent-soft: {mixed(WINE, '#ffffff')};" in style and f"--accent: {ROSE};" in style
+    assert f"--accent: {WINE}; --accent-soft: {mix(WINE, '#ffffff')};" in style and f"--accent: {ROSE};" in style
     assert f"--accent: {WINE};" in (tmp_path / "own/404.html").read_text(encoding="utf-8")
     assert WINE not in (tmp_path / "plain/404.html").read_text(encoding="utf-8")

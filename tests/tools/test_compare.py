@@ -14,7 +14,7 @@ import pytest
 
 from cpi_tools.command_line import main
 from cpi_tools.office.compare import PUBLISHED, compare, shifts
-from cpi_tools.office.formulas import FORMULAS, ONE, carli, dutot, jevons
+from cpi_tools.office.price_rules import FORMULAS, ONE, carli, dutot, jevons
 from cpi_tools.office.program import Cpi
 from cpi_tools.office.stored import stored_office
 from cpi_tools.text.terminal import Fault

@@ -1,4 +1,4 @@
-"""`cpi_tools.desk.serve.copies`: the copies that the pages read, while the office goes on and as the application ends."""
+"""The copies that the desk's pages read (`watched_office`), while the office goes on and as the application ends."""
 
 from __future__ import annotations
 
@@ -7,7 +7,7 @@ from pathlib import Path
 import pytest
 
 from cpi_tools.office.copying import right_copy
-from cpi_tools.desk.serve.copies import Copies
+from cpi_tools.desk.serve.watched_office import Copies
 from cpi_tools.office.program import Cpi
 from cpi_tools.text.terminal import Fault
 from .loads import faults_of
@@ -35,7 +35,7 @@ def test_no_copy_is_taken_once_the_application_ends(office: Path, tmp_path: Path
     copies = Copies(office, tmp_path)
     copies.close()
     for ask in (copies.renew, copies.latest().__enter__):
-        with pytest.raises(Fault, match="takes no further copy of the office"):
+        with pytest.raises(Fault, match="makes no further copy of the office"):
             ask()
     assert list(tmp_path.glob("cpi-desk-*")) == []
 
@@ -49,7 +49,7 @@ def test_a_copy_that_is_taken_while_the_application_ends_goes(
         copies.close()
         return right_copy(file, folder)
 
-    monkeypatch.setattr("cpi_tools.desk.serve.copies.right_copy", ends_meanwhile)
-    with pytest.raises(Fault, match="takes no further copy of the office"):
+    monkeypatch.setattr("cpi_tools.desk.serve.watched_office.right_copy", ends_meanwhile)
+    with pytest.raises(Fault, match="makes no further copy of the office"):
         copies.renew()
     assert list(tmp_path.glob("cpi-desk-*")) == []

@@ -16,10 +16,9 @@ import pytest
 from cpi_tools.office.folders import files_of
 from cpi_tools.office.public import Published
 from cpi_tools.publish.figures.config import BadConfig, Config, read_config
-from cpi_tools.publish.figures.core_definitions import BadCore, CoreDefinition, definitions_of
-from cpi_tools.publish.figures.core_measures import Changes
-from cpi_tools.publish.figures.reasons import Reason
-from cpi_tools.publish.figures.specials import Special
+from cpi_tools.publish.figures.specials import BadCore, CoreDefinition, Special, definitions_of
+from cpi_tools.publish.figures.aggregated import Changes
+from cpi_tools.publish.figures.announcements import Reason
 from cpi_tools.publish.forms.published_core import NoCoreFile, OtherCore
 from cpi_tools.publish.pack import check, publish
 from lib.core_again import Measure, core_again, figure_of
@@ -221,7 +220,7 @@ def test_pages_have_them(first: Path, again: dict[tuple[str, str, str], str]) ->
     captions, headings = (re.findall(f"<{it}[^>]*>(.*?)</{it}>", page) for it in ("caption", "h2"))
     assert len(captions) == len(headings) == 2 and not {*captions} & {*headings}
     words = words_of(first / "core.html")
-    assert "without 24 percent of all weight at the lower end and 31.25 percent at the upper end" in words
+    assert "without 24 percent of the total weight at the lower end and 31.25 percent at the upper end" in words
     assert 'href="core.html"' in home
 
 

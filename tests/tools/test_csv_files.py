@@ -9,7 +9,7 @@ from pathlib import Path
 import pytest
 
 from . import surveys
-from cpi_tools.text.csv_files import Writer, formulas_told, is_formula
+from cpi_tools.text.text_files import Writer, formulas_told, is_formula
 from cpi_tools.office.program import Cpi
 from .ran import rows_of, run
 

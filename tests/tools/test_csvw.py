@@ -10,9 +10,9 @@ import pytest
 
 from cpi_tools.publish.figures.config import Config
 from cpi_tools.publish.site.csvw import COLUMNS
-from cpi_tools.publish.figures.office_languages import OfficeLanguages
+from cpi_tools.publish.figures.own_words import OfficeLanguages
 from cpi_tools.office.public import Published
-from cpi_tools.publish.figures.reasons import Reason
+from cpi_tools.publish.figures.announcements import Reason
 from cpi_tools.publish.figures.specials import Special
 from cpi_tools.publish.pack import publish
 from lib.csvw import faults_of, metadata_of, schema_of

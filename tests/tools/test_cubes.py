@@ -11,8 +11,8 @@ from typing import Optional
 import pytest
 
 from cpi_tools.publish.figures.config import Config
-from cpi_tools.publish.figures.office_languages import OfficeLanguages, Own
-from cpi_tools.publish.figures.planned import Planned
+from cpi_tools.publish.figures.own_words import OfficeLanguages, Own
+from cpi_tools.publish.figures.announcements import Planned
 from cpi_tools.office.public import Listed, Published
 from cpi_tools.publish.pack import publish
 from lib.pack_forms import read_json_stat, read_px
@@ -99,7 +99,7 @@ def test_what_json_stat_says_of_its_cells(pack: Path) -> None:
         "Index: 2025 = 100.",
         "Break: from January 2027 on, December 2026 = 100; not linked to the earlier levels.",
     ]
-    assert items["note"]["NORTH"][1] == "Break: from January 2026 on, other elementary aggregates are in it."
+    assert items["note"]["NORTH"][1] == "Break: from January 2026 on, it contains other elementary aggregates."
     units = data["dimension"]["measure"]["category"]["unit"]
     assert units["index"] == {"label": "points", "decimals": 6} and units["weight"]["decimals"] == 0
     assert data["label"] == 'The "index"' and data["updated"].endswith("Z")
@@ -141,7 +141,7 @@ def test_what_px_says_of_its_cells(pack: Path, breaks: set[tuple[str, str]]) -> 
     assert len(noted) == 2 * len(breaks)
     assert 'CELLNOTE("01.1.6 Fruit","Index","January 2027")' in noted
     assert head['PRECISION("Figure","Index")'] == ["1"] and 'PRECISION("Figure","Weight in use")' not in head
-    assert head['UNITS("Change on the year before")'] == ["percent"]
+    assert head['UNITS("Annual change")'] == ["percent"]
 
 
 def test_px_says_what_pxweb_must_not_add_up(pack: Path) -> None:

@@ -21,7 +21,7 @@ from .test_desk_app_publish import with_site
 from .test_desk_app_shown import sends
 
 FAR = 4_000_000_000
-OLD = "Phones may show an old deadline: their file couldn't be written."
+OLD = "Phones may show an old deadline, because their file couldn't be written."
 
 
 @pytest.fixture
@@ -97,7 +97,7 @@ def test_without_a_website_no_file_is_written(cpi: Cpi, tmp_path: Path, calendar
     with applied(cpi, surveys.small(cpi, tmp_path), tmp_path / "room") as it:
         ada = it.person("Ada")
         sends(ada, f"calendar,2096-09,{FAR - 9},{FAR},{FAR}\n")
-        assert "Put the new one there after each window that you set" in ada.words("/calendar")
+        assert "Put the new file there after each window that you set" in ada.words("/calendar")
         with it.desk.copies_now() as copy, read_copy(copy.path) as office:
             assert office.calendar()[-1].closes == FAR
     assert not calendar.exists()

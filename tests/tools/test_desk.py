@@ -20,8 +20,8 @@ import pytest
 
 from . import surveys
 from cpi_tools.command_line import main
-from cpi_tools.desk.month import influence, unusual
-from cpi_tools.office.formulas import jevons
+from cpi_tools.desk.month import unusual
+from cpi_tools.office.price_rules import jevons
 from cpi_tools.office.program import Cpi, record
 from lib.places import ROOT
 from lib.served import free_port
@@ -159,7 +159,7 @@ def test_a_month_with_few_revisions_left_takes_more_copies(
     surveys.long(cpi, path, month)
     words = ("desk", "month", path, month, "--at", closes(month), "--left-out", 9, "--out")
     assert run(cpi, *words, tmp_path / "many").status == 0
-    monkeypatch.setattr(influence, "MOST_REVISIONS", 1)
+    monkeypatch.setattr(unusual, "MOST_REVISIONS", 1)
     assert run(cpi, *words, tmp_path / "one").status == 0
     told, again = ((tmp_path / name / "influence.csv").read_bytes() for name in ("many", "one"))
     assert told == again and told.count(b"\n") == 10
@@ -196,8 +196,8 @@ def test_the_small_office_by_hand(cpi: Cpi, small: Path, tmp_path: Path) -> None
     out = tmp_path / "out"
     ran = run(cpi, "desk", "month", small, "2026-02", "--at", 4000, "--out", out)
     assert (ran.status, ran.err) == (0, "")
-    assert "As things stand, all items would be at 105.7: 1.5 percent on the month before." in ran.out
-    assert "is that of Food and drink: +1.456" in ran.out
+    assert "As things stand, all items would be at 105.7: the monthly change would be 1.5 percent." in ran.out
+    assert "comes from Food and drink: +1.456" in ran.out
     assert (out.stat().st_mode & 0o777, (out / "month.html").is_file()) == (0o700, True)
     cells = functools.partial(cells_of, out)
     assert cells("collectors") == [
@@ -251,7 +251,7 @@ def test_prices_to_look_at_again(cpi: Cpi, small: Path, tmp_path: Path) -> None:
     assert cpi.replay(sent, db=small) == [{"high": 492, "last": 246, "low": 123, "refused": 26}, {"receipt": 4}]
     assert run(cpi, "desk", "month", small, "2026-02", "--at", 3600, "--out", tmp_path / "out").status == 0
     (row,) = rows_of(tmp_path / "out" / "outliers.csv")
-    why = "confirmed, the only price that is compared in its aggregate"
+    why = "confirmed, the only compared price in its aggregate"
     assert [*row.values()][4:] == ["246", "2520", "924.4", why]
 
 
@@ -494,8 +494,8 @@ def test_words_that_are_none_are_refused_by_status_2(cpi: Cpi, small: Path, capf
 def test_a_frozen_month_is_reported_as_it_stands(cpi: Cpi, small: Path, tmp_path: Path) -> None:
     out = tmp_path / "out"
     ran = run(cpi, "desk", "month", small, "2026-01", "--at", 4000, "--out", out)
-    assert ran.status == 0 and "All items are at 104.2: 4.2 percent on the month before." in ran.out
-    assert "2026-01 at 1970-01-01 01:06 UTC: frozen, revision 1; published from 1970-01-01 00:50 UTC on" in ran.out
+    assert ran.status == 0 and "All items are at 104.2: the monthly change is 4.2 percent." in ran.out
+    assert "2026-01 at 1970-01-01 01:06 UTC: frozen, revision 1; release time 1970-01-01 00:50 UTC" in ran.out
     table = cpi.table(small, "2026-01", "csv", 3000)
     assert (out / "provisional.csv").read_bytes() == table
 

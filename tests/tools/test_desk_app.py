@@ -16,11 +16,9 @@ import pytest
 from . import surveys
 from cpi_tools.desk.looks.glance import Glance, Share
 from cpi_tools.desk.looks.month_views import time_left
-from cpi_tools.desk.serve.observations import Observed, Seen
-from cpi_tools.desk.serve.app import make_app
-from cpi_tools.desk.serve.reach import Reached
-from cpi_tools.desk.serve.sessions import LONGEST_SESSION, NotSignedIn, Sessions
-from cpi_tools.desk.serve.wrong_keys import FREE_TRIES, MOST_ADDRESSES, Tries
+from cpi_tools.desk.serve.watched_office import Observed, Seen
+from cpi_tools.desk.serve.app import Reached, make_app
+from cpi_tools.desk.serve.sessions import FREE_TRIES, LONGEST_SESSION, MOST_ADDRESSES, NotSignedIn, Sessions, Tries
 from cpi_tools.office.program import Cpi
 from cpi_tools.office.stored import Window
 from cpi_tools.office.trial import State
@@ -168,7 +166,7 @@ def test_without_a_front_the_name_of_one_is_refused_with_what_to_set(application
     answer = application.person().client.get("/sign-in", base_url="http://prices.example")
     assert answer.status_code == 400 and "Set-Cookie" not in answer.headers
     words = words_of(answer.text)
-    assert "This application isn't prices.example : it is reached as http://127.0.0.1:8090/ ." in words
+    assert "This application can't be reached as prices.example : its address is http://127.0.0.1:8090/ ." in words
     assert "CPI_DESK_FRONT" in words
     assert (Reached("[::1]:8090", None).trusted_proxy, Reached("[::1]:8090", "https://x/").trusted_proxy) == (
         None,
@@ -345,9 +343,9 @@ def test_earlier_months_are_set_beside_a_month(tmp_path: Path) -> None:
         seen.note(Seen(month, after, 80, priced, -1))
     again = Observed(tmp_path)
     assert [it.after for it in again.rows] == [1000, 2000, 900]
-    found = again.expected(202603, 1999)
+    found = again.expect(202603, 1999)
     assert found and [*found.months] == [(202602, "50.0"), (202601, "12.5")]
-    assert again.expected(202602, 500) is None and again.expected(202601, 5000) is None
+    assert again.expect(202602, 500) is None and again.expect(202601, 5000) is None
 
 
 def test_a_collector_is_heard_only_when_an_entry_is_new(tmp_path: Path) -> None:

@@ -9,7 +9,7 @@ from typing import Optional
 import pytest
 
 from cpi_tools.office.copying import private_copy
-from cpi_tools.desk.records.item_bounds import bound_of, percent_of
+from cpi_tools.desk.records.sample_kinds import bound_of, percent_of
 from cpi_tools.office.program import Cpi
 from cpi_tools.office.stored import read_copy
 
@@ -107,8 +107,8 @@ def test_a_file_of_before_is_refused_with_what_it_means(application: Application
     """It has thousandths, which nobody can tell from percents without a sign."""
     text = "item,text,unit,low,high,slots\nTEA,Tea,100 g,550,1900,0\n"
     words = words_of(ada.follow(ada.fill("/sample/items", "/items/judge", 1, pasted=text)).text)
-    assert "550 ” isn't read as a lower bound. Wanted is a change in percent with its sign, from" in words
-    assert "If 550 is in thousandths of the last price, as in files of before, write \u221245 % ." in words, words
+    assert "550 ” isn't a lower bound. Write a change in percent with its sign, from" in words
+    assert "If 550 is in thousandths of the last price, as in earlier files, write \u221245 % ." in words, words
     assert "TEA" not in items(application)
 
 
@@ -117,7 +117,7 @@ def test_a_text_that_is_no_bound_stays_as_it_was_typed_with_why(application: App
     page = ada.get("/sample/items")
     words = words_of(page.text)
     assert "TEA Tea, black 100 g -45 % 1.9" in words and "1019" not in page.text and "Send 1 row" not in words
-    assert "1.9 ” isn't read as an upper bound. Wanted is a change in percent with its sign, from 0 % to" in words
+    assert "1.9 ” isn't an upper bound. Write a change in percent with its sign, from 0 % to" in words
     number = application.desk.tray.rows(ADA, "items")[0].number
     mended = ada.get(f"/sample/items?mend={number}").text
     assert 'name="high" value="1.9"' in mended and 'name="low" value="-45 %"' in mended
@@ -128,7 +128,7 @@ def test_a_text_that_is_no_bound_stays_as_it_was_typed_with_why(application: App
 def test_pasted_rows_are_read_so_too_and_the_others_are_sent(application: Application, ada: Person) -> None:
     ada.fill("/sample/items", "/items/judge", 1, pasted="TEA\tTea\t100 g\t-50 %\t+100 %\nSALT\tSalt\t1 kg\t500\t2000\n")
     words = ada.words("/sample/items")
-    assert "Send 1 row" in words and "SALT Salt 1 kg 500 2000" in words and "500 ” isn't read as a lower bound" in words
+    assert "Send 1 row" in words and "SALT Salt 1 kg 500 2000" in words and "500 ” isn't a lower bound" in words
     ada.fill("/sample/items", "/items/send")
     assert items(application)["TEA"] == (500, 2000) and "SALT" not in items(application)
     assert "SALT Salt 1 kg 500 2000" in ada.words("/sample/items")

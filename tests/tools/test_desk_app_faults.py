@@ -16,8 +16,8 @@ import pytest
 
 from . import surveys
 from cpi_tools.office.program import Cpi
-from cpi_tools.text.speech import Speech, speech_of
-from .desk_apps import ADA, BEN, Application, Person, applied
+from cpi_tools.text.languages import Speech, speech_of
+from .desk_apps import ADA, BEN, Application, Chosen, Person, applied
 from lib.served import free_port
 from .loads import served
 from .nobodys import greek, nobodys_in, seen_of
@@ -39,7 +39,7 @@ def speech(tmp_path: Path, monkeypatch: pytest.MonkeyPatch) -> Speech:
 @pytest.fixture
 def application(cpi: Cpi, tmp_path: Path, speech: Speech) -> Iterator[Application]:
     """An application whose pages speak it."""
-    with applied(cpi, surveys.small(cpi, tmp_path), tmp_path / "room", speech=speech) as it:
+    with applied(cpi, surveys.small(cpi, tmp_path), tmp_path / "room", Chosen(speech=speech)) as it:
         yield it
 
 
@@ -63,7 +63,7 @@ def full(*_: object) -> NoReturn:
     raise OSError(errno.ENOSPC, os.strerror(errno.ENOSPC))
 
 
-FULL = "The disk is full: make room on it, then do this again."
+FULL = "The disk is full: free some space, then try again."
 
 
 def test_a_full_disk_is_told_wherever_it_is_met(
@@ -92,7 +92,7 @@ def test_a_full_disk_is_told_wherever_it_is_met(
 def test_an_office_that_is_away_is_told(cpi: Cpi, tmp_path: Path, speech: Speech) -> None:
     file, port = surveys.small(cpi, tmp_path), free_port()
     with served(cpi, file, port, 100_000) as office:
-        application = Application(cpi, file, tmp_path / "room", port, speech=speech)
+        application = Application(cpi, file, tmp_path / "room", port, Chosen(speech=speech))
         ada = application.person(ADA)
         offered = ada.sent("/records/judge", text="outlet,12,\u0393\n").text
         ada.post("/sample/outlets/judge", pasted="13,\u0393")
@@ -116,7 +116,7 @@ def garbage(file: Path) -> None:
     [
         (lambda file: file.write_bytes(b""), "The office's file can't be copied, or the copy can't be read."),
         (garbage, "The office's file can't be copied, or the copy can't be read."),
-        (Path.unlink, "A file or a folder isn't there: put it back, then do this again."),
+        (Path.unlink, "A file or a folder is missing: put it back, then try again."),
     ],
     ids=["empty", "garbage", "gone"],
 )
@@ -136,11 +136,11 @@ def test_a_file_that_is_no_office_is_told(
 def test_a_program_that_ends_is_told(application: Application, ada: Person) -> None:
     application.desk.cpi.path = Path("/bin/false")
     answer = ada.post("/records/judge", text="outlet,12,\u0393\n")
-    assert told(answer, 400, "cpi ended before it had an answer.") == ["cpi ended with status 1"]
+    assert told(answer, 400, "cpi ended before it gave an answer.") == ["cpi ended with status 1"]
     answer = ada.post(f"/month/{MONTH}/what-if", text="8/1=missing")
-    assert told(answer, 400, "cpi ended before it had an answer.") == ["cpi ended with status 1"]
+    assert told(answer, 400, "cpi ended before it gave an answer.") == ["cpi ended with status 1"]
     application.tried(ada, MONTH)
-    assert told(ada.get(f"/month/{MONTH}/table"), 200, "The last trial came to nothing:", "cpi ended before it had")
+    assert told(ada.get(f"/month/{MONTH}/table"), 200, "The last trial failed:", "cpi ended before it gave")
 
 
 WHAT_IF = ("nonsense", "99/1=missing", "8/1=ten", "01.1.9=x", "8/1=", "8/1=0", "=", "\u03b3")
@@ -150,22 +150,22 @@ WHAT_IF = ("nonsense", "99/1=missing", "8/1=ten", "01.1.9=x", "8/1=", "8/1=0", "
 def test_what_cannot_be_tried_is_told(ada: Person, text: str) -> None:
     answer = ada.post(f"/month/{MONTH}/what-if", text=text)
     if text == "99/1=missing":
-        assert told(answer, 400, "Nobody has the slot 99/1: write a collector and a slot") == []
+        assert told(answer, 400, "No collector has the slot 99/1: write a collector and a slot") == []
     else:
-        assert told(answer, 400, "Line 1: ", "can't be tried. Wanted is a price like") == []
+        assert told(answer, 400, "Line 1: ", "can't be tried. Write a price like") == []
     assert text in answer.text.partition("<textarea")[2]
 
 
 RECORDS = {
-    'outlet,12,"A\n': "Line 1 isn't read as CSV: look at its quotation marks.",
-    'outlet,12,"A" B\n': "Line 1 isn't read as CSV: look at its quotation marks.",
+    'outlet,12,"A\n': "Line 1 can't be read as CSV: check its quotation marks.",
+    'outlet,12,"A" B\n': "Line 1 can't be read as CSV: check its quotation marks.",
     "nothing,1\n": "Line 1: ",
-    f"freeze,{MONTH}\n": "Line 1: a month is frozen on its own page",
-    "": "There are no records: write one a line",
-    "calendar,2026-03,1,2\n": "Refused by 10.",
-    "calendar,2026-02,5000,4000,6000\n": "Refused by ",
-    'plan,2027,"T,00,\u0391\nW,01.1.1.1-01,5\n"\n': "Refused by 44.",
-    'plan,2026,"T,00,\u0391\nW,01.1.1.1-01,1000000\n"\n': "Refused by ",
+    f"freeze,{MONTH}\n": "Line 1: freeze a month on its own page",
+    "": "There are no records: write one record per line",
+    "calendar,2026-03,1,2\n": "Refused with 10.",
+    "calendar,2026-02,5000,4000,6000\n": "Refused with ",
+    'plan,2027,"T,00,\u0391\nW,01.1.1.1-01,5\n"\n': "Refused with 44.",
+    'plan,2026,"T,00,\u0391\nW,01.1.1.1-01,1000000\n"\n': "Refused with ",
 }
 """Records that aren't taken, and what is said of them."""
 
@@ -185,9 +185,9 @@ def posted_file(ada: Person, path: str, content: bytes, **form: str) -> Any:
 def test_files_that_are_not_taken_are_told(ada: Person) -> None:
     for content in (b"\xff\xfe\x00\x01", b"PK\x03\x04\x00\x00", "\u0391".encode("utf-16")):
         answer = posted_file(ada, "/records/judge", content)
-        assert told(answer, 400, "is no text in UTF-8. Save a spreadsheet as CSV") == []
+        assert told(answer, 400, "isn't a text in UTF-8. Save the spreadsheet as CSV") == []
     both = posted_file(ada, "/records/judge", b"outlet,12,A\n", text="outlet,13,B\n")
-    assert told(both, 400, "A file was chosen, and the field has text too") == []
+    assert told(both, 400, "You chose a file, but the field contains text too") == []
 
 
 PASTED = {
@@ -213,11 +213,11 @@ def test_a_sheet_that_cannot_be_made_is_told(application: Application, ada: Pers
     assert told(ada.post("/sample/collectors/sheet", collector="7"), 400, "No sheet was made: ") == []
     application.desk.given = application.desk.given._replace(phones="https://phones.example/")
     for form, says in (
-        ({"collector": "x"}, " is no collector: write a number like 7"),
-        ({"collector": "99"}, "the office has no collector 99: register the collector first, or leave the row out"),
+        ({"collector": "x"}, " isn't the number of a collector: write a number like 7"),
+        ({"collector": "99"}, "the office has no collector 99: register the collector first, or delete the row"),
         ({"collector": "7", "name": "\u0391" * 61}, "has 61 characters: write at most 60"),
-        ({"collector": "7", "name": "\u0391\x07"}, "has a control character: write it in one line"),
-        ({"collector": "7", "language": "tlh"}, "There is no catalogue of the language "),
+        ({"collector": "7", "name": "\u0391\x07"}, "contains a control character: write it on one line"),
+        ({"collector": "7", "language": "tlh"}, "There is no catalogue for the language "),
     ):
         assert told(ada.post("/sample/collectors/sheet", **form), 400, "No sheet was made: ", says) == []
 
@@ -237,14 +237,14 @@ def test_a_file_that_something_else_has_changed_is_told(
     with_site(application, tmp_path)
     (application.room / name).write_text("{", encoding="utf-8")
     answer = ada.get(ODD_FILES[name])
-    (line,) = told(answer, answer.status_code, "isn't as the application wrote it: put it aside, then do this again.")
+    (line,) = told(answer, answer.status_code, "isn't as the application wrote it: move it away, then try again.")
     assert line.startswith("Expecting property name")
 
 
 def test_a_draft_that_cannot_be_made_or_read_is_told(application: Application, ada: Person) -> None:
     drafts = application.desk.drafts
     for year, says in (
-        ("2030", "There is no plan of 2029, from which one of 2030 could be drafted."),
+        ("2030", "There is no plan of 2029 from which the plan of 2030 could be drafted."),
         ("2026", "is frozen, so 2026 has begun: name a later year."),
     ):
         ada.post("/year/make", year=year)
@@ -257,23 +257,23 @@ def test_a_draft_that_cannot_be_made_or_read_is_told(application: Application, a
     ada.fill("/year/2027/", "/put", weight="many")
     ada.post("/year/2027/check")
     waited(lambda: not drafts.running)
-    assert told(ada.get("/year/2027/"), 200, "Weights that are no numbers: ", "What is refused") == []
+    assert told(ada.get("/year/2027/"), 200, "Weights that aren't numbers: ", "What is refused") == []
     (application.room / "next-year/2027/settings.json").write_text("{", encoding="utf-8")
-    assert len(told(ada.get("/year/2027/"), 503, "isn't as the application wrote it: put it aside")) == 1
+    assert len(told(ada.get("/year/2027/"), 503, "isn't as the application wrote it: move it away")) == 1
 
 
 def test_requests_that_are_none_are_told(application: Application, ada: Person) -> None:
     assert ada.post("/year/make", year="2027").status_code == 303
     waited(lambda: not application.desk.drafts.running)
     answer = ada.post("/year/2027/put", sheet="nothing")
-    assert told(answer, 400, "The application can't do this as it was asked: go back, load the page anew") == [
+    assert told(answer, 400, "The application can't carry out this request: go back, reload the page") == [
         "400 Bad Request"
     ]
     assert told(ada.get("/nowhere"), 404, "There is no such page.") == []
     assert told(ada.post("/"), 405, "There is no such page.") == []
-    assert told(ada.post("/records/judge", text="x" * 17_000_000), 413, "A form has ") == []
+    assert told(ada.post("/records/judge", text="x" * 17_000_000), 413, "A form can have ") == []
     assert told(ada.post("/calendar/2026", token="wrong"), 403, "You sent this form after your session had ended") == []
-    assert told(ada.get("/", headers={"Host": "other.example"}), 400, "This application isn't ") == []
+    assert told(ada.get("/", headers={"Host": "other.example"}), 400, "This application can't be reached as ") == []
 
 
 def test_a_window_that_is_open_or_closed_is_told(application: Application, ada: Person) -> None:
@@ -299,14 +299,17 @@ WRONG_CONFIG = {
 @pytest.mark.parametrize("text", WRONG_CONFIG, ids=range(len(WRONG_CONFIG)))
 def test_a_website_that_cannot_be_written_is_told(cpi: Cpi, tmp_path: Path, speech: Speech, text: str) -> None:
     moment = int(time.time()) + 86_400
-    with applied(cpi, published_at(cpi, tmp_path, moment), tmp_path / "room", speech=speech) as application:
+    with applied(cpi, published_at(cpi, tmp_path, moment), tmp_path / "room", Chosen(speech=speech)) as application:
         publisher, ada = with_site(application, tmp_path, text), application.person(ADA)
-        (line,) = told(ada.get("/publish"), 200, "A file of the website can't be read. Mend what this line names")
+        (line,) = told(ada.get("/publish"), 200, "A file of the website can't be read. Correct what this line names")
         assert WRONG_CONFIG[text] in line
         ada.fill("/publish", "/publish/now")
         waited(lambda: not publisher.running)
         lines = told(
-            ada.get("/publish"), 200, "The website couldn't be written, and is as it was:", "Mend what cpi-tools"
+            ada.get("/publish"),
+            200,
+            "The website couldn't be written, and is unchanged:",
+            "Correct the fault that this line of cpi-tools",
         )
         assert WRONG_CONFIG[text] in lines[-1]
-        assert told(ada.get("/log"), 200, "It has the steps of people in English.")
+        assert told(ada.get("/log"), 200, "The log lists what people did, in English.")

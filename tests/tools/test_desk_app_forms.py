@@ -9,18 +9,18 @@ from typing import Any
 
 import pytest
 
-from cpi_tools.desk.serve.form_bounds import MOST_BYTES, MOST_BYTES_BEFORE, MOST_FIELDS
+from cpi_tools.desk.serve.sent_forms import MOST_BYTES, MOST_BYTES_BEFORE, MOST_FIELDS
 from cpi_tools.office.program import Cpi
 from . import surveys
-from .desk_apps import ADA, BEN, LISTEN, Application, Person, applied, words_of
+from .desk_apps import ADA, BEN, LISTEN, Application, Chosen, Person, applied, words_of
 from .offices import LOAD_KEY
 
 FORM = "application/x-www-form-urlencoded"
 OF_FIELDS = b"a=&" * 5_300_000
 """15.9 MB; each field cost some ten microseconds."""
 
-BEFORE = "Before you are signed in, a form has 4,096 bytes at most. Nothing was done."
-FIELDS = "A form has 10,000 fields at most, and this one has more. Nothing was done."
+BEFORE = "Before you sign in, a form can have at most 4,096 bytes. Nothing was done."
+FIELDS = "A form can have at most 10,000 fields, and this one has more. Nothing was done."
 SECONDS = 2.0
 """Processor seconds for which a refused form keeps the application busy at most: it counted a minute."""
 
@@ -94,7 +94,7 @@ def test_no_other_kind_of_form_has_more(name: str, ada: Person) -> None:
     begun = time.process_time()
     answer = sent(ada, "/sign-out", body[: MOST_BYTES - 1], kind)
     assert time.process_time() - begun < SECONDS
-    assert answer.status_code == 413 and "fields at most, and this one has more" in words_of(answer.text)
+    assert answer.status_code == 413 and "fields, and this one has more" in words_of(answer.text)
     assert ada.get("/log").status_code == 200
 
 
@@ -106,7 +106,7 @@ def test_an_address_has_no_more_fields_either(application: Application) -> None:
 
 
 def test_a_note_of_the_field_has_no_more_fields(cpi: Cpi, tmp_path: Path) -> None:
-    with applied(cpi, surveys.small(cpi, tmp_path), tmp_path / "room", 13) as application:
+    with applied(cpi, surveys.small(cpi, tmp_path), tmp_path / "room", Chosen(13)) as application:
         answer = application.person().client.post(
             "/notes/2026-02/1",
             data=b"a=&" * 100_000,

@@ -62,7 +62,7 @@ def test_without_an_office_nothing_is_frozen_and_it_stays_prepared(cpi: Cpi, tmp
         office.kill()
     answer = ben.give(form, **SIGNED)
     assert answer.status_code == 503 and "Nothing was sent: The office at" in words_of(answer.text)
-    assert kept(application) and "Prepared, and not sent yet" in ben.words(PAGE)
+    assert kept(application) and "Prepared, but not sent yet" in ben.words(PAGE)
     assert [it[0] for it in frozen_months(application)] == BEFORE
     log = [(it.what, it.by) for it in application.desk.log.entries[-3:]]
     assert log == [("said", BEN), ("sent", BEN), ("not sent", BEN)]
@@ -72,14 +72,15 @@ def test_without_an_office_nothing_is_frozen_and_it_stays_prepared(cpi: Cpi, tmp
 def test_what_the_office_carried_out_already_waits_no_longer(prepared: Application, ada: Person) -> None:
     form = prepared.person(BEN).form(PAGE, "/confirm")
     frozen_elsewhere(prepared)
-    assert kept(prepared) and "Prepared, and not sent yet" in ada.words(PAGE)
+    assert kept(prepared) and "Prepared, but not sent yet" in ada.words(PAGE)
     prepared.tried(ada, MONTH)
-    assert "Prepared, and not sent yet" not in ada.words(PAGE) and not kept(prepared)
+    assert "Prepared, but not sent yet" not in ada.words(PAGE) and not kept(prepared)
     assert f"carried out already: freeze {MONTH} {CODE}, revision 1" in ada.words("/log")
     ben = prepared.person(BEN)
     answer = ben.post(form.action, **{**dict(form.fields), "token": ben.token})
-    assert answer.status_code == 409 and "No freeze is prepared any more: Ada sent or dropped it" in words_of(
-        answer.text
+    assert (
+        answer.status_code == 409
+        and "There is no longer a prepared freeze: Ada sent it or discarded it" in words_of(answer.text)
     )
     assert frozen_months(prepared)[-1] == (202602, (CODE,))
 
@@ -91,7 +92,7 @@ def test_what_is_frozen_already_isn_t_sent_once_more(prepared: Application) -> N
     frozen_elsewhere(prepared)
     sent = len(prepared.desk.log.entries)
     answer = ben.give(form, **SIGNED)
-    assert answer.status_code == 409 and "It can't be frozen now: " in words_of(answer.text)
+    assert answer.status_code == 409 and "The month can't be frozen now: " in words_of(answer.text)
     assert len(prepared.desk.log.entries) == sent and kept(prepared)
 
 
@@ -118,10 +119,10 @@ def test_a_full_disk_or_a_wrong_file_is_told(
     application.tried(ada, MONTH)
     file = application.room / "prepared-freeze.json"
     with monkeypatch.context() as patch:
-        patch.setattr("cpi_tools.text.whole_files.os.fchmod", full)
+        patch.setattr("cpi_tools.text.text_files.os.fchmod", full)
         answer = ada.fill(PAGE, "/prepare", **WHY)
     assert answer.status_code == 400 and f"{file}: No space left on device" in words_of(answer.text)
-    assert not file.exists() and "Prepared, and not sent yet" not in ada.words(PAGE)
+    assert not file.exists() and "Prepared, but not sent yet" not in ada.words(PAGE)
     file.mkdir()
     for answer in (ada.get(PAGE), application.person(BEN).post(f"{PAGE}/confirm", prepared="x", trial="x", seen="x")):
         assert answer.status_code >= 400 and f"{file}: Is a directory" in words_of(answer.text)
@@ -137,10 +138,10 @@ def test_an_error_of_ours_in_a_trial_is_on_the_page(
     def fails(*_: object) -> NoReturn:
         raise RuntimeError("what nobody thought of")
 
-    monkeypatch.setattr(application.desk.trials, "_tried", fails)
+    monkeypatch.setattr(application.desk.trials, "_try_on_copy", fails)
     application.tried(ada, MONTH)
     for page in (PAGE, f"/month/{MONTH}/table"):
-        assert "The application met an error, which is its own." in ada.words(page)
+        assert "The application had an internal error." in ada.words(page)
     assert "what nobody thought of" in ada.words(PAGE) and not [*application.desk.given.copies.glob("cpi-desk-trial-*")]
     monkeypatch.undo()
     application.tried(ada, MONTH)
@@ -178,7 +179,7 @@ def test_all_seen_and_nothing_to_carry(application: Application, ada: Person, mo
     whole = found._replace(looks=[], closed=found.closed._replace(named=[]))
     monkeypatch.setattr(application.desk.trials, "latest", lambda month: whole)
     words = ada.words(PAGE)
-    assert "Prices to look at all seen" in words and "Carry list empty: nothing needs it" in words
+    assert "Prices to look at all seen" in words and "Carry list empty: nothing needs to be carried" in words
 
 
 # ---- the folder of the application

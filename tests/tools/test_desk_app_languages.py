@@ -11,8 +11,8 @@ import pytest
 
 from . import surveys
 from cpi_tools.office.program import Cpi
-from cpi_tools.text.speech import speech_of
-from .desk_apps import ADA, BEN, LISTEN, Application, Person, applied
+from cpi_tools.text.languages import speech_of
+from .desk_apps import ADA, BEN, LISTEN, Application, Chosen, Person, applied
 from .nobodys import NAMES, greek, left_in_english, nobodys_in, seen_of, unmarked
 from .test_desk_app_publish import frozen as published_at, waited, with_site
 
@@ -74,9 +74,9 @@ def noted(application: Application, **said: str) -> Any:
 
 def test_no_word_of_a_page_is_left_in_english(cpi: Cpi, tmp_path: Path, monkeypatch: pytest.MonkeyPatch) -> None:
     speech = speech_of(nobodys_in(tmp_path, monkeypatch))
-    with applied(cpi, surveys.small(cpi, tmp_path), tmp_path / "room", 12_000, speech) as application:
+    with applied(cpi, surveys.small(cpi, tmp_path), tmp_path / "room", Chosen(12_000, speech)) as application:
         left = {"sign-in": left_on(application.person().get("/sign-in").text)}
-        assert noted(application)["wanted"] == greek("Something: the note is empty.")
+        assert noted(application)["wanted"] == greek("Some text: the note is empty.")
         assert noted(application, text="γ", brand="γ", quantity="γ", sale="yes") == {"note": 1}
         wrong = application.person().signed_in(ADA, "e" * 32).text
         assert greek("This isn't the desk's key")[:20] in seen_text(wrong) and left_on(wrong) == []
@@ -131,7 +131,7 @@ def test_the_figures_are_the_same_in_arabic_with_its_own_digits(cpi: Cpi, tmp_pa
     """Those of the response and of the provisional table; the page runs from right to left."""
     file, found = surveys.small(cpi, tmp_path), dict[str, list[list[str]]]()
     for code in ("en", "ar"):
-        with applied(cpi, file, tmp_path / code, speech=speech_of(code, "arab")) as application:
+        with applied(cpi, file, tmp_path / code, Chosen(speech=speech_of(code, "arab"))) as application:
             ada = application.person(ADA)
             application.tried(ada, MONTH)
             pages = [ada.get(f"/month/{MONTH}/{page}").text for page in ("", "table")]
@@ -143,7 +143,7 @@ def test_the_figures_are_the_same_in_arabic_with_its_own_digits(cpi: Cpi, tmp_pa
 
 def test_moments_are_those_of_the_office_s_clock(cpi: Cpi, tmp_path: Path) -> None:
     """The window of April opens at noon in Prague, where it is summer: in words of the language, with the zone's name."""
-    with applied(cpi, surveys.small(cpi, tmp_path), tmp_path / "room", speech=speech_of("fr")) as application:
+    with applied(cpi, surveys.small(cpi, tmp_path), tmp_path / "room", Chosen(speech=speech_of("fr"))) as application:
         ada = application.person(ADA)
         fields = ["2026-04", "2026-07-01T12:00", "2026-07-02T12:00", "2026-07-03T12:00"]
         data = {"token": ada.token, "word": "calendar", "field": fields}
@@ -192,7 +192,7 @@ def test_no_word_of_the_sample_and_the_year_is_left_in_english(
     cpi: Cpi, tmp_path: Path, monkeypatch: pytest.MonkeyPatch
 ) -> None:
     speech, moment = speech_of(nobodys_in(tmp_path, monkeypatch)), int(time.time()) + 86_400
-    with applied(cpi, published_at(cpi, tmp_path, moment), tmp_path / "room", speech=speech) as application:
+    with applied(cpi, published_at(cpi, tmp_path, moment), tmp_path / "room", Chosen(speech=speech)) as application:
         publisher, ada = with_site(application, tmp_path), application.person(ADA)
         for path in ("/year/make", "/year/2027/check"):
             ada.post(path, year="2027")
@@ -211,7 +211,7 @@ def test_what_cpi_refuses_of_a_draft_is_said_in_the_language(
     cpi: Cpi, tmp_path: Path, monkeypatch: pytest.MonkeyPatch
 ) -> None:
     speech, moment = speech_of(nobodys_in(tmp_path, monkeypatch)), int(time.time()) + 86_400
-    with applied(cpi, published_at(cpi, tmp_path, moment), tmp_path / "room", speech=speech) as application:
+    with applied(cpi, published_at(cpi, tmp_path, moment), tmp_path / "room", Chosen(speech=speech)) as application:
         ada = application.person(ADA)
         ada.post("/year/make", year="2027")
         waited(lambda: not application.desk.drafts.running)
@@ -219,5 +219,5 @@ def test_what_cpi_refuses_of_a_draft_is_said_in_the_language(
         ada.post("/year/2027/check")
         waited(lambda: not application.desk.drafts.running)
         text = ada.get("/year/2027/").text
-    assert greek("Mend the weights.") in text
+    assert greek("Correct the weights.") in text
     assert left_on(text) == []

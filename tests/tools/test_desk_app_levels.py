@@ -12,15 +12,15 @@ import pytest
 from cpi_tools.office import trial
 from cpi_tools.command_line import main
 from cpi_tools.office.copying import private_copy
-from cpi_tools.desk.month.reference_levels import chained_name, levels_now, levels_of, other_tables
+from cpi_tools.desk.month.facts import chained_name, levels_now, levels_of, other_tables
 from cpi_tools.desk.freeze.freezes import Prepared, table_sum
-from cpi_tools.desk.freeze.freeze_receipts import receipt_of
-from cpi_tools.desk.looks.tables_beside import beside
+from cpi_tools.desk.freeze.freeze_steps import receipt_of
+from cpi_tools.desk.looks.month_trials import beside
 from cpi_tools.office.public import Listed
 from cpi_tools.office.program import LAST_MOMENT, Cpi, Session
 from cpi_tools.office.stored import read_copy
 from cpi_tools.text.terminal import slot_text
-from cpi_tools.text.message import placed, message
+from cpi_tools.text.message import message, place_text
 
 from . import surveys
 from .desk_apps import ADA, Application, Person, applied
@@ -121,7 +121,7 @@ def test_each_of_two_tables_has_its_own_levels(cpi: Cpi, office: Path) -> None:
     table, others = tables["2026-12"], other_tables(cpi, office, 202612)
     levels = levels_of(others, "2026-12", table, "2026")
     changed = re.sub(rb"(?m)^(00,[0-9]+,[0-9.]+,)([0-9]+)", lambda it: it[1] + str(int(it[2]) + 1).encode(), table)
-    section = beside("since", message("Since"), (changed, table), (placed, placed), levels)
+    section = beside("since", message("Since"), (changed, table), (place_text, place_text), levels)
     (row,) = section.rows
     assert (
         row[0] == "00"
@@ -137,7 +137,7 @@ def test_known_tables_aren_t_printed_again(cpi: Cpi, office: Path, monkeypatch: 
     known = levels_now(cpi, office, 202701, table, "2026")
     assert known and known.others
     with monkeypatch.context() as patch:
-        patch.setattr("cpi_tools.desk.month.reference_levels.other_tables", None)
+        patch.setattr("cpi_tools.desk.month.facts.other_tables", None)
         again = levels_now(cpi, office, 202701, table, "2026-06", known)
     assert again and again.others == known.others and again.of("00") != known.of("00")
     anew = levels_now(cpi, office, 202701, table, "2026", known._replace(others=known.others[:-1]))
@@ -149,14 +149,14 @@ def test_a_trial_prints_the_other_tables_in_the_run_that_freezes(
 ) -> None:
     """No further copy is opened for them, and a table that is at hand isn't printed again, nor for another month."""
     ada, printed = application.person(ADA), list[tuple[str, int]]()
-    prints = trial.printed
+    prints = trial.print_table
 
     def counted(session: Session, listed: Listed) -> bytes:
         printed.append((listed.month, listed.revision))
         return prints(session, listed)
 
-    monkeypatch.setattr(trial, "printed", counted)
-    monkeypatch.setattr("cpi_tools.desk.month.reference_levels.private_copy", None)
+    monkeypatch.setattr(trial, "print_table", counted)
+    monkeypatch.setattr("cpi_tools.desk.month.facts.private_copy", None)
     application.tried(ada, MONTH)
     first = application.desk.trials.latest(202701)
     assert first and first.report.levels and first.report.levels.others
@@ -182,7 +182,7 @@ def test_a_receipt_keeps_the_level_with_its_period(cpi: Cpi, office: Path) -> No
     heads = [str(column.name) for column in receipt.section.columns]
     assert heads[2:] == ["level, 2026 = 100", "month %", "year %", "chained level, December 2025 = 100"]
     row = receipt.section.rows[0]
-    assert row[0] == "00" and row[2] == levels.of("00") and row[5] == levels.chained("00")
+    assert row[0] == "00" and row[2] == levels.of("00") and row[5] == levels.write_chained("00")
     plain = receipt_of(prepared, table)
-    assert plain.lead and plain.lead.startswith(f"All items are at {levels.chained('00')}: ")
+    assert plain.lead and plain.lead.startswith(f"All items are at {levels.write_chained('00')}: ")
     assert [str(column.name) for column in plain.section.columns][2:] == ["level", "month %", "year %"]

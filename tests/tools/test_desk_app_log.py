@@ -18,9 +18,9 @@ from cpi_tools.desk.records.desk_log import (
     SENT,
     BrokenLog,
     DeskLog,
-    shown,
+    hide_key,
 )
-from cpi_tools.desk.records.log_views import lines_of, searched
+from cpi_tools.desk.records.log_views import lines_of, search
 from cpi_tools.text.terminal import Fault
 
 DONE = [{"done": True}]
@@ -105,8 +105,8 @@ def test_one_application_has_it(tmp_path: Path) -> None:
 
 
 def test_a_collector_s_key_isn_t_in_it() -> None:
-    assert shown(["collector", "7", "a" * 32]) == ["collector", "7", HIDDEN]
-    assert shown(["outlet", "7", "a"]) == ["outlet", "7", "a"]
+    assert hide_key(["collector", "7", "a" * 32]) == ["collector", "7", HIDDEN]
+    assert hide_key(["outlet", "7", "a"]) == ["outlet", "7", "a"]
 
 
 def test_lines_are_searched_by_words(tmp_path: Path) -> None:
@@ -115,8 +115,8 @@ def test_lines_are_searched_by_words(tmp_path: Path) -> None:
     lines = lines_of(log.entries)
     assert [it.by for it in lines] == ["Ada", "Ben", "Ben"]
     assert "would be refused by 47: the window hasn't closed" in lines[1].answer
-    assert [it.number for it in searched(lines, "BEN freeze")] == [3]
-    assert not searched(lines, "nothing of it")
+    assert [it.number for it in search(lines, "BEN freeze")] == [3]
+    assert not search(lines, "nothing of it")
     log.close()
 
 

@@ -9,12 +9,11 @@ from pathlib import Path
 
 import pytest
 
-from cpi_tools.desk.serve.typed_texts import numbers_in
-from cpi_tools.desk.looks.what_if_texts import example, tried_of
-from cpi_tools.text.money import Money
+from cpi_tools.text.exact import numbers_in
+from cpi_tools.desk.looks.table_views import example, tried_of
+from cpi_tools.text.message import Money, Price, Ticks
 from cpi_tools.office.program import Cpi
 from cpi_tools.text.terminal import Fault
-from cpi_tools.text.message import Price, Ticks
 
 from . import surveys
 from .desk_apps import ADA, Application, Person, applied, words_of
@@ -59,7 +58,7 @@ def test_an_explanation_has_amounts_beside_its_whole_numbers(ada: Person) -> Non
 
 
 def test_a_file_has_minor_units_and_the_page_says_so(ada: Person) -> None:
-    assert "The CSV files have prices in minor units." in ada.words(f"/month/{MONTH}/table")
+    assert "In the CSV files, prices are in minor units." in ada.words(f"/month/{MONTH}/table")
     moved = ada.get(f"/month/{MONTH}/table/influence.csv").text
     assert "last price,price" in moved and ",246,252," in moved
 
@@ -69,7 +68,7 @@ def test_the_page_says_so_while_no_configuration_names_a_currency(application: A
     application.desk.site_config.path.write_text(OFFICE.replace("currency", "contact"), encoding="utf-8")
     for page in ("looks", "table", "what-if", "explain/01.1.1.1-01"):
         words = ada.words(f"/month/{MONTH}/{page}")
-        assert "rices are in minor units of money" in words or "Prices in minor units of money" in words, page
+        assert "rices are in minor units of money" in words or "Prices are in minor units of money" in words, page
     assert "last price 246 , now 252" in ada.words(f"/month/{MONTH}/looks")
 
 
@@ -111,12 +110,12 @@ def test_a_price_is_tried_as_the_page_shows_it(ada: Person) -> None:
 def test_what_isn_t_a_price_stays_as_it_was_typed(ada: Person) -> None:
     page = f"/month/{MONTH}/what-if"
     for text, says in (
-        ("7/1=220.5.5", "Line 1: 7/1=220.5.5 can't be tried. Wanted is a price like 7/2=2.10"),
-        ("7/1=2.2051", "Line 1: 7/1=2.2051 can't be tried. A price is from 0.01 to 1000000.00 ."),
-        ("7/1=1000000.01", "Line 1: 7/1=1000000.01 can't be tried. A price is from 0.01 to 1000000.00 ."),
-        ("7/1=0", "Line 1: 7/1=0 can't be tried. Wanted is"),
-        ("7/1=2 20", "Line 1: 7/1=2 20 can't be tried. Wanted is"),
-        ("\n7/1=2.20\n7/1=missing", "Lines 2 and 3 are both of the slot 7/1: leave one of them."),
+        ("7/1=220.5.5", "Line 1: 7/1=220.5.5 can't be tried. Write a price like 7/2=2.10"),
+        ("7/1=2.2051", "Line 1: 7/1=2.2051 can't be tried. A price must be from 0.01 to 1000000.00 ."),
+        ("7/1=1000000.01", "Line 1: 7/1=1000000.01 can't be tried. A price must be from 0.01 to 1000000.00 ."),
+        ("7/1=0", "Line 1: 7/1=0 can't be tried. Write a"),
+        ("7/1=2 20", "Line 1: 7/1=2 20 can't be tried. Write a"),
+        ("\n7/1=2.20\n7/1=missing", "Lines 2 and 3 are both for the slot 7/1: keep only one of them."),
     ):
         answer = ada.fill(page, "what-if", text=text)
         assert answer.status_code == 400 and says in words_of(answer.text), text
@@ -141,12 +140,12 @@ def test_texts_to_try_are_read_by_the_digits_of_the_currency() -> None:
     dinars = Money(1000, "dinars")
     assert tried_of("7/1=1.250\n7/2=1.000", dinars).prices == [((7, 1), 1250), ((7, 2), 1000)]
     assert tried_of("7/1=1,250", dinars, "\u202f").prices == [((7, 1), 1250)]
-    with pytest.raises(Fault, match="can be 1.25 or 1250"):
+    with pytest.raises(Fault, match="can mean 1.25 or 1250"):
         tried_of("7/1=1,250", dinars)
     for price in ("1,459", "1.459"):
-        with pytest.raises(Fault, match=f"7/1={price} can be 1.459 or 1459. Write"):
+        with pytest.raises(Fault, match=f"7/1={price} can mean 1.459 or 1459. Write"):
             tried_of(f"7/1={price}", CROWNS)
-    with pytest.raises(Fault, match="can be 1.459 or 1459"):
+    with pytest.raises(Fault, match="can mean 1.459 or 1459"):
         tried_of("7/1=1.459", Money(1, "yen"))
     with pytest.raises(Fault, match="2.10 can't be tried"):
         tried_of("7/1=2.10", None)

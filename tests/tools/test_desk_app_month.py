@@ -11,10 +11,10 @@ import pytest
 
 from . import surveys
 from cpi_tools.desk.freeze.freezes import PreparedFreeze
-from cpi_tools.desk.looks.price_lines import line_of
+from cpi_tools.desk.looks.looks_views import line_of
 from cpi_tools.text.report_language import ENGLISH
-from cpi_tools.desk.looks.price_marks import NOTE, SEEN, UNSEEN, Marks, Price
-from cpi_tools.desk.looks.kept_tables import TablesKept
+from cpi_tools.desk.looks.looks import NOTE, SEEN, UNSEEN, Marks, Price
+from cpi_tools.desk.looks.month_trials import TablesKept
 from cpi_tools.office.program import Cpi, record
 from cpi_tools.text.terminal import Fault
 from .desk_apps import ADA, BEN, LISTEN, Application, Person, applied, words_of
@@ -48,7 +48,7 @@ def test_the_provisional_table_is_the_one_that_is_published(cpi: Cpi, tried: App
     assert cpi.replay(frozen, db=copy) == [{"done": True}]
     assert provisional == cpi.table(copy, MONTH, "csv", 9000)
     words = ada.words(f"/month/{MONTH}/table")
-    assert "all items would be at 105.7 (December 2025 = 100): 1.5 percent on the month before" in words
+    assert "all items would be at 105.7 (December 2025 = 100): the monthly change would be 1.5 percent" in words
     assert ada.get(f"/month/{MONTH}/table/imputed.csv").text.startswith("division,title,")
 
 
@@ -72,10 +72,10 @@ def test_a_figure_is_explained_down_to_its_receipts(tried: Application, ada: Per
     page = ada.get(f"/month/{MONTH}/table").text
     assert f'href="/month/{MONTH}/explain/01.1.1.1-01"' in page
     words = ada.words(f"/month/{MONTH}/explain/01.1.1.1-01")
-    assert "every line holds" in words and "= 2520000 / 2460000" in words
+    assert "every line is true" in words and "= 2520000 / 2460000" in words
     assert "price, by collector 8, slot 1, receipt 3" in words
     answer = ada.get(f"/month/{MONTH}/explain/05")
-    assert answer.status_code == 503 and "05 is no node of February 2026" in words_of(answer.text)
+    assert answer.status_code == 503 and "05 isn't a node of February 2026" in words_of(answer.text)
 
 
 def test_what_a_handful_of_prices_would_change(ada: Person) -> None:
@@ -84,7 +84,7 @@ def test_what_a_handful_of_prices_would_change(ada: Person) -> None:
     words = words_of(ada.sent(f"/month/{MONTH}/what-if", text="7/1=220\n").text)
     assert "00 105.698455 +1.5 106.363636 +2.1" in words and "01.1.1.1-01 106.164091 +2.4 107.272727 +3.5" in words
     refused = ada.post(f"/month/{MONTH}/what-if", text="7/1=220\n7/x=1\n")
-    assert refused.status_code == 400 and "Line 2: 7/x=1 can't be tried. Wanted is a price like 7/2=210" in words_of(
+    assert refused.status_code == 400 and "Line 2: 7/x=1 can't be tried. Write a price like 7/2=210" in words_of(
         refused.text
     )
     assert "7/1=220\n7/x=1" in refused.text
@@ -112,17 +112,17 @@ def test_a_day_s_table_is_set_beside_the_one_before(tmp_path: Path) -> None:
 def test_a_price_is_seen_by_a_person_and_noted_for_all(tried: Application, ada: Person) -> None:
     ben = tried.person(BEN)
     page = f"/month/{MONTH}/looks"
-    assert "1 to look at, 0 seen by you" in ada.words(page)
-    assert "Why: the only price that is compared in its aggregate." in ada.words(page)
+    assert "1 to look at; you have seen 0" in ada.words(page)
+    assert "Why: the only compared price in its aggregate." in ada.words(page)
     of = {"collector": "8", "slot": "1", "price": "252"}
     assert ada.post(page, what=SEEN, **of).status_code == 303
     assert ada.post(page, what=NOTE, text="called <b>on Monday</b>", **of).status_code == 303
-    assert "0 to look at, 1 seen by you" in ada.words(page) and "Nothing is left" in ada.words(page)
-    assert "1 to look at, 0 seen by you" in ben.words(page) and "called <b>on Monday</b>" in ben.words(page)
+    assert "0 to look at; you have seen 1" in ada.words(page) and "No prices are left" in ada.words(page)
+    assert "1 to look at; you have seen 0" in ben.words(page) and "called <b>on Monday</b>" in ben.words(page)
     assert "called <b>" not in ben.get(page).text
     tried.again()
     tried.tried(ada := tried.person(ADA), MONTH)
-    assert "0 to look at, 1 seen by you" in ada.words(page)
+    assert "0 to look at; you have seen 1" in ada.words(page)
     assert ada.post(page, what=NOTE, text=" ", **of).status_code == 400
     assert ada.post(page, what=SEEN, collector="x", slot="1", price="2").status_code == 400
     late = ada.post(page, what=NOTE, text="a word on it", collector="8", slot="1", price="251")
@@ -133,7 +133,7 @@ def test_a_price_is_seen_by_a_person_and_noted_for_all(tried: Application, ada: 
 def test_a_list_for_a_collector_has_that_one_s_prices(tried: Application, ada: Person) -> None:
     assert ada.get(f"/month/{MONTH}/looks/8.txt").headers["Content-Type"] == "text/plain; charset=utf-8"
     text = ada.get(f"/month/{MONTH}/looks/8.txt").text
-    assert "last price 246, now 252, 2.4 percent" in text and "look at this one twice" in text
+    assert "last price 246, now 252, 2.4 percent" in text and "check this one twice" in text
     assert ada.get(f"/month/{MONTH}/looks/7.txt").status_code == 404
 
 
@@ -171,7 +171,7 @@ def test_marks_are_of_one_price_and_outlive_a_crash(tmp_path: Path) -> None:
     assert (again.seen_by(ADA, 202602), again.seen_by(BEN, 202602)) == ({price}, set())
     assert [it.text for it in again.notes_of(202602)[price]] == ["a note"] and path.read_bytes() == whole
     assert again.seen_by_anybody(202602) == {price} and again.seen_by_anybody(202603) == set()
-    with pytest.raises(Fault, match="1,000 letters at most"):
+    with pytest.raises(Fault, match="at most 1,000 characters"):
         again.add(ADA, price, NOTE, "x" * 1001)
     path.write_bytes(b"{}\n" + whole)
     with pytest.raises(Fault, match="line 1 isn't as it was written"):
@@ -222,22 +222,24 @@ def frozen_months(application: Application) -> list[tuple[int, tuple[str, ...]]]
 def test_two_people_freeze_a_month(tried: Application, ada: Person) -> None:
     ben, page = tried.person(BEN), f"/month/{MONTH}/freeze"
     assert "1 aggregate with nothing to compare" in ada.words(page) and "1 closed" in ada.words(page)
-    assert f"Say why {CODE} is carried" in told(ada, "prepare")
-    assert "No freeze of this month is prepared" in words_of(
+    assert f"Give the reason for carrying {CODE}" in told(ada, "prepare")
+    assert "There is no prepared freeze of this month" in words_of(
         ben.post(f"{page}/confirm", prepared="x", trial="x", seen="x").text
     )
     assert ada.fill(page, "/prepare", **WHY).status_code == 303
-    assert "You prepared it, so another person confirms it" in ada.words(page)
+    assert "You prepared the freeze, so another person has to confirm it" in ada.words(page)
     form = ben.form(page, "/confirm")
     for same in (ADA, "ADA", "\uff21da"):
         own = tried.person(same)
         assert not [it for it in forms_of(own.get(page).text) if it.action.endswith("/confirm")]
         answer = own.post(form.action, **{**dict(form.fields), "token": own.token, **SIGNED})
-        assert answer.status_code == 403 and "another person confirms it" in words_of(answer.text)
+        assert answer.status_code == 403 and "another person has to confirm it" in words_of(answer.text)
     assert [it[0] for it in frozen_months(tried)] == [202512, 202601]
     assert "February 2026 is frozen, revision 1" in told(ben, "confirm", **SIGNED)
     assert frozen_months(tried)[-1] == (202602, (CODE,))
-    assert "No freeze is prepared any more: Ben sent or dropped it" in words_of(ben.give(form, **SIGNED).text)
+    assert "There is no longer a prepared freeze: Ben sent it or discarded it" in words_of(
+        ben.give(form, **SIGNED).text
+    )
     log = ada.get("/log.csv").text
     assert "prepared: freeze 2026-02" in log and "the shop is closed for a week" in log
     assert re.search(f'Ben,"freeze,{MONTH},{CODE}",done', log)
@@ -247,11 +249,11 @@ def test_what_was_prepared_outlives_the_application_and_can_be_dropped(tried: Ap
     page = f"/month/{MONTH}/freeze"
     assert ada.fill(page, "/prepare", **WHY).status_code == 303
     tried.again()
-    assert "Have the month tried: then the figures that are signed are here" in tried.person(BEN).words(page)
+    assert "Run a trial of the month: then this page shows the figures to confirm" in tried.person(BEN).words(page)
     tried.tried(ben := tried.person(BEN), MONTH)
-    assert "Prepared, and not sent yet" in ben.words(page) and "By Ada" in ben.words(page)
+    assert "Prepared, but not sent yet" in ben.words(page) and "By Ada" in ben.words(page)
     assert ben.fill(page, "/drop").status_code == 303
-    assert "Prepared, and not sent yet" not in ben.words(page)
+    assert "Prepared, but not sent yet" not in ben.words(page)
     assert tried.desk.log.entries[-1].by == BEN and tried.desk.log.entries[-1].text.startswith("dropped: freeze")
 
 
@@ -266,14 +268,17 @@ def test_a_freeze_that_would_make_another_table_isn_t_sent(tried: Application, a
             peer.sendall(message("POST /import", key=key, body=body.encode()))
             assert b"refused" not in heard(peer)
     answer = ben.give(form, **SIGNED)
-    assert answer.status_code == 409 and "its table would be another one: drop it, and prepare it again" in answer.text
+    assert (
+        answer.status_code == 409
+        and "the table would be different: discard the freeze, and prepare it again" in answer.text
+    )
     assert f'value="{SIGNED["because"]}"' in answer.text
     assert [it[0] for it in frozen_months(tried)] == [202512, 202601]
     assert PreparedFreeze(tried.room / "prepared-freeze.json").read()
     tried.tried(ben, MONTH)
     words = ben.words(page)
-    assert "The table is another one than the one that was prepared. Drop it, and prepare it again." in words
-    assert "What changed since it was prepared" in words and "Confirm, and freeze" not in words
+    assert "The table differs from the prepared one. Discard the freeze, and prepare it again." in words
+    assert "What has changed since the freeze was prepared" in words and "Confirm, and freeze" not in words
 
 
 def test_before_its_window_has_closed_a_month_isn_t_prepared(application: Application, ada: Person) -> None:
@@ -283,7 +288,7 @@ def test_before_its_window_has_closed_a_month_isn_t_prepared(application: Applic
         assert b"done" in heard(peer)
     application.tried(ada, MONTH)
     assert "open until" in ada.words(f"/month/{MONTH}/freeze")
-    assert "It can be prepared once the window has closed" in ada.words(f"/month/{MONTH}/freeze")
+    assert "The freeze can be prepared once the window has closed" in ada.words(f"/month/{MONTH}/freeze")
     answer = ada.fill(f"/month/{MONTH}/freeze", "/prepare", **WHY)
     assert answer.status_code == 409 and "The window is open until" in words_of(answer.text)
     assert f'value="{WHY[f"why-{CODE}"]}"' in answer.text
@@ -291,9 +296,9 @@ def test_before_its_window_has_closed_a_month_isn_t_prepared(application: Applic
 
 def test_the_freeze_isn_t_a_record_among_others(ada: Person) -> None:
     for text, says in (
-        (f"freeze,{MONTH}\n", "Line 1: a month is frozen on its own page"),
-        ("\noutlet,12,A\nquote,1,2026-02,price,3\n", "Line 3: quote is no word of a record here"),
-        ('outlet,12,"A\n', "Line 1 isn't read as CSV: look at its quotation marks."),
+        (f"freeze,{MONTH}\n", "Line 1: freeze a month on its own page"),
+        ("\noutlet,12,A\nquote,1,2026-02,price,3\n", "Line 3: no record on this page begins with quote"),
+        ('outlet,12,"A\n', "Line 1 can't be read as CSV: check its quotation marks."),
         ("\n", "There are no records"),
     ):
         answer = ada.post("/records/judge", text=text)
@@ -309,7 +314,7 @@ def test_records_are_judged_before_they_are_sent_and_once(application: Applicati
     (offer,) = re.findall('name="offer" value="([^"]+)"', judged.text)
     assert "3 of 3 done" in words_of(ada.sent("/records/send", offer=offer, left="outlet,10,Other\n").text)
     again = ada.post("/records/send", offer=offer, left="outlet,10,Other\n")
-    assert again.status_code == 409 and "were sent already" in words_of(again.text)
+    assert again.status_code == 409 and "were already sent" in words_of(again.text)
     assert len(application.desk.log.entries) == 2
 
 
@@ -326,7 +331,7 @@ def test_times_of_the_calendar_are_those_of_the_office_s_clock(application: Appl
 
 def test_a_window_is_set_by_a_form_in_the_office_s_time(application: Application, ada: Person) -> None:
     words = ada.words("/calendar")
-    assert "by the office's clock, Europe/Prague" in words
+    assert "follow the office's clock, Europe/Prague" in words
     assert "January 2026 1 January 1970, 01:16 CET 1 January 1970, 01:33 CET 1 January 1970, 01:50 CET frozen" in words
     assert "February 2026 1 January 1970, 01:33 CET" in words and "closed, not frozen" in words
     fields = ["2026-03", "2030-03-01T11:00", "2030-07-01T12:00", "2030-07-05T12:00"]

@@ -15,11 +15,11 @@ from typing import Optional
 import pytest
 
 from cpi_tools.office.program import Cpi, record
-from cpi_tools.text.csv_files import line_of
+from cpi_tools.text.text_files import line_of
 from lib.hostile import HOSTILE
 from lib.offices import RICE_AND_FLOUR
 from . import surveys
-from .desk_apps import LISTEN, Application, Person, applied
+from .desk_apps import LISTEN, Application, Chosen, Person, applied
 from .surveys import key_of
 from .test_desk_app_month import MONTH, SIGNED
 from .test_desk_app_publish import OFFICE, with_site
@@ -40,6 +40,7 @@ PAGES: dict[str, list[str]] = {
     "table.show": [f"/month/{MONTH}/table"],
     "table.explain": [f"/month/{MONTH}/explain/{it}" for it in ("00", "01", "01.1.1.1-01", "01.1.1.2-01")],
     "table.what_if_page": [f"/month/{MONTH}/what-if"],
+    "draft.show": [f"/month/{MONTH}/release", f"/month/{MONTH}/release?language=en"],
     "freeze.show": [FREEZE],
     "freeze.receipt": [f"{FREEZE}/receipt/1"],
     "reason.show": [f"/month/{MONTH}/reason"],
@@ -55,7 +56,7 @@ PAGES: dict[str, list[str]] = {
     "year.show": [f"{YEAR}?sheet={it}" for it in ("weights", "classification", "places", "series", "few-series")],
     "publish.show": ["/publish"],
     "records.show": ["/records"],
-    "records.sent": ["/records/sent"],
+    "records.show_sent": ["/records/sent"],
     "keys.sheet": ["/sample/collectors/sheet"],
     "log.show": ["/log"],
     "sign_in.show": ["/sign-in"],
@@ -65,7 +66,8 @@ PAGES: dict[str, list[str]] = {
 
 FILES = set(
     "script style looks.script year.script month.glance_file looks.to_send table.file field_notes.file log.file sample.file"
-    " field_notes.photo calendar.phones year.file year.changes_file field.own field.own_photo field.asked static".split()
+    " field_notes.photo draft.pdf calendar.phones year.file year.changes_file field.own field.own_photo field.list_questions"
+    " static".split()
 )
 """What isn't a page: scripts, styles, tables to keep, photographs, and what phones ask for."""
 
@@ -142,7 +144,7 @@ def application(cpi: Cpi, tmp_path: Path) -> Iterator[Application]:
     file = tmp_path / "hostile.db"
     assert [it for it in cpi.replay(lines, db=file) if "refused" in it] == []
     (tmp_path / "revisions.csv").write_text("month,revision,reason\n", encoding="utf-8")
-    with applied(cpi, file, tmp_path / "room", 13) as it:
+    with applied(cpi, file, tmp_path / "room", Chosen(13)) as it:
         it.desk.given = it.desk.given._replace(phones="https://prices.example")
         with_site(it, tmp_path, f"{OFFICE}title = {LINES[0]}\nrevisions = revisions.csv\n")
         yield it

@@ -75,14 +75,14 @@ def written(publisher: Publisher, person: Person) -> str:
 
 
 def test_what_is_out_is_published_now_and_nothing_else(application: Application, ada: Person, tmp_path: Path) -> None:
-    assert "wasn't told where the website goes" in ada.words("/publish")
+    assert "was started without the website's options" in ada.words("/publish")
     assert ada.post("/publish/now").status_code == 404
     publisher = with_site(application, tmp_path)
     words = ada.words("/publish")
-    assert "There is no website in" in words and "Out, and not in the website yet 2 " in words
-    assert "Publish now" in words and "Frozen, and not out yet 1 " in words
+    assert "There is no website in" in words and "Published, but not on the website yet 2 " in words
+    assert "Publish now" in words and "Frozen, but not published yet 1 " in words
     words = written(publisher, ada)
-    assert "2 tables up to 2026-01, 8 items" in words and "In the website 2 " in words and "Write it again" in words
+    assert "2 tables up to 2026-01, 8 items" in words and "On the website 2 " in words and "Write it again" in words
     tables = json.loads((tmp_path / "public/manifest.json").read_text(encoding="utf-8"))["tables"]
     assert [(it["month"], it["revision"]) for it in tables] == [("2025-12", 1), ("2026-01", 1)]
     assert (tmp_path / "public/index.html").stat().st_mode & 0o044 == 0o044
@@ -98,10 +98,10 @@ def test_a_table_is_published_at_its_moment(cpi: Cpi, tmp_path: Path) -> None:
         publisher, ada = with_site(application, tmp_path), application.person(ADA)
         assert ada.fill("/publish", "/publish/plan").status_code == 303
         publisher.start()
-        waited(lambda: not publisher.planned())
+        waited(lambda: not publisher.read_planned())
         waited(lambda: not publisher.running)
-        assert (MONTH, 1) in publisher.published()
-        assert "In the website 3 " in ada.words("/publish")
+        assert (MONTH, 1) in publisher.read_published()
+        assert "On the website 3 " in ada.words("/publish")
         log = ada.words("/log")
         assert "to be published at its moment" in log and f"{MONTH}, revision 1" in log
         assert "couldn't be written" not in log
@@ -113,13 +113,13 @@ def test_a_plan_outlives_the_application_and_anybody_takes_it_back(
     with_site(application, tmp_path)
     form = ada.form("/publish", "/publish/plan")
     assert [ada.give(form).status_code for _ in range(2)] == [303, 409]
-    assert "Will be published then: Ada said so." in ada.words("/publish")
+    assert "Ada decided to publish it then." in ada.words("/publish")
     application.again()
     publisher, ben = with_site(application, tmp_path), application.person(BEN)
-    assert publisher.planned() == [Planned(ADA, MONTH, 1, moment)]
+    assert publisher.read_planned() == [Planned(ADA, MONTH, 1, moment)]
     assert publisher._look() > 0 and not publisher.running
     assert ben.fill("/publish", "/publish/plan").status_code == 303
-    assert publisher.planned() == [] and "Publish it at its moment" in ben.words("/publish")
+    assert publisher.read_planned() == [] and "Publish it at its release time" in ben.words("/publish")
     words = ben.words("/log")
     assert (
         words.count("to be published at its moment,") == 1
@@ -145,7 +145,8 @@ def test_a_website_that_couldn_t_be_written_says_why_and_stays(
     for _ in range(2):
         words = written(publisher, ada)
         assert (
-            "The website couldn't be written, and is as it was: Mend what cpi-tools publish names in this line, then write"
+            "The website couldn't be written, and is unchanged: Correct the fault that this "
+            "line of cpi-tools publish names, then write"
             " the website again: the table of 2025-12, revision 1, isn't the one" in words
         )
     assert (tmp_path / "public/SHA256SUMS").read_bytes() == before

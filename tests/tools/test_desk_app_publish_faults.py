@@ -17,9 +17,9 @@ from cpi_tools.office.program import Cpi
 from .desk_apps import ADA, Application, Person, applied
 from .test_desk_app_publish import frozen, waited, with_site, written
 
-FULL = "The disk is full: make room on it, then do this again. The system says: "
+FULL = "The disk is full: free some space, then try again. The system says: "
 WRITTEN = "The website was written. cpi-tools publish says: "
-NOT_WRITTEN = "The website couldn't be written, and is as it was: "
+NOT_WRITTEN = "The website couldn't be written, and is unchanged: "
 
 
 def full(*_: object) -> NoReturn:
@@ -44,7 +44,7 @@ def test_a_website_that_was_written_is_told_so_if_the_log_has_no_room(
     with monkeypatch.context() as patch:
         patch.setattr(os, "fsync", full)
         words = written(publisher, ada)
-    assert publisher.published() and WRITTEN in words and NOT_WRITTEN not in words
+    assert publisher.read_published() and WRITTEN in words and NOT_WRITTEN not in words
     assert f"{FULL}{application.room}/desk.log: No space left on device" in words and "nothing was done" not in words
     assert "the website" not in ada.words("/log")
     words = written(publisher, ada)
@@ -59,7 +59,10 @@ def test_a_fault_is_on_the_page_if_the_log_has_no_room_for_it(
     with monkeypatch.context() as patch:
         patch.setattr(os, "fsync", full)
         words = written(publisher, ada)
-    assert f"{NOT_WRITTEN}Mend what cpi-tools publish names in this line" in words and "agency is missing" in words
+    assert (
+        f"{NOT_WRITTEN}Correct the fault that this line of cpi-tools publish names" in words
+        and "agency is missing" in words
+    )
     assert "couldn't be written" not in ada.words("/log")
     for _ in range(2):
         assert NOT_WRITTEN in written(publisher, ada)
@@ -76,11 +79,11 @@ def test_a_plan_that_is_done_and_can_t_be_taken_away_waits(
         patch.setattr(os, "fsync", full)
         words = written(publisher, ada)
         assert WRITTEN in words and f"{FULL}{publisher._plan}: No space left on device" in words
-        assert publisher._look() > 0 and not publisher.running and publisher.planned() == [done]
+        assert publisher._look() > 0 and not publisher.running and publisher.read_planned() == [done]
     publisher._failed_at -= AGAIN_AFTER
     publisher._look()
     waited(lambda: not publisher.running)
-    assert publisher.planned() == [] and FULL not in ada.words("/publish")
+    assert publisher.read_planned() == [] and FULL not in ada.words("/publish")
 
 
 def test_a_plan_that_can_t_be_kept_is_refused(
@@ -89,16 +92,16 @@ def test_a_plan_that_can_t_be_kept_is_refused(
     form = ada.form("/publish", "/publish/plan")
     for what in ("plan", "drop"):
         with monkeypatch.context() as patch:
-            patch.setattr("cpi_tools.text.whole_files.os.fchmod", full)
+            patch.setattr("cpi_tools.text.text_files.os.fchmod", full)
             answer = ada.give(form, what=what)
         assert answer.status_code == 400 and f"{publisher._plan}: No space left on device" in answer.text
-    assert publisher.planned() == []
+    assert publisher.read_planned() == []
 
 
 def test_a_plan_that_can_t_be_read_is_told_and_nothing_is_published(publisher: Publisher, ada: Person) -> None:
     publisher._plan.write_text("[[1]]", encoding="utf-8")
     assert publisher._look() == LOOKS_EVERY and not publisher.running
-    assert "isn't as the application wrote it: put it aside, then do this again." in ada.words("/publish")
+    assert "isn't as the application wrote it: move it away, then try again." in ada.words("/publish")
     publisher._plan.unlink()
     publisher._plan.mkdir()
     assert publisher._look() == LOOKS_EVERY and not publisher.running
@@ -114,8 +117,8 @@ def test_an_error_of_the_application_is_told(
     def fails(_: int) -> NoReturn:
         raise RuntimeError("what nobody thought of")
 
-    monkeypatch.setattr(publisher, "_written", fails)
-    assert f"{NOT_WRITTEN}The application met an error, which is its own." in written(publisher, ada)
+    monkeypatch.setattr(publisher, "_write_website", fails)
+    assert f"{NOT_WRITTEN}The application had an internal error." in written(publisher, ada)
     assert "what nobody thought of" in ada.words("/log")
 
 
@@ -123,7 +126,7 @@ def test_a_tool_that_ends_without_a_word_is_told(
     publisher: Publisher, ada: Person, monkeypatch: pytest.MonkeyPatch
 ) -> None:
     monkeypatch.setattr("cpi_tools.desk.freeze.publication.sys.executable", "/bin/false")
-    assert f"{NOT_WRITTEN}cpi-tools publish ended with the status 1." in written(publisher, ada)
+    assert f"{NOT_WRITTEN}cpi-tools publish ended with status 1." in written(publisher, ada)
 
 
 def test_the_end_of_the_application_ends_what_writes(

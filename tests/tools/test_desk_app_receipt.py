@@ -12,12 +12,10 @@ import pytest
 
 from cpi_tools.guard.backup import last_line_of, read_note
 from cpi_tools.office.copying import private_copy
-from cpi_tools.desk.freeze import freeze_receipts
+from cpi_tools.desk.freeze import freeze_steps
 from cpi_tools.desk.records.desk_log import DeskLog
-from cpi_tools.desk.serve.held_forms import MOST, MOST_BYTES_OF_ALL, HeldForm, HeldForms
-from cpi_tools.desk.serve.second_key import SecondKey
-from cpi_tools.desk.serve.sessions import Sessions
-from cpi_tools.desk.serve.wrong_keys import FREE_TRIES
+from cpi_tools.desk.serve.sent_forms import MOST, MOST_BYTES_OF_ALL, HeldForm, HeldForms
+from cpi_tools.desk.serve.sessions import FREE_TRIES, SecondKey, Sessions
 from cpi_tools.office.program import Cpi, Reply
 from cpi_tools.text.terminal import Fault
 from .desk_apps import ADA, BEN, Application, Person, words_of
@@ -45,16 +43,16 @@ def test_the_second_person_reads_what_is_signed(prepared: Application) -> None:
     """Rice went from 456/440 to 456/440 * 252/246, which is 106.164; all items were at 104.181818 in January, and rice has
     0.6 of the weight: 60 * 2.5277 / 104.1818 = 1.456 percentage points. Flour is as it was."""
     words = prepared.person(BEN).words(PAGE)
-    assert "Nothing changed since it was prepared." in words
-    assert "all items would be at 105.7 (December 2025 = 100): 1.5 percent on the month before" in words
+    assert "Nothing has changed since the freeze was prepared." in words
+    assert "all items would be at 105.7 (December 2025 = 100): the monthly change would be 1.5 percent" in words
     assert "All items and divisions" in words and "01 Food and drink" in words
     largest, movers = (words.partition(title)[2] for title in ("The largest contributions", "What changed most"))
     assert "01.1.1.1-01 Rice, packed 106.16 +2.4 +1.456" in largest.partition("What changed")[0]
     assert "01.1.1.1-01 Rice, packed 106.16 +2.4 +1.456" in movers and "Flour" not in movers.partition("Prices to")[0]
     looks = words.partition("Prices to look at that nobody has seen")[2]
     assert (
-        "8/1 Rice , 1 kg Market hall +2.4 +1.517 the only price" in looks
-        and "the only price that is compared in its aggregate" in looks
+        "8/1 Rice , 1 kg Market hall +2.4 +1.517 the only compared price" in looks
+        and "the only compared price in its aggregate" in looks
     )
     assert f"{CODE}: the shop is closed for a week" in words
     assert "priced 33.3 % 1 of 3 slots, 30.0 % by weight" in words
@@ -64,7 +62,7 @@ def test_the_second_person_reads_what_is_signed(prepared: Application) -> None:
 def test_a_reason_is_asked_for_prices_of_weight_that_nobody_has_seen(prepared: Application) -> None:
     ben = prepared.person(BEN)
     refused = ben.fill(PAGE, "/confirm")
-    assert refused.status_code == 400 and "Say why the month is frozen" in words_of(refused.text)
+    assert refused.status_code == 400 and "Give the reason for freezing the month" in words_of(refused.text)
     form = ben.form(PAGE, "/confirm")
     prepared.desk.given = prepared.desk.given._replace(reason_above=999_000_000)
     assert 'name="because"' not in ben.get(PAGE).text
@@ -87,6 +85,11 @@ def frozen(application: Application, person: Person) -> str:
     return words_of(person.get(RECEIPT).text)
 
 
+def without_duration(words: str) -> str:
+    """The words of a page without those that say how long its work took last, which a restart forgets."""
+    return re.sub(r" The last time it took about [^.]*\.", "", words)
+
+
 def test_a_freeze_ends_on_a_receipt_that_stays(cpi: Cpi, prepared: Application, ada: Person) -> None:
     words = frozen(prepared, prepared.person(BEN))
     with private_copy(prepared.file) as copy:
@@ -95,10 +98,10 @@ def test_a_freeze_ends_on_a_receipt_that_stays(cpi: Cpi, prepared: Application, 
     (at,) = [number for number, line in enumerate(logged, 1) if b'"what":"frozen"' in line]
     for says in (
         "February 2026 is frozen, revision 1.",
-        "All items are at 105.7 (December 2025 = 100): 1.5 percent on the month before",
+        "All items are at 105.7 (December 2025 = 100): the monthly change is 1.5 percent",
         "Prepared Ada , ",
         "Confirmed Ben , ",
-        "Is published At once: its moment, 1 January 1970, 02:23 CET (01:23 UTC), was over",
+        "Is published Immediately: its release time, 1 January 1970, 02:23 CET (01:23 UTC), had passed",
         f"Frozen with prices that nobody had seen {SIGNED['because']}",
         f"Carried: {CODE} the shop is closed for a week",
         f"SHA-256 of the table {total}",
@@ -109,14 +112,15 @@ def test_a_freeze_ends_on_a_receipt_that_stays(cpi: Cpi, prepared: Application, 
         assert says in words, says
     prepared.again()
     for person in (prepared.person(ADA), prepared.person(BEN)):
-        assert words_of(person.get(RECEIPT).text) == words
+        assert without_duration(words_of(person.get(RECEIPT).text)) == without_duration(words)
     assert "is frozen, revision 1. Its receipt" in prepared_page(prepared)
     missing = prepared.person(ADA).get(f"{PAGE}/receipt/2")
     assert missing.status_code == 404 and "Page not found" in words_of(missing.text)
 
 
 @pytest.mark.parametrize(
-    ("later", "says"), [(0, "Is published At once: its moment, "), (60, "Is published 31 January 2026, 23:54 CET")]
+    ("later", "says"),
+    [(0, "Is published Immediately: its release time, "), (60, "Is published 31 January 2026, 23:54 CET")],
 )
 def test_a_receipt_says_whether_the_table_is_out_at_once(
     prepared: Application, monkeypatch: pytest.MonkeyPatch, later: int, says: str
@@ -124,10 +128,10 @@ def test_a_receipt_says_whether_the_table_is_out_at_once(
     """It isn't said to be published at a moment before the one at which the freeze was confirmed."""
     ben = prepared.person(BEN)
     frozen(prepared, ben)
-    found = freeze_receipts.kept(prepared.desk.log, 202602, 1)
+    found = freeze_steps.find_receipt(prepared.desk.log, 202602, 1)
     assert found
     receipt = found.receipt._replace(confirmed_at=1_769_900_000, publishes=1_769_900_000 + later)
-    monkeypatch.setattr(freeze_receipts, "kept", lambda *_: found._replace(receipt=receipt))
+    monkeypatch.setattr(freeze_steps, "find_receipt", lambda *_: found._replace(receipt=receipt))
     assert says in ben.words(RECEIPT)
 
 
@@ -153,7 +157,7 @@ def test_a_receipt_that_can_t_be_written_now_is_written_later(
     with monkeypatch.context() as patch:
         patch.setattr(DeskLog, "append", fails)
         words = words_of(ben.follow(ben.fill(PAGE, "/confirm", **SIGNED)).text)
-    assert "February 2026 is frozen, revision 1. Its receipt can't be written yet: " in words
+    assert "February 2026 is frozen, revision 1. The receipt can't be written yet: " in words
     assert ben.get(RECEIPT).status_code == 404
     prepared.again()
     assert "Its receipt" in prepared_page(prepared)
@@ -200,7 +204,7 @@ def test_a_freeze_takes_the_second_key(prepared: Application, tmp_path: Path) ->
     prepared.desk.second_key = SecondKey(path)
     ben = prepared.person(BEN)
     words = ben.words(PAGE)
-    assert "To confirm it needs the second key." in words and "Names are only names" not in words
+    assert "The person who confirms needs the second key." in words and "Names are only names" not in words
     for key in ("", DESK_KEY, "5" * 31):
         answer = ben.fill(PAGE, "/confirm", second_key=key, **SIGNED)
         assert answer.status_code == 403 and "This isn't the second key" in words_of(answer.text)
@@ -218,14 +222,14 @@ def test_a_second_key_is_guarded(tmp_path: Path) -> None:
     with pytest.raises(Fault, match="Others can read"):
         SecondKey(path)
     path.chmod(0o600)
-    with pytest.raises(Fault, match="has no key of 32 characters"):
+    with pytest.raises(Fault, match="doesn't contain a key of 32 characters"):
         SecondKey(path)
     path.write_text(SECOND)
     key = SecondKey(path)
-    assert "guards nothing" in key.refused(SECOND, SECOND, "") and not key.refused(SECOND, DESK_KEY, "")
+    assert "protects nothing" in key.find_refusal(SECOND, SECOND, "") and not key.find_refusal(SECOND, DESK_KEY, "")
     for _ in range(FREE_TRIES):
-        assert "isn't the second key" in key.refused("x", DESK_KEY, "127.0.0.1")
-    assert "Too many wrong keys. Wait 60 seconds" in key.refused(SECOND, DESK_KEY, "127.0.0.1")
+        assert "isn't the second key" in key.find_refusal("x", DESK_KEY, "127.0.0.1")
+    assert "Too many wrong keys. Wait 60 seconds" in key.find_refusal(SECOND, DESK_KEY, "127.0.0.1")
 
 
 def test_the_words_of_the_second_person_are_read(tmp_path: Path) -> None:
@@ -283,7 +287,7 @@ def test_a_form_of_an_ended_session_is_kept_until_it_is_sent_again(application: 
     assert "outlet,12,Harbour" in words_of(shown.text) and "Send it again, as Ben" in words_of(shown.text)
     assert SECOND not in shown.text
     (again,) = [it for it in forms_of(shown.text) if it.action == "/records/judge"]
-    assert "1 would be carried out" in words_of(ada.follow(ada.give(again)).text)
+    assert "1 would be accepted" in words_of(ada.follow(ada.give(again)).text)
     assert ada.get(place).status_code == 404 and not application.desk.log.entries
 
 

@@ -18,7 +18,7 @@ from cpi_tools.desk.freeze.publication import Site
 from cpi_tools.desk.freeze.reason_file import ReasonFile, Row, add, with_row
 from cpi_tools.text.clocks import UTC, clock_of
 from cpi_tools.publish.figures.config import read_config
-from cpi_tools.publish.figures.reasons import reasons_of
+from cpi_tools.publish.figures.announcements import reasons_of
 from cpi_tools.office.program import Cpi
 from . import surveys
 from .desk_apps import ADA, BEN, Application, Person, applied, words_of
@@ -85,18 +85,24 @@ def test_who_reopens_a_month_is_asked_why_and_the_website_says_it(
     application: Application, ada: Person, reasons: Path, moment: int, tmp_path: Path
 ) -> None:
     page = reopens(ada, moment)
-    assert "1 of 1 done." in words_of(page.text) and "Why is January 2026 revised? (revision 2)" in words_of(page.text)
-    assert re.search("Why it is revised \\( English \\).*Why it is revised \\( fran\u00e7ais \\)", words_of(page.text))
+    assert "1 of 1 done." in words_of(page.text) and "Why is January 2026 revised (revision 2)?" in words_of(page.text)
+    assert re.search(
+        "Reason for the revision \\( English \\).*Reason for the revision \\( fran\u00e7ais \\)", words_of(page.text)
+    )
     for path in ("/calendar", "/sample/calendar"):
-        assert "Why is January 2026 revised?" in ada.words(path)
+        assert "Why is January 2026 revised" in ada.words(path)
     (form,) = [it for it in forms_of(page.text) if it.action == PAGE]
     kept = ada.give(form, **{**TEXTS, "reason-en": f"  {WHY}\n "})
     assert (kept.status_code, kept.headers["Location"]) == (303, PAGE) and WHY in ada.words(PAGE)
-    assert "Why is January 2026 revised?" not in ada.words("/calendar") and reasons.read_text() == HEAD
+    assert "Why is January 2026 revised" not in ada.words("/calendar") and reasons.read_text() == HEAD
     assert prepares(application, ada).status_code == 303
     ben = application.person(BEN)
     words = ben.words(FREEZE)
-    assert WHY in words and POURQUOI in words and f"Once it is confirmed, {reasons}" in words
+    assert (
+        WHY in words
+        and POURQUOI in words
+        and f"Once the freeze is confirmed, the application adds this reason to {reasons}" in words
+    )
     assert reasons.read_text() == HEAD
     receipt = words_of(signed(ben).text)
     assert "January 2026 is frozen, revision 2." in receipt and WHY in receipt and POURQUOI in receipt
@@ -133,7 +139,7 @@ def test_a_revision_isn_t_prepared_without_its_reason(application: Application, 
     trial = application.desk.trials.latest(202601)
     assert trial and [it.action for it in forms_of(ada.get(FREEZE).text) if it.action.startswith("/month/")][-1] == PAGE
     refused = ada.post(f"{FREEZE}/prepare", trial=trial.sum, reason="")
-    assert refused.status_code == 400 and "Say why the month is revised." in words_of(refused.text)
+    assert refused.status_code == 400 and "Give the reason for the revision." in words_of(refused.text)
     ben = application.person(BEN)
     assert ben.fill(PAGE, "/reason", **{**TEXTS, "reason-en": "At first"}).status_code == 303
     stale = ada.form(FREEZE, "/prepare")
@@ -142,7 +148,7 @@ def test_a_revision_isn_t_prepared_without_its_reason(application: Application, 
     assert late.status_code == 409 and "Ben changed this after your page was loaded, " in words_of(late.text)
     assert ada.fill(FREEZE, "/prepare").status_code == 303
     refused = ben.fill(PAGE, "/reason", **{"reason-en": "Another one"})
-    assert refused.status_code == 409 and "The freeze with this reason is prepared" in words_of(refused.text)
+    assert refused.status_code == 409 and "A freeze with this reason is already prepared" in words_of(refused.text)
     assert "Another one" in refused.text
 
 
@@ -153,12 +159,12 @@ def test_what_isn_t_taken_stays_on_the_page(
     application: Application, ada: Person, moment: int, monkeypatch: pytest.MonkeyPatch
 ) -> None:
     reopens(ada, moment)
-    for text, says in (("  ", "Say why the month is revised."), ("x" * 1001, "A reason has 1,001 letters: ")):
+    for text, says in (("  ", "Give the reason for the revision."), ("x" * 1001, "and one has 1,001.")):
         refused = ada.fill(PAGE, "/reason", **{**TEXTS, "reason-en": text})
         assert refused.status_code == 400 and says in words_of(refused.text), words_of(refused.text)
         assert POURQUOI in refused.text and text.strip() in refused.text
     with monkeypatch.context() as patch:
-        patch.setattr("cpi_tools.text.whole_files.os.fchmod", full)
+        patch.setattr("cpi_tools.text.text_files.os.fchmod", full)
         refused = ada.fill(PAGE, "/reason", **TEXTS)
     assert refused.status_code == 503 and "The disk is full" in words_of(refused.text) and WHY in refused.text
     form = ada.form(PAGE, "/reason")
@@ -177,8 +183,8 @@ def test_a_reason_of_another_revision_isn_t_taken(application: Application, ada:
     prepares(application, ada)
     signed(application.person(BEN))
     late = ada.give(form, **TEXTS)
-    assert late.status_code == 409 and "January 2026 isn't reopened for that revision any more." in words_of(late.text)
-    assert WHY in late.text and "The month isn't reopened, so no reason is asked." in ada.words(PAGE)
+    assert late.status_code == 409 and "January 2026 is no longer reopened for that revision." in words_of(late.text)
+    assert WHY in late.text and "The month isn't reopened, so no reason is needed." in ada.words(PAGE)
 
 
 def test_without_a_file_the_page_says_where_to_write_it(
@@ -186,11 +192,13 @@ def test_without_a_file_the_page_says_where_to_write_it(
 ) -> None:
     with_site(application, tmp_path)
     reopens(ada, moment)
-    assert "names no file of reasons. Add the line revisions = revisions.csv to it" in ada.words("/calendar")
+    assert "names no file of reasons. Add the line revisions = revisions.csv there" in ada.words("/calendar")
     application.desk.publisher = None
-    assert "The desk can't keep the reason: the application wasn't told of the website" in ada.words("/calendar")
+    assert "The desk can't save the reason: the application was started without the website's options" in ada.words(
+        "/calendar"
+    )
     answer = ada.post(PAGE, **{"revision": "2", "was": "", **TEXTS})
-    assert answer.status_code == 503 and words_of(answer.text).count("The desk can't keep the reason") == 1
+    assert answer.status_code == 503 and words_of(answer.text).count("The desk can't save the reason") == 1
     assert WHY in words_of(answer.text)
     assert prepares(application, ada).status_code == 303
     assert "is frozen, revision 2." in words_of(signed(application.person(BEN)).text)
@@ -202,7 +210,9 @@ def test_a_file_that_can_t_be_replaced_stops_no_freeze(
     """As under /etc, which the service only reads: the page says so, and the month can be frozen."""
     reopens(ada, moment)
     monkeypatch.setattr("cpi_tools.desk.freeze.reason_file.os.access", lambda path, mode: False)
-    assert f"may not write in {reasons.parent} . Write the reason into revisions.csv by hand" in ada.words("/calendar")
+    assert f"has no permission to write in {reasons.parent} . Write the reason into revisions.csv by hand" in ada.words(
+        "/calendar"
+    )
     assert prepares(application, ada).status_code == 303
     assert "is frozen, revision 2." in words_of(signed(application.person(BEN)).text)
     assert reasons.read_text() == HEAD
@@ -253,7 +263,7 @@ def test_what_somebody_wrote_into_the_file_stays(prepared: Application, reasons:
     assert late.status_code == 409 and "was changed after your page was loaded." in words_of(late.text)
     reasons.write_text(own, encoding="utf-8")
     refused = ben.fill(FREEZE, "/confirm", **SIGNED)
-    assert refused.status_code == 409 and "has a reason of this revision already" in words_of(refused.text)
+    assert refused.status_code == 409 and "already contains a reason for this revision" in words_of(refused.text)
     assert reasons.read_text(encoding="utf-8") == own and prepared.desk.prepared.read()
 
 
@@ -270,9 +280,9 @@ def test_what_can_t_be_written_after_the_freeze_is_told_and_written_later(
     prepared: Application, ada: Person, reasons: Path, monkeypatch: pytest.MonkeyPatch
 ) -> None:
     with monkeypatch.context() as patch:
-        patch.setattr("cpi_tools.desk.freeze.revision_reasons.add", full_disk)
+        patch.setattr("cpi_tools.desk.freeze.reason_file.add", full_disk)
         words = words_of(signed(prepared.person(BEN)).text)
-        assert "The reason of January 2026, revision 2, isn't in the website's file yet." in words and WHY in words
+        assert "The reason for January 2026, revision 2, isn't in the website's file yet." in words and WHY in words
         assert "isn't in the website's file yet." in ada.words("/publish") and reasons.read_text() == HEAD
     prepared.again()
     with_site(prepared, reasons.parent, SITE)

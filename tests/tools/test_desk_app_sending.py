@@ -11,9 +11,8 @@ import pytest
 
 from . import surveys
 from cpi_tools.desk.records.desk_log import ANSWERED, LOOKED_UP, NOT_SENT, SENT, DeskLog, Entry
-from cpi_tools.desk.serve.running_office import MOST_BYTES, NoReply, NotSent, Office, messages_of
-from cpi_tools.desk.records.sending import Sender
-from cpi_tools.desk.records.carried_out import looked_up
+from cpi_tools.desk.serve.watched_office import MOST_BYTES, NoReply, NotSent, Office, messages_of
+from cpi_tools.desk.records.sending import Sender, looked_up
 from cpi_tools.office.program import Cpi, Reply, record
 from cpi_tools.office.stored import read_copy
 from cpi_tools.text.terminal import Fault
@@ -178,7 +177,7 @@ def test_an_application_that_is_killed_behind_its_line(cpi: Cpi, small: Path, tm
                 application.desk.office.carry_out(DESK_KEY, [fields])
             application.again()
             person = application.person("Ben")
-            assert "Records were sent, and no reply came" in person.get("/records").text
+            assert "Records were sent, but no reply came" in person.get("/records").text
             assert person.post("/log/settle").status_code == 303
             last = application.desk.log.entries[-1]
             assert (last.of, last.by, last.replies) == (
@@ -236,5 +235,5 @@ def test_messages_have_room_for_what_they_hold() -> None:
     rows = [["outlet", str(number), "x" * 1000] for number in range(1, 200)]
     messages = messages_of(rows)
     assert [fields for message in messages for fields in message] == rows and len(messages) == 4
-    with pytest.raises(Fault, match="65,536 at most"):
+    with pytest.raises(Fault, match="at most 65,536"):
         messages_of([["plan", "2027", "x" * MOST_BYTES]])

@@ -9,14 +9,12 @@ from pathlib import Path
 import pytest
 
 from cpi_tools.desk.year.clock_faults import clock_fault
-from cpi_tools.desk.records.record_names import NO_NAMES, Names, names_in
-from cpi_tools.desk.records.record_sentences import SENTENCES, sentence_of
-from cpi_tools.text.languages import known
-from cpi_tools.text.money import Money
+from cpi_tools.desk.records.record_sentences import NO_NAMES, SENTENCES, Names, names_in, sentence_of
+from cpi_tools.text.languages import list_known, speech_of
+from cpi_tools.text.message import Money
 from cpi_tools.text.clocks import UTC, clock_of
 from cpi_tools.office.program import Cpi
 from cpi_tools.text.report_language import Teller
-from cpi_tools.text.speech import speech_of
 from lib.places import ROOT
 
 from . import surveys
@@ -70,7 +68,7 @@ def words_of_formats() -> list[str]:
 
 def test_each_record_of_the_formats_has_a_sentence_in_each_language() -> None:
     assert set(words_of_formats()) == set(SENTENCES) == {fields[0] for fields in EXAMPLES}
-    for code in known():
+    for code in list_known():
         teller = Teller(speech_of(code), CLOCK, lambda: Money(100, "crowns"))
         for fields in EXAMPLES:
             for names in (NO_NAMES, NAMES):
@@ -94,7 +92,7 @@ def test_each_record_of_the_formats_has_a_sentence_in_each_language() -> None:
         ),
         (
             ["handover", "7", "1", "8", "2", "2026-03"],
-            "Slot 1 of collector 7, Rice, 1 kg (RICE) at Corner shop (outlet 10), goes to collector 8, slot 2, from",
+            "From March 2026 on, slot 1 of collector 7, Rice, 1 kg (RICE) at Corner shop (outlet 10), is slot 2 of collector 8.",
         ),
         (
             ["freeze", "2026-01", "01.1.1.2-01"],
@@ -102,7 +100,10 @@ def test_each_record_of_the_formats_has_a_sentence_in_each_language() -> None:
         ),
         (["item", "RICE", "Rice", "1 kg", "550", "1900"], "from \u221245\u202f% to +90\u202f% of the last one"),
         (["quote", "1", "2026-01", "price", "210"], "Slot 1 in January 2026: price 2.10."),
-        (["plan", "2027", PLAN], "titles 2, items placed 1, weights 2, which add up to 1,000,000 parts per million."),
+        (
+            ["plan", "2027", PLAN],
+            "Titles: 2; placed items: 1; weights: 2, which add up to 1,000,000 parts per million.",
+        ),
     ],
 )
 def test_a_sentence_has_what_the_record_has(fields: list[str], says: str) -> None:
@@ -157,7 +158,7 @@ def test_a_time_that_the_clock_leaves_out_or_has_twice_is_said() -> None:
     left_out, twice = clock_fault("2027-03-28T02:30", CLOCK), clock_fault("2027-10-31T02:30", CLOCK)
     assert "becomes 28 March 2027, 03:30 CEST (2027-03-28T01:30:00Z)." in str(prague.render(left_out))
     said = str(prague.render(twice))
-    assert "taken, 31 October 2027, 02:30 CEST (2027-10-31T00:30:00Z), and not 31 October 2027, 02:30 CET" in said
+    assert "used, 31 October 2027, 02:30 CEST (2027-10-31T00:30:00Z), not 31 October 2027, 02:30 CET" in said
     assert "(2027-10-31T01:30:00Z)" in said
     for text in ("2027-03-28T01:59", "2027-03-28T03:00", "2027-10-31T03:00", "1803877200", "soon", ""):
         assert clock_fault(text, CLOCK) is None, text
@@ -167,7 +168,7 @@ def test_a_time_that_the_clock_leaves_out_or_has_twice_is_said() -> None:
 
 
 def test_each_page_that_takes_a_window_says_so_before_it_is_sent(application: Application, ada: Person) -> None:
-    leaves, shows = "leaves 2027-03-28T02:30 out", "becomes 28 March 2027, 03:30 CEST (2027-03-28T01:30:00Z)"
+    leaves, shows = "skips 2027-03-28T02:30", "becomes 28 March 2027, 03:30 CEST (2027-03-28T01:30:00Z)"
     window = ["2027-03-01T08:00", "2027-03-28T02:30", "2027-03-30T09:00"]
     says = "March 2027: the window opens 1 March 2027, 08:00 CET (2027-03-01T07:00:00Z) and closes 28 March 2027, 03:30"
     words = ada.words(

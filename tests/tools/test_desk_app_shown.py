@@ -14,12 +14,12 @@ from typing import Any, NamedTuple
 import pytest
 
 from cpi_tools.desk.year import drafts
-from cpi_tools.desk.records import carried_out
+from cpi_tools.desk.records import sending
 from cpi_tools.desk.freeze.freezes import PreparedFreeze
 from cpi_tools.office.program import Cpi
 from lib.served import heard, message, peer_of
 from . import surveys
-from .desk_apps import ADA, BEN, LISTEN, PATIENCE, Application, Person, applied, words_of
+from .desk_apps import ADA, BEN, LISTEN, PATIENCE, Application, Chosen, Person, applied, words_of
 from .loads import DESK_KEY
 from .page_forms import PageForm, forms_of, with_row
 from .surveys import key_of
@@ -45,7 +45,7 @@ def waited(condition: Callable[[], object]) -> None:
 @pytest.fixture
 def application(cpi: Cpi, tmp_path: Path) -> Iterator[Application]:
     """The small office, with notes of the field, sheets with keys, and a website whose tables are due."""
-    with applied(cpi, surveys.small(cpi, tmp_path), tmp_path / "room", 13) as it:
+    with applied(cpi, surveys.small(cpi, tmp_path), tmp_path / "room", Chosen(13)) as it:
         it.desk.given = it.desk.given._replace(phones="https://prices.example")
         with_site(it, tmp_path)
         yield it
@@ -121,7 +121,7 @@ def test_another_trial_isn_t_prepared(application: Application, ada: Person, ben
     another_price(application)
     assert ada.give(form, trial="x", **WHY).status_code == 409
     application.tried(ben, MONTH)
-    late(ada.give(form, **WHY), "Ben had the month tried again, ", "read it. Nothing was done.", *WHY.values())
+    late(ada.give(form, **WHY), "Ben ran a new trial of the month, ", "read it. Nothing was done.", *WHY.values())
     assert PreparedFreeze(application.room / "prepared-freeze.json").read() is None
     # (a trial in which all is as it was is the one that the page showed)
     form = ada.form(FREEZE, "/prepare")
@@ -133,10 +133,10 @@ def test_another_freeze_isn_t_confirmed(application: Application, ada: Person, b
     prepares(application, ada)
     form = ben.form(FREEZE, "/confirm")
     assert ada.fill(FREEZE, "/drop").status_code == 303
-    late(ben.give(form, **SIGNED), "No freeze is prepared any more: Ada sent or dropped it, ")
+    late(ben.give(form, **SIGNED), "There is no longer a prepared freeze: Ada sent it or discarded it, ")
     another_price(application)
     prepares(application, ada)
-    late(ben.give(form, **SIGNED), "Ada prepared another freeze than the one that you saw, ", SIGNED["because"])
+    late(ben.give(form, **SIGNED), "Ada prepared another freeze, ", SIGNED["because"])
     application.tried(ada, MONTH)
     assert [it[0] for it in frozen_months(application)] == [202512, 202601]
     assert ben.sent(form.action, **{**dict(ben.form(FREEZE, "/confirm").fields), **SIGNED}).status_code == 200
@@ -148,7 +148,7 @@ def test_another_s_freeze_isn_t_dropped(application: Application, ada: Person, b
     form = ben.form(FREEZE, "/drop")
     assert ada.fill(FREEZE, "/drop").status_code == 303
     assert application.person(CEM).fill(FREEZE, "/prepare", **WHY).status_code == 303
-    late(ben.give(form), "Cem prepared another freeze than the one that you saw, ")
+    late(ben.give(form), "Cem prepared another freeze, ")
     kept = PreparedFreeze(application.room / "prepared-freeze.json").read()
     assert kept and kept.by == CEM
 
@@ -192,10 +192,10 @@ def test_a_window_that_somebody_set_isn_t_taken_back(application: Application, a
     sends(ben, OTHER_MAY)
     assert ada.give(with_window(form, "2026-06", "2026-06-22T18:00")).status_code == 303
     words = ada.words("/sample/calendar")
-    assert "Not carried out yet 1 " in words and "2026-06-22T18:00" in words
+    assert "Not accepted yet 1 " in words and "2026-06-22T18:00" in words
     answer = ada.give(with_window(form, "2026-05", "2026-05-28T18:00"))
     late(answer, "Ben sent another window of May 2026, ", "2026-05-28T18:00", "2026-05-20T18:00")
-    assert "Not carried out yet 1 " in ada.words("/sample/calendar")
+    assert "Not accepted yet 1 " in ada.words("/sample/calendar")
     again = [it for it in forms_of(answer.text) if it.action == "/calendar/2026"]
     assert ("closes", "2026-05-28T18:00") in again[0].fields and ada.give(again[0]).status_code == 303
 
@@ -209,8 +209,8 @@ def test_a_window_that_was_judged_before_another_isn_t_sent(application: Applica
     waiting = ada.form("/sample/calendar", "/send")
     sends(ben, MAYS.replace("24T", "27T"))
     sent = len(application.desk.log.entries)
-    late(ada.give(form), "changed after yours was judged. Ben sent it, ", "calendar,2026-05,")
-    late(ada.give(waiting), "changed after yours was judged. Ben sent it, ")
+    late(ada.give(form), "changed after yours was checked. Ben sent it, ", "calendar,2026-05,")
+    late(ada.give(waiting), "changed after yours was checked. Ben sent it, ")
     assert len(application.desk.log.entries) == sent
     assert ada.fill("/sample/calendar", "/judge", 0).status_code == 303
     assert "1 row sent" in words_of(ada.follow(ada.fill("/sample/calendar", "/send")).text)
@@ -228,11 +228,11 @@ def test_rows_that_changed_in_another_window_stay(application: Application, ada:
     sending = ada.form("/sample/outlets", "/send")
     assert own.fill("/sample/outlets", "/drop", 1).status_code == 303
     assert own.fill("/sample/outlets", "/judge", 1, outlet="13", name="Pier").status_code == 303
-    late(ada.give(mending, name="Mended here"), "These rows were sent, mended or dropped", "Mended here")
+    late(ada.give(mending, name="Mended here"), "These rows were sent, corrected or discarded", "Mended here")
     for form in (every, one):
-        late(ada.give(form), "These rows were sent, mended or dropped after your page was loaded")
-    late(ada.give(sending), "These rows were sent already, or changed since they were shown")
-    assert "Not carried out yet 2 " in ada.words("/sample/outlets")
+        late(ada.give(form), "These rows were sent, corrected or discarded after your page was loaded")
+    late(ada.give(sending), "These rows were already sent, or have changed since they were shown")
+    assert "Not accepted yet 2 " in ada.words("/sample/outlets")
 
 
 # ---- the draft of a year
@@ -306,7 +306,7 @@ def test_a_draft_that_changes_as_it_is_judged_isn_t_sent(
 ) -> None:
     """The page would show another plan than the one that was judged."""
     drafted(application, ada)
-    stands = carried_out.what_stands
+    stands = sending.what_stands
 
     def changes_meanwhile(*of: Any) -> Any:
         assert ben.give(with_row(ben.form(YEAR, "/put"), RICE, weight="590000")).status_code == 303
@@ -315,8 +315,8 @@ def test_a_draft_that_changes_as_it_is_judged_isn_t_sent(
     monkeypatch.setattr(drafts, "what_stands", changes_meanwhile)
     assert ada.post(f"{YEAR}check").status_code == 303
     waited(lambda: not application.desk.drafts.running)
-    assert "Ben changed the draft while it was judged: judge it again." in ada.words(YEAR)
-    assert application.desk.drafts.checked(2027) is None
+    assert "Ben changed the draft while it was checked: check it again." in ada.words(YEAR)
+    assert application.desk.drafts.find_checked(2027) is None
 
 
 def test_a_row_of_a_draft_that_somebody_changed_stays(application: Application, ada: Person, ben: Person) -> None:
@@ -348,13 +348,13 @@ def test_a_plan_that_was_judged_before_another_isn_t_sent(application: Applicati
     assert ada.post(f"{YEAR}check").status_code == 303
     waited(lambda: not application.desk.drafts.running)
     sending = ada.form(YEAR, "/send")
-    records = application.desk.drafts.checked(2027)
+    records = application.desk.drafts.find_checked(2027)
     assert records
     (plan,) = [it for it in records.records if it[0] == "plan"]
     given = ben.follow(ben.fill("/records", "/records/judge", 1, year="2027", text=plan[2].replace("Rice,", "Rices,")))
     (form,) = [it for it in forms_of(given.text) if it.action == "/records/send"]
     assert ben.give(form).status_code == 303
-    late(ada.give(sending), "plan,2027", "changed after yours was judged. Ben sent it, ")
+    late(ada.give(sending), "plan,2027", "changed after yours was checked. Ben sent it, ")
 
 
 # ---- the website, and notes of the field
@@ -370,7 +370,7 @@ def test_what_is_to_be_published_is_what_the_page_showed(cpi: Cpi, tmp_path: Pat
         dropping = ada.form("/publish", "/plan")
         assert ben.fill("/publish", "/plan").status_code == 303
         late(ada.give(dropping), BY_BEN)
-        assert publisher.planned() == []
+        assert publisher.read_planned() == []
         refused_in_words(ada, ada.form("/publish", "/plan"))
         assert ben.fill("/publish", "/now").status_code == 303
         waited(lambda: not publisher.running)
@@ -391,7 +391,7 @@ def test_a_question_that_somebody_asked_or_took_back_is_told(
     application.tried(ada, MONTH)
     asking = ada.form(LOOKS, "/looks/ask")
     assert ben.fill(LOOKS, "/looks/ask", text="Is it still 1 kg?").status_code == 303
-    late(ada.give(asking, text="Which brand?"), "Ben asked this meanwhile, ", "Is it still 1 kg?", "Which brand?")
+    late(ada.give(asking, text="Which brand?"), "Ben asked this in the meantime (", "Is it still 1 kg?", "Which brand?")
     withdrawing, removing = (ada.form(QUESTIONS, it) for it in ("/withdraw", "/remove"))
     assert ben.fill(QUESTIONS, "/withdraw").status_code == 303
     late(ada.give(withdrawing), BY_BEN)

@@ -10,9 +10,9 @@ from typing import Any, NoReturn
 import pytest
 
 from cpi_tools.office.copying import CopyFailed
-from cpi_tools.desk.serve import durations
-from cpi_tools.desk.serve.durations import Durations
-from cpi_tools.desk.serve.sent_twice import KNOWN_FOR, MOST_WAITING, Answer, NoAnswerYet, Once
+from cpi_tools.desk.serve import watched_office
+from cpi_tools.desk.serve.watched_office import Durations
+from cpi_tools.desk.serve.sent_forms import KNOWN_FOR, MOST_WAITING, Answer, NoAnswerYet, Once
 from .desk_apps import PATIENCE, Application, Person, words_of
 from .page_forms import PageForm, forms_of
 from .test_desk_app_shown import another_price
@@ -133,7 +133,9 @@ def test_without_an_answer_the_page_leads_to_the_log(
     second = ada.give(form, text="outlet,14,Quay")
     words = words_of(second.text)
     assert second.status_code == 409 and "No answer yet" in words
-    assert "This form was sent twice, and the first one has no answer yet: the log says what came of it." in words
+    assert (
+        "This form was sent twice, and the first copy has no answer yet: the log will say what happened to it." in words
+    )
 
 
 # ---- for how long
@@ -177,11 +179,11 @@ def test_what_runs_says_how_long_the_last_one_took(
 def test_what_fails_or_is_short_isn_t_told() -> None:
     clock = Clock()
     kept = Durations(clock)
-    with pytest.raises(ValueError), kept.measured("a"):
+    with pytest.raises(ValueError), kept.measure("a"):
         clock.now += 50
         raise ValueError
-    with kept.measured("b"):
-        clock.now += durations.SHORT - 1
+    with kept.measure("b"):
+        clock.now += watched_office.SHORT - 1
     assert kept.kinds() == [] and not kept.about("a") and not kept.about("b")
 
 

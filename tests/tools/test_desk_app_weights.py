@@ -13,10 +13,10 @@ from pathlib import Path
 import pytest
 
 from cpi_tools.office.copying import private_copy
-from cpi_tools.text.csv_files import line_of
+from cpi_tools.text.text_files import line_of
 from cpi_tools.desk.year import draft_sheets
 from cpi_tools.desk.year.draft_sheets import read_rows
-from cpi_tools.desk.year.draft_weights import before, in_unit, months_to_move, moved, percent_text, shares_of
+from cpi_tools.desk.year.draft_weights import before, in_unit, months_to_move, move_weights, percent_text, shares_of
 from cpi_tools.office.program import Cpi
 from cpi_tools.office.stored import read_copy
 from lib.places import ROOT
@@ -57,12 +57,14 @@ def test_weights_are_moved_as_the_freeze_moves_them(cpi: Cpi, tmp_path: Path) ->
     file = worked(cpi, tmp_path, True)
     with private_copy(file) as copy, read_copy(copy) as office:
         numbers: dict[str, Fraction | None] = {RICE: Fraction(550_000), FLOUR: Fraction(450_000)}
-        found = moved(office, numbers, 202606, 2027)
+        found = move_weights(office, numbers, 202606, 2027)
         (january,) = [it for it in office.releases() if it.month == 202701]
         in_use = {code: it.weight for code, it in office.levels(january).items() if "-" in code}
         assert months_to_move(office, 2027)[0] == 202611 and 202512 not in months_to_move(office, 2027)
-        assert moved(office, numbers, 202512, 2027) is None and moved(office, numbers, 202612, 2027) is None
-        lacking = moved(office, {**numbers, "01.1.1.3-01": Fraction(1)}, 202606, 2027)
+        assert (
+            move_weights(office, numbers, 202512, 2027) is None and move_weights(office, numbers, 202612, 2027) is None
+        )
+        lacking = move_weights(office, {**numbers, "01.1.1.3-01": Fraction(1)}, 202606, 2027)
         was = before(office, 2027)
     assert found and not found.lacking and (found.then, found.now) == (202606, 202612)
     assert in_use == {RICE: 573_621, FLOUR: 466_655}
@@ -90,17 +92,17 @@ def test_what_prices_make_of_weights_is_shown_before_it_is_chosen(application: A
     made(application, ada)
     assert ada.fill(PAGE, "/2027/put", 1, pasted=f"{RICE};550000\n{FLOUR};450000").status_code == 303
     shown = ada.words(f"{PAGE}?prices=2026-06")
-    assert "at prices of June 2026 as they are here, and at prices of December 2026." in shown
+    assert "at prices of June 2026, as in this draft, and at prices of December 2026." in shown
     assert f"{RICE} Rice in packets 600000 60.000 % 55.000 % \u22125.000 55.141 % +4.3 %" in shown, shown
-    assert "so nothing is moved" in shown
+    assert "so nothing is price-updated" in shown
     # (only now it is chosen, and the page goes on to show it)
     assert ada.give(ada.form(f"{PAGE}?prices=2026-06", "/reference")).status_code == 303
-    assert "This draft says: at prices of June 2026." in ada.words(PAGE) and "55.141 %" in ada.words(PAGE)
+    assert "In this draft, the weights are at prices of June 2026." in ada.words(PAGE) and "55.141 %" in ada.words(PAGE)
     assert ada.give(ada.form(f"{PAGE}?prices=", "/reference")).status_code == 303
     assert "55.141 %" not in ada.words(PAGE)
     assert "Use prices of June 2026" in shown
     for month, name in (("2025-12", "December 2025"), ("2026-12", "December 2026"), ("2031-01", "January 2031")):
-        assert f"Weights can't be moved from {name}: " in ada.words(f"{PAGE}?prices={month}")
+        assert f"Weights can't be price-updated from {name}: " in ada.words(f"{PAGE}?prices={month}")
     assert ada.get(f"{PAGE}?prices=x").status_code == 200
 
 
@@ -119,7 +121,7 @@ def test_titles_that_are_put_without_weights_keep_those_that_are_there(applicati
         [FLOUR, "Flour", "410000"],
         ["01.1.1.3-01", "Oats", ""],
     ]
-    assert "A row that you put without a weight keeps the one that is there." in ada.words(PAGE + TITLES)
+    assert "A row that you save without a weight keeps its present one." in ada.words(PAGE + TITLES)
 
 
 def test_a_row_that_comes_while_the_page_is_made_is_no_fault(

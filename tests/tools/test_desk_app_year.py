@@ -61,7 +61,7 @@ def test_a_draft_is_what_next_year_makes(application: Application, ada: Person) 
     made(application, ada)
     assert ada.get("/year").headers["Location"] == PAGE
     words = ada.words(PAGE)
-    assert "The weights add up to 1,000,000, which is all." in words
+    assert "The weights add up to 1,000,000, as they should." in words
     assert "Leave the sample 3 " in words and "New series 3 " in words and "Few series 2 " in words
     assert "7 1 10 Corner shop RICE Rice 01.1.1.1-01 2026-12 its last month is 2026-12" in ada.words(
         f"{PAGE}?sheet=leaving"
@@ -76,7 +76,7 @@ def test_a_draft_is_what_next_year_makes(application: Application, ada: Person) 
         [FLOUR, "400000", "400000", ""],
     ]
     again = ada.post("/year/make", year="2027")
-    assert again.status_code == 409 and "There is a draft of 2027 already" in words_of(again.text)
+    assert again.status_code == 409 and "There is already a draft of 2027" in words_of(again.text)
     assert ada.fill(PAGE, "/2027/drop").status_code == 303
     assert application.desk.drafts.years() == [] and ada.get(PAGE).status_code == 404
 
@@ -89,18 +89,18 @@ def test_a_year_that_can_t_be_drafted_says_why(application: Application, ada: Pe
     waited(application)
     assert told in ada.words("/year") and application.desk.drafts.years() == []
     refused = ada.post("/year/make", year="next")
-    assert refused.status_code == 400 and "next is no year, such as 2027" in words_of(refused.text)
+    assert refused.status_code == 400 and "next isn't a year like 2027" in words_of(refused.text)
 
 
 def test_weights_that_don_t_add_up_are_told_and_refused_by_cpi(application: Application, ada: Person) -> None:
     made(application, ada)
     put(ada, RICE, weight="599000")
-    assert "The weights add up to 999,000, and should to 1,000,000." in ada.words(PAGE)
+    assert "The weights add up to 999,000, but should add up to 1,000,000." in ada.words(PAGE)
     words = judged(application, ada)
     assert "What is refused" in words and "classification.csv" in words and "999,000" in words
-    assert "Send" not in words.partition("What is refused")[0].partition("Judge it")[2]
+    assert "Send" not in words.partition("What is refused")[0].partition("Check it")[2]
     put(ada, RICE, weight="60 %")
-    assert f"Weights that are no numbers: {RICE}" in ada.words(PAGE)
+    assert f"Weights that aren't numbers: {RICE}" in ada.words(PAGE)
     refused = ada.fill(PAGE, "/2027/put", 1, pasted=f"{RICE}\t600000\n09.1.1.1-01\t5\n")
     assert refused.status_code == 400 and "The draft has no code 09.1.1.1-01" in words_of(refused.text)
     assert "09.1.1.1-01\t5" in refused.text
@@ -125,10 +125,10 @@ def test_a_draft_is_pasted_judged_and_sent_once(application: Application, ada: P
         last="2027-12",
     )
     words = judged(application, ada)
-    assert "The weights add up to 100, which is all." in words and "The office would carry this out 4 " in words
+    assert "The weights add up to 100, as they should." in words and "These changes would be accepted 4 " in words
     assert "assign,7,3,10,RICE,2026-12,2027-12" in words and "the plan of 2027 , 13 rows" in words
     (seen,) = re.findall('name="seen" value="([^"]+)"', ada.get(PAGE).text)
-    assert "4 records sent, and carried out." in sent(ada)
+    assert "4 records sent and accepted." in sent(ada)
     assert ada.post(f"{PAGE[:-1]}/send", seen=seen).status_code == 409
     with private_copy(application.file) as copy, read_copy(copy) as office:
         assert weights(office) == {RICE: 555_000, FLOUR: 445_000} and office.references() == {2027: 202601}
@@ -137,7 +137,7 @@ def test_a_draft_is_pasted_judged_and_sent_once(application: Application, ada: P
     application.again()
     ada = application.person(ADA)
     words = judged(application, ada)
-    assert "The office has all of it already." in words and "The office has 4 rows already." in words
+    assert "The office already has all of it." in words and "The office already has 4 rows." in words
 
 
 def test_the_file_of_weights_can_be_pasted_back(application: Application, ada: Person) -> None:
@@ -146,7 +146,7 @@ def test_the_file_of_weights_can_be_pasted_back(application: Application, ada: P
     changed = text.replace("400000,400000,", "400000,300000,Survey").replace("600000,600000,", "600000,700000,")
     answer = ada.fill(PAGE, "/2027/put", 1, pasted=changed)
     assert answer.status_code == 303
-    assert "Columns that aren't read: title, weight_2026" in words_of(ada.follow(answer).text)
+    assert "Ignored columns: title, weight_2026" in words_of(ada.follow(answer).text)
     again = [*csv.reader(ada.get(f"{PAGE}weights.csv").text.splitlines())]
     assert [row[3:] for row in again] == [["weight", "source"], ["700000", ""], ["300000", "Survey"]]
     # (an empty source leaves the one that is there)
@@ -168,11 +168,11 @@ def test_what_isn_t_carried_out_is_told_and_the_draft_stays(
         lambda by, key, records: [*send(by, key, records[:1]), {"refused": 90}, None, None],
     )
     words = sent(ada)
-    assert "1 of 4 records carried out. The answers to the others are below." in words
+    assert "1 of 4 records accepted. The answers to the others are below." in words
     assert "refused by 90" in words and "not sent" in words
     monkeypatch.undo()
-    assert "The office would carry this out 3 " in judged(application, ada)
-    assert "3 records sent, and carried out." in sent(ada)
+    assert "These changes would be accepted 3 " in judged(application, ada)
+    assert "3 records sent and accepted." in sent(ada)
 
 
 def test_a_draft_keeps_what_it_is_told(tmp_path: Path) -> None:
@@ -195,4 +195,4 @@ def test_a_draft_keeps_what_it_is_told(tmp_path: Path) -> None:
 def test_a_plan_that_is_longer_than_a_message_is_told() -> None:
     checked = Checked(0, [], [], [], [["plan", "2027", "T,00,All\n" * 9_000]], {}, 0)  # type: ignore[arg-type]
     # (9 bytes a title and its end, in quotation marks, behind plan,2027 and a comma)
-    assert "the plan of 2027, 9,000 rows. It has 81,013 bytes, of 65,536 at most." in too_long(checked)
+    assert "the plan of 2027, 9,000 rows. It has 81,013 bytes; at most 65,536 are allowed." in too_long(checked)

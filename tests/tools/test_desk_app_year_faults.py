@@ -10,7 +10,7 @@ from typing import NoReturn
 
 import pytest
 
-from cpi_tools.desk.serve.running_office import NotSent
+from cpi_tools.desk.serve.watched_office import NotSent
 from .desk_apps import PATIENCE, Application, Person, words_of
 from .test_desk_app_year import PAGE, judged, made, sent, waited
 
@@ -29,13 +29,13 @@ def test_what_couldn_t_be_sent_is_judged_and_sent_again(
     assert "Nothing was sent: " in words and "The office can't be reached" in words
     assert application.desk.drafts.years() == [2027] and application.desk.log.entries[-1].what == "not sent"
     judged(application, ada)
-    assert "sent, and carried out." in sent(ada)
+    assert "sent and accepted." in sent(ada)
 
 
 FAULTS = {
-    "disk": (OSError(errno.ENOSPC, os.strerror(errno.ENOSPC), "/a/b"), "The disk is full: make room on it"),
+    "disk": (OSError(errno.ENOSPC, os.strerror(errno.ENOSPC), "/a/b"), "The disk is full: free some space"),
     "copy": (sqlite3.DatabaseError("malformed"), "The copy can't be read: malformed"),
-    "ours": (RuntimeError("nobody thought of it"), "The application met an error, which is its own."),
+    "ours": (RuntimeError("nobody thought of it"), "The application had an internal error."),
 }
 
 
@@ -74,7 +74,7 @@ def test_a_file_of_the_draft_that_can_t_be_read_is_told(application: Application
     """Nothing is read of it, and nothing is written over it."""
     made(application, ada)
     file = next((application.room / "next-year/2027").rglob("places.csv"))
-    for content, told in ((b"\xff,\n", "isn't as the application wrote it: put it aside"), (None, "Is a directory")):
+    for content, told in ((b"\xff,\n", "isn't as the application wrote it: move it away"), (None, "Is a directory")):
         file.unlink()
         file.write_bytes(content) if content else file.mkdir()
         answer = ada.get(f"{PAGE}?sheet=places")

@@ -17,12 +17,11 @@ from typing import Any, Optional
 import pytest
 
 from cpi_tools.guard import restore
-from cpi_tools.guard.copies.carriers import Rsync
+from cpi_tools.guard.copies.carriers import CAME, NotFitting, Rsync
 from cpi_tools.desk.records.desk_log import DeskLog
 from cpi_tools.guard.copies.desk_changes import CARRIED_DESK, Index, index_of, put_in_desk, write_desk_changes
-from cpi_tools.guard.copies.desk_places import copied_desk
+from cpi_tools.guard.copies.desk_copies import copied_desk
 from cpi_tools.guard.follow import Follower
-from cpi_tools.guard.copies.page_changes import CAME, NotFitting
 from cpi_tools.guard.copies.places import Elsewhere, Folder, Place
 from cpi_tools.office.program import Cpi
 from cpi_tools.guard.copies.second_copies import DESK, INDEX, NAMES, promotion_of
@@ -99,7 +98,7 @@ def test_only_what_changed_is_carried(
         write_desk_changes(to, *of)
         sizes.append(to.stat().st_size)
 
-    monkeypatch.setattr("cpi_tools.guard.copies.desk_follow.write_desk_changes", noted)
+    monkeypatch.setattr("cpi_tools.guard.copies.desk_copies.write_desk_changes", noted)
     follower = Follower(office, Folder(dest), desk=desk.path)
     assert follower.desk_round() and sizes[0] > 1_100_000
     assert follower.desk_round() and len(sizes) == 1

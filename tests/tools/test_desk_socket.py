@@ -16,8 +16,8 @@ from pathlib import Path
 
 import pytest
 
-from cpi_tools.desk.serve.reach import Reached
-from cpi_tools.desk.serve.sign_in_views import shown
+from cpi_tools.desk.serve.app import Reached
+from cpi_tools.desk.serve.sign_in_views import show_address
 from cpi_tools.desk.serve.serve_cli import MOST_OF_SOCKET
 from cpi_tools.office.program import Cpi
 from lib.places import ROOT
@@ -174,7 +174,7 @@ def test_by_a_socket_only_the_name_of_the_front_is_taken() -> None:
 
 
 def test_an_address_that_is_none_is_shown_as_it_is() -> None:
-    assert [shown(it) for it in ("192.0.2.7", "::1", "x\ny", "y" * 99)] == [
+    assert [show_address(it) for it in ("192.0.2.7", "::1", "x\ny", "y" * 99)] == [
         "192.0.2.7",
         "::1",
         r"'x\ny'",

@@ -11,10 +11,10 @@ from typing import Optional
 import pytest
 
 from cpi_tools.publish.figures.config import Config
-from cpi_tools.publish.figures.office_languages import OfficeLanguages
+from cpi_tools.publish.figures.own_words import OfficeLanguages
 from cpi_tools.office.public import Published
 from cpi_tools.publish.pack import publish
-from cpi_tools.text.speech import SPEAKS_ENGLISH, speech_of
+from cpi_tools.text.languages import SPEAKS_ENGLISH, speech_of
 
 ARABIC = speech_of("ar", "arab")
 
@@ -31,8 +31,8 @@ ARABIC = speech_of("ar", "arab")
     ],
 )
 def test_a_number_has_the_digits_and_a_name_stays(text: str, wanted: Optional[str]) -> None:
-    assert ARABIC.numbered(text) == (text if wanted is None else wanted)
-    assert speech_of("ar").numbered(text) == SPEAKS_ENGLISH.numbered(text) == text
+    assert ARABIC.write_numbers(text) == (text if wanted is None else wanted)
+    assert speech_of("ar").write_numbers(text) == SPEAKS_ENGLISH.write_numbers(text) == text
 
 
 @pytest.mark.parametrize(
@@ -44,7 +44,7 @@ def test_a_number_has_the_digits_and_a_name_stays(text: str, wanted: Optional[st
     ],
 )
 def test_a_number_behind_a_latin_word_has_them_and_a_code_stays(text: str, wanted: Optional[str]) -> None:
-    assert speech_of("fr", "arab").numbered(text) == (text if wanted is None else wanted)
+    assert speech_of("fr", "arab").write_numbers(text) == (text if wanted is None else wanted)
 
 
 @pytest.fixture(scope="module")

@@ -20,7 +20,7 @@ import pytest
 from cpi_tools.guard import doctor
 from cpi_tools.office.copying import log_beside
 from cpi_tools.guard.follow import restoring_beside
-from cpi_tools.office.holders import LOCK_BEGIN, Holder, holders_of, is_held, unit_in
+from cpi_tools.office.access import LOCK_BEGIN, Holder, holders_of, is_held, unit_in
 from cpi_tools.office.program import Cpi, CpiFailed
 from lib.places import ROOT
 from .disks import fill, mounted
@@ -120,7 +120,7 @@ def test_what_is_not_there_or_is_no_file(cpi: Cpi, tmp_path: Path, quick: None) 
         assert told(cpi, tmp_path / name).startswith(begin), name
         if name != "pipe":
             assert not opens(cpi, tmp_path / name)
-    assert told(cpi, tmp_path / "link").startswith("it is a link to nowhere.db, which isn't there. Mend the link.")
+    assert told(cpi, tmp_path / "link").startswith("it is a link to nowhere.db, which isn't there. Correct the link.")
     said = told(cpi, tmp_path / "office.db")
     assert said.startswith("there is no such file, and cpi would make an empty office of that name. Check the name ")
     assert opens(cpi, tmp_path / "office.db")

@@ -11,7 +11,7 @@ import pytest
 from cpi_tools.command_line import main
 from cpi_tools.sheets.doubts import Counted, is_far, is_nines
 from cpi_tools.office.program import Cpi
-from cpi_tools.sheets.sheet_files import unmarked
+from cpi_tools.sheets.sheet_files import remove_mark
 from .ran import Ran, rows_of, run
 from .spreadsheets import Sheets, sheets, written
 
@@ -69,7 +69,7 @@ def with_prices(*changes: tuple[tuple[str, str], list[str]]) -> Prices:
     return {**PRICES, **dict(changes)}
 
 
-NINES = "it has nothing but nines"
+NINES = "it consists only of nines"
 
 
 @pytest.mark.parametrize("code", ["9999.99", "99999.00", "9999"])
@@ -80,12 +80,12 @@ def test_nines_in_each_month_are_named_with_their_cells(cpi: Cpi, tmp_path: Path
 
 @pytest.mark.parametrize("price", ["240", "0.01", "777777.77"])
 def test_a_first_price_far_from_the_others_of_its_item(cpi: Cpi, tmp_path: Path, price: str) -> None:
-    because = "it is a first price, and more than ten times away from the median of RICE"
+    because = "it is a first price that differs from the median of RICE by a factor of more than ten"
     assert checked(cpi, tmp_path, with_prices((("11", "RICE"), [price, price]))) == (3, [("3", "2025-12", because)])
 
 
 def test_the_only_series_of_an_item_is_compared_with_its_aggregate(cpi: Cpi, tmp_path: Path) -> None:
-    because = "it is a first price, and more than ten times away from the median of 01.1.1.2-01"
+    because = "it is a first price that differs from the median of 01.1.1.2-01 by a factor of more than ten"
     assert checked(cpi, tmp_path, with_prices((("10", "MEAL"), ["140", "141"]))) == (3, [("8", "2025-12", because)])
 
 
@@ -95,7 +95,7 @@ def test_one_value_in_series_of_many_items(cpi: Cpi, tmp_path: Path) -> None:
     prices = with_prices(*((it, [PRICES[it][0], "777777.77"]) for it in of))
     status, found = checked(cpi, tmp_path, prices, "--confirm-history")
     assert status == 3 and found == [
-        (row, "2026-01", "it is in series of 5 items") for row in ("3", "5", "7", "8", "9")
+        (row, "2026-01", "it occurs in series of 5 items") for row in ("3", "5", "7", "8", "9")
     ]
 
 
@@ -110,7 +110,7 @@ def test_nothing_is_written_until_a_person_says_what_it_is(cpi: Cpi, tmp_path: P
     words = ["--write", str(tmp_path / "out"), "--out", str(tmp_path / "check")]
     ran = taken(cpi, tmp_path, prices, *words, "--confirm-history")
     assert ran.status == 3 and not (tmp_path / "out").exists() and (tmp_path / "check/problems.csv").is_file()
-    assert 'prices.csv, row 3, 2025-12: "9999.99" may be no price' in ran.err
+    assert 'prices.csv, row 3, 2025-12: "9999.99" might not be a price' in ran.err
     assert '--missing "9999.99=stock"' in ran.err and '--price "9999.99"' in ran.err
     assert "2 prices in doubt, and nothing is taken in" in ran.err
     assert taken(cpi, tmp_path, prices, *words, "--missing", "9999.99=closed").status == 0
@@ -134,6 +134,19 @@ def test_several_codes_in_other_spellings_and_after_a_mark(cpi: Cpi, tmp_path: P
     words = ["--missing", "9999.99=stock", "--missing=-1=refused", "--missing", "N.A.=gone"]
     assert checked(cpi, tmp_path, prices, *words) == (0, [])
     assert "4" in (tmp_path / "sheets/check/report.html").read_text(encoding="utf-8")
+
+
+def test_a_code_that_no_price_has_is_named(cpi: Cpi, tmp_path: Path) -> None:
+    """With a decimal comma, `9999.99` is no number, so the code is that of no cell."""
+    prices = with_prices((("11", "RICE"), ["9999,99", "2,50"]))
+    commas = {whose: [it.replace(".", ",") for it in both] for whose, both in prices.items()}
+    codes = [word for code in ("9999.99", "N.A.", "9999,990") for word in ("--missing", f"{code}=stock")]
+    ran = taken(cpi, tmp_path, commas, "--check", "--decimal", ",", *codes)
+    assert ran.status == 0
+    assert re.findall('prices.csv, row 1: no price is "(.*)", which --missing names', ran.err) == ["9999.99", "N.A."]
+    found = rows_of(tmp_path / "sheets/check/problems.csv")
+    assert [it["kind"] for it in found] == ["warning", "warning"]
+    assert found[0]["do"] == 'write it as it is in a cell of the sheet, whose numbers have the decimal sign ","'
 
 
 @pytest.mark.parametrize(
@@ -196,12 +209,12 @@ def test_a_column_is_named_as_the_sheet_has_it(cpi: Cpi, tmp_path: Path) -> None
     [("'2.40", "2.40"), ("'-1", "-1"), ("',5", ",5"), ("'=A1", "=A1"), ("'@x", "@x"), ("'2026-01", "2026-01")],
 )
 def test_what_a_mark_is_before(text: str, without: str) -> None:
-    assert unmarked(text) == without
+    assert remove_mark(text) == without
 
 
 @pytest.mark.parametrize("text", ["'t Hof", "'s Avonds", "'", "2.40", "''2", ""])
 def test_an_apostrophe_of_a_name_stays(text: str) -> None:
-    assert unmarked(text) == text
+    assert remove_mark(text) == text
 
 
 def test_how_months_were_read_is_said_when_they_are_written(cpi: Cpi, tmp_path: Path) -> None:

@@ -13,7 +13,7 @@ from pathlib import Path
 import pytest
 
 from cpi_tools.command_line import main
-from cpi_tools.office.anew import Months, differing
+from cpi_tools.office.frozen_quotes import Months, differing
 from cpi_tools.guard.backup import Note, hash_of, note_beside, note_text
 from cpi_tools.office.copying import CopyFailed, log_beside
 from cpi_tools.guard.drill import (
@@ -369,7 +369,7 @@ def test_a_table_that_is_printed_otherwise_is_a_fault(cpi: Cpi, office: Path) ->
     with stored_office(office) as stored:
         months = Months(stored)
         for each in stored.releases():
-            wanted = months.computed(each, stored.frozen(each), each[:2] != (202503, 1))
+            wanted = months.compute(each, stored.frozen(each), each[:2] != (202503, 1))
         found = [
             [*differences(stored, wanted, {month: told})]
             for told in (

@@ -14,7 +14,7 @@ from typing import NamedTuple
 import pytest
 
 from . import surveys
-from cpi_tools.desk.month.early import LINK, MONTH, WEIGHTS, YEAR, ways
+from cpi_tools.desk.month.what_if import LINK, MONTH, WEIGHTS, YEAR, ways
 from cpi_tools.office.program import LAST_MOMENT, Cpi, record
 from .ran import run
 from .surveys import DAY, MONTHS, bytes_of, closes, opens, publishes
@@ -54,11 +54,11 @@ def by_weights(row: list[str], december: Rows) -> tuple[Fraction, Fraction]:
 
 
 CASES = {
-    "December, January": Case("2026-12", "2027-01", "to a millionth or two: 100 times the row's chained level", by_link),
-    "December, February": Case("2026-12", "2027-02", "to a millionth or two: 100 times the row's chained level", by_link),
-    "a month": Case("2026-09", "2026-10", "to about 0.05 percent: the row's chained level, divided by 1 plus its monthly",
+    "December, January": Case("2026-12", "2027-01", "to within a millionth or two: 100 times the row's chained level", by_link),
+    "December, February": Case("2026-12", "2027-02", "to within a millionth or two: 100 times the row's chained level", by_link),
+    "a month": Case("2026-09", "2026-10", "to within about 0.05 percent: the row's chained level, divided by 1 plus its monthly",
                     by_change(4)),
-    "a year": Case("2026-02", "2027-02", "to about 0.05 percent: the row's chained level, divided by 1 plus its annual",
+    "a year": Case("2026-02", "2027-02", "to within about 0.05 percent: the row's chained level, divided by 1 plus its annual",
                    by_change(5)),
     "weights": Case("2026-06", "2027-01", "how the prices of each aggregate moved from that revision", by_weights),
 }  # fmt: skip
@@ -99,11 +99,11 @@ def test_what_the_warning_says_can_be_computed(cpi: Cpi, tmp_path: Path, case: C
     revision = 3 if case.revised == surveys.REVISED else 2
     told = [line for line in ran.err.splitlines() if line.startswith("Warning: ")]
     begun = (
-        f"Warning: The table of {month} comes out at {minute(publishes(month))}, and revision {revision} of"
-        f" {case.revised}, which it is computed from, at {minute(publishes(month) + DAY)}. In between everybody can"
+        f"Warning: The table of {month} is published at {minute(publishes(month))}, but revision {revision} of"
+        f" {case.revised}, from which it is computed, only at {minute(publishes(month) + DAY)}. Until then, anyone"
     )
     (line,) = [line for line in told if line.startswith(begun)]
-    assert case.words in line and line.endswith(f"Before {month} is frozen, set a later publishing moment for it.")
+    assert case.words in line and line.endswith(f"Before {month} is frozen, set a later release time for it.")
     assert (ran.status, bytes_of(path)) == (0, before)
     assert cpi.replay([ran.out], db=path) == [{"done": True}]
 
@@ -139,10 +139,10 @@ def test_a_revision_that_would_come_out_too_late_is_told_before_it_is_frozen(cpi
         assert cpi.replay([sent], db=path) == [{"done": True}]
         ran, closed = run(cpi, *words), run(cpi, "desk", "close", path, "2026-12", "--at", closes("2027-01"))
         warning = (
-            f"Warning: The table of 2027-01 comes out at {minute(january)}, and revision 2 of 2026-12, which it is"
-            f" computed from, at {minute(moment)}. In between everybody can compute from the table each level"
+            f"Warning: The table of 2027-01 is published at {minute(january)}, but revision 2 of 2026-12, from which"
+            f" it is computed, only at {minute(moment)}. Until then, anyone can compute each level of that"
         )
-        remedy = "Before 2027-01 is frozen, set a later publishing moment for it, or an earlier one for 2026-12."
+        remedy = "Before 2027-01 is frozen, set a later release time for it, or an earlier one for 2026-12."
         for text in (ran.out, closed.err):
             assert (warning in text and remedy in text) == is_late
         page = (out / "month.html").read_text(encoding="utf-8")
@@ -161,13 +161,13 @@ def test_a_frozen_month_says_what_has_come_out_too_early(cpi: Cpi, tmp_path: Pat
 
     late = publishes("2027-01") + DAY
     # (of two frozen months the later one can be moved as long as it isn't frozen)
-    assert "Before 2027-01 is frozen, set a later publishing moment for it.\n" in text("2026-12", closes("2027-01"))
+    assert "Before 2027-01 is frozen, set a later release time for it.\n" in text("2026-12", closes("2027-01"))
     assert "Warning" not in text("2026-12", late)
     closed = run(cpi, "desk", "close", path, "2027-01", "--at", closes("2027-01"))
     assert cpi.replay([closed.out], db=path) == [{"done": True}]
     assert "Warning" not in text("2026-12", closes("2027-01"))
     told = text("2027-01", late - 1)
-    assert "Warning: The table of 2027-01 comes out" in told and "That can't be changed any more.\n" in told
+    assert "Warning: The table of 2027-01 is published" in told and "This can no longer be changed.\n" in told
     assert "Warning" not in text("2027-01", late)
 
 

@@ -15,13 +15,11 @@ import pytest
 from babel.messages.catalog import Message
 from markupsafe import Markup
 
-from cpi_tools.text.elided import Places, of
-from cpi_tools.text.languages import ENGLISH, language_of
+from cpi_tools.text.others import Places, of, of_others, word_text
+from cpi_tools.text.languages import ENGLISH, language_of, speech_of
 from cpi_tools.text.message import message as report_text
-from cpi_tools.text.others import of_others, worded
 from cpi_tools.text.page_templates import environment
 from cpi_tools.text.report_language import Teller
-from cpi_tools.text.speech import speech_of
 from lib.places import ROOT
 
 sys.path.insert(0, str(ROOT / "tools"))
@@ -74,9 +72,9 @@ def test_the_word_before_a_month() -> None:
 def test_texts_of_all_kinds_join_it(month: str, wanted: str) -> None:
     """Those of Python, of reports, and of templates."""
     name = FRENCH.month(month)
-    text = FRENCH.t("This item isn't in the index of {year}; its last figure is of {month}.", year="2027", month=name)
+    text = FRENCH.t("This item isn't in the index in {year}; its last figure is for {month}.", year="2027", month=name)
     assert text.endswith(f"celui {wanted}.")
-    assert worded("niveau chaîné {of_month}", month=name) == f"niveau chaîné {wanted}"
+    assert word_text("niveau chaîné {of_month}", month=name) == f"niveau chaîné {wanted}"
     pages = environment(language=language_of("fr"))
     template = "{% trans month=it %}Table of {{ month }}{% endtrans %}"
     assert pages.from_string(template).render(it=name) == f"Tableau {wanted}"
@@ -100,7 +98,7 @@ def test_texts_of_all_kinds_join_it(month: str, wanted: str) -> None:
 )
 def test_the_word_before_the_name_of_an_item(name: str, wanted: str) -> None:
     """On a page the name stays an element of its own."""
-    told = worded("celui {of_item}", item=of_others(name))
+    told = word_text("celui {of_item}", item=of_others(name))
     assert told == f"celui {wanted}"
     assert told.__html__() == f"celui {wanted.removesuffix(name)}<bdi>{name}</bdi>"
 
@@ -155,7 +153,12 @@ def test_pages_of_collectors_have_no_such_place() -> None:
 BEGINS = re.compile(r"(?:\{|%\()([a-z]+)(?:\}|\)s)")
 CAPITAL = re.compile(r"(?:\{|%\()([A-Z][a-z_]*)(?:\}|\)s)")
 
-WITHIN = ("cpi_tools/explain/life.py", "explain/node_level.py", "explain/release_sources.py", "cpi_tools/sheets/")
+WITHIN = (
+    "cpi_tools/explain/aggregate.py",
+    "explain/explanation_lines.py",
+    "explain/release_sources.py",
+    "cpi_tools/sheets/",
+)
 """Where texts go on behind a colon, or stand in a list."""
 
 
@@ -183,7 +186,7 @@ def test_a_text_that_begins_with_a_month_begins_with_a_capital(code: str) -> Non
 def test_texts_of_all_kinds_begin_with_it() -> None:
     october = FRENCH.month("2026-10")
     assert FRENCH.t("{month}: {headline}", month=october, headline="X") == "Octobre 2026\u00a0: X"
-    assert worded("{Month}, révision {number}", month=october, number=2) == "Octobre 2026, révision 2"
+    assert word_text("{Month}, révision {number}", month=october, number=2) == "Octobre 2026, révision 2"
     assert Places({"month": october})["Of_month"] == "D’octobre 2026"
     pages = environment(language=language_of("fr"))
     template = "{% trans month=it, moment='X' %}{{ month }}, published {{ moment }}{% endtrans %}"

@@ -17,9 +17,8 @@ import pytest
 
 from . import surveys
 from cpi_tools.command_line import main
-from cpi_tools.explain import explain_cli as words_of_explain
-from cpi_tools.explain.expressions import NoExpression, value_of
-from cpi_tools.explain.explanation_lines import Explanation, Line, change_expression
+from cpi_tools.explain import explanation as words_of_explain
+from cpi_tools.explain.explanation_lines import Explanation, Line, NoExpression, change_expression, value_of
 from cpi_tools.explain.release_sources import Sources
 from cpi_tools.office.program import Cpi
 from cpi_tools.text.terminal import month_name
@@ -129,11 +128,11 @@ def test_what_the_months_have(whole: Whole) -> None:
     told = "".join(run(None, "explain", whole[0], month, code).out for month in NAMES for code in ("00", *CODES))
     for line in (
         r"scale of \d/\d = \d+ / \d+ = ",
-        r"movement = 1 / 1 = 1    # nothing is matched; the freeze's carry list has the aggregate",
+        r"movement = 1 / 1 = 1    # nothing is matched, but the aggregate is on the freeze's carry list",
         r"comparable; not observed in the month before, so not matched",
         r"carried price of 9/\d|carried price of 3/\d",
-        r"weight of 07\.2\.2\.2-01 = round\(250000 \* \d+ / \d+\) = \d+    # .*; moved by its prices from 2026-06",
-        r"base of \d/\d = \d+    # .*; not observed in 2026-12: its carried price of that month",
+        r"weight of 07\.2\.2\.2-01 = round\(250000 \* \d+ / \d+\) = \d+    # .*; price-updated from 2026-06",
+        r"base of \d/\d = \d+    # .*; not observed in 2026-12, so its base is the carried price of that month",
         r"price of \d/\d    # nothing was sent by collector \d, slot \d",
         r"monthly change = -round\(",
     ):
@@ -164,8 +163,8 @@ def test_a_new_node_is_linked_at_100(cpi: Cpi, tmp_path: Path) -> None:
     surveys.long(cpi, path, is_moved=False)
     told = run(None, "explain", path, "2027-01", "12.1.1.1-01")
     assert told.status == 0
-    assert "link level = 100000000    # 100: the table of 2026-12 has no row of it" in told.out
-    assert "annual change    # none: the table of 2026-01 has no row of it" in told.out
+    assert "link level = 100000000    # 100, since the table of 2026-12 has no row for it" in told.out
+    assert "annual change    # none, since the table of 2026-01 has no row for it" in told.out
     assert "weight of 12.1.1.1-01 = 150000 = 150000" in run(None, "explain", path, "2027-01", "12").out
     assert run(None, "explain", path, "2027-01", "all").status == 0
 
@@ -198,9 +197,12 @@ def test_a_quote_that_was_replaced_since_the_freeze_is_told(cpi: Cpi, small: Pat
     sent = ["4000,desk,freeze,2026-02,01.1.1.2-01", f"3900,{key_of(8)},quote,1,2026-02,price,264"]
     assert cpi.replay(sent, db=small) == [{"done": True}, {"receipt": 4}]
     told = run(None, "explain", small, "2026-02", "01.1.1.1-01").out
-    assert "price of 8/1 = 252    # price, by collector 8, slot 1; since the freeze price 264 stands, receipt 4" in told
+    assert (
+        "price of 8/1 = 252    # price, by collector 8, slot 1; since the freeze the collector has sent price 264, receipt 4"
+        in told
+    )
     assert "price of 7/1    # missing, stock, by collector 7, slot 1, receipt 5" in told
-    assert "carried price of 7/1 = round(2100000 * 2520000 / 2460000) = 2151220    # imputed by the movement" in told
+    assert "carried price of 7/1 = round(2100000 * 2520000 / 2460000) = 2151220    # imputed with the movement" in told
     assert "On the carry list: 01.1.1.2-01." in run(None, "explain", small, "2026-02", "01.1").out
 
 
@@ -249,7 +251,9 @@ def test_rows_that_are_gone_are_one_line(changed: Path) -> None:
         link.commit()
     told = run(None, "explain", changed, "2026-08", "all")
     assert (told.status, told.out) == (1, "")
-    assert told.err.startswith("cpi-tools explain: 01.1.1.1-01: a row that it comes from isn't there, or can't be")
+    assert told.err.startswith(
+        "cpi-tools explain: 01.1.1.1-01: a row from which it is computed is missing, or can't be used"
+    )
     assert told.err.count("\n") == 1
 
 
@@ -259,8 +263,8 @@ def test_a_carry_list_that_lacks_an_aggregate_is_told(changed: Path) -> None:
         link.commit()
     told = run(None, "explain", changed, "2026-03", "01.1.1.2-01")
     assert told.status == 1
-    assert "movement: release_2 (202603, 1) hasn't 01.1.1.2-01 on its carry list" in told.err
-    assert "! movement = 1 / 1 = 1    # nothing is matched, and a movement is needed" in told.out
+    assert "movement: 01.1.1.2-01 isn't on the carry list of release_2 (202603, 1)" in told.err
+    assert "! movement = 1 / 1 = 1    # nothing is matched, but a movement is needed" in told.out
 
 
 # ---- words, series, pages
@@ -270,10 +274,13 @@ def test_words_that_name_nothing_are_told(whole: Whole, tmp_path: Path) -> None:
     path, _ = whole
     for words, because in (
         ((path, "2027-03", "00"), "2027-03 isn't frozen; 2025-12 to 2027-02 are"),
-        ((path, "2025-12", "00"), "2025-12 has no table: it is the first month, which later ones begin at"),
+        (
+            (path, "2025-12", "00"),
+            "2025-12 has no table: it is the first month, from which the later ones are computed",
+        ),
         ((path, "2026-09", "00", "--revision", 3), "2026-09 has no revision 3; it has 1, 2"),
-        ((path, "2026-09", "02"), "02 is no node of 2026-09, whose table has"),
-        ((path, "2026-09", "--series", "9/399"), "9/399 is no slot of the office"),
+        ((path, "2026-09", "02"), "02 isn't a node of 2026-09, whose table has"),
+        ((path, "2026-09", "--series", "9/399"), "9/399 isn't a slot of the office"),
         ((tmp_path / "none.db", "2026-09", "00"), "No such file or directory"),
     ):
         told = run(None, "explain", *words)
@@ -312,7 +319,10 @@ def test_replacements_and_imputed_months_of_a_series(cpi: Cpi, small: Path) -> N
     ]
     assert not [reply for reply in cpi.replay(sent, db=small) if "refused" in reply]
     lines = run(None, "explain", small, "2026-03", "--series", "7/1").out.splitlines()
-    assert lines[1:3] == ["Replaced in 2026-03 (other).", "Imputed in 2 months: 2026-02, 2026-03."]
+    assert lines[1:3] == [
+        "The product was replaced in 2026-03 (other).",
+        "The price was imputed in 2 months: 2026-02, 2026-03.",
+    ]
     assert lines[-1].split() == "2026-03 1 7/1 other 420 7 2151220 2151220/420 imputed 01.1.1.1-01".split()
 
 
@@ -321,7 +331,7 @@ def test_the_page_is_escaped_and_private(small: Path, tmp_path: Path) -> None:
     assert run(None, "explain", small, "2026-01", "01.1.1.2-01", "--html", page).status == 0
     text = page.read_text(encoding="utf-8")
     assert "<bdi>Flour, &lt;b&gt;wheat&lt;/b&gt;</bdi>, <bdi>1 kg</bdi>" in text and "<b>wheat" not in text
-    assert "every line holds" in text and "http" not in text and "<a href=" not in text.replace('<a class="skip"', "")
+    assert "every line is true" in text and "http" not in text and "<a href=" not in text.replace('<a class="skip"', "")
     assert page.stat().st_mode & 0o777 == 0o600
     # (the aggregate is on the page of its subclass)
     assert "<h1><bdi>Flour</bdi> " in text and '<section id="01.1.1.2-01"' in text
@@ -371,7 +381,7 @@ def test_explanations_are_held_one_at_a_time(whole: Whole, monkeypatch: pytest.M
     """Where a node is asked for, no more lines are there than those of the one before."""
     alive: weakref.WeakSet[Line] = weakref.WeakSet()
     counts, found_alive = [], []
-    explain = words_of_explain.explained
+    explain = words_of_explain.explain_node
 
     def watched(sources: Sources, code: str) -> Explanation:
         found_alive.append(len(alive))
@@ -380,7 +390,7 @@ def test_explanations_are_held_one_at_a_time(whole: Whole, monkeypatch: pytest.M
         counts.append(len([*found.lines]))
         return found
 
-    monkeypatch.setattr(words_of_explain, "explained", watched)
+    monkeypatch.setattr(words_of_explain, "explain_node", watched)
     assert run(None, "explain", whole[0], "2026-09", "all").status == 0
     assert found_alive == [0, *counts[:-1]] and len(counts) > 15
 

@@ -77,7 +77,7 @@ def test_each_step_is_the_same(long: Path, tmp_path: Path, language: str) -> Non
     explained(long, "2026-07", tmp_path / "other.html", "01.1.1.1-01", "--language", language, "--zone", "CET-1")
     english, other = ((tmp_path / f"{name}.html").read_text(encoding="utf-8") for name in ("en", "other"))
     assert STEPS.findall(english) == STEPS.findall(other) and len(STEPS.findall(other)) > 20
-    assert " UTC" in english and " CET" in other and "every line holds" not in other
+    assert " UTC" in english and " CET" in other and "every line is true" not in other
 
 
 def test_a_zone_that_there_isnt_is_one_line(long: Path, tmp_path: Path) -> None:

@@ -10,7 +10,7 @@ from pathlib import Path
 import pytest
 
 from cpi_tools.office.folders import NotPlaced, files_of, written_folder
-from cpi_tools.text.whole_files import link_or_copy
+from cpi_tools.text.text_files import link_or_copy
 
 KNOWN = "manifest.json"
 

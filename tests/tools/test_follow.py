@@ -17,7 +17,7 @@ from pathlib import Path
 
 import pytest
 
-from cpi_tools.guard.copies import office_marks, places
+from cpi_tools.guard.copies import mirrors, places
 from cpi_tools.guard.copies.carriers import Rclone, Rsync, carrier_of
 from cpi_tools.office.copying import log_beside
 from cpi_tools.guard.drill import drill
@@ -120,7 +120,7 @@ def test_the_note_has_the_last_quotes(cpi: Cpi, office: Path, dest: Path) -> Non
     wanted = [
         [collector, slot, f"{month // 100}-{month % 100:02}", receipt] for collector, slot, month, receipt in rows
     ]
-    assert told == wanted[: -office_marks.LAST_QUOTES - 1 : -1]
+    assert told == wanted[: -mirrors.LAST_QUOTES - 1 : -1]
 
 
 def test_a_copy_under_load_is_a_whole_office_with_all_that_was_answered(cpi: Cpi, office: Path, dest: Path) -> None:

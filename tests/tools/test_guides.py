@@ -78,7 +78,7 @@ def spoiled(root: Path, name: str, old: str, new: str) -> list[str]:
         (ENGLISH, "## The website\n", "## The website\n\n## Another part\n", "it follows 5 parts of PHONE.md, which has 6"),
         (FRENCH, "*Actualiser*", "*Mettre à jour*", "no word of the button 'Update', which the page calls 'Actualiser'"),
         (FRENCH, "*Suivant*", "*Prochain*", "'Prochain' is no button of the page"),
-        (FRENCH, "| À vérifier |", "| À revoir |", "no word of the state 'Look again'"),
+        (FRENCH, "| À vérifier |", "| À revoir |", "no word of the state 'Check again'"),
         (FRENCH, "    ops/try\n", "    ops/try --db\n", "its commands aren't those of PHONE.md"),
         (FRENCH, "<!-- follows PHONE.md", "<!-- as PHONE.md", "its head doesn't say which guide it follows"),
     ],

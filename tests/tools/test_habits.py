@@ -123,6 +123,6 @@ def test_what_becomes_of_a_habit(cpi: Cpi, tmp_path: Path, libreoffice: Path, to
     else:
         assert (told.becomes, lines) == ("read", set())
         page = re.sub("</?bdi>", "", (folder / "check/report.html").read_text(encoding="utf-8"))
-        rows = page.partition("Months, as they were read")[2].partition("</table>")[0]
+        rows = page.partition("Months as they were read")[2].partition("</table>")[0]
         text, _, month = told.line.partition(" as ")
         assert f"<td>{text}</td><td>{month}</td></tr>" in rows if text else not rows

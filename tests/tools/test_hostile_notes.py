@@ -13,9 +13,9 @@ import pytest
 
 from cpi_tools.guard.copies.desk_changes import CARRIED_DESK, index_of, put_in_desk
 from cpi_tools.guard.follow import Follower
-from cpi_tools.guard.copies.page_changes import CAME, CARRIED, NotFitting, put_in
+from cpi_tools.guard.copies.carriers import CAME, CARRIED, NotFitting, put_in
 from cpi_tools.guard.copies.places import Folder
-from cpi_tools.office.plain_json import LAST_SECOND, moment_of, plain_json, whole_number
+from cpi_tools.office.folders import LAST_SECOND, moment_of, plain_json, whole_number
 from cpi_tools.office.program import Cpi
 from cpi_tools.guard.copies.second_copies import DESK, DRILLED, INDEX, MARK, NAMES, NOTE, OFFICE, state_of
 from cpi_tools.text.terminal import Fault

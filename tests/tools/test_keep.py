@@ -18,7 +18,7 @@ from typing import Optional
 
 import pytest
 
-from cpi_tools.guard.copies import borg, generations, open_copies
+from cpi_tools.guard.copies import borg, generations, second_copies
 from cpi_tools.guard import keep as keeping
 from cpi_tools.guard.copies.borg import Repository, cause_in
 from cpi_tools.office.copying import log_beside
@@ -208,10 +208,10 @@ def test_no_link_leads_to_another_file(what: str, how: str, place: Place, tmp_pa
     room.mkdir()
     log_beside(place.dest / NAMES[1] / OFFICE).touch()
     led_away(at, outside, how)
-    with open_copies.open_copies(place.dest) as copies:
+    with second_copies.open_copies(place.dest) as copies:
         assert [bool(copy.fault) for copy in copies] == [False, True]
         assert "it isn't a " in copies[1].fault and [copies[1].note, copies[1].office, copies[1].log] == [None] * 3
-        assert open_copies.take_newest(copies, room) == state_of(place.dest).notes[NAMES[0]]
+        assert second_copies.take_newest(copies, room) == state_of(place.dest).notes[NAMES[0]]
 
 
 def test_a_file_that_is_larger_than_the_disk_is_not_copied(cpi: Cpi, place: Place) -> None:

@@ -14,8 +14,7 @@ from typing import Any
 
 import pytest
 
-from cpi_tools.office.access import User, this_user, user_of
-from cpi_tools.office.done_as import done_as
+from cpi_tools.office.access import User, done_as, this_user, user_of
 from cpi_tools.guard.copies.generations import PASSED, last_drill_of
 from cpi_tools.office.program import Cpi
 from cpi_tools.guard.copies.second_copies import DRILLED, MARK, NAMES, OFFICE

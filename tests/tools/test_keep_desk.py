@@ -18,12 +18,20 @@ from cpi_tools.guard import keep as keeping
 from cpi_tools.guard.copies.borg import Repository
 from cpi_tools.guard.copies.desk_changes import index_of
 from cpi_tools.guard.follow import Follower
-from cpi_tools.guard.copies.generations import PASSED, LastDrill, generation_of, last_drill_of, repository_of
+from cpi_tools.guard.copies.generations import (
+    PASSED,
+    LastDrill,
+    generation_of,
+    kept_desk_in,
+    last_drill_of,
+    open_desk,
+    repository_of,
+    take_desk,
+)
 from cpi_tools.guard.keep import FAILED_DRILL, keep
-from cpi_tools.guard.copies.kept_desk import kept_desk_in, open_desk, take_desk
 from cpi_tools.guard.copies.places import Folder
 from cpi_tools.office.program import Cpi
-from cpi_tools.office.rooms import new_room
+from cpi_tools.office.folders import new_room
 from cpi_tools.guard.copies.second_copies import DESK, INDEX, MARK, second_text
 from .desk_rooms import DeskRoom, files_of
 from .generations import HOUR, NOW, Place, made_place

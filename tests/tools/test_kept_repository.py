@@ -18,9 +18,8 @@ import pytest
 from cpi_tools.guard.copies import borg
 from cpi_tools.guard import keep as keeping
 from cpi_tools.guard.copies.borg import HOST, LOCKED, ROSTER, Repository, Start, this_start
-from cpi_tools.guard.copies.generations import LastDrill, last_drill_of, repository_of, write_last_drill
-from cpi_tools.office.held_folders import held
-from cpi_tools.guard.copies.kept_desk import OpenDesk
+from cpi_tools.guard.copies.generations import LastDrill, OpenDesk, last_drill_of, repository_of, write_last_drill
+from cpi_tools.office.folders import hold_folder
 from cpi_tools.office.program import Cpi
 from cpi_tools.text.terminal import Fault
 from .generations import made_place
@@ -68,7 +67,7 @@ def test_it_is_checked_once_a_week_and_each_day_while_it_is_not_well(tmp_path: P
         nonlocal last
         faults = list[str]()
         opened = keeping.Opened([], OpenDesk(tmp_path, None, {}), last, moment, True)
-        known: dict[str, Any] = keeping._checked(checks, opened, faults, is_made)  # type: ignore[arg-type]
+        known: dict[str, Any] = keeping._check_repository(checks, opened, faults, is_made)  # type: ignore[arg-type]
         last = last._replace(**known)
         return last.checked, last.tried, last.damaged, "".join(faults)
 
@@ -255,7 +254,7 @@ def test_a_lock_that_another_one_takes_away_meanwhile_is_left_to_that_one(
     """It is locked anew then, before this one would have broken it."""
     (repository.path / LOCKED).mkdir()
     (repository.path / LOCKED / f"{OF_BEFORE}.1-0").touch()
-    with held(repository.path) as other:
+    with hold_folder(repository.path) as other:
         fcntl.flock(other.number, fcntl.LOCK_EX)
         repository_of(tmp_path / "keep")._free()
         assert (repository.path / LOCKED).exists()

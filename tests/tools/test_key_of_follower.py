@@ -13,11 +13,10 @@ from pathlib import Path
 
 import pytest
 
-from cpi_tools.guard.copies.carriers import Rsync
+from cpi_tools.guard.copies.carriers import CAME, CHANGES, Rsync, put_in
 from cpi_tools.guard.follow import Follower
 from cpi_tools.guard.copies.generations import LastDrill, last_drill_of, write_last_drill
 from cpi_tools.guard.copies.mirrors import PAGE
-from cpi_tools.guard.copies.page_changes import CAME, CHANGES, put_in
 from cpi_tools.guard.copies.places import Elsewhere, Folder
 from cpi_tools.guard.copies.second_copies import (
     DRILLED,

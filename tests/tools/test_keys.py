@@ -274,25 +274,25 @@ def test_a_file_that_is_no_page_stays(office: Path) -> None:
 
 NOT_TAKEN = [
     # the file, and the lines about it
-    ("collector,name\n7,Anna\n", "row 2: the office has no collector 7: register the collector first, or leave the row out"),
+    ("collector,name\n7,Anna\n", "row 2: the office has no collector 7: register the collector first, or delete the row"),
     ("collector,name\n1,A\n\n2,B\n1,C\n", "row 5: collector 1 is there twice, first in row 2: leave one of the two rows"),
-    ("collector,name\n1,\n", "row 2: the name of collector 1 is empty: write it, or leave the row out"),
-    ("collector,name\n1, \u00a0\n", "row 2: the name of collector 1 is empty: write it, or leave the row out"),
+    ("collector,name\n1,\n", "row 2: the name of collector 1 is empty: write it, or delete the row"),
+    ("collector,name\n1, \u00a0\n", "row 2: the name of collector 1 is empty: write it, or delete the row"),
     ("collector,name\n1," + 61 * "é" + "\n", f"row 2: the name '{60 * 'é'}'.. has 61 characters: write at most 60"),
-    ('collector,name\n1,"An\nna"\n', r"row 2: the name 'An\nna' has a control character: write it in one line"),
-    ("collector,name\n1,A\x7f\n", r"row 2: the name 'A\x7f' has a control character: write it in one line"),
-    ("collector,name\none,A\n", "row 2: 'one' is no collector: write a number like 7"),
-    ("collector,name\n01,A\n", "row 2: '01' is no collector: write a number like 7"),
-    ("collector,name\n\u0661,A\n", "row 2: '\u0661' is no collector: write a number like 7"),
-    ("collector,name\n,A\n", "row 2: '' is no collector: write a number like 7"),
+    ('collector,name\n1,"An\nna"\n', r"row 2: the name 'An\nna' contains a control character: write it on one line"),
+    ("collector,name\n1,A\x7f\n", r"row 2: the name 'A\x7f' contains a control character: write it on one line"),
+    ("collector,name\none,A\n", "row 2: 'one' isn't the number of a collector: write a number like 7"),
+    ("collector,name\n01,A\n", "row 2: '01' isn't the number of a collector: write a number like 7"),
+    ("collector,name\n\u0661,A\n", "row 2: '\u0661' isn't the number of a collector: write a number like 7"),
+    ("collector,name\n,A\n", "row 2: '' isn't the number of a collector: write a number like 7"),
     ("number,name\n1,A\n", "row 1: there is no column collector, only number, name: name a column collector in the first"
      " row"),
     ("collector\n1\n", "row 1: there is no column name, only collector: name a column name in the first row"),
     ("", "row 1: the first row is empty: name the columns in the first row"),
-    ("collector,name,name\n", "row 1: the column name is there twice: rename one of the two; a second table needs a sheet of its own"),
+    ("collector,name,name\n", "row 1: the column name appears twice: rename one of the two; a second table needs a sheet of its own"),
     ("collector,name\n1,Lovelace, Ada\n", "row 2: a cell is in no named column: \" Ada\": name the column in the first row, or"
-     " put quotation marks round a text that has the separator in it"),
-    ('collector,name\n1,"A\n', "row 2: the row is no CSV: unexpected end of data: look at its quotes"),
+     " put quotation marks around a text that contains the separator"),
+    ('collector,name\n1,"A\n', "row 2: the row isn't valid CSV: unexpected end of data: check its quotation marks"),
 ]  # fmt: skip
 
 
@@ -309,7 +309,7 @@ def test_names_that_are_no_text(office: Path) -> None:
     names = office.parent / "names.csv"
     names.write_bytes(b"collector,name\n1,Zo\xeb\n")
     ran, out = printed(office, "--names", names)
-    wanted = "cpi-tools keys: names.csv, row 2: the file isn't UTF-8: a cell has the bytes Zo\\xeb: save it as CSV in UTF-8\n"
+    wanted = "cpi-tools keys: names.csv, row 2: the file isn't UTF-8: a cell contains the bytes Zo\\xeb: save it as CSV in UTF-8\n"
     assert ran == (1, "", wanted)
     ran, out = printed(office, "--names", office.parent / "none.csv")
     assert (ran.status, ran.out, ran.err.count("\n")) == (1, "", 1) and "No such file or directory" in ran.err

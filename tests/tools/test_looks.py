@@ -12,8 +12,7 @@ from typing import Any
 import pytest
 
 from cpi_tools.desk.month.unusual import CONFIRMED, OF_AGGREGATE, OTHER
-from cpi_tools.desk.looks.looks import Look, change_of
-from cpi_tools.desk.looks.look_filters import SHOWN, Chosen, chosen_of, key_of, part_of
+from cpi_tools.desk.looks.looks import SHOWN, Chosen, Look, change_of, chosen_of, key_of, part_of
 from cpi_tools.desk.looks.month_trials import Running
 from cpi_tools.office.program import Cpi, record
 from . import surveys
@@ -141,7 +140,7 @@ def test_a_page_with_rows_doesn_t_load_itself_while_a_trial_runs(
     monkeypatch.setattr(application.desk.trials, "running", Running(202602, 0, "reading", BEN))
     page = ada.get(LOOKS).text
     assert 'http-equiv="refresh"' not in page and 'data-running="1"' in page
-    assert f'<a href="{LOOKS}">See how far it is</a>' in page and "This page loads itself anew." not in page
+    assert f'<a href="{LOOKS}">See its progress</a>' in page and "This page refreshes itself." not in page
     monkeypatch.setattr(application.desk.trials, "latest", lambda month: None)
     assert 'http-equiv="refresh"' in ada.get(LOOKS).text
 
@@ -161,16 +160,16 @@ def test_many_are_marked_at_once_or_none(application: Application, ada: Person) 
     prices = re.findall('name="checked" value="([^"]+)"', page)
     assert prices == ["7-1-421", "7-2-300"]
     assert checked(ada, "seen", *prices).status_code == 303
-    assert "0 to look at, 2 seen by you" in ada.words(LOOKS)
-    assert "Nothing is left to look at." in ada.words(LOOKS)
+    assert "0 to look at; you have seen 2" in ada.words(LOOKS)
+    assert "No prices are left to look at." in ada.words(LOOKS)
     assert application.desk.marks.seen_by(BEN, 202602) == set()
     ben = application.person(BEN)
     late = checked(ben, "seen", "7-1-421", "7-2-999")
     words = words_of(late.text)
-    assert late.status_code == 409 and "Not as your page showed it any more: 7/2 ." in words
-    assert "2 to look at, 0 seen by you" in words and re.search('value="7-1-421"[^>]* checked', late.text)
+    assert late.status_code == 409 and "These prices have changed since your page was loaded: 7/2 ." in words
+    assert "2 to look at; you have seen 0" in words and re.search('value="7-1-421"[^>]* checked', late.text)
     assert checked(ben, "seen").status_code == 400
-    assert "No price is checked" in words_of(checked(ben, "seen").text)
+    assert "No price is selected" in words_of(checked(ben, "seen").text)
     for odd in ("7-1", "7-1-x", "7-1-421-1", "-1-1-1", ""):
         assert checked(ben, "seen", odd).status_code == 400, odd
 
@@ -184,4 +183,4 @@ def test_a_mark_leads_to_the_next_row_with_the_same_filters(application: Applica
     only = [it for it in [ada.form(LOOKS, "/looks")] if ("slot", "2") in it.fields]
     assert ada.give(only[0], only="7-2").headers["Location"].startswith(f"{LOOKS}?only=7-2#look-7-2")
     words = ada.words(f"{LOOKS}?only=7-2")
-    assert "0 to look at, 2 seen by you" in words and "Slot 7/2" in words and "Slot 7/1" not in words
+    assert "0 to look at; you have seen 2" in words and "Slot 7/2" in words and "Slot 7/1" not in words

@@ -108,32 +108,32 @@ BAD_JOINS: list[tuple[str, dict[str, Rows], tuple[str, int, str, str]]] = [
     (
         "no row",
         {"products": [*PRICES, ["a9", "m", "RICE", "2.00"]], "visits": VISITS},
-        ("products.csv", 6, "visit", 'no row of visits.csv has "a9 m"'),
+        ("products.csv", 6, "visit", 'no row of visits.csv contains "a9 m"'),
     ),
     (
         "one of two columns differs",
         {"products": [*PRICES, ["a1", "x", "RICE", "2.00"]], "visits": VISITS},
-        ("products.csv", 6, "visit", 'no row of visits.csv has "a1 x"'),
+        ("products.csv", 6, "visit", 'no row of visits.csv contains "a1 x"'),
     ),
     (
         "two rows",
         {"products": PRICES, "visits": [*VISITS, ["a1", "m", "2026-02", "11"]]},
-        ("visits.csv", 4, "id", 'row 2 has "a1 m" too'),
+        ("visits.csv", 4, "id", 'row 2 also contains "a1 m"'),
     ),
     (
         "a column of the join is missing",
         {"products": PRICES, "visits": [["id", "date", "shop"], ["a1", "2025-12", "10"]]},
-        ("visits.csv", 1, "sort", 'the map reads the column sort, and row 1 has "id", "date", "shop"'),
+        ("visits.csv", 1, "sort", 'the map names the column sort, but row 1 has only "id", "date", "shop"'),
     ),
     (
         "a column of the prices is missing",
         {"products": [row[:1] + row[2:] for row in PRICES], "visits": VISITS},
-        ("products.csv", 1, "kind", 'the map reads the column kind, and row 1 has "visit", "product", "price"'),
+        ("products.csv", 1, "kind", 'the map names the column kind, but row 1 has only "visit", "product", "price"'),
     ),
     (
         "a month of the joined table is none",
         {"products": PRICES, "visits": [VISITS[0], ["a1", "m", "soon", "10"], VISITS[2]]},
-        ("products.csv", 2, "date (visits.csv)", '"soon" is no month'),
+        ("products.csv", 2, "date (visits.csv)", '"soon" isn\'t a month'),
     ),
 ]
 
@@ -202,10 +202,10 @@ def test_without_a_column_of_units_a_map_has_one(cpi: Cpi, tmp_path: Path) -> No
 BAD_QUANTITIES: list[tuple[tuple[str, str, str], tuple[str, str]]] = [
     (("1.00", "500", "oz"), ("uom", 'the map has no unit "oz"')),
     (("1.00", "500", ""), ("uom", 'the map has no unit ""')),
-    (("1.00", "0", "g"), ("quantity", '"0" is no quantity above 0')),
-    (("1.00", "-5", "g"), ("quantity", '"-5" is no quantity above 0')),
-    (("1.00", "half", "g"), ("quantity", '"half" is no quantity above 0')),
-    (("1.00", "", "g"), ("quantity", '"" is no quantity above 0')),
+    (("1.00", "0", "g"), ("quantity", '"0" isn\'t a quantity above 0')),
+    (("1.00", "-5", "g"), ("quantity", '"-5" isn\'t a quantity above 0')),
+    (("1.00", "half", "g"), ("quantity", '"half" isn\'t a quantity above 0')),
+    (("1.00", "", "g"), ("quantity", '"" isn\'t a quantity above 0')),
     # (a kilogram for 1.00 of 300 g is 3.3333..)
     (("1.00", "300", "g"), ("price", "1.00 * 10/3 isn't whole in minor units (--minor)")),
 ]
@@ -226,7 +226,7 @@ def test_a_unit_of_an_item_that_the_map_hasnt_is_a_problem(cpi: Cpi, tmp_path: P
     items = folder / "items.csv"
     items.write_text(items.read_text().replace("RICE,Rice,1 kg", "RICE,Rice,a bag"))
     ran, problems = refused(cpi, folder)
-    says = 'the item RICE has the unit "a bag", which is no quantity in units of the map'
+    says = 'the item RICE has the unit "a bag", which isn\'t a quantity in a unit of the map'
     assert ran.status == 1 and problems == [("observed.csv", 2, "quantity", says)]
 
 

@@ -3,11 +3,12 @@ is a problem at a cell."""
 
 from __future__ import annotations
 
+import filecmp
 import importlib.util
 import random
 import secrets
 import sys
-from collections.abc import Callable
+from collections.abc import Callable, Sequence
 from pathlib import Path
 from typing import Optional
 
@@ -15,13 +16,15 @@ import pytest
 
 from cpi_tools.office.program import Cpi
 from cpi_tools.office.stored import stored_office
-from cpi_tools.sheets.maps.month_names import NAMES, folded, in_english
+from cpi_tools.sheets.maps.office_map import NAMES, Pattern, fold, in_english
+from cpi_tools.sheets.maps import mapped_rows, quick_rows
 from cpi_tools.sheets.maps.mapped_rows import TableRows
-from cpi_tools.sheets.maps.patterns import Pattern
 from cpi_tools.sheets.maps.plain_rows import PlainRows
-from cpi_tools.sheets.months_of_texts import month_of
-from cpi_tools.sheets.several_prices import Given, Rule, one_of
-from cpi_tools.text.toml_files import toml_of
+from cpi_tools.sheets.sheet_numbers import Given, Rule, month_of, one_of
+from cpi_tools.sheets.cells import Quotes as CellQuotes
+from cpi_tools.sheets.price_cells import PriceCells
+from cpi_tools.sheets.price_store import PriceStore, StoreRow
+from cpi_tools.text.text_files import toml_of
 from lib.places import ROOT
 from .forms_of_offices import FORMS, KOBO, Form, office
 from .habits import Quotes
@@ -83,6 +86,22 @@ def test_a_map_without_a_line_is_a_problem_at_the_cell(cpi: Cpi, tmp_path: Path,
     assert form.told[line] in cells, (ran.err, problems(folder))
 
 
+@pytest.mark.parametrize("text", ["", "a note"])
+def test_a_column_without_a_name_is_read_for_nothing(cpi: Cpi, tmp_path: Path, text: str) -> None:
+    """A text in it is a problem at its row."""
+    form = FORMS["nines"]
+    folder, path = made(tmp_path, form)
+    rows = [line.split(",") for line in (folder / "survey.csv").read_text(encoding="utf-8").splitlines()]
+    added = [[*row[:2], text if number == 2 else "", *row[2:]] for number, row in enumerate(rows)]
+    (folder / "survey.csv").write_text("".join(f"{','.join(row)}\n" for row in added), encoding="utf-8")
+    ran = run(cpi, "take-in", folder, "--map", path, "--write", tmp_path / "records")
+    assert (ran.status, [(it["file"], it["row"]) for it in problems(folder)]) == (
+        (1, [("survey.csv", "3")]) if text else (0, [])
+    )
+    if not text:
+        assert quotes(cpi, tmp_path / "records", tmp_path / "office.db") == form.quotes
+
+
 # ---- rows that need no look
 
 
@@ -119,11 +138,113 @@ def test_a_row_that_needs_no_look_is_what_a_look_makes_of_it(
     ran = [run(cpi, "take-in", folder, "--map", path, "--check", "--out", plain)]
     with monkeypatch.context() as patch:
         patch.setattr(PlainRows, "rows", lambda *_: None)
+        patch.setattr(mapped_rows, "is_quick", lambda *_: False)
         ran.append(run(cpi, "take-in", folder, "--map", path, "--check", "--out", looked_at))
     one, other = (str(it).replace(str(plain), "").replace(str(looked_at), "") for it in ran)
     assert one == other
     for file in ("problems.csv", "report.html", "codes.csv"):
         assert (plain / file).read_text() == (looked_at / file).read_text()
+
+
+LARGE_MAP = """
+minor = 100
+[codes.outlet]
+a = "10"
+b = "11"
+x = "none"
+[prices]
+files = "survey-*.csv"
+unread = ["note", "comment"]
+only = {{ counts = ["yes"] }}
+{heads}
+[prices.columns]
+outlet = "shop"
+item = "article"
+{columns}
+[prices.marks.{flag}]
+"" = "price"
+s = "stock"
+r = "comparable"
+x = "none"
+"""
+
+LONG_MAP = LARGE_MAP.format(heads="", columns='month = "date"\nvalue = "price"', flag="sign")
+WIDE_MAP = LARGE_MAP.format(heads='heads = "month"\nflag = "sign"', columns="", flag="sign")
+
+POOLS = {
+    "shop": ["a", "b", "a", "b", " a", "x", "c", "'a", ""],
+    "article": ["RICE", "FLOUR", "RICE", "RICE ", "TEA", "article", ""],
+    "date": ["2025-12", "2026-01", "2026-02", "12/2025", "2026-13", "", "date"],
+    "price": ["2.00", "2.10", " 2.00", "'2.10", "0.80", "", "stock", "x", "1.250", "missing", "sign", "price"],
+    "sign": ["", "", "", "s", "r", "x", "y", " s"],
+    "note": ["", "men's", "of a kind", "'5", " '5", "note"],
+    "counts": ["yes", "yes", "yes", "yes ", "no", "counts"],
+    "": ["", "", "", "", " ", "beside"],
+}
+"""Texts of columns; those in front are drawn more often."""
+
+
+def draw_survey(folder: Path, seed: str, is_wide: bool) -> None:
+    """Writes two files of many rows with few different texts, some of them odd, and columns in any order."""
+    chance = random.Random(seed)
+    for number in range(2):
+        heads = ["shop", "article", "note", "counts", *chance.choices(["", "comment"], k=chance.randrange(2))]
+        if not is_wide:
+            heads += ["date", "price", "sign"]
+        chance.shuffle(heads)
+        if is_wide:
+            flags: list[str] = chance.choice([["sign"], []])
+            at = chance.randrange(len(heads) + 1)
+            heads[at:at] = [head for month in ("2025-12", "Jan 2026", "2026-02") for head in [month, *flags]]
+        rows = [[draw_text(chance, POOLS.get(head, POOLS["price"])) for head in heads] for _ in range(150)]
+        rows[chance.randrange(150)] = [*heads]
+        rows[chance.randrange(150)] = [""] * len(heads)
+        rows[chance.randrange(150)].append("beyond")
+        for row in chance.choices(rows, k=40):
+            del row[-chance.randrange(3) or len(row) :]
+        lines = [",".join(row) for row in (heads, *rows)]
+        if chance.randrange(4) == 0:
+            lines.insert(100, '"no end')
+        (folder / f"survey-{number}.csv").write_text("".join(f"{line}\n" for line in lines), encoding="utf-8")
+
+
+def draw_text(chance: random.Random, pool: list[str]) -> str:
+    """A text of a pool: one in four is odd."""
+    return chance.choice(pool if chance.randrange(4) == 0 else pool[:2])
+
+
+@pytest.mark.parametrize("is_wide", [False, True])
+@pytest.mark.parametrize("seed", range(8))
+def test_texts_that_are_known_are_read_as_they_were_at_first(
+    cpi: Cpi, tmp_path: Path, monkeypatch: pytest.MonkeyPatch, seed: int, is_wide: bool
+) -> None:
+    """Each row is compared with what a look at it by itself makes of it."""
+    folder = office(tmp_path / "office")
+    draw_survey(folder, f"{seed}", is_wide)
+    (folder / "map.toml").write_text(WIDE_MAP if is_wide else LONG_MAP, encoding="utf-8")
+    known, looked_at = tmp_path / "known", tmp_path / "looked_at"
+    words = "take-in", folder, "--map", folder / "map.toml", "--check", "--out"
+    monkeypatch.setattr(secrets, "token_hex", lambda size: "f" * 2 * size)
+    quick: list[int] = []
+    read = PriceCells._rows_of_quotes
+
+    def read_counted(cells: PriceCells, quotes: CellQuotes, store: PriceStore) -> Sequence[StoreRow]:
+        quick.append(len(quotes))
+        return read(cells, quotes, store)
+
+    monkeypatch.setattr(PriceCells, "_rows_of_quotes", read_counted)
+    monkeypatch.setattr(quick_rows, "MOST_QUOTES", 7)
+    ran = [run(cpi, *words, known)]
+    # (a row of months adds three at most, also if it is seen for the first time)
+    assert sum(quick) > 100 and max(quick) < 7 + 3
+    with monkeypatch.context() as patch:
+        patch.setattr(PlainRows, "rows", lambda *_: None)
+        patch.setattr(mapped_rows, "is_quick", lambda *_: False)
+        ran.append(run(cpi, *words, looked_at))
+    one, other = (str(it).replace(str(known), "").replace(str(looked_at), "") for it in ran)
+    assert one == other
+    for file in ("problems.csv", "report.html", "codes.csv"):
+        assert filecmp.cmp(known / file, looked_at / file, shallow=False), file
 
 
 def test_most_rows_need_no_look(cpi: Cpi, tmp_path: Path, monkeypatch: pytest.MonkeyPatch) -> None:
@@ -295,6 +416,16 @@ BAD_MAPS = [
     (PRICES + '[prices.units]\ng = "-1"\n', 'line 6: "g" is "-1": wanted a number above 0, as "1000"'),
     (PRICES + '[prices.only]\ngeo = "XX"\n', "line 6: \"geo\" is 'XX': wanted a list of the texts that count"),
     (PRICES + '[prices.join]\nfiles = "a.csv"\n', "line 5: on is missing: wanted columns here and there, as on ="),
+    (
+        PRICES.replace('item = "item"', 'item = " "'),
+        "line 4: item has a column without a name: wanted the name of a col",
+    ),
+    (PRICES + '[prices.only]\n"" = ["XX"]\n', "line 5: only has a column without a name: wanted the name of a column"),
+    (
+        PRICES + '[prices.marks.""]\nx = "stock"\n',
+        "line 5: marks has a column without a name: wanted the name of a col",
+    ),
+    (PRICES + '[prices.join]\nfiles = "a.csv"\non = { item = "" }\n', "line 7: on has a column without a name: wanted"),
     (PRICES.replace("survey", "other"), ": [prices] names no file: wanted one named like other.csv"),
 ]
 
@@ -504,7 +635,7 @@ def test_no_name_is_two_months() -> None:
     for names in NAMES.values():
         for number, several in enumerate(names, 1):
             for name in several.split(","):
-                numbers.setdefault(folded(name), set()).add(number)
+                numbers.setdefault(fold(name), set()).add(number)
     assert [name for name, found in numbers.items() if len(found) > 1] == []
 
 

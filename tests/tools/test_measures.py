@@ -15,7 +15,7 @@ from cpi_tools.publish.figures.measures import (
     full_years,
     months_linked_to,
     reference_level,
-    rereferenced,
+    rereference,
     twelve_month_rate,
 )
 from cpi_tools.office.public import Listed, Published
@@ -143,10 +143,10 @@ def test_another_reference_period_by_hand(by_hand: Series) -> None:
     last = by_hand.row("2027-12", "00")
     assert base and last
     # 10,920 / 102.6875 = 106.3420572..
-    assert decimal(*rereferenced(last.chained, base), 6) == "106.342057"
+    assert decimal(*rereference(last.chained, base), 6) == "106.342057"
     month = reference_level(by_hand, "01", "2026-12")
     coffee = by_hand.row("2027-12", "01")
-    assert month and coffee and decimal(*rereferenced(coffee.chained, month), 6) == "102.000000"
+    assert month and coffee and decimal(*rereference(coffee.chained, month), 6) == "102.000000"
     assert reference_level(by_hand, "03", "2026") is None and reference_level(by_hand, "00", "2028") is None
 
 

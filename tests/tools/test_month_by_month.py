@@ -20,9 +20,8 @@ import rdflib
 from cpi_tools.text.clocks import clock_of
 from cpi_tools.publish.figures.config import Config
 from cpi_tools.publish.figures.config import Dated
-from cpi_tools.publish.figures.planned import Planned
+from cpi_tools.publish.figures.announcements import Planned, Reason
 from cpi_tools.office.public import Published
-from cpi_tools.publish.figures.reasons import Reason
 from cpi_tools.publish.figures.specials import Special
 from cpi_tools.publish.pack import publish
 from .published import HIDDEN_REVISION, LAST, REVISED

@@ -4,8 +4,8 @@ from __future__ import annotations
 
 import pytest
 
-from cpi_tools.sheets import months_of_texts
-from cpi_tools.sheets.months_of_texts import NAMES, month_of, months_of, told_no_month
+from cpi_tools.sheets import sheet_numbers
+from cpi_tools.sheets.sheet_numbers import NAMES, month_of, months_of, told_no_month
 
 
 @pytest.mark.parametrize(
@@ -52,13 +52,13 @@ def test_a_text_that_is_no_month(text: str) -> None:
     [
         ("01/02/2026", '"01/02/2026" may be 2026-01 or 2026-02'),
         ("2.1.2026", '"2.1.2026" may be 2026-01 or 2026-02'),
-        ("01-02", '"01-02" may be a day or several months: no year of it has four digits'),
-        ("26-01", '"26-01" may be a day or several months: no year of it has four digits'),
-        ("1/2/26", '"1/2/26" may be a day or several months: no year of it has four digits'),
-        ("26-Jan", '"26-Jan" may be a day or several months: no year of it has four digits'),
-        ("15-Jan-26", '"15-Jan-26" may be a day or several months: no year of it has four digits'),
-        ("2026\u200b-01", '"2026\\u200b-01" is no month'),
-        ("", "the cell is empty, and should have a month"),
+        ("01-02", '"01-02" may be a day or several months: it contains no year with four digits'),
+        ("26-01", '"26-01" may be a day or several months: it contains no year with four digits'),
+        ("1/2/26", '"1/2/26" may be a day or several months: it contains no year with four digits'),
+        ("26-Jan", '"26-Jan" may be a day or several months: it contains no year with four digits'),
+        ("15-Jan-26", '"15-Jan-26" may be a day or several months: it contains no year with four digits'),
+        ("2026\u200b-01", '"2026\\u200b-01" isn\'t a month'),
+        ("", "the cell is empty, but should contain a month"),
     ],
 )
 def test_a_text_that_may_be_several_is_none_and_says_so(text: str, told: str) -> None:
@@ -76,7 +76,7 @@ def test_each_month_has_its_names() -> None:
 def test_a_name_that_is_two_months_in_two_languages_is_none(monkeypatch: pytest.MonkeyPatch) -> None:
     """`listopad` is November in Czech, and October in Croatian."""
     other = {"Czech": ("",) * 10 + ("listopad", ""), "Croatian": ("",) * 9 + ("listopad", "", "")}
-    monkeypatch.setattr(months_of_texts, "NAMES", {**NAMES, **other})
-    monkeypatch.setattr(months_of_texts, "NAMED", months_of_texts._named())
+    monkeypatch.setattr(sheet_numbers, "NAMES", {**NAMES, **other})
+    monkeypatch.setattr(sheet_numbers, "NAMED", sheet_numbers._number_names())
     assert months_of("listopad 2026") == ["2026-10", "2026-11"] and month_of("listopad 2026") == ""
     assert month_of("May 2026") == "2026-05"

@@ -14,12 +14,19 @@ import icalendar  # type: ignore[import]
 import pytest
 
 from cpi_tools.publish import pack as publish_module
-from cpi_tools.publish.figures.announced import Announced, BadAnnounced, announced_after, announced_in
+from cpi_tools.publish.figures.announcements import (
+    Announced,
+    BadAnnounced,
+    BadCalendar,
+    Planned,
+    announced_after,
+    announced_in,
+    planned_of,
+)
 from cpi_tools.publish.releases.cards import NO_CARDS
 from cpi_tools.text.clocks import UTC
 from cpi_tools.publish.figures.config import Config
-from cpi_tools.publish.figures.office_languages import OfficeLanguages
-from cpi_tools.publish.figures.planned import BadCalendar, Planned, planned_of
+from cpi_tools.publish.figures.own_words import OfficeLanguages
 from cpi_tools.office.tables import Series
 from cpi_tools.publish.pack import check, publish
 from .test_measures import two_years
@@ -68,12 +75,12 @@ def test_a_moved_release_is_said_with_what_was_announced_and_why(tmp_path: Path)
     out = written(tmp_path / "public", Planned(MONTH, 1, FIRST))
     assert "Moved releases" not in words(out) and "SEQUENCE" not in event(out)
     written(out, Planned(MONTH, 1, SECOND, None, "A holiday <1>."))
-    said = "January 2027 was announced for 28 January 2027, 08:30 UTC, and comes on 29 January 2027, 08:30 UTC."
-    assert f"Moved releases {said} The office says why: A holiday <1>." in words(out)
+    said = "January 2027 was announced for 28 January 2027, 08:30 UTC, and will be published on 29 January 2027, 08:30 UTC."
+    assert f"Moved releases {said} The office gives this reason: A holiday <1>." in words(out)
     assert event(out)["SEQUENCE"] == 1 and event(out).decoded("DTSTART").timestamp() == SECOND
     feed = ElementTree.parse(out / "feed.xml").getroot()
     (entry,) = [it for it in feed if it.tag.endswith("entry") and "Moved: January 2027" in "".join(it.itertext())]
-    assert f"{said} The office says why: A holiday <1>." in "".join(entry.itertext())
+    assert f"{said} The office gives this reason: A holiday <1>." in "".join(entry.itertext())
     # what is published again says the same, and a further move counts on, without the reason of the first
     sums = (out / "SHA256SUMS").read_bytes()
     written(out, Planned(MONTH, 1, SECOND, None, "A holiday <1>."))
@@ -81,7 +88,9 @@ def test_a_moved_release_is_said_with_what_was_announced_and_why(tmp_path: Path)
     stamp, updated = event(out).decoded("DTSTAMP"), updates(out)
     assert updated[0] == max(updated)
     written(out, Planned(MONTH, 1, THIRD))
-    assert "for 29 January 2027, 08:30 UTC, and comes on 30 January 2027, 08:30 UTC. Published" in words(out)
+    assert "for 29 January 2027, 08:30 UTC, and will be published on 30 January 2027, 08:30 UTC. Published" in words(
+        out
+    )
     assert event(out)["SEQUENCE"] == 2 and event(out).decoded("DTSTAMP") > stamp
     assert updates(out)[0] == max(updates(out)) > updated[0]
     assert check(TABLES, CONFIG._replace(planned=(Planned(MONTH, 1, THIRD),)), out, None, lambda _: None) == []
@@ -134,7 +143,7 @@ def test_the_file_says_what_no_pack_knows(tmp_path: Path) -> None:
     (planned,) = planned_of(rows, UTC)
     assert planned == Planned(MONTH, 1, SECOND, FIRST, "A strike.")
     out = written(tmp_path / "public", planned)
-    assert "was announced for 28 January 2027, 08:30 UTC" in words(out) and "why: A strike." in words(out)
+    assert "was announced for 28 January 2027, 08:30 UTC" in words(out) and "reason: A strike." in words(out)
 
 
 @pytest.mark.parametrize(

@@ -11,7 +11,7 @@ from pathlib import Path
 import pytest
 
 from cpi_tools.command_line import main
-from cpi_tools.sheets.year.moved_weights import CannotMove, moved, read_spent
+from cpi_tools.sheets.year.moved_weights import CannotMove, move_weights, read_spent
 from cpi_tools.office.public import Listed, Published
 from cpi_tools.office.tables import Series
 from cpi_tools.office.program import Cpi, record
@@ -48,14 +48,14 @@ def two_aggregates() -> Series:
 def test_by_hand(tmp_path: Path) -> None:
     """Rice is worth 630 * 110 / 105 = 660 and flour 396 * 88 / 99 = 352, together 1,012: 652,173.9 and 347,826.1."""
     spent = read_spent(Path(sheet(tmp_path / "s.csv", f"code,weight\n{RICE},630\n{FLOUR},396\n")), "2026")
-    found = moved(two_aggregates(), spent, "2026-12")
+    found = move_weights(two_aggregates(), spent, "2026-12")
     assert [(it.then, it.now, it.worth, it.parts) for it in found] == [
         (105, 110, 660, 652_174),
         (99, 88, 352, 347_826),
     ]
     # by the prices of June rice is worth 693: the month isn't the year
     june = read_spent(Path(sheet(tmp_path / "j.csv", f"code,weight,of\n{RICE},630,2026-06\n{FLOUR},396,\n")), "2026")
-    assert [it.worth for it in moved(two_aggregates(), june, "2026-12")] == [693, 352]
+    assert [it.worth for it in move_weights(two_aggregates(), june, "2026-12")] == [693, 352]
 
 
 def test_from_printed_tables(
@@ -133,7 +133,7 @@ def test_shares_are_near_whatever_is_given(tmp_path: Path) -> None:
     for _ in range(20):
         rice, flour = drawn.randint(1, 10**9), drawn.randint(1, 10**9)
         spent = read_spent(Path(sheet(tmp_path / "s.csv", f"code,weight\n{RICE},{rice}\n{FLOUR},{flour}\n")), "2026")
-        found = moved(two_aggregates(), spent, "2026-12")
+        found = move_weights(two_aggregates(), spent, "2026-12")
         worth = [Fraction(rice * 110, 105), Fraction(flour * 88, 99)]
         assert sum(it.parts for it in found) == 10**6
         assert all(abs(it.parts - own * 10**6 / sum(worth)) < 1 or it.parts == 1 for it, own in zip(found, worth))

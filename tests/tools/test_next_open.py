@@ -12,15 +12,14 @@ from typing import Optional
 
 import pytest
 
-from cpi_tools.guard import doctor, next_open, units
+from cpi_tools.guard import doctor, next_open
 from cpi_tools.office.access import this_user
 from cpi_tools.command_line import parser
-from cpi_tools.guard.watch.probe_levels import CRITICAL, OK, WARNING
-from cpi_tools.guard.next_open import MIB, Allowed, NextOpen, Rows, allowed_of, in_words, rows_of
-from cpi_tools.guard.watch.probe_output import judged
+from cpi_tools.guard.watch.probe_looks import CRITICAL, OK, WARNING
+from cpi_tools.guard.next_open import MIB, Allowed, NextOpen, Rows, allowed_of, bytes_of, in_words, rows_of, seconds_of
+from cpi_tools.guard.watch.probe_output import judge_office
 from cpi_tools.office.program import Cpi
 from cpi_tools.text.terminal import Fault
-from cpi_tools.guard.units import bytes_of, seconds_of
 from lib import aged
 from .test_probe import chosen, seen
 
@@ -117,7 +116,7 @@ def test_bounds_of_memory_are_read() -> None:
 def unit_shows(monkeypatch: pytest.MonkeyPatch, text: str) -> None:
     """systemd says these properties of a unit."""
     shown = subprocess.CompletedProcess[str]([], 0, text, "")
-    monkeypatch.setattr(units, "run_systemd", lambda words: shown)
+    monkeypatch.setattr(next_open, "run_systemd", lambda words: shown)
 
 
 def test_the_smaller_one_of_machine_and_unit_bounds(monkeypatch: pytest.MonkeyPatch) -> None:
@@ -151,7 +150,7 @@ def office_of(largest: int, monthly: int = 0, seconds: Optional[int] = None, mem
 )
 def test_the_probe_warns_at_half_of_what_is_allowed(found: NextOpen, state: int) -> None:
     told = (f"the next open of its file {in_words(found)}",) if state else ()
-    assert judged(seen(next_open=found), chosen()) == (state, told)
+    assert judge_office(seen(next_open=found), chosen()) == (state, told)
 
 
 def test_the_words_say_how_much_of_what_and_how_long_it_lasts() -> None:

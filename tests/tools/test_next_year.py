@@ -191,7 +191,7 @@ def test_the_draft_is_taken_in_and_the_sample_is_what_was_told(cpi: Cpi, decembe
     ]
     assert [reply for reply in cpi.replay(sent, db=office) if "refused" in reply] == []
     with stored_office(office) as stored:
-        sample = {series for series in stored.carried(Release(202701, 1, ()))}
+        sample = {series for series in stored.read_carried(Release(202701, 1, ()))}
     assert sample == {(7, 1), (7, 6), (7, 7), (8, 1), (8, 2), (8, 9)}
     ran = run(cpi, "next-year", office, 2027, tmp_path / "late")
     assert ran == Ran(1, "", "cpi-tools next-year: 2027-01 is frozen, so 2027 has begun: name a later year\n")

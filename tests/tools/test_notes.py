@@ -11,8 +11,8 @@ from pathlib import Path
 import pytest
 
 from cpi_tools.publish.figures.config import BadConfig, Config, read_config
-from cpi_tools.publish.site.example import change
-from cpi_tools.publish.figures.notes import Notes
+from cpi_tools.publish.site.site_pages import change
+from cpi_tools.publish.figures.figures import Notes
 from cpi_tools.office.public import Published
 from cpi_tools.publish.figures.shown_figures import Shown
 from cpi_tools.office.tables import Series
@@ -76,13 +76,13 @@ def test_a_letter_is_next_to_the_figure_and_says_what_it_is(site: Path) -> None:
     page = site / "node/01.1.1.1-01.html"
     assert page.read_text(encoding="utf-8").count('aria-label="Notes: imputed, provisional">ip</a></sup>') == 3
     told = words_of(page)
-    assert "i At least one price at or below this item was imputed in that month" in told
+    assert "i At least one price of this item, or of an item below it, was imputed in that month" in told
     assert "p Provisional: the office may still revise the last 2 months." in told
     assert "and notes: i imputed, r revised, p provisional." in told
     fuel = (site / "node/07.html").read_text(encoding="utf-8")
     assert 'aria-label="Notes: provisional">p</a></sup>' in fuel and "imputed in that month" not in fuel
     whole = words_of(site / "index.html")
-    assert "i Some prices were imputed: how much ." in whole and "p Provisional: the office" in whole
+    assert "i Some prices were imputed: see how much ." in whole and "p Provisional: the office" in whole
 
 
 def test_a_picture_that_is_taken_away_is_provisional_too(site: Path) -> None:
@@ -99,7 +99,7 @@ def test_a_revised_month_says_what_was_published_first(published: list[Published
     assert f"{float(first):.1f}" != f"{float(latest):.1f}"
     site = site_of(until, tmp_path / "public")
     told = words_of(site / "node/01.html")
-    assert f"r Revised: the index of March 2026 was published as {float(first):.1f} first." in told
+    assert f"r Revised: the index for March 2026 was first published as {float(first):.1f}." in told
     assert f"100 {float(latest):.1f} r " in told
     # (fuels have the same row in both)
     assert "Revised" not in words_of(site / "node/07.html").replace("Revisions", "")
@@ -177,7 +177,7 @@ def test_the_example_is_right(published: list[Published], tmp_path: Path, last: 
         value, says = computed_again(formula)
         assert half_away(value, 3).lstrip("+") == says
         assert half_away(value, 1).replace("\u2212", "-").lstrip("+") == whole[name]
-        assert f"Rounded once to one decimal this is {half_away(value, 1)} %" in told
+        assert f"Rounded once to one decimal place, this is {half_away(value, 1)} %" in told
         assert whole["chained"] in formula
     value, says = computed_again(part)
     assert says == half_away(value, 3)
@@ -186,7 +186,7 @@ def test_the_example_is_right(published: list[Published], tmp_path: Path, last: 
     divisions = {row["code"]: Fraction(row["contribution_month"]) for row in given if len(row["code"]) == 2}
     greatest = max(divisions, key=lambda code: abs(divisions[code]))
     assert abs(divisions[greatest] - value) < Fraction(1, 10**6)
-    assert f"{rows[last, greatest]['title']} has" in told
+    assert f"The weight of {rows[last, greatest]['title']} is" in told
 
 
 def test_the_example_follows_the_rule_for_changes(published: list[Published], tmp_path: Path) -> None:

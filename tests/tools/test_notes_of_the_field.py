@@ -30,7 +30,7 @@ from cpi_tools.desk.field.field_notes import FieldNotes, Of, Said, TooMany
 from cpi_tools.desk.field.photographs import NotAPicture, without_traces
 from cpi_tools.office.program import Cpi
 from cpi_tools.text.terminal import Fault
-from .desk_apps import ADA, LISTEN, Application, Person, applied, words_of
+from .desk_apps import ADA, LISTEN, Application, Chosen, Person, applied, words_of
 from lib.hostile import HOSTILE
 from lib.places import ROOT
 from lib.served import heard, message, peer_of
@@ -86,7 +86,7 @@ def patient(monkeypatch: pytest.MonkeyPatch) -> None:
 
 @pytest.fixture
 def application(cpi: Cpi, tmp_path: Path) -> Iterator[Application]:
-    with applied(cpi, surveys.small(cpi, tmp_path), tmp_path / "room", AGES) as it:
+    with applied(cpi, surveys.small(cpi, tmp_path), tmp_path / "room", Chosen(AGES)) as it:
         yield it
 
 
@@ -211,9 +211,9 @@ def test_a_note_follows_a_price_that_the_office_has(application: Application, an
 
 
 def test_an_office_that_is_away_is_told_so_that_the_phone_comes_again(cpi: Cpi, tmp_path: Path) -> None:
-    with applied(cpi, surveys.small(cpi, tmp_path), tmp_path / "room", AGES) as application:
+    with applied(cpi, surveys.small(cpi, tmp_path), tmp_path / "room", Chosen(AGES)) as application:
         pass
-    application = Application(cpi, tmp_path / "small.db", tmp_path / "room", application.port, AGES)
+    application = Application(cpi, tmp_path / "small.db", tmp_path / "room", application.port, Chosen(AGES))
     answer = Phone(application, ANNA).send(1, 5, text="Look")
     assert (answer.status_code, answer.json, answer.headers["Retry-After"]) == (503, {"fault": "office"}, "10")
     application.desk.close()
@@ -325,9 +325,9 @@ def test_the_desk_sees_them_in_a_list_and_at_their_price(application: Applicatio
     assert beno.send(1, 3, from_a_camera(), text="New label", sale="yes", brand="Sun").json == {"note": 1}
     assert anna.send(1, 4, text="Of January's receipt").json == {"note": 2}
     words = ada.words(f"/month/{MONTH}/field-notes")
-    assert "2 notes." in words and "Rice Market hall Slot 8/1 stored now price 252" in words
+    assert "2 notes." in words and "Rice Market hall Slot 8/1 now stored: price 252" in words
     assert "receipt 3 sale brand Sun New label" in words
-    assert "stored now stock, with receipt 5: the note is of an earlier price" in words
+    assert "now stored: stock, with receipt 5; the note is about an earlier price" in words
     photo = ada.get(f"/month/{MONTH}/field-notes/1.jpg")
     assert photo.mimetype == "image/jpeg" and photo.data.startswith(b"\xff\xd8") and PLACE not in photo.data
     assert ada.get(f"/month/{MONTH}/field-notes/2.jpg").status_code == 404
@@ -352,7 +352,7 @@ def test_the_desk_removes_one_for_good(anna: Phone, ada: Person, tmp_path: Path)
     assert ada.post(f"/month/{MONTH}/field-notes/1/remove").status_code == 303
     again = ada.post(f"/month/{MONTH}/field-notes/1/remove")
     assert again.status_code == 409 and "Ada changed this after your page was loaded" in words_of(again.text)
-    assert anna.get(MONTH).json == {"notes": []} and "No note of this month." in ada.words(
+    assert anna.get(MONTH).json == {"notes": []} and "No notes for this month." in ada.words(
         f"/month/{MONTH}/field-notes"
     )
     assert b"A face" not in (tmp_path / "room/field-notes.db").read_bytes()
@@ -418,14 +418,14 @@ def test_notes_go_by_themselves_and_their_bytes_too(tmp_path: Path) -> None:
 
 
 def test_a_month_that_is_kept_no_longer_is_refused(cpi: Cpi, tmp_path: Path) -> None:
-    with applied(cpi, surveys.small(cpi, tmp_path), tmp_path / "room", 1) as application:
+    with applied(cpi, surveys.small(cpi, tmp_path), tmp_path / "room", Chosen(1)) as application:
         answer = Phone(application, ANNA).send(1, 3, text="Look", month="2026-01")
         assert (answer.status_code, answer.json["fault"]) == (409, "past")
 
 
 def test_a_file_that_isn_t_theirs_is_refused(tmp_path: Path) -> None:
     (tmp_path / "notes.db").write_bytes(b"something else" * 100)
-    with pytest.raises(Fault, match="can't be read as the notes of the field"):
+    with pytest.raises(Fault, match="The field notes in .* can't be read: "):
         FieldNotes(tmp_path / "notes.db", 13)
 
 

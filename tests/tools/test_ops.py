@@ -61,7 +61,7 @@ def test_what_the_units_start_is_there_and_named_in_the_guide() -> None:
 
 
 ADDED = {"CPI_ZONE", "CPI_COPY", "CPI_COPY_EVERY"} | {
-    f"CPI_DESK_{it}" for it in ("FRONT", "LISTEN", "NOTES", "PHONES", "SECOND_KEY", "SITE")
+    f"CPI_DESK_{it}" for it in ("FRONT", "LISTEN", "NOTES", "PHONES", "SECOND_KEY", "SITE", "SUPERVISORS")
 }
 """What an office adds to its office.conf: its clock, and what a second machine or the pages of the desk ask for."""
 
@@ -97,6 +97,7 @@ echo "$@" >> "$FOLDER/started"
 [ "$5" != 0 ] || { printf "error: invalid value '0' for '--port <port>': 0 is no port\n\nSee --help.\n" >&2; exit 2; }
 tr -d '[:space:]' < "$7" | grep -qxE '[0-9a-f]{32}' || { echo "cpi: bad key" >&2; exit 1; }
 [ "$3" != /dev/null/none ] || { echo "cpi: database failed" >&2; exit 1; }
+eval "${SEEN-}"
 echo "cpi: listening on 127.0.0.1:$5"
 """
 
@@ -135,6 +136,46 @@ def test_systemd_is_told_once_it_listens(cpi: Cpi, tmp_path: Path) -> None:
     # (the helper that tells it may end a moment after the program)
     wait_for(lambda: (tmp_path / "notified").exists())
     assert (tmp_path / "notified").read_text() == "--ready --status=cpi: listening on 127.0.0.1:8081\n"
+
+
+OPENING = "room-opening/opening.json"
+"""Where the front looks, beside the folder of the service."""
+
+
+def test_the_front_is_told_of_an_open_until_it_listens(cpi: Cpi, tmp_path: Path) -> None:
+    office, opening = tmp_path / "office.db", tmp_path / OPENING
+    office.write_bytes(b"large")
+    opening.parent.mkdir()
+    opening.write_text("of the start before")
+    # (what the doctor would write; and the program looks whether it is there while it opens)
+    script(tmp_path / "cpi-tools", '[ ! -e "$3" ] && echo "$@" > "$3"\n')
+    seen = 'case $3 in */office.db) cp "$FOLDER/room-opening/opening.json" "$FOLDER/seen" ;; esac\n'
+    started = start(cpi, tmp_path, CPI_ZONE="UTC0", CPI_OFFICE=str(office), SEEN=seen)
+    assert (started.status, started.told) == (0, "")
+    assert (tmp_path / "seen").read_text() == f"doctor --opening {opening} {office}\n"
+    wait_for(lambda: not opening.exists())
+    assert not opening.exists()
+
+
+def test_a_start_doesnt_fail_by_what_the_front_is_told(cpi: Cpi, tmp_path: Path) -> None:
+    """The tool fails, and what stands in the place of the file can't be removed: the office listens, and systemd knows."""
+    office, opening = tmp_path / "office.db", tmp_path / OPENING
+    office.write_bytes(b"large")
+    opening.mkdir(parents=True)
+    script(tmp_path / "cpi-tools", "exit 9\n")
+    started = start(cpi, tmp_path, CPI_ZONE="UTC0", CPI_OFFICE=str(office))
+    assert (started.status, started.printed) == (0, "cpi: listening on 127.0.0.1:8080\n")
+    wait_for(lambda: (tmp_path / "notified").exists())
+    assert (tmp_path / "notified").read_text().startswith("--ready")
+    assert stopped(cpi, office, STOP).status == 0
+
+
+def test_a_front_without_a_folder_is_told_nothing(cpi: Cpi, tmp_path: Path) -> None:
+    office = tmp_path / "office.db"
+    office.write_bytes(b"large")
+    script(tmp_path / "cpi-tools", "exit 9\n")
+    started = start(cpi, tmp_path, CPI_ZONE="UTC0", CPI_OFFICE=str(office))
+    assert (started.status, started.told, (tmp_path / OPENING).exists()) == (0, "", False)
 
 
 def wait_for(is_there: Callable[[], bool]) -> None:
@@ -195,6 +236,8 @@ def test_the_desk_s_pages_take_notes_publish_and_print_keys_if_the_settings_say_
     assert " --site /var/lib/cpi-site/published --site-config /etc/cpi/office.ini " in told
     assert " --phones https://prices.example " in told and "--site" not in started().stdout
     assert " --second-key-file /etc/cpi/second " in started(CPI_DESK_SECOND_KEY="/etc/cpi/second").stdout
+    assert " --supervisors /etc/cpi/team.csv " in started(CPI_DESK_SUPERVISORS="/etc/cpi/team.csv").stdout
+    assert "--supervisors" not in started().stdout
     wrong = started(CPI_DESK_NOTES="13 months")
     assert (wrong.returncode, wrong.stdout, wrong.stderr.count("\n")) == (WRONG, "", 1)
     assert "office.conf: CPI_DESK_NOTES is 13 months: wanted is a number of months, such as 13" in wrong.stderr
@@ -459,6 +502,15 @@ def test_a_look_at_the_schema_writes_nothing(cpi: Cpi, killed: Path) -> None:
         assert start(cpi, killed.parent, CPI_ZONE="UTC0", CPI_OFFICE=str(killed)).status == status
         assert bytes_of(killed)[: len(before)] == before if version == 2 else killed.read_bytes() == before[0]
         assert not killed.with_name("office.db-shm").exists()
+
+
+def test_the_front_isnt_told_of_an_open_that_has_ended(cpi: Cpi, tmp_path: Path) -> None:
+    opening = tmp_path / OPENING
+    opening.parent.mkdir()
+    for how in (STOP, Ended("exited", "1"), Ended("killed", "KILL")):
+        opening.write_text("{}")
+        stopped(cpi, tmp_path / "office.db", how)
+        assert not opening.exists()
 
 
 def test_the_scripts_know_the_schemas_of_this_version() -> None:

@@ -13,7 +13,7 @@ from typing import Any, Optional
 import pytest
 
 from . import surveys
-from cpi_tools.text.others import Worded, apart, cited, closed, isolated, others
+from cpi_tools.text.others import Worded, apart, cite, close_isolates, isolate, others
 from cpi_tools.publish.figures.config import Config
 from cpi_tools.office.public import from_file
 from cpi_tools.office.program import Cpi, record
@@ -47,9 +47,9 @@ NO_ELEMENTS = ("title", "option", "desc", "text")
     ids=["override", "leaves", "stays open", "both", "paragraphs", "nothing"],
 )
 def test_a_text_cant_leave_its_element(text: str, kept: str) -> None:
-    assert closed(text) == kept
+    assert close_isolates(text) == kept
     assert others(text) == f"<bdi>{kept}</bdi>"
-    assert isolated(text) == f"\u2068{kept}\u2069"
+    assert isolate(text) == f"\u2068{kept}\u2069"
 
 
 def test_a_text_is_escaped_once() -> None:
@@ -61,16 +61,16 @@ def test_words_are_plain_in_a_file_and_isolate_their_texts_on_a_page() -> None:
     told = Worded("{}; in {}", inner, "Shop")
     assert told == "it's <rice>, 1 kg\u2069; in Shop"
     assert told.__html__() == "it&#x27;s <bdi>&lt;rice&gt;</bdi>, <bdi>1 kg</bdi>; in <bdi>Shop</bdi>"
-    assert isolated(told) == "it's \u2068<rice>\u2069, \u20681 kg\u2069; in \u2068Shop\u2069"
+    assert isolate(told) == "it's \u2068<rice>\u2069, \u20681 kg\u2069; in \u2068Shop\u2069"
     assert others(told) == told.__html__()
 
 
 def test_what_a_message_cites_turns_none_of_its_words() -> None:
-    told = cited('"1 l\u202e" & "<b>\u2067" are one\u2069')
+    told = cite('"1 l\u202e" & "<b>\u2067" are one\u2069')
     assert told.replace("&quot;", '"') == (
         '<bdi>"<bdi>1 l\u202e</bdi>" &amp; "<bdi>&lt;b&gt;\u2067\u2069</bdi>" are one</bdi>'
     )
-    assert cited("1 kg") == "<bdi>1 kg</bdi>" and cited(Worded("{}, row 5", "a.csv")) == "<bdi>a.csv</bdi>, row 5"
+    assert cite("1 kg") == "<bdi>1 kg</bdi>" and cite(Worded("{}, row 5", "a.csv")) == "<bdi>a.csv</bdi>, row 5"
 
 
 @pytest.mark.parametrize(
@@ -87,7 +87,7 @@ def test_what_a_message_cites_turns_none_of_its_words() -> None:
     ],
 )
 def test_only_what_turns_has_signs_that_nobody_sees(text: str, direction: str, is_apart: bool) -> None:
-    assert apart(text, direction) == (isolated(text) if is_apart else text)
+    assert apart(text, direction) == (isolate(text) if is_apart else text)
     assert apart(Worded("it's {}", text), direction) == f"it's {apart(text, direction)}"
 
 

@@ -12,7 +12,7 @@ import pytest
 
 from . import surveys
 from lib.places import ROOT
-from cpi_tools.text.output import shown
+from cpi_tools.text.terminal import show_unseen
 from cpi_tools.office.program import Cpi
 from .ran import Ran, run
 
@@ -105,7 +105,7 @@ def test_a_reader_that_has_gone_is_no_line(small: Path) -> None:
     ids=["override", "isolates", "controls", "lines", "letters"],
 )
 def test_what_cant_be_seen_is_a_sign(text: str, wanted: str) -> None:
-    assert shown(text) == wanted
+    assert show_unseen(text) == wanted
 
 
 def turned(cpi: Cpi, folder: Path) -> Path:

@@ -13,8 +13,7 @@ import html5lib
 import pytest
 
 from cpi_tools.publish.figures.config import Config, read_config
-from cpi_tools.publish.figures.logos import BadLogo, read_logo
-from cpi_tools.publish.figures.own_words import SECTIONS, BadOwnWords, read_own_words
+from cpi_tools.publish.figures.own_words import SECTIONS, BadLogo, BadOwnWords, read_logo, read_own_words
 from cpi_tools.publish.figures.plain_markdown import BadMarkdown, html_of, read_markdown
 from cpi_tools.office.public import Published
 from cpi_tools.publish.pack import publish
@@ -198,9 +197,9 @@ def test_another_folder_is_refused(tmp_path: Path, files: dict[str, str], said: 
 def test_a_logo_is_a_whole_picture(tmp_path: Path) -> None:
     path, data = tmp_path / "logo.png", png()
     path.write_bytes(data)
-    assert read_logo(path)[1:] == (80, 20) and read_logo(path).shown == (160, 40)
+    assert read_logo(path)[1:] == (80, 20) and read_logo(path).shown_size == (160, 40)
     path.write_bytes(png(3000, 100))
-    assert read_logo(path).shown == (240, 8)
+    assert read_logo(path).shown_size == (240, 8)
     for bad in (b"", b"<svg/>", data[:-1], data + b"x", data[:20] + b"x" + data[21:], png(5000, 1), png(1, 0)):
         path.write_bytes(bad)
         with pytest.raises(BadLogo):

@@ -18,6 +18,7 @@ import pytest
 import cpi_tools
 from cpi_tools.office.program import Cpi
 from lib.places import ROOT
+from lighter import PATTERNS, lighten
 from .needs import needed
 from .packages import epoch_of, made_package
 from .test_ops import UNITS
@@ -144,6 +145,16 @@ def test_the_pages_are_there_as_they_stand(members: dict[str, tarfile.TarInfo]) 
     assert members["etc/cpi/config.js"].size == (ROOT / "web/config.js").stat().st_size
 
 
+def test_scripts_styles_and_pages_have_no_comments(package: Path, tmp_path: Path) -> None:
+    """So a phone loads less; what an office sets keeps the words that explain it."""
+    subprocess.run(["dpkg-deb", "--extract", package, tmp_path], check=True)
+    for path in sorted(path for path in (ROOT / "web").rglob("*") if path.is_file() and path.name != "config.js"):
+        packed = (tmp_path / "usr/share/cpi" / path.relative_to(ROOT)).read_bytes()
+        own = path.read_bytes()
+        assert packed == (lighten(path.name, own.decode()).encode() if path.suffix in PATTERNS else own), path
+    assert (tmp_path / "etc/cpi/config.js").read_bytes() == (ROOT / "web/config.js").read_bytes()
+
+
 def test_nothing_is_started_by_it(package: Path, members: dict[str, tarfile.TarInfo], tmp_path: Path) -> None:
     assert [name for name in members if ".wants" in name or ".requires" in name] == []
     subprocess.run(["dpkg-deb", "--control", package, tmp_path / "told"], check=True)
@@ -166,7 +177,7 @@ def test_nothing_is_started_by_it(package: Path, members: dict[str, tarfile.TarI
     assert needs == [
         "libc6 (>= 2.34), python3 (>= 3.9)",
         "python3-jinja2, python3-segno, python3-babel, python3-markdown-it, python3-flask, python3-waitress, python3-pil, borgbackup",
-        "python3-openpyxl, python3-tomli, libreoffice-calc-nogui, openssh-client, rsync, rclone, librsvg2-bin, fonts-dejavu-core",
+        "python3-openpyxl, python3-tomli, libreoffice-calc-nogui, openssh-client, rsync, rclone, librsvg2-bin, fonts-dejavu-core, weasyprint, r-base-core",
     ]
 
 
@@ -378,8 +389,8 @@ def test_the_page_of_cpi_has_its_words_and_faults(cpi: Cpi, installed: Path) -> 
     told, text = helps(cpi), page("cpi", installed)
     # (those of systemctl are in the notes)
     assert options(text) - {"--now"} == options(told)
-    listed = [" ".join(each.split()) for each in re.findall(r"one of: (.*?)(?:;|\n  2 )", told, re.S)]
-    faults = {fault for each in listed for fault in re.sub(r" \([^)]*\)", "", each).split(", ")}
+    listed = [" ".join(each.split()) for each in re.findall(r"followed by (.*?)(?:;|\n  2 )", told, re.S)]
+    faults = {fault for each in listed for fault in re.split(", | or ", re.sub(r" \([^)]*\)", "", each))}
     assert {"bad zone", "no clock", "no table"} <= faults
     page_faults = set(re.findall(r"^       ([a-z]+ [a-z]+(?: [a-z]+)?)$", text.partition("DIAGNOSTICS")[2], re.M))
     assert page_faults == faults

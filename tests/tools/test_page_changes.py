@@ -12,13 +12,11 @@ from pathlib import Path
 import pytest
 
 from cpi_tools.guard.copies import places
-from cpi_tools.guard.copies.carriers import Rsync
+from cpi_tools.guard.copies.carriers import CHANGES, NotFitting, Rsync, put_in
 from cpi_tools.office.copying import log_beside
 from cpi_tools.guard.drill import drill
 from cpi_tools.guard.follow import Follower
-from cpi_tools.guard.copies.office_marks import Known
-from cpi_tools.guard.copies.mirrors import PAGE
-from cpi_tools.guard.copies.page_changes import CHANGES, NotFitting, put_in
+from cpi_tools.guard.copies.mirrors import PAGE, Known
 from cpi_tools.guard.copies.places import Elsewhere
 from cpi_tools.office.program import Cpi
 from cpi_tools.guard.copies.second_copies import NAMES, NOTE, OFFICE, RECEIVED, fault_of, state_of, write_promotion

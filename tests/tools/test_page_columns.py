@@ -6,11 +6,11 @@ import re
 
 import pytest
 
-from cpi_tools.desk.serve.observations import Seen
+from cpi_tools.desk.serve.watched_office import Seen
 from cpi_tools.desk.looks.month_views import DAYS, HIGH, WIDE, chart_of
 from cpi_tools.text.section_pages import cell_figure, head
 from cpi_tools.text.report_language import ENGLISH
-from cpi_tools.text.sections import Cell
+from cpi_tools.text.message import Cell
 from .desk_apps import Application, Person, words_of
 from .test_desk_app_year import PAGE as YEAR
 from .test_desk_app_year import made

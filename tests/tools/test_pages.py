@@ -111,8 +111,8 @@ def test_a_gap_in_a_line_is_a_gap() -> None:
 def test_the_marks_of_an_axis_are_round_and_span_the_values() -> None:
     assert charts.steps(0.0, 4.2) == [0, 2, 4, 6]
     # (0.2 apart they would be seven, one too many)
-    assert [charts.ticked(it) for it in charts.steps(-0.7, 0.3)] == ["\u22121", "\u22120.5", "0", "0.5"]
-    assert [charts.signed(it) for it in (-0.04, 0.0, 0.3, -0.3)] == ["0.0", "0.0", "+0.3", "\u22120.3"]
+    assert [charts.write_tick(it) for it in charts.steps(-0.7, 0.3)] == ["\u22121", "\u22120.5", "0", "0.5"]
+    assert [charts.write_signed(it) for it in (-0.04, 0.0, 0.3, -0.3)] == ["0.0", "0.0", "+0.3", "\u22120.3"]
 
 
 def test_bars_of_a_table_share_one_scale() -> None:

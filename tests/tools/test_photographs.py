@@ -23,7 +23,7 @@ from cpi_tools.desk.field.photographs import Busy, NotAPicture, Turns, without_t
 from cpi_tools.office.program import Cpi
 from lib.places import ROOT
 from . import surveys
-from .desk_apps import ADA, Application, applied
+from .desk_apps import ADA, Application, Chosen, applied
 from .test_notes_of_the_field import AGES, ANNA, BENO, MONTH, Phone, picture
 
 PATIENCE = 300.0
@@ -38,7 +38,7 @@ def patient(monkeypatch: pytest.MonkeyPatch) -> None:
 
 @pytest.fixture
 def application(cpi: Cpi, tmp_path: Path) -> Iterator[Application]:
-    with applied(cpi, surveys.small(cpi, tmp_path), tmp_path / "room", AGES) as it:
+    with applied(cpi, surveys.small(cpi, tmp_path), tmp_path / "room", Chosen(AGES)) as it:
         yield it
 
 
@@ -173,11 +173,11 @@ def script(path: Path, commands: str) -> str:
 
 
 ENDS = (
-    ("exit 3", NotAPicture, "It is no picture"),
+    ("exit 3", NotAPicture, "This isn't a picture"),
     ("exit 4", NotAPicture, "larger than 4,000 pixels"),
     ("exit 5", NotAPicture, "more memory or time"),
     ("kill -XCPU $$", NotAPicture, "more memory or time"),
-    ("kill -SEGV $$", NotAPicture, "It is no picture"),
+    ("kill -SEGV $$", NotAPicture, "This isn't a picture"),
     ("kill -KILL $$", Busy, "status=-9"),
     ("exit 1", Busy, "status=1"),
     ("exit 0", Busy, "status=0"),
@@ -205,8 +205,8 @@ def test_a_process_that_takes_too_long_is_ended(tmp_path: Path, monkeypatch: pyt
 
 BOUNDED = """
 import resource, os
-from cpi_tools.desk.field.one_photograph import bound
-bound()
+from cpi_tools.desk.field.one_photograph import limit_process
+limit_process()
 print(*(resource.getrlimit(it)[0] for it in (resource.RLIMIT_AS, resource.RLIMIT_CPU, resource.RLIMIT_FSIZE)))
 print("PIL" in __import__("sys").modules)
 try:

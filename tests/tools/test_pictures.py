@@ -11,17 +11,15 @@ import pytest
 
 from cpi_tools.text.charts import Bar
 from cpi_tools.text.exact import Ratio
-from cpi_tools.publish.releases.bar_pictures import Change
+from cpi_tools.publish.releases.drawings import LOOKS, Change, drawing
 from cpi_tools.publish.figures.config import PICTURES, Config
-from cpi_tools.publish.releases.drawings import LOOKS, drawing
-from cpi_tools.publish.figures.contributions import Given
-from cpi_tools.publish.releases.pictures import of_imputed, of_node
+from cpi_tools.publish.releases.pictures import Given, of_imputed, of_node
 from cpi_tools.office.public import Listed, Published
 from cpi_tools.publish.figures.shown_figures import Shown
 from cpi_tools.office.tables import Series
 from cpi_tools.text.page_templates import TEMPLATES
 from cpi_tools.publish.pack import publish
-from cpi_tools.text.speech import SPEAKS_ENGLISH, speech_of
+from cpi_tools.text.languages import SPEAKS_ENGLISH, speech_of
 from .test_measures import tea_again, two_years
 from .test_site import words
 
@@ -223,7 +221,7 @@ def test_the_label_of_a_bar_is_whole(pack: Path) -> None:
     assert value == "\u22120.33" and len(lines) > 3 and max(map(len, lines)) <= 48
     assert " ".join(it.strip("\u2068\u2069") for it in lines) == " ".join(title.split())
     assert all((it[0] == "\u2068" and it[-1] == "\u2069") == ("\u202e" in it) for it in lines)
-    assert chart.unit == "Percentage points of the change on the month before, December 2026"
+    assert chart.unit == "Percentage points of the monthly change, December 2026"
     assert float(root.get("height", "")) > chart.height
 
 

@@ -22,16 +22,8 @@ from sentences import of_catalogue, of_crate, of_module, split  # noqa: E402
 COMPANIONS = ROOT / "tools/cpi_tools"
 FOLDERS = sorted(path.name for path in COMPANIONS.iterdir() if (path / "__init__.py").exists())
 
-MOST, MOST_OF_MESSAGES = 8, 4
+MOST, MOST_OF_MESSAGES = 8, 2
 """Percent of the sentences of a folder's docstrings or of the crates' comments, and of the catalogue's texts."""
-
-NOT_YET = {"publish": 10, "sheets": 16}
-"""Folders whose docstrings are over the bound as yet, with a bound of their own."""
-
-
-def share(every: Sequence[str]) -> float:
-    """The percentage of sentences with a form."""
-    return 100 * sum(bool(forms_of(sentence)) for sentence in every) / len(every)
 
 
 def fault_in(every: Sequence[str], most: int) -> Fault:
@@ -50,12 +42,7 @@ def docstrings(path: Path) -> list[str]:
 
 @pytest.mark.parametrize("folder", FOLDERS)
 def test_docstrings_of_a_folder_are_plain(folder: str) -> None:
-    assert fault_in(docstrings(COMPANIONS / folder), NOT_YET.get(folder, MOST)) is None
-
-
-@pytest.mark.parametrize("folder", sorted(NOT_YET))
-def test_a_folder_that_is_plain_by_now_has_no_bound_of_its_own(folder: str) -> None:
-    assert share(docstrings(COMPANIONS / folder)) > MOST
+    assert fault_in(docstrings(COMPANIONS / folder), MOST) is None
 
 
 def test_modules_outside_of_a_folder_are_plain() -> None:

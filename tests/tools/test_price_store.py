@@ -9,8 +9,8 @@ import pytest
 
 from cpi_tools.office.program import record
 from cpi_tools.sheets.price_store import Form, Price, PriceStore, Series, StoredPrice
-from cpi_tools.sheets.quote_rows import QuoteRows
-from cpi_tools.sheets.several_prices import Rule
+from cpi_tools.sheets.record_rows import QuoteRows
+from cpi_tools.sheets.sheet_numbers import Rule
 
 FORM = Form("prices.csv", ("item", "month", "value", "value", "confirm", "item"))
 MONTHS = ("2025-12", "2026-01", "2026-02")

@@ -19,17 +19,36 @@ import pytest
 from cpi_tools.guard.watch import probe, probe_looks, probe_output
 from cpi_tools.command_line import parser
 from cpi_tools.guard.backup import Note, note_beside, note_text
-from cpi_tools.guard.watch.certificates import Certificate
+from cpi_tools.guard.watch.probe_looks import (
+    CRITICAL,
+    OK,
+    UNKNOWN,
+    WARNING,
+    Answer,
+    Backup,
+    Backups,
+    Certificate,
+    Files,
+    Levels,
+    MachineClock,
+    Table,
+    late_months,
+    levels,
+    worst,
+)
 from cpi_tools.guard.copies.generations import LastDrill, write_last_drill
-from cpi_tools.guard.watch.probe_levels import CRITICAL, OK, UNKNOWN, WARNING, Levels, levels, worst
-from cpi_tools.guard.watch.machine_clock import MachineClock
-from cpi_tools.guard.watch.probe_looks import Answer, Backup, Backups, Files, Table, late_months
 from cpi_tools.guard.watch.probe_output import Seen
 from cpi_tools.office.program import Cpi
-from cpi_tools.guard.watch.serve_log import Line
-from cpi_tools.guard.watch.last_writes import Writes
-from cpi_tools.guard.copies.second_copies import REFUSED as REFUSAL
-from cpi_tools.guard.copies.second_copies import DRILLED, CopyNote, Sum, write_note, write_promotion, write_refusal
+from cpi_tools.guard.watch.serve_log import Line, Writes
+from cpi_tools.guard.copies.second_copies import (
+    DRILLED,
+    REFUSED as REFUSAL,
+    CopyNote,
+    Sum,
+    write_note,
+    write_promotion,
+    write_refusal,
+)
 from cpi_tools.office.stored import Window
 from cpi_tools.text.terminal import Fault
 from lib.places import ROOT
@@ -331,20 +350,20 @@ def seen(**other: Any) -> Seen:
     ],
 )
 def test_how_it_judges(other: dict[str, Any], state: int, told: tuple[str, ...]) -> None:
-    assert probe_output.judged(seen(**other), chosen()) == (state, told)
+    assert probe_output.judge_office(seen(**other), chosen()) == (state, told)
 
 
 def test_three_late_months_are_named_and_the_others_counted() -> None:
     """Of 37 the three that are late for longest, in whatever order they come: a line of all would be 2.6 kB."""
     hours = [(it * 7) % 37 for it in range(37)]
     late = tuple(window(202601 + it % 12, NOW - hour * 3600) for it, hour in enumerate(hours))
-    found = probe_output.judged(seen(late=late), chosen("--late", "10,36"))
+    found = probe_output.judge_office(seen(late=late), chosen("--late", "10,36"))
     assert found.state == CRITICAL
     ends = ("2027-01-13 20:00 UTC", "2027-01-13 21:00 UTC", "2027-01-13 22:00 UTC", "no table of 34 more months")
     assert len(found.texts) == 4 and all(told.endswith(end) for told, end in zip(found.texts, ends))
     told, _, figures = probe_output.nagios_line(seen(late=late), found).partition(" | ")
     assert len(told) < 250 and " late_tables=37 " in figures
-    four = probe_output.judged(seen(late=late[:4]), chosen())
+    four = probe_output.judge_office(seen(late=late[:4]), chosen())
     assert len(four.texts) == 4 and four.texts[-1] == "no table of 1 more month"
 
 
@@ -353,14 +372,14 @@ def test_equal_levels_are_taken() -> None:
 
 
 def test_levels_are_chosen() -> None:
-    found = probe_output.judged(seen(answer=Answer((), 12)), chosen("--slow", "12,13", "--age", "25,25"))
+    found = probe_output.judge_office(seen(answer=Answer((), 12)), chosen("--slow", "12,13", "--age", "25,25"))
     assert found == (2, ("the last backup is 25 hours old", "it answered after 12 ms"))
     other = chosen("--days", "23,22", "--left", "10001,0", "--refused", "2")
     words = (
         "the certificate cert.pem ends 2027-02-06 08:00 UTC, in 22 days",
         "no more than 10,001 connections are left of its limit",
     )
-    assert probe_output.judged(seen(writes=Writes(REFUSED, True)), other) == (2, words)
+    assert probe_output.judge_office(seen(writes=Writes(REFUSED, True)), other) == (2, words)
     assert levels("26,50") == Levels(26, 50)
 
 
@@ -371,7 +390,7 @@ def test_a_part_that_can_not_be_checked_weighs_less_than_one_that_is_not_well() 
 
 def test_the_line_says_the_worst_first_and_the_figures() -> None:
     one = seen(late=(window(202602, NOW),))
-    assert probe_output.nagios_line(one, probe_output.judged(one, chosen())) == (
+    assert probe_output.nagios_line(one, probe_output.judge_office(one, chosen())) == (
         "CPI WARNING: no table of 2026-02, to be published 2027-01-15 08:00 UTC | answer=12ms tables=3"
         " latest_month=202601 latest_published_seconds=1799993600 late_tables=1 file_bytes=9437184 log_bytes=4194304"
         " free_bytes=5368709120 backup_copied_seconds=1799910000 backup_age_seconds=90000 backup_bytes=9437184"
@@ -379,12 +398,12 @@ def test_the_line_says_the_worst_first_and_the_figures() -> None:
         " certificate_left_seconds=1900800 clock_synchronized=1 clock_error_seconds=0.001000"
     )
     none = Seen(NOW, fault="x doesn't answer")
-    assert probe_output.nagios_line(none, probe_output.judged(none, chosen())) == "CPI CRITICAL: x doesn't answer"
+    assert probe_output.nagios_line(none, probe_output.judge_office(none, chosen())) == "CPI CRITICAL: x doesn't answer"
 
 
 def test_figures_for_prometheus() -> None:
     one = seen(writes=Writes(REFUSED, False))
-    text = probe_output.prometheus_text(one, probe_output.judged(one, chosen()))
+    text = probe_output.prometheus_text(one, probe_output.judge_office(one, chosen()))
     names = []
     for told, kind, value in zip(*[iter(text.splitlines())] * 3):
         name = re.fullmatch(r"# HELP (cpi_[a-z_]+) [^\n]+\.", told)
@@ -399,7 +418,7 @@ def test_figures_for_prometheus() -> None:
     ]  # fmt: skip
     assert text.endswith("\n")
     down = seen(answer=None, fault="x", late=None)
-    assert "\ncpi_up 0\n" in probe_output.prometheus_text(down, probe_output.judged(down, chosen()))
+    assert "\ncpi_up 0\n" in probe_output.prometheus_text(down, probe_output.judge_office(down, chosen()))
 
 
 def test_figures_for_prometheus_are_written_wherever_there_are_some(

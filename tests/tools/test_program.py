@@ -92,7 +92,7 @@ def test_replies_are_values(cpi: Cpi) -> None:
 
 
 def test_a_fault_is_the_line_of_the_program_with_what_it_means(cpi: Cpi, tmp_path: Path) -> None:
-    with pytest.raises(CpiFailed, match=r"^cpi: bad zone \(the zone is no rule") as told:
+    with pytest.raises(CpiFailed, match=r"^cpi: bad zone \(the time zone isn't a POSIX rule") as told:
         cpi.replay(["0,public,items"], zone="nowhere")
     assert told.value.status == 1
     with pytest.raises(CpiFailed, match=r"^cpi: no table \("):

@@ -15,11 +15,10 @@ import pytest
 from cpi_tools.office.folders import files_of
 from cpi_tools.text.clocks import UTC, clock_of
 from cpi_tools.publish.figures.config import FORMS, Config
-from cpi_tools.publish.figures.planned import Planned
+from cpi_tools.publish.figures.announcements import BadReasons, Planned, Reason, reasons_of
 from cpi_tools.office.public import Published
-from cpi_tools.publish.releases.published_quality import OtherQuality
-from cpi_tools.publish.figures.reasons import BadReasons, Reason, reasons_of
-from cpi_tools.publish.figures.survey_counts import Cell, Figures
+from cpi_tools.publish.releases.published_before import OtherQuality
+from cpi_tools.publish.figures.survey_rows import Cell, Figures
 from cpi_tools.publish.pack import CannotPublish, check, publish
 from lib.page_texts import Texts
 

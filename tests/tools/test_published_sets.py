@@ -16,7 +16,7 @@ from cpi_tools.publish.figures.aggregated import series_of, vintages_of
 from cpi_tools.publish.figures.config import FORMS, Config
 from cpi_tools.office.public import Listed, Published
 from cpi_tools.publish.forms.published_sets import OtherSets
-from cpi_tools.publish.figures.reasons import BadReasons, Reason
+from cpi_tools.publish.figures.announcements import BadReasons, Reason
 from cpi_tools.publish.figures.specials import BadSpecials, Special, specials_of
 from cpi_tools.publish.pack import check, publish
 from cpi_tools.text.terminal import Fault
@@ -180,7 +180,7 @@ def test_a_dated_definition_leaves_what_was_published(published: list[Published]
     assert [it for it in now if it["month"] < "2027"] == [it for it in then if it["month"] < "2027"]
     assert [it["break"] for it in now if it["month"] >= "2027"] == ["1", "0", "0", "0", "0"] and names
     assert next(it for it in now if it["month"] == "2027-01")["base"] == then[0]["base"]
-    assert "from January 2027 on, other elementary aggregates are in it" in words_of(
+    assert "from January 2027 on, it contains other elementary aggregates" in words_of(
         pack.parent / "earlier/node/CORE.html"
     )
 
@@ -198,7 +198,7 @@ def test_a_set_that_ends_keeps_its_page(published: list[Published], tmp_path: Pa
     now = rows_of(out / "node/CORE.csv")
     assert now == then and now[-1]["month"] == "2026-12"
     told = words_of(out / "node/CORE.html")
-    assert "In it is all items , without transport ." in told and "December 2026" in told
+    assert "It contains all items , without transport ." in told and "December 2026" in told
     assert {it["code"] for it in rows_of(out / "data/aggregates.csv") if it["month"] > "2026-12"} == {"FUELS"}
     put(published, out, with_sets(CORE, Special("CORE", "Core", (), (), "2027-01"), FUELS))
 

@@ -6,8 +6,8 @@ from __future__ import annotations
 import pytest
 
 from cpi_tools.publish.figures.config import Config
-from cpi_tools.publish.figures.office_languages import OfficeLanguages, Own
-from cpi_tools.publish.figures.planned import Planned
+from cpi_tools.publish.figures.own_words import OfficeLanguages, Own
+from cpi_tools.publish.figures.announcements import Planned
 from cpi_tools.office.public import Listed, Published
 from cpi_tools.publish.pack import publish
 from lib.px_format import MANDATORY, NotPx, joined, read_strictly, statements_of

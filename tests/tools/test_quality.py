@@ -19,12 +19,11 @@ from typing import NamedTuple
 import pytest
 
 from cpi_tools.command_line import main
-from cpi_tools.publish.figures.announced import Announced
+from cpi_tools.publish.figures.announcements import Announced, Planned
 from cpi_tools.text.clocks import clock_of
 from cpi_tools.publish.figures.config import BadConfig, Config, read_config
-from cpi_tools.publish.figures.planned import Planned
 from cpi_tools.office.public import Published
-from cpi_tools.publish.figures.survey_counts import HEAD, BadCounts, Choice, choice_of, counts_of
+from cpi_tools.publish.figures.survey_rows import COUNTS as HEAD, BadCounts, Choice, choice_of, counts_of
 from cpi_tools.office.program import Cpi, record
 from cpi_tools.publish.pack import publish
 from cpi_tools.publish.quality_counts import read_office, untold, write_counts
@@ -500,8 +499,9 @@ def test_delays_are_against_what_was_announced(published: list[Published], tmp_p
         ("2026-05", "1"): "-60", ("2026-06", "1"): "60", ("2026-07", "1"): "0", ("2026-08", "1"): "7200",
     }  # fmt: skip
     page = Texts.of_page(folder / "quality.html")
-    assert "Of 4 published releases that the calendar had announced, 2 came no later" in " ".join(page.of("p"))
-    table = page.markup.partition("Releases that came later than")[2].partition("</table>")[0]
+    sentence = "The calendar had announced 4 of the published releases. The office published 2 of them no later than announced."
+    assert sentence in " ".join(page.of("p"))
+    table = page.markup.partition("Releases that were published later than")[2].partition("</table>")[0]
     assert Texts(table).of('th scope="row"') == ["June 2026", "August 2026"]
 
 
@@ -595,7 +595,7 @@ def test_a_file_that_cannot_be_written_is_one_line(tmp_path: Path) -> None:
 )
 def test_the_page_is_there_in_each_language(cpi: Cpi, survey: Survey, tmp_path: Path, tag: str, says: str) -> None:
     """With counts that are hidden and others, and a release that came late; no English heading is left."""
-    from cpi_tools.publish.figures.office_languages import OfficeLanguages
+    from cpi_tools.publish.figures.own_words import OfficeLanguages
     from cpi_tools.office.public import from_file
 
     public = from_file(cpi, survey.file, 1_700_000_000)

@@ -30,11 +30,11 @@ from cpi_tools.desk.field.field_questions import (
     TooManyAnswers,
     TooManyOpen,
 )
-from cpi_tools.desk.looks.look_filters import chosen_of, part_of
+from cpi_tools.desk.looks.looks import chosen_of, part_of
 from cpi_tools.office.program import Cpi
 from cpi_tools.text.terminal import Fault
 from . import surveys
-from .desk_apps import ADA, BEN, LISTEN, Application, Person, applied, words_of
+from .desk_apps import ADA, BEN, LISTEN, Application, Chosen, Person, applied, words_of
 from lib.hostile import HOSTILE
 from lib.served import heard, message, peer_of
 from .loads import DESK_KEY
@@ -65,7 +65,7 @@ class Asked(Phone):
 @pytest.fixture
 def application(cpi: Cpi, tmp_path: Path) -> Iterator[Application]:
     """The small office, with notes of the field, whose month was tried on a copy."""
-    with applied(cpi, surveys.small(cpi, tmp_path), tmp_path / "room", AGES) as it:
+    with applied(cpi, surveys.small(cpi, tmp_path), tmp_path / "room", Chosen(AGES)) as it:
         it.tried(it.person(ADA), MONTH)
         yield it
 
@@ -132,7 +132,7 @@ def test_a_price_that_is_confirmed(application: Application, ada: Person, beno: 
     assert beno.questions().json == {"questions": []}
     for page in (LOOKS, LIST):
         words = ada.words(page)
-        assert STILL in words and "price 252 is right, receipt 3. Weighed it." in words
+        assert STILL in words and "price 252 is right (receipt 3). Weighed it." in words
         assert WAITS not in ada.get(page).text
     assert steps(application) == [
         (ADA, "asked collector 8 about slot 1, 2026-02: question 1"),
@@ -151,7 +151,7 @@ def test_a_price_that_is_corrected_is_a_quote_of_the_phone(application: Applicat
     assert beno.answer(1, what="corrected", receipt=4, price=999, value=999).json == {"answer": 1}
     words = ada.words(LIST)
     assert (
-        "asked about 252, receipt 3" in words and "corrected to price 260, receipt 4." in words and "999" not in words
+        "asked about 252, receipt 3" in words and "corrected to price 260 (receipt 4)." in words and "999" not in words
     )
 
 
@@ -162,7 +162,7 @@ def test_a_price_that_is_withdrawn_says_why(application: Application, ada: Perso
     told_office(application, window, (BENO, f"quote,1,{MONTH},missing,gone\n"))
     assert beno.answer(1, what="corrected", receipt=4).json == {"answer": 1}
     words = ada.words(LIST)
-    assert "corrected to gone, receipt 4." in words, words
+    assert "corrected to gone (receipt 4)." in words, words
     assert [it.answers[0].said[2:4] for it in asked_of(application)] == [("gone", 0)]
 
 
@@ -239,7 +239,9 @@ def test_who_was_quicker_is_told_and_what_was_typed_stays(application: Applicati
     ada.give(form, text=STILL)
     answer = ben.give(late, text="Which brand?")
     assert answer.status_code == 409 and 'value="Which brand?"' in answer.text
-    assert re.search(f"Ada asked this meanwhile, [^:]+:[0-9]+[^:]*: {re.escape(STILL)}", words_of(answer.text))
+    assert re.search(
+        f"Ada asked this in the meantime [(][^:]+:[0-9]+[^:]*[)]: {re.escape(STILL)}", words_of(answer.text)
+    )
     assert [it.text for it in asked_of(application)] == [STILL]
     # (the page that answered shows it: its form asks anew)
     assert asks(ben, "Which brand?").status_code == 303
@@ -247,7 +249,7 @@ def test_who_was_quicker_is_told_and_what_was_typed_stays(application: Applicati
         (STILL, WITHDRAWN, 2),
         ("Which brand?", OPEN, 0),
     ]
-    assert "Ben asked another question instead" in ben.words(LIST)
+    assert "Ben replaced the question with another one" in ben.words(LIST)
 
 
 def test_a_question_is_withdrawn_and_a_late_answer_is_kept(application: Application, ada: Person, beno: Asked) -> None:
@@ -255,12 +257,12 @@ def test_a_question_is_withdrawn_and_a_late_answer_is_kept(application: Applicat
     ben = application.person(BEN)
     late = ben.form(LIST, "/withdraw")
     assert ada.fill(LOOKS, "/withdraw").headers["Location"] == f"{LOOKS}#look-8-1"
-    assert beno.questions().json == {"questions": []} and "Ada withdrew it" in ada.words(LOOKS)
+    assert beno.questions().json == {"questions": []} and "Ada withdrew the question" in ada.words(LOOKS)
     answer = ben.give(late)
     assert answer.status_code == 409 and "Ada changed this after your page was loaded" in words_of(answer.text)
     assert beno.answer(1, what="text", text="I was on my way").json == {"answer": 1}
     words = ada.words(LIST)
-    assert "I was on my way" in words and "Ada withdrew it" in words
+    assert "I was on my way" in words and "Ada withdrew the question" in words
     assert steps(application)[1] == (ADA, "withdrew question 1 to collector 8, 2026-02")
 
 
@@ -272,7 +274,7 @@ def test_a_question_that_was_answered_meanwhile_isn_t_withdrawn(
     beno.answer(1, what="confirmed", receipt=3)
     for form in forms:
         answer = ada.give(form)
-        assert answer.status_code == 409 and "Collector 8 answered this meanwhile" in words_of(answer.text)
+        assert answer.status_code == 409 and "Collector 8 answered this in the meantime" in words_of(answer.text)
     assert [it.state for it in asked_of(application)] == [ANSWERED]
 
 
@@ -284,7 +286,7 @@ def test_the_desk_removes_one_for_good(application: Application, ada: Person, be
     assert ada.fill(LIST, "/remove").headers["Location"] == LIST
     again = ben.give(form)
     assert again.status_code == 409 and "Ada changed this after your page was loaded" in words_of(again.text)
-    assert "No question of this month." in ada.words(LIST)
+    assert "No questions for this month." in ada.words(LIST)
     assert b"Mr Grey" not in (tmp_path / "room/field-questions.db").read_bytes()
     assert beno.answer(1, what="text", text="Mr Grey").status_code == 404
 
@@ -302,14 +304,16 @@ def test_a_price_whose_question_would_go_at_once_isn_t_asked_about(
     cpi: Cpi, tmp_path: Path, monkeypatch: pytest.MonkeyPatch
 ) -> None:
     """One month is kept: by March 2026 a question about February would be gone within the hour."""
-    with applied(cpi, surveys.small(cpi, tmp_path), tmp_path / "room", 1) as application:
+    with applied(cpi, surveys.small(cpi, tmp_path), tmp_path / "room", Chosen(1)) as application:
         ada = application.person(ADA)
         application.tried(ada, MONTH)
         assert application.desk.questions
         monkeypatch.setattr(application.desk.questions, "_clock", Clock(JANUARY + 45 * DAY))
         answer = asks(ada)
         assert answer.status_code == 409 and f'value="{STILL}"' in answer.text
-        assert "Questions about prices before March 2026 aren't kept, so nothing was asked." in words_of(answer.text)
+        assert "Questions about prices before March 2026 are no longer kept, so nothing was asked." in words_of(
+            answer.text
+        )
         assert asked_of(application) == [] and steps(application) == []
         monkeypatch.setattr(application.desk.questions, "_clock", Clock(JANUARY + 44 * DAY))
         assert asks(ada).status_code == 303
@@ -337,7 +341,7 @@ def test_a_log_that_is_full_lets_nothing_be_asked_or_answered(
 def test_a_question_has_a_text_of_so_many_letters(application: Application, ada: Person) -> None:
     for text, told in (
         (" ", "The question is empty"),
-        ("x" * (MOST_LETTERS + 1), "A question has 500 letters at most"),
+        ("x" * (MOST_LETTERS + 1), "A question can have at most 500 characters"),
     ):
         answer = asks(ada, text)
         assert answer.status_code == 400 and told in words_of(answer.text)
@@ -474,7 +478,7 @@ def test_questions_go_by_themselves_and_their_bytes_too(tmp_path: Path) -> None:
 
 def test_a_file_that_isn_t_theirs_is_refused(tmp_path: Path) -> None:
     (tmp_path / "questions.db").write_bytes(b"something else" * 100)
-    with pytest.raises(Fault, match="can't be read as the questions to collectors"):
+    with pytest.raises(Fault, match="The questions to collectors in .* can't be read: "):
         FieldQuestions(tmp_path / "questions.db", 13)
 
 

@@ -11,14 +11,13 @@ from pathlib import Path
 import feedparser  # type: ignore[import]
 import pytest
 
-from cpi_tools.text.csv_files import formulas_told
+from cpi_tools.text.text_files import formulas_told
 from cpi_tools.text.clocks import UTC, clock_of
 from cpi_tools.publish.figures.config import Config, read_config
-from cpi_tools.publish.figures.office_languages import OfficeLanguages
-from cpi_tools.publish.figures.planned import Planned
+from cpi_tools.publish.figures.own_words import OfficeLanguages
+from cpi_tools.publish.figures.announcements import BadReasons, GivenReason, Planned, Reason, reasons_of
 from cpi_tools.office.public import Published
-from cpi_tools.publish.forms.reason_files import REASONS
-from cpi_tools.publish.figures.reasons import BadReasons, GivenReason, Reason, reasons_of
+from cpi_tools.publish.forms.pack_before import REASONS
 from cpi_tools.office.table_rows import NO_ROWS
 from cpi_tools.office.tables import Table
 from cpi_tools.publish.pack import check, publish
@@ -101,7 +100,7 @@ def test_a_reason_is_on_the_pages_and_in_the_feed(published: list[Published], tm
     publish(published, config, site, None, quiet)
     for page in (site / f"release/{REVISED}-r2.html", site / "revisions.html"):
         assert f"Why the office revised this month: {WHY}" in words_of(page)
-        assert "The office added on 10 February 1970, 09:00 UTC : Wheat too." in words_of(page)
+        assert "The office added this on 10 February 1970, 09:00 UTC : Wheat too." in words_of(page)
         assert "<b>&#34;" not in page.read_text(encoding="utf-8") and "&lt;b&gt;" in page.read_text(encoding="utf-8")
     assert WHY not in words_of(site / f"release/{REVISED}-r1.html")
     (entry,) = (it for it in feedparser.parse((site / "feed.xml").read_bytes()).entries if it.id.endswith("-r2.html"))
@@ -164,7 +163,7 @@ def test_a_reason_has_a_language_for_each_of_the_pages() -> None:
     (found,) = reasons_of(rows, UTC)
     assert found == Reason("2026-01", 2, "Rice", None, {"fr": "Du riz"})
     given = GivenReason(Table("2026-01", 2, 0, "", NO_ROWS), found.text, 0, found.texts)
-    assert [given.said(tag) for tag in ("fr", "ar", "en")] == ["Du riz", "Rice", "Rice"]
+    assert [given.say(tag) for tag in ("fr", "ar", "en")] == ["Du riz", "Rice", "Rice"]
 
 
 def test_each_page_says_it_in_its_own_language(published: list[Published], tmp_path: Path) -> None:
@@ -221,7 +220,7 @@ def test_what_was_said_stays(published: list[Published], tmp_path: Path) -> None
     assert {name for name in now if now[name] != then[name]} == {page.name}
     added = [it for it in now[page.name].decode().splitlines() if it not in then[page.name].decode().splitlines()]
     assert [re.sub("<[^>]*>", "", it) for it in added] == [
-        "The office added on 10 February 1970, 09:00 UTC: Wheat too."
+        "The office added this on 10 February 1970, 09:00 UTC: Wheat too."
     ]
 
 
@@ -231,7 +230,9 @@ def test_a_reason_that_comes_later_says_so(published: list[Published], tmp_path:
     with pytest.raises(BadReasons, match=f"{REVISED}, revision 2, was published without its reason"):
         publish(published, with_reasons(Reason(REVISED, 2, WHY)), site, None, quiet)
     publish(published, with_reasons(Reason(REVISED, 2, WHY, ADDED)), site, None, quiet)
-    assert f"The office added on 10 February 1970, 09:00 UTC : {WHY}" in words_of(site / f"release/{REVISED}-r2.html")
+    assert f"The office added this on 10 February 1970, 09:00 UTC : {WHY}" in words_of(
+        site / f"release/{REVISED}-r2.html"
+    )
 
 
 def test_an_apostrophe_of_a_safe_file_is_no_change(published: list[Published], tmp_path: Path) -> None:

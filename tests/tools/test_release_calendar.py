@@ -11,7 +11,7 @@ import pytest
 from cpi_tools.sheets.judge import moments_of
 from cpi_tools.text.clocks import UTC, NoZone, clock_of
 from cpi_tools.publish.figures.config import BadConfig, Config, read_config
-from cpi_tools.publish.figures.planned import BadCalendar, Planned, planned_of
+from cpi_tools.publish.figures.announcements import BadCalendar, Planned, planned_of
 from cpi_tools.office.program import Cpi
 from cpi_tools.publish.pack import check, publish
 from .test_measures import two_years
@@ -176,9 +176,9 @@ def test_the_first_page_tells_the_next_release_and_those_of_its_year(site: Path)
 def test_the_calendar_has_all_by_the_year_in_which_they_come(site: Path) -> None:
     """December 2027 comes in 2028 by the clock of Prague, half an hour after midnight of the 28th."""
     told = words_of(site / "calendar.html")
-    assert "The next release is that of January 2027, on 28 January 2027, 09:30 CET (08:30 UTC) ." in told
-    assert "Times are those of the office’s clock ( Europe/Prague ), and of UTC." in told
-    assert "Releases that come in 2028 Index of When December 2027 28 January 2028, 00:30 CET (27 January 2028" in told
+    assert "The next release is for January 2027, on 28 January 2027, 09:30 CET (08:30 UTC) ." in told
+    assert "Times are in the office’s time zone ( Europe/Prague ) and in UTC." in told
+    assert "Coming releases in 2028 Index of When December 2027 28 January 2028, 00:30 CET (27 January 2028" in told
     assert 'datetime="2027-01-28T08:30:00Z"' in (site / "calendar.html").read_text(encoding="utf-8")
 
 
@@ -208,7 +208,7 @@ def test_other_programs_read_the_calendar(site: Path) -> None:
     assert "Consumer price index, December 2026, revision 2" in by_title and "DESCRIPTION" not in coming
     assert "URL" not in coming  # (this office says no address)
     said = str(by_title["Consumer price index, December 2026"]["DESCRIPTION"])
-    assert said == "In December 2026 consumer prices were 5.0 percent higher than a year before."
+    assert said == "In December 2026, consumer prices were 5.0 percent higher than a year earlier."
 
 
 def test_texts_of_the_calendar_are_whole_whatever_is_in_them(config: Config, tmp_path: Path) -> None:

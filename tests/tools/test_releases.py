@@ -14,10 +14,10 @@ from cpi_tools.publish.figures.aggregated import series_of
 from cpi_tools.publish.figures.config import Config
 from cpi_tools.publish.figures.config import Dated, dated_of, value_in
 from cpi_tools.office.public import Listed, Published
-from cpi_tools.publish.figures.reasons import Reason
+from cpi_tools.publish.figures.announcements import Reason
 from cpi_tools.publish.releases.releases import releases_of
 from cpi_tools.publish.pack import publish
-from cpi_tools.text.speech import SPEAKS_ENGLISH
+from cpi_tools.text.languages import SPEAKS_ENGLISH
 from .published import REVISED, TITLES
 from .test_measures import tea_again, two_years
 from .test_site import words_of
@@ -58,15 +58,15 @@ def main_of(page: Path) -> str:
 def test_a_release_is_told_in_the_figures_of_its_month(by_hand: Path) -> None:
     """December 2026: coffee gave 0.75 * 4 points and tea 0.25 * 8, 5 together; all items went from 102.75 to 105."""
     told = words_of(by_hand / "release/2026-12-r1.html")
-    assert "In December 2026 consumer prices were 5.0 percent higher than a year before" in told
+    assert "In December 2026, consumer prices were 5.0 percent higher than a year earlier" in told
     assert (
-        "The largest contribution came from title of 01 , +3.00 of +5.0 percentage points. Against the month before, prices rose by 2.2"
+        "The largest contribution came from title of 01 , +3.00 of +5.0 percentage points. Compared with the previous month, prices rose by 2.2"
         in told
     )
     assert "Index, December 2025 = 100 105.0" in told
     assert "Title of 01 75.00 % +4.0 % +3.00 Title of 02 25.00 % +8.0 % +2.00 Title of 00 100.00 % +5.0 % +5.00" in told
     assert "00 Title of 00 100.00 % 105.0 +2.2 % +5.0 % 01 Title of 01 75.00 % 104.0 +2.0 % +4.0 %" in told
-    assert "Nothing was revised after the release of November 2026 and up to this one." in told
+    assert "Nothing was revised between the release of November 2026 and this one." in told
     assert "(1970): Consumer price index , December 2026. Published 1 January 1970, 00:00 UTC." in told
     assert f"{ADDRESS}release/2026-12-r1.html" in told
 
@@ -74,11 +74,11 @@ def test_a_release_is_told_in_the_figures_of_its_month(by_hand: Path) -> None:
 def test_a_january_says_what_came_and_left(by_hand: Path) -> None:
     """Milk came in 2027 and tea left; tea is back in 2028, with December before as 100, and milk left."""
     told = words_of(by_hand / "release/2027-01-r1.html")
-    assert "From this month on the weights of 2027 count. The index is linked in December 2026" in told
-    assert "Came with this month: Title of 03 03 . Left with this month: Title of 02 02 ." in told
+    assert "From this month on, the weights of 2027 apply. The index is linked in December 2026" in told
+    assert "New this month: Title of 03 03 . No longer in the index from this month on: Title of 02 02 ." in told
     assert "03 Title of 03 (December 2026 = 100)" in told
     again = words_of(by_hand / "release/2028-01-r1.html")
-    assert "Came with this month: Title of 02 02 . Left with this month: Title of 03 03 ." in again
+    assert "New this month: Title of 02 02 . No longer in the index from this month on: Title of 03 03 ." in again
     assert "02 Title of 02 (December 2027 = 100)" in again
     assert "weights of" not in words_of(by_hand / "release/2027-02-r1.html")
     assert "This is the first release." in words_of(by_hand / "release/2026-01-r1.html")
@@ -92,7 +92,7 @@ def told_then(page: Path) -> dict[str, object]:
     text = re.sub(r'<p class="take">.*?</p>', "", text, flags=re.S)
     patterns = {"h1": r"<h1>.*?</h1>", "lead": r'<p class="lead">.*?</p>', "cards": r'<dl class="cards">.*?</dl>'}
     found: dict[str, object] = {name: re.findall(form, text, flags=re.S)[0] for name, form in patterns.items()}
-    found["given"] = re.findall(r"<h2>What contributed</h2>(.*?)<h2", text, flags=re.S)[0].strip()
+    found["given"] = re.findall(r"<h2>Contributions</h2>(.*?)<h2", text, flags=re.S)[0].strip()
     found["notes"] = re.findall(r'<p class="note">[^<]* was revised.*?</p>', text)
     return found
 
@@ -138,12 +138,12 @@ def test_a_revision_says_what_it_changed(published: list[Published], site: Path)
     listed = words_of(site / "revisions.html")
     assert f"{len(apart)} of {len(new)} levels differ." in listed and f"Item Before Now {rows}" in listed
     after = words_of(site / "release/2026-04-r1.html")
-    assert "After the release of March 2026 and up to this one the office revised: March 2026, revision 2" in after
+    assert "Between the release of March 2026 and this one, the office revised: March 2026, revision 2" in after
     year = (levels_in(published, f"2025-{number:02}", 1)["00"] for number in range(1, 13))
     mean = sum(year, Decimal()) / 12
     index, before = (rounded(100 * it["00"] / mean, "0.1") for it in (new, old))
     assert f"The index of all items is {index}, and was {before} before." in after and index != before
-    assert "Nothing was revised after the release of April 2026" in words_of(site / "release/2026-05-r1.html")
+    assert "Nothing was revised between the release of April 2026" in words_of(site / "release/2026-05-r1.html")
 
 
 # ---- notes at the headline
@@ -156,7 +156,9 @@ def test_a_headline_has_the_letters_of_its_day(site: Path) -> None:
     for revision in (1, 2):
         page = site / f"release/{REVISED}-r{revision}.html"
         marks[revision] = re.findall(r'<sup class="marks">.*?>([a-z]*)</a></sup>', page.read_text(encoding="utf-8"))
-        said[revision] = re.findall(r"Revised: the index of \w+ \d+ was published as ([0-9.]+) first", words_of(page))
+        said[revision] = re.findall(
+            r"Revised: the index for \w+ \d+ was first published as ([0-9]+\.[0-9]+)", words_of(page)
+        )
     first = re.search(r"Index, 2025 = 100 ([0-9.]+)", words_of(site / f"release/{REVISED}-r1.html"))
     assert marks == {1: [], 2: ["r"] * len(marks[2])} and len(marks[2]) >= 2
     assert first and said == {1: [], 2: [first[1]]}
@@ -244,7 +246,7 @@ def test_another_reference_period_leaves_earlier_releases_as_they_are(tmp_path: 
     assert "Index, 2026 = 100 106.3" in told
     listed = words_of(new / "releases.html")
     assert (
-        "January 2027 (from this month on 2026 = 100) 106.3 +4.0 % +9.5 %" in listed
+        "January 2027 (since this month, 2026 = 100) 106.3 +4.0 % +9.5 %" in listed
         and "December 2026 105.0 +2.2 % +5.0 %" in listed
     )
 

@@ -10,7 +10,7 @@ import pytest
 from . import surveys
 from cpi_tools.office.program import Cpi
 from cpi_tools.text.report_language import VARIABLE, teller_of
-from cpi_tools.text.message import Figure, moment_of, month_of, row, sentences, message, message_of, whole
+from cpi_tools.text.message import Figure, message, message_of, moment_of, month_of, row, sentences, whole
 from .nobodys import greek, left_in_english, nobodys_in, seen
 from .ran import Ran, run
 from .surveys import closes
@@ -57,7 +57,7 @@ def test_a_refusal_is_said_in_the_language(cpi: Cpi, tmp_path: Path, nobodys: st
         "desk month: no provisional table: a freeze of 2026-03: refused by 46: the month is neither the last" in ran.err
     )
     page = seen(out / "month.html")
-    assert greek("Refused by ") in " ".join(page.texts)
+    assert greek("Refused with ") in " ".join(page.texts)
     assert left_in_english(page) == []
 
 

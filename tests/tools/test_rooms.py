@@ -1,4 +1,4 @@
-"""`cpi_tools.office.rooms`: the folders of tools go, also those that a killed tool left."""
+"""`cpi_tools.office.folders`: the folders of tools go, also those that a killed tool left."""
 
 from __future__ import annotations
 
@@ -9,7 +9,7 @@ import time
 from pathlib import Path
 
 from cpi_tools.office.program import Cpi
-from cpi_tools.office.rooms import MARK, YOUNG, new_room, stays
+from cpi_tools.office.folders import MARK, YOUNG, new_room, stays
 from lib.places import ROOT
 
 

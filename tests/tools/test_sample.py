@@ -6,6 +6,7 @@ import csv
 import io
 import subprocess
 import sys
+from collections.abc import Sequence
 from pathlib import Path
 
 import pytest
@@ -72,6 +73,44 @@ CRATE = """//! A crate has words of its own.
 pub fn one() -> u32 { 1 } // short
 """
 
+CATALOGUE = """#: web/collect/app.js
+msgid "The phone shows this sentence to collectors."
+msgstr ""
+
+#: tools/cpi_tools/desk/field/notes.py web/collect/notes.js
+msgid "The phone and the desk show this one."
+msgstr ""
+
+#: tools/cpi_tools/desk/serve/app.py
+msgid "The desk shows {count} row of it."
+msgid_plural "The desk shows {count} rows of it."
+msgstr[0] ""
+msgstr[1] ""
+
+#: tools/cpi_tools/explain/desk/texts.py
+msgid "A folder of that name elsewhere isn't the desk."
+msgstr ""
+"""
+
+CHANGES = """# Changes
+
+## Unreleased (1.1)
+
+### For readers
+
+A line of the next release, which has a part.
+
+```sh
+# a comment that looks like a heading
+```
+
+Another line of it, below a command.
+
+## 1.0, 2026-11-25
+
+A line of the release that was published.
+"""
+
 
 def test_sentences_of_a_document() -> None:
     assert sentences.split(sentences.of_document(DOCUMENT)) == [
@@ -113,10 +152,48 @@ def test_sentences_of_a_crate(tmp_path: Path) -> None:
     ]
 
 
-def test_another_page_is_refused() -> None:
-    ran = subprocess.run([ROOT / "tools/sample", "LICENSE", "--seed", "1"], capture_output=True, text=True, check=False)
+@pytest.mark.parametrize(
+    ("folder", "rows"),
+    (("web/", (0, 1)), ("desk/", (1, 2, 3)), ("tools/cpi_tools/desk/serve/", (2, 3)), ("", range(5))),
+)
+def test_texts_of_a_folder(tmp_path: Path, folder: str, rows: Sequence[int]) -> None:
+    """A text that two pages show is of both; a plural is a text of its own."""
+    texts = [
+        "The phone shows this sentence to collectors.",
+        "The phone and the desk show this one.",
+        "The desk shows {count} row of it.",
+        "The desk shows {count} rows of it.",
+        "A folder of that name elsewhere isn't the desk.",
+    ]
+    (tmp_path / "cpi.pot").write_text(CATALOGUE)
+    assert sentences.sentences_of(f"cpi.pot:{folder}", tmp_path) == [texts[row] for row in rows]
+
+
+def test_sentences_of_a_section(tmp_path: Path) -> None:
+    """A section goes on below its smaller headings."""
+    (tmp_path / "CHANGES.md").write_text(CHANGES)
+    lines = [
+        "A line of the next release, which has a part.",
+        "Another line of it, below a command.",
+        "A line of the release that was published.",
+    ]
+    for title, rows in (("Unreleased", lines[:2]), ("For readers", lines[:2]), ("1.0", lines[2:]), ("", lines)):
+        assert sentences.sentences_of(f"CHANGES.md:{title}", tmp_path) == rows
+
+
+@pytest.mark.parametrize(
+    ("page", "fault"),
+    (
+        ("LICENSE", "LICENSE is no document (.md), module (.py), catalogue (.pot), crate (crates/NAME) or command"),
+        ("po/cpi.pot:desks/", "no text comes from a file in desks/"),
+        ("README.md:The tests", "no heading begins with The tests"),
+        ("crates/cpi_index:src/", "crates/cpi_index is no document (.md) or catalogue (.pot), so it has no parts"),
+    ),
+)
+def test_another_page_is_refused(page: str, fault: str) -> None:
+    ran = subprocess.run([ROOT / "tools/sample", page, "--seed", "1"], capture_output=True, text=True, check=False)
     assert (ran.returncode, ran.stdout) == (2, "")
-    assert "LICENSE is no document (.md), module (.py), catalogue (.pot), crate (crates/NAME) or command" in ran.stderr
+    assert f"error: {fault}\n" in ran.stderr
 
 
 def test_a_python_that_lacks_a_module_says_which_one() -> None:
@@ -163,12 +240,20 @@ def of_page(top: Path, count: int, marked: int, page: str = "PAGE.md") -> Marks:
     return Marks(page, 1, "2026-11-30", sum_of(every), rows)
 
 
+def of_texts(folder: str) -> Marks:
+    """The marks of the texts of a folder, of which none is read yet."""
+    return Marks(f"po/cpi.pot:{folder}", 1, "2026-12-01", "", ())
+
+
 def test_a_page_keeps_its_bound_or_says_so(tmp_path: Path) -> None:
-    """Three of thirty are a tenth; for readers who are no programmers it is one of thirty."""
+    """Three of thirty are a tenth; for readers who are no programmers it is one of thirty. The desk's texts have the bound
+    of other pages, those of the phone and the website the smaller one."""
     assert of_page(tmp_path, 90, 3).fault(tmp_path) == ""
     assert of_page(tmp_path, 90, 4).fault(tmp_path) == "too many sentences are marked"
     assert of_page(tmp_path, 90, 1, "README.md").fault(tmp_path) == ""
     assert of_page(tmp_path, 90, 2, "README.md").fault(tmp_path) == "too many sentences are marked"
+    bounds = {folder: of_texts(folder).bound for folder in ("web/", "publish/", "desk/")}
+    assert bounds == {"web/": 5, "publish/": 5, "desk/": 10}
 
 
 def test_sentences_that_the_seed_does_not_draw_do_not_count(tmp_path: Path) -> None:

@@ -102,8 +102,8 @@ def test_the_distance_by_hand(word: str, other: str, slips: int) -> None:
 def test_it_is_said_how_many_are_found() -> None:
     said = [
         ("bread", 2, 13, False, "2 of 13 items."),
-        ("braed", 2, 13, True, "No item has \u201cbraed\u201d. 2 of 13 items have a word like it."),
-        (" xylo ", 0, 13, True, "No item has \u201cxylo\u201d, or a word like it."),
+        ("braed", 2, 13, True, "No item contains \u201cbraed\u201d. 2 of 13 items contain a word like it."),
+        (" xylo ", 0, 13, True, "No item contains \u201cxylo\u201d, or a word like it."),
         ("  ", 13, 13, False, ""),
     ]
     for *given, wanted in said:

@@ -11,7 +11,7 @@ from pathlib import Path
 import pytest
 
 from cpi_tools.desk.records.desk_log import ANSWERED, LOOKED_UP, SENT
-from cpi_tools.desk.serve.running_office import NoReply, Office
+from cpi_tools.desk.serve.watched_office import NoReply, Office
 from cpi_tools.office.program import Cpi
 from cpi_tools.text.terminal import Fault
 from lib.served import free_port
@@ -134,11 +134,11 @@ def test_the_fault_names_the_office_and_the_status(front: Front) -> None:
     office = Office(f"http://127.0.0.1:{front.server_port}")
     for answer, told in (
         ("gateway", "No reply came from the office at "),
-        ("no rows", "answers otherwise than an office"),
+        ("no rows", "doesn't answer like an office"),
     ):
         front.answers = answer
         with pytest.raises(NoReply, match=told):
             office.carry_out(DESK_KEY, [OUTLET])
     front.answers = "other status"
-    with pytest.raises(NoReply, match="answered with the status 503"):
+    with pytest.raises(NoReply, match="answered with status 503"):
         office.carry_out(DESK_KEY, [OUTLET])

@@ -17,8 +17,7 @@ import pytest
 
 from . import surveys
 from cpi_tools.explain import sentence_texts
-from cpi_tools.explain.sentences import way
-from cpi_tools.explain.sentence_places import count_words
+from cpi_tools.explain.sentences import count_words, way
 from cpi_tools.office.program import Cpi
 from .ran import run
 from .surveys import key_of
@@ -55,11 +54,12 @@ def sentences(path: Path, month: str, code: str, *words: object) -> list[str]:
 def test_the_first_month_of_rice(small: Path) -> None:
     """2.00 and 2.40 became 2.10 and 2.46: 4.56 / 4.40 = 1.03636."""
     assert sentences(small, "2026-01", "01.1.1.1-01", *EUR) == [
-        "Rice, packed: prices rose by 3.6 percent from December 2025 to January 2026; January 2025 has no figure, so"
-        " there is no change in a year.",
+        "Rice, packed: prices rose by 3.6 percent from December 2025 to January 2026; January 2025 has no figure, so no"
+        " annual change is given.",
         "2 prices in 2 shops (Corner shop; Market hall) could be compared: 2 rose and 0 fell; Rice, 1 kg at Corner shop"
         " changed most, from 2.00 EUR to 2.10 EUR.",
-        "Together the 2 prices count as 4.56 EUR, after 4.40 EUR in December 2025, so the level, 100.0 then, is 103.6.",
+        "Together the 2 prices were 4.40 EUR in December 2025 and now count as 4.56 EUR, so the level, which was"
+        " 100.0 then, is 103.6.",
     ]
 
 
@@ -67,24 +67,25 @@ def test_an_imputed_price_of_rice(small: Path) -> None:
     """2.46 became 2.52, so 2.10 counts as 2.10 * 2.52 / 2.46 = 2.1512. Together that is 4.6712, which is 106.164 percent
     of 4.40, and 2.439 percent more than 103.636."""
     assert sentences(small, "2026-02", "01.1.1.1-01", *EUR) == [
-        "Rice, packed: prices rose by 2.4 percent from January 2026 to February 2026; February 2025 has no figure, so"
-        " there is no change in a year.",
+        "Rice, packed: prices rose by 2.4 percent from January 2026 to February 2026; February 2025 has no figure, so no"
+        " annual change is given.",
         "One price could be compared: Rice, 1 kg at Market hall went from 2.46 EUR to 2.52 EUR.",
-        "Rice, 1 kg was out of stock at Corner shop, so its price is imputed: it moves with what could be compared (2.46"
-        " EUR to 2.52 EUR), from 2.10 EUR to 2.15 EUR.",
-        "Together the 2 prices count as 4.67 EUR, after 4.40 EUR in December 2025, so the level, 100.0 then, is 106.2.",
+        "Rice, 1 kg was out of stock at Corner shop, so its price is imputed: it moves with the prices that could be"
+        " compared (2.46 EUR to 2.52 EUR), from 2.10 EUR to 2.15 EUR.",
+        "Together the 2 prices were 4.40 EUR in December 2025 and now count as 4.67 EUR, so the level, which was"
+        " 100.0 then, is 106.2.",
     ]
 
 
 def test_a_carried_aggregate_of_one_series(small: Path) -> None:
     """Flour was 0.80 and 0.84, and its shop was closed in February: 0.84 / 0.80 = 1.05 in both months."""
     assert sentences(small, "2026-02", "01.1.1.2-01", *EUR) == [
-        "Flour, wheat: prices didn't change from January 2026 to February 2026; February 2025 has no figure, so there is"
-        " no change in a year.",
+        "Flour, wheat: prices didn't change from January 2026 to February 2026; February 2025 has no figure, so no annual"
+        " change is given.",
         "Nothing could be compared (Corner shop: closed), so the desk decided to carry the price of Flour, <b>wheat</b>,"
         " 1 kg at Corner shop: it counts as 0.84 EUR, as it did in January 2026.",
-        "It is the only price: after 0.80 EUR in December 2025 it counts as 0.84 EUR, so the level, 100.0 then, is"
-        " 105.0.",
+        "It is the only price; it was 0.80 EUR in December 2025 and now counts as 0.84 EUR, so the level, which was 100.0"
+        " then, is 105.0.",
     ]
 
 
@@ -92,12 +93,12 @@ def test_all_items(small: Path) -> None:
     """0.6 * 106.1641 + 0.4 * 105 = 105.6985, after 0.6 * 103.6364 + 0.4 * 105 = 104.1818: 1.456 percent more. All of
     it comes from rice: 0.6 * (106.1641 - 103.6364) / 104.1818 = 1.4557 percentage points."""
     assert sentences(small, "2026-02", "00", *EUR) == [
-        "All items: prices rose by 1.5 percent from January 2026 to February 2026; February 2025 has no figure, so there"
-        " is no change in a year.",
+        "All items: prices rose by 1.5 percent from January 2026 to February 2026; February 2025 has no figure, so no"
+        " annual change is given.",
         "All of the month's change comes from Rice, packed: +1.46 percentage points.",
         "It rests on 3 prices in 2 shops; 2 of these prices are imputed (closed: 1; out of stock: 1; nothing to compare, so"
         " carried by the desk: Flour, wheat).",
-        "By their weights, the indices of its 2 aggregates have the mean 105.7 (December 2025 is 100), so the level,"
+        "The weighted mean of the indices of its 2 aggregates is 105.7 (December 2025 is 100), so the level, which was"
         " 100.0 then, is 105.7.",
     ]
 
@@ -107,12 +108,12 @@ def test_a_node_of_one_price(small: Path) -> None:
     assert sentences(small, "2026-01", "01.1.1.2")[1:] == [
         "All of the month's change comes from Flour, wheat: +5.00 percentage points.",
         "It rests on one price, which was found at Corner shop.",
-        "Its one aggregate has the index 105.0 (December 2025 is 100), so the level, 100.0 then, is 105.0.",
+        "Its only aggregate has the index 105.0 (December 2025 is 100), so the level, which was 100.0 then, is 105.0.",
     ]
     assert sentences(small, "2026-02", "01.1.1.2")[1:3] == [
         "None of its aggregates changed the index in the month.",
-        "It rests on one price, that of Corner shop, and this is imputed (closed: 1; nothing to compare, so carried by the"
-        " desk: Flour, wheat).",
+        "It rests on one price, at Corner shop, which is imputed (closed: 1; nothing to compare, so carried by the desk:"
+        " Flour, wheat).",
     ]
 
 
@@ -138,7 +139,7 @@ def test_a_revision_says_what_became_of_the_level(cpi: Cpi, tmp_path: Path) -> N
     assert not [reply for reply in cpi.replay(sent, db=path) if "refused" in reply]
     now, before = (sentences(path, "2026-01", "01.1.1.1-01", "--revision", it)[-1] for it in (2, 1))
     assert now == "This is revision 2; in revision 1 the level was 103.6."
-    assert before == "This is revision 1; revision 2 took its place, with the level 102.7."
+    assert before == "This is revision 1; revision 2, with the level 102.7, has replaced it."
 
 
 Prices = dict[str, tuple[int, int]]
@@ -175,27 +176,31 @@ def test_over_a_link_month_and_a_hand_over(cpi: Cpi, tmp_path: Path) -> None:
     path = tmp_path / "office.db"
     assert [reply for reply in cpi.replay(two_years(), db=path) if "refused" in reply] == []
     assert sentences(path, "2026-12", "01.1.1.1-01", *EUR) == [
-        "Rice, packed: prices rose by 10.0 percent from November 2026 to December 2026, and by 10.0 percent in a year.",
+        "Rice, packed: prices rose by 10.0 percent from November 2026 to December 2026, and by 10.0 percent over twelve"
+        " months.",
         "2 prices in 2 shops (Corner shop; Market hall) could be compared: 2 rose and 0 fell; Rice, 1 kg at Corner shop"
         " changed most, from 1.00 EUR to 1.10 EUR.",
-        "Together the 2 prices count as 4.40 EUR, after 4.00 EUR in December 2025, so the level, 100.0 then, is 110.0.",
+        "Together the 2 prices were 4.00 EUR in December 2025 and now count as 4.40 EUR, so the level, which was"
+        " 100.0 then, is 110.0.",
     ]
     assert sentences(path, "2027-01", "01.1.1.1-01", *EUR) == [
-        "Rice, packed: prices rose by 2.5 percent from December 2026 to January 2027, and by 12.8 percent in a year.",
+        "Rice, packed: prices rose by 2.5 percent from December 2026 to January 2027, and by 12.8 percent over twelve"
+        " months.",
         "2 prices in 2 shops (Corner shop; Market hall) could be compared: 1 rose and 0 fell; Rice, 1 kg at Corner shop"
         " changed most, from 1.10 EUR to 1.21 EUR.",
-        "Together the 2 prices count as 4.51 EUR, after 4.40 EUR in December 2026, so the level, 110.0 then, is 112.8.",
-        "From January 2027 on collector 9 prices Rice, 1 kg at Market hall, in place of collector 8.",
+        "Together the 2 prices were 4.40 EUR in December 2026 and now count as 4.51 EUR, so the level, which was"
+        " 110.0 then, is 112.8.",
+        "From January 2027 on, collector 9 prices Rice, 1 kg at Market hall in place of collector 8.",
     ]
     assert sentences(path, "2027-01", "00", *EUR) == [
-        "All items: prices rose by 1.5 percent from December 2026 to January 2027, and by 7.6 percent in a year.",
+        "All items: prices rose by 1.5 percent from December 2026 to January 2027, and by 7.6 percent over twelve months.",
         "All of the month's change comes from Rice, packed: +1.50 percentage points.",
         "It rests on 3 prices in 2 shops, and all of them were found.",
-        "By their weights, the indices of its 2 aggregates have the mean 101.5 (December 2026 is 100), so the level,"
+        "The weighted mean of the indices of its 2 aggregates is 101.5 (December 2026 is 100), so the level, which was"
         " 106.0 then, is 107.6.",
     ]
     assert sentences(path, "2027-01", "01.1.1.2-01")[0] == (
-        "Flour, wheat: prices didn't change, neither from December 2026 to January 2027 nor in a year."
+        "Flour, wheat: prices didn't change, either from December 2026 to January 2027 or over twelve months."
     )
     assert sentences(path, "2026-05", "01.1.1.1-01")[1] == (
         "2 prices in 2 shops (Corner shop; Market hall) could be compared, and none of them changed."
@@ -228,15 +233,15 @@ def test_a_price_that_comes_back_is_named(cpi: Cpi, tmp_path: Path) -> None:
     assert changed.startswith("Rice, packed: prices rose by 2.8 percent from February 2026 to March 2026; ")
     assert compared == "One price could be compared: Rice, 1 kg at Market hall went from 2.52 EUR to 2.50 EUR."
     assert level == (
-        "Together the 2 prices (Rice, 1 kg at Corner shop was found again after at least one month without a price: counted"
-        " as 2.15 EUR, found at 2.30 EUR) count as 4.80 EUR, after 4.40 EUR in December 2025, so the level, 100.0 then, is"
-        " 109.1."
+        "After at least one month without a price, in which it counted as 2.15 EUR, Rice, 1 kg at Corner shop was found"
+        " again at 2.30 EUR. Together the 2 prices were 4.40 EUR in December 2025 and now count as 4.80 EUR, so the level,"
+        " which was 100.0 then, is 109.1."
     )
     assert sentences(path, "2026-03", "01.1.1.2-01", *EUR)[1:] == [
-        "No price could be compared, since none was found in February 2026: those of March 2026 count as they are.",
-        "The only price, that of Flour, <b>wheat</b>, 1 kg at Corner shop, was found again after at least one month without"
-        " a price (counted as 0.84 EUR, found at 0.88 EUR): after 0.80 EUR in December 2025 it counts as 0.88 EUR, so the"
-        " level, 100.0 then, is 110.0.",
+        "No price could be compared, since none was found in February 2026; the prices of March 2026 count as they are.",
+        "After at least one month without a price, in which it counted as 0.84 EUR, the only price, of Flour,"
+        " <b>wheat</b>, 1 kg at Corner shop, was found again at 0.88 EUR. It was 0.80 EUR in December 2025 and now counts"
+        " as 0.88 EUR, so the level, which was 100.0 then, is 110.0.",
     ]
 
 
@@ -244,16 +249,18 @@ def test_of_prices_that_come_back_the_one_that_changed_most_is_named(cpi: Cpi, t
     """Nothing was found in February, so 2.10 and 2.46 were carried. 2.30 is 9.5 percent more than 2.10, and 2.40 is 2.4
     percent less than 2.46: 4.70 / 4.40 = 1.0682."""
     for at, (march, named, now) in enumerate([
-        ((230, 240), "; of these Rice, 1 kg at Corner shop changed most: counted as 2.10 EUR, found at 2.30 EUR",
-         "4.70 EUR, after 4.40 EUR in December 2025, so the level, 100.0 then, is 106.8."),
-        ((210, 246), ", each at what it had counted as",
-         "4.56 EUR, after 4.40 EUR in December 2025, so the level, 100.0 then, is 103.6."),
+        ((230, 240), "; of these, Rice, 1 kg at Corner shop changed most, from 2.10 EUR to 2.30 EUR",
+         "4.70 EUR, so the level, which was 100.0 then, is 106.8."),
+        ((210, 246), ", each at the price that it had counted as",
+         "4.56 EUR, so the level, which was 100.0 then, is 103.6."),
     ]):  # fmt: skip
         path = tmp_path / f"{at}.db"
         in_march(cpi, path, ("missing,stock", "missing,closed"), march)
         assert sentences(path, "2026-03", "01.1.1.1-01", *EUR)[1:] == [
-            "No price could be compared, since none was found in February 2026: those of March 2026 count as they are.",
-            f"Together the 2 prices (2 were found again after at least one month without a price{named}) count as {now}",
+            "No price could be compared, since none was found in February 2026; the prices of March 2026 count as they"
+            " are.",
+            f"2 prices were found again after at least one month without a price{named}. Together the 2 prices were 4.40"
+            f" EUR in December 2025 and now count as {now}",
         ]
 
 
@@ -263,8 +270,9 @@ def test_a_replacement_that_comes_back_counts_as_what_it_replaced(cpi: Cpi, tmp_
     path = tmp_path / "office.db"
     in_march(cpi, path, ("missing,stock", "price,252"), (420, 252), "other,400")
     assert sentences(path, "2026-03", "01.1.1.1-01", *EUR)[2].startswith(
-        "Together the 2 prices (Rice, 1 kg at Corner shop was found again after at least one month without a price: counted"
-        " as 2.10 EUR, found at 2.15 EUR in terms of what it replaced) count as 4.67 EUR, after 4.40 EUR"
+        "After at least one month without a price, in which it counted as 2.10 EUR, Rice, 1 kg at Corner shop was found"
+        " again at 2.15 EUR, in terms of the item that it replaced. Together the 2 prices were 4.40 EUR in December 2025"
+        " and now count as 4.67 EUR,"
     )
 
 
@@ -281,23 +289,24 @@ def test_a_price_that_comes_back_in_an_aggregate_that_is_carried_is_named(cpi: C
     assert sentences(path, "2026-03", "01.1.1.1-01", *EUR)[1:3] == [
         "Nothing could be compared (Market hall: closed), so the desk decided to carry the price of Rice, 1 kg at Market"
         " hall: it counts as 2.46 EUR, as it did in February 2026.",
-        "Together the 2 prices (Rice, 1 kg at Corner shop was found again after at least one month without a price: counted"
-        " as 2.10 EUR, found at 2.30 EUR) count as 4.76 EUR, after 4.40 EUR in December 2025, so the level, 100.0 then, is"
-        " 108.2.",
+        "After at least one month without a price, in which it counted as 2.10 EUR, Rice, 1 kg at Corner shop was found"
+        " again at 2.30 EUR. Together the 2 prices were 4.40 EUR in December 2025 and now count as 4.76 EUR, so the level,"
+        " which was 100.0 then, is 108.2.",
     ]
 
 
 # ---- a series that has ended
 
 NO_LONGER = (
-    "so its price is imputed: it moves with what could be compared (2.10 EUR to 2.20 EUR), from 2.46 EUR to 2.58 EUR."
+    "so its price is imputed: it moves with the prices that could be compared (2.10 EUR to 2.20 EUR), from 2.46 EUR to"
+    " 2.58 EUR."
 )
 
 
 @pytest.mark.parametrize(("last", "of_lines", "why", "reason"), [
     ("2026-01", "no longer priced: the last month of collector 8, slot 1 was 2026-01",
      "Rice, 1 kg at Market hall is no longer priced,", "no longer priced"),
-    ("2026-02", "nothing was sent by collector 8, slot 1", "Nothing was sent of Rice, 1 kg at Market hall,",
+    ("2026-02", "nothing was sent by collector 8, slot 1", "Nothing was sent for Rice, 1 kg at Market hall,",
      "nothing was sent"),
 ])  # fmt: skip
 def test_a_series_that_has_ended_is_no_longer_priced(
@@ -340,7 +349,7 @@ def test_a_small_change_is_one(cpi: Cpi, tmp_path: Path) -> None:
         assert [reply for reply in cpi.replay([text], db=path) if "refused" in reply] == []
         assert sentences(path, "2026-01", "01.1.1.1-01", *EUR)[:2] == [
             "Rice, packed: prices changed by less than 0.05 percent from December 2025 to January 2026; January 2025 has no"
-            " figure, so there is no change in a year.",
+            " figure, so no annual change is given.",
             "2 prices in 2 shops (Corner shop; Market hall) could be compared: 1 rose and 0 fell; Rice, 1 kg at Corner shop"
             " changed most, from 2000.00 EUR to 2000.10 EUR.",
         ]
@@ -354,8 +363,9 @@ def test_small_changes_in_a_year(cpi: Cpi, tmp_path: Path) -> None:
     sent = two_years(dearer, (100_000, 300_000))
     assert [reply for reply in cpi.replay(sent, db=path) if "refused" in reply] == []
     assert [sentences(path, month, "01.1.1.1-01")[0].partition(": ")[2] for month in ("2026-12", "2027-01")] == [
-        "prices changed by less than 0.05 percent, both from November 2026 to December 2026 and in a year.",
-        "prices didn't change from December 2026 to January 2027; in a year they changed by less than 0.05 percent.",
+        "prices changed by less than 0.05 percent, both from November 2026 to December 2026 and over twelve months.",
+        "prices didn't change from December 2026 to January 2027; over twelve months they changed by less than 0.05"
+        " percent.",
     ]
 
 
@@ -371,20 +381,23 @@ def test_which_way_prices_went(change: Optional[int], then: Optional[int], now: 
 
 PATTERNS = {
     "change": r"Node, (?:\S+): prices .* from (?:\w+ \d+) to .*",
-    "one compared": r"One price could be compared: .* went from (\S+) EUR to (\S+) EUR(?:, counted as what it replaced)?\.",
+    "one compared": r"One price could be compared: .* went from (\S+) EUR to (\S+) EUR(?:, in terms of the item that it"
+    r" replaced)?\.",
     "compared": r"(\d+) prices (?:in (\d+) shops \(.*\)|at .*) could be compared: (\d+) rose and (\d+) fell; .* changed"
-    r" most, from (\S+) EUR to (\S+) EUR(?:, counted as what it replaced)?\.",
+    r" most, from (\S+) EUR to (\S+) EUR(?:, in terms of the item that it replaced)?\.",
     "none compared": r"No price could be compared, since none was found in .*",
-    "one imputed": r".* is imputed: it moves with what could be compared \((\S+) EUR to (\S+) EUR\), from (\S+) EUR to"
-    r" (\S+) EUR\.",
+    "one imputed": r".* is imputed: it moves with the prices that could be compared \((\S+) EUR to (\S+) EUR\), from"
+    r" (\S+) EUR to (\S+) EUR\.",
     "imputed": r"(\d+) prices couldn't be compared \(.*\), so they are imputed: .* compared \((\S+) EUR to (\S+) EUR\)\.",
     "one carried": r"Nothing could be compared .* decided to carry the price of .*: it counts as (\S+) EUR, as it did in"
     r" .*",
     "carried": r"Nothing could be compared .* decided to carry (\d+) prices: they count as they did in .*",
-    "level": r"Together the (\d+) prices count as (\S+) EUR, after (\S+) EUR in \w+ \d+, so the level, (\S+) then, is (\S+)\.",
-    "returned": r"Together the (\d+) prices \((?:(\d+) were|.* was) found again after at least one month without a price"
-    r"(?:; of these .* changed most)?: counted as (\S+) EUR, found at (\S+) EUR(?: in terms of what it replaced)?\)"
-    r" count as (\S+) EUR, after (\S+) EUR in \w+ \d+, so the level, (\S+) then, is (\S+)\.",
+    "level": r"Together the (\d+) prices were (\S+) EUR in \w+ \d+ and now count as (\S+) EUR, so the level, which was"
+    r" (\S+) then, is (\S+)\.",
+    "returned": r"(?:After at least one month without a price, in which it counted as|(\d+) prices were found again after at"
+    r" least one month without a price; of these, .* changed most, from) (\S+) EUR(?:, .* was found again at| to) (\S+) EUR"
+    r"(?:, in terms of the item that it replaced)?\. Together the (\d+) prices were (\S+) EUR in \w+ \d+ and now count as"
+    r" (\S+) EUR, so the level, which was (\S+) then, is (\S+)\.",
     "contributions": r"These moved the index most in the month, in percentage points: (.*)\.",
     "contribution": r"(?:All of the month's change comes from .*|.* moved the index most in the month): (\S+) percentage"
     r" points\.",
@@ -392,11 +405,13 @@ PATTERNS = {
     r" month\.",
     "prices": r"It rests on (\d+) prices (?:in (\d+) shops|at .*)(?:, and all of them were found|; (\d+) of these"
     r" prices (?:is|are) imputed .*)\.",
-    "mean": r"By their weights, the indices of its (\d+) aggregates have the mean (\S+) .* so the level, (\S+) then, is"
+    "mean": r"The weighted mean of the indices of its (\d+) aggregates is (\S+) .* so the level, which was (\S+) then, is"
     r" (\S+)\.",
-    "one aggregate": r"Its one aggregate has the index (\S+) \(\w+ \d+ is 100\), so the level, (\S+) then, is (\S+)\.",
-    "revised": r"This is revision \d; (?:in )?revision (\d) .* (\d+\.\d)\.",
-    "handed over": r"From June 2026 on (?:other collectors look for (\d+) of these prices|collector 9 prices .*).*"
+    "one aggregate": r"Its only aggregate has the index (\S+) \(\w+ \d+ is 100\), so the level, which was (\S+) then, is"
+    r" (\S+)\.",
+    "revised": r"This is revision \d; (?:in revision (\d) the level was (\d+\.\d)|revision (\d), with the level"
+    r" (\d+\.\d), has replaced it)\.",
+    "handed over": r"From June 2026 on, (?:other collectors look for (\d+) of these prices|collector 9 prices .*).*"
     r" collector 3.*",
 }
 
@@ -461,7 +476,9 @@ def look_at_change(text: str, lines: Lines) -> None:
     for change, said in ((month, part), (year, rest)):
         if change:
             assert f"by {rounded(abs(change), 10, 1)} percent" in said, text
-    now, before, year_before = (lines.values.get(it) for it in ("chained level", "level before", "level a year before"))
+    now, before, year_before = (
+        lines.values.get(it) for it in ("chained level", "level before", "level a year earlier")
+    )
     words = {1: "rose by", -1: "fell by", 0: "changed by less than 0.05 percent"}
     of_month, of_year = (
         "didn't change" if now == then else words[(change > 0) - (change < 0)]
@@ -469,13 +486,13 @@ def look_at_change(text: str, lines: Lines) -> None:
     )
     assert f"prices {of_month}" in part, text
     if year is None:
-        assert "has no figure, so there is no change in a year" in rest
+        assert "has no figure, so no annual change is given" in rest
     elif (year > 0) == (month > 0) and (year < 0) == (month < 0) and year:
-        assert ", and by " in rest and rest.endswith("in a year.")
+        assert ", and by " in rest and rest.endswith("over twelve months.")
     elif of_month != of_year:
-        assert f"in a year they {of_year}" in rest
+        assert f"over twelve months they {of_year}" in rest
     else:
-        assert rest.endswith(" in a year.") and " they " not in rest
+        assert rest.endswith(" over twelve months.") and " they " not in rest
 
 
 def figures(kind: str, lines: Lines) -> tuple[object, ...]:
@@ -491,7 +508,7 @@ def figures(kind: str, lines: Lines) -> tuple[object, ...]:
     rose, fell = (sum((now - then) * sign > 0 for then, now in changes) for sign in (1, -1))
     then = [values[f"earlier {it}"] for it in imputed]
     carried = [money(values[it]) for it in imputed]
-    of_prices = money(values.get("sum of carried prices", 0)), money(values.get("sum of bases", 0))
+    of_prices = money(values.get("sum of bases", 0)), money(values.get("sum of carried prices", 0))
     return {
         "one compared": most,
         "compared": (len(changes), None, rose, fell, *most),
@@ -501,9 +518,9 @@ def figures(kind: str, lines: Lines) -> tuple[object, ...]:
         "carried": (len(imputed),),
         "level": (lines.terms["sum of carried prices"], *of_prices, *chained),
         "returned": (
-            lines.terms["sum of carried prices"],
             len(returned) if len(returned) > 1 else None,
             *map(money, (returned or [(0, 0)])[0]),
+            lines.terms["sum of carried prices"],
             *of_prices,
             *chained,
         ),
@@ -523,7 +540,8 @@ def look_at_sentence(text: str, lines: Lines) -> str:
     elif kind == "contributions":
         assert re.findall(r"\((\S+)\)", found[1]) == str(figures(kind, lines)[0]).split("; ")
     elif kind == "revised":
-        assert found[2] == level(lines.values[f"level in revision {found[1]}"])
+        other, of_other = found[1] or found[3], found[2] or found[4]
+        assert of_other == level(lines.values[f"level in revision {other}"])
     elif kind == "prices":
         assert int(found[1]) == lines.values["prices below"]
         assert int(found[2] or 1) == lines.values["outlets below"]

@@ -14,8 +14,8 @@ from zipfile import ZipFile
 import openpyxl
 import pytest
 
-from cpi_tools.sheets.cells import BadSheet, Columns, Numeral, Origin, Sheet, SheetFault, shown
-from cpi_tools.sheets.numbers_of_texts import Numbers, decimal
+from cpi_tools.sheets.cells import BadSheet, Columns, Numeral, Origin, Sheet, SheetFault, quote_text
+from cpi_tools.sheets.sheet_numbers import Numbers, decimal
 from cpi_tools.sheets.sheet_files import Source
 from cpi_tools.text.terminal import Fault
 from cpi_tools.sheets.workbooks import currency_of
@@ -76,11 +76,11 @@ def test_a_csv_file_of_each_separator(tmp_path: Path, delimiter: str) -> None:
     ("content", "row", "because"),
     [
         ("outlet,name\n10,Café\n".encode("latin-1"), 2, "isn't UTF-8"),
-        (b'outlet,name\n10,x\n11,"x"y\n', 3, "no CSV"),
-        (b'outlet,name\n10,x\n11,"x\n12,y\n', 3, "no CSV"),
+        (b'outlet,name\n10,x\n11,"x"y\n', 3, "isn't valid CSV"),
+        (b'outlet,name\n10,x\n11,"x\n12,y\n', 3, "isn't valid CSV"),
         (b"", 1, "first row is empty"),
         (b",\n1,2\n", 1, "first row is empty"),
-        (b"outlet,name,Outlet\n10,x,11\n", 1, "column Outlet is there twice"),
+        (b"outlet,name,Outlet\n10,x,11\n", 1, "column Outlet appears twice"),
     ],
 )
 def test_a_csv_file_that_is_no_table(tmp_path: Path, content: bytes, row: int, because: str) -> None:
@@ -111,7 +111,7 @@ def test_a_sheet_is_found_by_its_name_and_only_once(tmp_path: Path) -> None:
     assert (outlets.file, prices.file) == ("Shops-OUTLETS.csv", "prices.xlsx:Sheet1")
     assert unread(source) == ["price.csv", "prices.xlsx:notes", "read me.txt"]
     (tmp_path / "outlets.csv").write_text("outlet,name\n11,x\n")
-    assert fault_of(tmp_path).because == "outlets is there twice: Shops-OUTLETS.csv and outlets.csv"
+    assert fault_of(tmp_path).because == "outlets appears twice: Shops-OUTLETS.csv and outlets.csv"
 
 
 def test_a_workbook_whose_sheets_have_the_names(tmp_path: Path) -> None:
@@ -143,8 +143,8 @@ def test_what_is_not_read_is_told(tmp_path: Path) -> None:
     source = Source(tmp_path, NAMES, ["read ME.txt"], [tmp_path / "check"])
     assert unread(source) == sorted((*told, "older"))
     dos = {it.origin.file: it.do for it in source.unread}
-    assert dos["outlets.ods"].startswith("save it as .xlsx or CSV, or install libreoffice-calc-nogui; or ")
-    wanted = "give it the name of a sheet (outlets, prices), or take it out of the folder, or name it by --ignore"
+    assert dos["outlets.ods"].startswith("save it as .xlsx or CSV, install libreoffice-calc-nogui, remove it from ")
+    wanted = "give it the name of a sheet (outlets, prices), remove it from the folder, or name it with --ignore"
     assert dos["prices-2025.csv"] == wanted
 
 
@@ -293,7 +293,7 @@ def test_an_error_in_a_cell_is_told(tmp_path: Path) -> None:
 def test_a_number_of_which_digits_are_lost_is_told(tmp_path: Path) -> None:
     as_book(tmp_path / "outlets.xlsx", x=[["outlet", "name"], [10, 999_999_999_999_999], [11, float("7" * 32)]])
     (told,) = read(tmp_path).faults
-    assert told.origin == Origin("outlets.xlsx", 3, "B") and "keeps 15 digits" in told.because
+    assert told.origin == Origin("outlets.xlsx", 3, "B") and "keeps only 15 digits" in told.because
 
 
 # ---- numbers
@@ -346,7 +346,7 @@ def test_numbers_with_a_decimal_sign(sign: str, text: str, wanted: Optional[Frac
     ],
 )
 def test_a_cell_is_shown_as_it_is(text: str, wanted: str) -> None:
-    assert shown(text) == wanted
+    assert quote_text(text) == wanted
 
 
 def test_numbers_as_texts() -> None:

@@ -112,7 +112,7 @@ def test_the_rule_changes_some_figures(published: list[Published], pack: Path, t
     )
     table = {(it["month"], it["code"]): it["year_change"] for it in rows_of(tmp_path / "exact/data/cpi.csv")}
     assert exact == table and own.keys() == exact.keys() and sum(own[key] != exact[key] for key in own) > 20
-    rule = "Changes are computed from the printed index with one decimal."
+    rule = "Changes are computed from the printed index with one decimal place."
     for page in ("index.html", "node/07.html", "method.html"):
         assert rule in words_of(pack / page)
         assert "Changes are computed from levels before rounding." in words_of(tmp_path / "exact" / page)
@@ -189,7 +189,7 @@ def test_by_hand(tmp_path: Path) -> None:
         publish(two_years()[:14], config, tmp_path / f"of {reference}", None, lambda _: None)
         told = words_of(tmp_path / f"of {reference}/index.html")
         assert f"Index, {reference or 'December 2025'} = 100 {index}" in told
-        assert f"Against the year before {annual}" in told
+        assert f"Annual change {annual}" in told
         assert f"consumer prices were {annual[1:4]} percent higher" in told
 
 
@@ -203,12 +203,12 @@ def test_an_item_that_is_not_linked_keeps_its_december(tmp_path: Path) -> None:
     """Tea is back in 2028; milk came in 2027. Neither has a level in 2026 that its later months are linked to."""
     publish([*two_years(), tea_again()], CONFIG._replace(reference="2026"), tmp_path / "public", None, lambda _: None)
     told = words_of(tmp_path / "public/node/02.html")
-    assert "Index 2026 = 100, from January 2028 on December 2027 = 100" in told
+    assert "Index 2026 = 100; since January 2028, December 2027 = 100" in told
     assert "Index, December 2027 = 100 110.0" in told
     assert "Break: from January 2028 on, December 2027 = 100." in told
     assert "Index December 2026 = 100; the axis doesn't begin at zero" in words_of(tmp_path / "public/node/03.html")
     lacking = words_of(tmp_path / "public/data.html")
-    assert "These items have none in the whole reference period" in lacking and ": 03 ." in lacking
+    assert "These items have no level in the whole reference period" in lacking and ": 03 ." in lacking
 
 
 def test_a_period_without_a_table_is_refused(
@@ -220,8 +220,8 @@ def test_a_period_without_a_table_is_refused(
         ):
             Shown(Series(published), reference)
     # the first December has no rows, and is 100 in each item that begins there; of a year that goes on there are tables
-    assert Shown(Series(published), "2024-12").hundred("2026-01", "00") == "2024-12"
-    assert Shown(Series(published), "2027").hundred("2027-01", "00") == "2024-12"
+    assert Shown(Series(published), "2024-12").find_reference("2026-01", "00") == "2024-12"
+    assert Shown(Series(published), "2027").find_reference("2027-01", "00") == "2024-12"
     (tmp_path / "office.ini").write_text("[office]\nagency = A\narea = X\noffice = O\nreference = 2031\n")
     source = ["publish", "--program", str(cpi.path), "--db", str(public_office.file), "--at", str(public_office.at)]
     assert main([*source, "--config", str(tmp_path / "office.ini"), "--out", str(tmp_path / "public")]) == 1

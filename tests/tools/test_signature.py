@@ -12,10 +12,9 @@ import pytest
 from cpi_tools.command_line import main
 from cpi_tools.publish.figures.config import Config
 from cpi_tools.office.public import Published
-from cpi_tools.publish.forms.signature import CannotSign
+from cpi_tools.publish.forms.manifest import CannotSign, sign_manifest
 from cpi_tools.office.program import Cpi
 from cpi_tools.publish.pack import CannotPublish, check, publish
-from cpi_tools.publish.forms.signing import signed
 from .published import Office
 from .test_site import words_of
 
@@ -96,12 +95,12 @@ def test_a_signed_pack_is_checked_without_its_key(pack: Path, published: list[Pu
 
 def test_one_key_gives_the_same_bytes(pack: Path, key: Path) -> None:
     """A signature by Ed25519 has no chance in it, and no time."""
-    again = signed(key, "NSO.PRICES", (pack / "manifest.json").read_bytes())
+    again = sign_manifest(key, "NSO.PRICES", (pack / "manifest.json").read_bytes())
     assert again.armoured == (pack / "manifest.json.sig").read_text()
     public = key.with_name("moved")
     public.write_bytes(key.read_bytes())
     public.chmod(0o600)
-    assert signed(public, "NSO.PRICES", (pack / "manifest.json").read_bytes()) == again
+    assert sign_manifest(public, "NSO.PRICES", (pack / "manifest.json").read_bytes()) == again
 
 
 def test_a_signed_pack_is_not_replaced_by_one_that_is_not(
@@ -137,4 +136,4 @@ def test_a_key_that_cannot_sign_is_one_line(
     assert "--sign goes with --out" in capsys.readouterr().err
     monkeypatch.setenv("PATH", str(tmp_path))
     with pytest.raises(CannotSign, match="^there is no ssh-keygen: Debian's openssh-client has it$"):
-        signed(key, "A", b"")
+        sign_manifest(key, "A", b"")

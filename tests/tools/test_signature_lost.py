@@ -9,9 +9,8 @@ from pathlib import Path
 import pytest
 
 from cpi_tools.office.public import Published
-from cpi_tools.publish.forms.signature import CannotSign, signature_in
+from cpi_tools.publish.forms.manifest import CannotSign, sign_manifest, signature_in
 from cpi_tools.publish.pack import CannotPublish, check, publish
-from cpi_tools.publish.forms.signing import signed
 from .test_signature import CONFIG, FILES, as_told, key, quiet
 
 __all__ = ["key"]
@@ -59,7 +58,7 @@ def test_a_public_key_that_is_none_signs_nothing(published: list[Published], key
     (tmp_path / "key.pub").write_text("letter\n", encoding="utf-8")
     told = f"{tmp_path / 'key.pub'} is no public key of ssh-keygen"
     with pytest.raises(CannotSign, match=re.escape(told)):
-        signed(other, "A", b"")
+        sign_manifest(other, "A", b"")
     with pytest.raises(CannotSign, match=re.escape(told)):
         publish(published[:3], CONFIG, tmp_path / "public", None, quiet, key=other)
     assert not (tmp_path / "public").exists()

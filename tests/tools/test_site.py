@@ -70,14 +70,14 @@ def words(page: str) -> str:
 def test_the_first_page_says_what_happened(by_hand: Path) -> None:
     """Coffee gave 740/133 of 1260/133 percentage points, milk 420/133, and tea, which left, 100/133."""
     told = words_of(by_hand / "index.html")
-    assert "In January 2027 consumer prices were 9.5 percent higher than a year before" in told
+    assert "In January 2027, consumer prices were 9.5 percent higher than a year earlier" in told
     assert (
-        "The largest contribution came from title of 01 , +5.56 of +9.5 percentage points. Against the month before, prices rose by 4.0"
+        "The largest contribution came from title of 01 , +5.56 of +9.5 percentage points. Compared with the previous month, prices rose by 4.0"
         in told
     )
-    assert "Against the year before +9.5 % Against the month before +4.0 %" in told
+    assert "Annual change +9.5 % Monthly change +4.0 %" in told
     assert "Index, December 2025 = 100 109.2" in told
-    assert "In January 2027 no price was imputed." in told
+    assert "In January 2027, no price was imputed." in told
     page = (by_hand / "index.html").read_text(encoding="utf-8")
     assert re.findall(r'<th scope="row"><a href="node/(\d\d)\.html">', page) == ["01", "03", "02"]
     assert "Title of 01 50.00 % +8.2 % +5.56 Title of 03 50.00 % \u2013 +3.16" in told
@@ -89,16 +89,16 @@ def test_a_fall_is_told_as_one(tmp_path: Path) -> None:
     """January 2026: coffee 0.75 * -2 points, tea 0.25 * 5; there is no year before."""
     publish(two_years()[:2], CONFIG._replace(reference=""), tmp_path / "public", None, lambda _: None)
     told = words_of(tmp_path / "public/index.html")
-    assert "In January 2026 consumer prices fell by 0.3 percent against the month before" in told
+    assert "In January 2026, consumer prices fell by 0.3 percent from the previous month" in told
     assert (
-        "The largest contribution came from title of 01 , \u22121.50 of \u22120.3 percentage points; title of 02 worked against it (+1.25)"
+        "The largest contribution came from title of 01 , \u22121.50 of \u22120.3 percentage points; the largest in the other direction came from title of 02 (+1.25)"
         in told
     )
 
 
 def test_what_left_and_came_again_has_two_bases(again: Path) -> None:
     told = words_of(again / "node/02.html")
-    assert "Index December 2025 = 100, from January 2028 on December 2027 = 100" in told
+    assert "Index December 2025 = 100; since January 2028, December 2027 = 100" in told
     assert "Index, December 2027\u00a0=\u00a0100 110.0".replace("\u00a0", " ") in told
     assert "Index December 2025 = 100; the axis doesn't begin at zero " in words_of(again / "node/01.html")
     # of the items of 2026 the calculator offers December 2025, and tea has nothing in 2027
@@ -132,7 +132,7 @@ def are_near(found: list[list[float]], wanted: list[list[float]]) -> bool:
 def test_all_items_are_drawn_with_the_month_of_the_item_as_100() -> None:
     """Milk came in 2027: 106 from January on, and all items are 99.75 / 105 = 95 in January 2026 and 104 in 2027."""
     level = of_node(Shown(Series(two_years())), "03")[0]
-    assert level.unit == "December 2026 = 100" and "Title of 00 , with December 2026 = 100 too." in words(
+    assert level.unit == "December 2026 = 100" and "Title of 00 , also with December 2026 = 100." in words(
         str(level.key)
     )
     assert are_near(drawn_in(level.picture, "own"), [[106] * 12])
@@ -150,9 +150,9 @@ def test_an_item_that_is_back_is_drawn_after_a_mark(again: Path) -> None:
     assert are_near(drawn_in(level.picture, "other"), [before, [105]])
     assert level.picture.count('class="break"') == 1
     assert "From 105.0 in January 2026 to 108.0 in December 2026. 110.0 in January 2028." in level.picture
-    assert "Mark: a break, from January 2028 on December 2027 = 100." in words(str(level.key))
+    assert "A mark shows a break: since January 2028, December 2027 = 100." in words(str(level.key))
     told = words_of(again / "node/02.html")
-    assert "Index (December 2025 = 100, from January 2028 on December 2027 = 100)" in told
+    assert "Index (December 2025 = 100; since January 2028, December 2027 = 100)" in told
     note = "Break: from January 2028 on, December 2027 = 100. These levels aren't linked to the earlier ones below. Dec"
     assert note in told and "Break:" not in words_of(again / "node/01.html")
 
@@ -161,16 +161,14 @@ def test_annual_contributions_over_a_december_under_embargo_are_not_told(tmp_pat
     """The headline is the published change, 110.24 / 99.75; what gave it rests on a December that isn't public."""
     publish(over_another_december(), CONFIG._replace(reference=""), tmp_path / "public", None, lambda _: None)
     told = words_of(tmp_path / "public/index.html")
-    assert "In January 2027 consumer prices were 10.5 percent higher than a year before" in told
+    assert "In January 2027, consumer prices were 10.5 percent higher than a year earlier" in told
     assert "The largest contribution" not in told
-    untold = (
-        "Some changes of this month rest on a revision that isn't published yet, so no contributions to the changes on"
-    )
-    untold += " the year before are given."
+    untold = "Some changes of this month depend on a revision that isn't published yet, so no contributions to the"
+    untold += " annual changes are given."
     assert untold in told and untold in words_of(tmp_path / "public/node/00.html")
     assert untold not in words_of(tmp_path / "public/node/01.html")
     revised = words_of(tmp_path / "public/revisions.html")
-    assert "January 2027: the change on the month before January 2027: the change on the year before" in revised
+    assert "January 2027: the monthly change January 2027: the annual change" in revised
 
 
 # ---- revised months that figures are computed from
@@ -193,12 +191,12 @@ def test_a_december_that_was_revised_is_told_beside_the_figures(tmp_path: Path) 
     february = hidden[-1].table.replace(b"110.240000,4.0,10.5", b"110.240000,0.0,7.3")
     later = [*shown, Published(Listed("2027-02", 1, 160), february.replace(b",4.0,", b",0.0,"))]
 
-    untold = "December 2026 was revised, and that revision isn't published yet. It already counts in"
+    untold = "December 2026 was revised, and that revision isn't published yet. It is already used in"
     site = site_of(hidden, tmp_path / "hidden")
     for page in ("index.html", "node/00.html"):
         told = words_of(site / page)
         # (105 * 1.04 is 109.2 and 110.24 / 105 is 1.05, in place of 110.24 and 1.04; 110.24 / 99.75 is the 1.105 told)
-        assert f"{untold} the index and the change on the month before, so the published levels don't give the" in told
+        assert f"{untold} the index and the monthly change, so the published levels don't give the" in told
         assert "was revised on" not in told
     for page in ("node/01.html", "node/03.html"):
         assert "was revised" not in words_of(site / page)
@@ -209,10 +207,10 @@ def test_a_december_that_was_revised_is_told_beside_the_figures(tmp_path: Path) 
     site = site_of(shown, tmp_path / "shown")
     for page in ("index.html", "node/00.html"):
         told = words_of(site / page)
-        assert f"{begun} one counts in the index and the change on the month before ( revisions )." in told
+        assert f"{begun} index is used in the index and the monthly change ( revisions )." in told
         assert untold not in told
     assert "was revised" not in words_of(site / "node/01.html")
-    assert f"{begun} one counts in the index ( revisions )." in words_of(
+    assert f"{begun} index is used in the index ( revisions )." in words_of(
         site_of(later, tmp_path / "later") / "index.html"
     )
 
@@ -233,18 +231,16 @@ def test_a_hidden_revision_of_flour_is_told_on_no_page_of_rice(cpi: Cpi, tmp_pat
     assert [reply for reply in cpi.replay(sent, db=path) if "refused" in reply] == []
     site = site_of(from_file(cpi, path, 6000), tmp_path / "public")
     counted = (
-        "January 2026 was revised, and that revision isn't published yet. It already counts in the change on the month"
+        "January 2026 was revised, and that revision isn't published yet. It is already used in the monthly change"
     )
-    untold = (
-        "Some changes of this month rest on a revision that isn't published yet, so no contributions to the changes on"
-    )
+    untold = "Some changes of this month depend on a revision that isn't published yet, so no contributions to the"
     for code in ("00", "01", "01.1", "01.1.1", "01.1.1.2", "01.1.1.2-01"):
-        assert f"{counted} before, so the published levels don't give the same" in words_of(site / f"node/{code}.html")
+        assert f"{counted}, so the published levels don't give the same" in words_of(site / f"node/{code}.html")
     assert counted in words_of(site / "index.html")
     for code in ("01.1.1.1", "01.1.1.1-01"):
         told = words_of(site / f"node/{code}.html")
-        assert "was revised" not in told and "Against the month before +4.8 %" in told
-    assert f"{untold} the month before are given." in words_of(site / "node/01.1.1.1.html")
+        assert "was revised" not in told and "Monthly change +4.8 %" in told
+    assert f"{untold} monthly changes are given." in words_of(site / "node/01.1.1.1.html")
 
 
 def test_a_hidden_revision_is_told_beside_what_the_published_levels_do_not_give(tmp_path: Path) -> None:
@@ -252,7 +248,7 @@ def test_a_hidden_revision_is_told_beside_what_the_published_levels_do_not_give(
     2026. Only the page of that node says so."""
     tables = two_years()[:14]
     by_month = {it.listed.month: it for it in tables}
-    annual, monthly = "the change on the year before", "the change on the month before"
+    annual, monthly = "the annual change", "the monthly change"
 
     def told(last: str, was: bytes, now: bytes, page: str) -> str:
         changed = by_month[last].table.replace(was, now)
@@ -264,13 +260,13 @@ def test_a_hidden_revision_is_told_beside_what_the_published_levels_do_not_give(
     # all items were at 99.75 a year before, and at 100.00 by a hidden revision: 109.2 / 100 is 9.2 percent
     for page, is_told in (("00", True), ("01", False), ("03", False)):
         page_told = told("2027-01", b"109.200000,4.0,9.5", b"109.200000,4.0,9.2", page)
-        assert (f"January 2026 was revised, and that revision isn't published yet. It already counts in {annual}, so"
+        assert (f"January 2026 was revised, and that revision isn't published yet. It is already used in {annual}, so"
                 in page_told) == is_told  # fmt: skip
         assert ("was revised" in page_told) == is_told
     # tea was at 105 in January, and at 100 by a hidden revision: 105 / 100 is 5.0 percent
     for page, is_told in (("00", False), ("01", False), ("02", True)):
         page_told = told("2026-02", b"105.000000,105.000000,0.0", b"105.000000,105.000000,5.0", page)
-        assert (f"January 2026 was revised, and that revision isn't published yet. It already counts in {monthly}, so"
+        assert (f"January 2026 was revised, and that revision isn't published yet. It is already used in {monthly}, so"
                 in page_told) == is_told  # fmt: skip
         assert ("was revised" in page_told) == is_told
 
@@ -286,11 +282,12 @@ def test_a_month_before_that_was_revised_is_told_beside_the_change(published: li
     assert len(levels) == 2 and REVISED == "2026-03"
     site = site_of(until, tmp_path / "told")
     told, old, new = words_of(site / "index.html"), *(f"{float(it):.1f}" for it in levels)
-    assert f"its index is {new}, and was {old} before. The revised one counts in the change on the month before" in told
+    assert f"its index is {new}, and was {old} before. The revised index is used in the monthly change" in told
     assert "was revised" in words_of(site / "node/01.html") and "was revised" not in words_of(site / "node/07.html")
     last = words_of(site_of(published, tmp_path / "last") / "index.html")
     assert (
-        "April 2027 was revised, and that revision isn't published yet. It already counts in the change on the" in last
+        "April 2027 was revised, and that revision isn't published yet. It is already used in the monthly change"
+        in last
     )
     after = [it for it in published if it.listed.month <= "2026-05"]
     assert "was revised" not in words_of(site_of(after, tmp_path / "after") / "index.html")
@@ -299,7 +296,7 @@ def test_a_month_before_that_was_revised_is_told_beside_the_change(published: li
 def test_a_year_before_that_was_revised_is_told_beside_the_change(published: list[Published], tmp_path: Path) -> None:
     until = [it for it in published if it.listed.month <= "2027-03"]
     told = words_of(site_of(until, tmp_path / "told") / "index.html")
-    assert "March 2026 was revised" in told and "The revised one counts in the change on the year before (" in told
+    assert "March 2026 was revised" in told and "The revised index is used in the annual change (" in told
 
 
 def test_what_left_long_ago_has_its_pictures() -> None:
@@ -307,7 +304,7 @@ def test_what_left_long_ago_has_its_pictures() -> None:
     shown = Shown(Series(seven_years()))
     level, _, month = of_node(shown, "02")
     assert "From 100.0 in January 2020 to 100.0 in December 2020." in level.picture
-    assert month.name == "Change on the month before"
+    assert month.name == "Monthly change"
     assert "0.0 percent from January 2020 to December 2020." in month.picture
     whole = of_node(shown, "00")[0].picture
     assert "From 100.0 in December 2021 to 100.0 in December 2026." in whole
@@ -331,7 +328,10 @@ def test_the_imputed_share_says_what_it_is_of(site: Path, published: list[Publis
     assert {code for code, (_, imputed) in aggregates.items() if imputed == "1"} == {"01.1.1.1-01"}
     # rice has 390,000 of 1,000,000
     told = words_of(site / "index.html")
-    assert "at least one price was imputed in elementary aggregates that have 39 percent of all weight" in told
+    assert (
+        "at least one price was imputed in elementary aggregates that account for 39 percent of the total weight"
+        in told
+    )
     assert "The weight of such aggregates isn't the share of imputed prices" in told
 
 
@@ -351,7 +351,7 @@ def test_the_imputed_share_is_by_the_weight_of_elementary_aggregates() -> None:
 
 def test_a_node_has_its_page_and_its_file(site: Path) -> None:
     told = words_of(site / "node/01.html")
-    assert told.count("All items") >= 2 and "What it is made of" in told and 'Food, "proper"' in told
+    assert told.count("All items") >= 2 and "What it contains" in told and 'Food, "proper"' in told
     head, *rows = (site / "node/01.csv").read_text(encoding="utf-8").splitlines()
     assert head.startswith("month,revision,published,code,depth,title,weight,index,chained,")
     whole = (site / "data/cpi.csv").read_text(encoding="utf-8").splitlines()
@@ -372,7 +372,7 @@ def test_a_node_has_its_months_by_hand(by_hand: Path) -> None:
 
 def test_a_node_that_left_says_so(site: Path) -> None:
     told = words_of(site / "node/01.1.1.2-01.html")
-    assert "This item isn't in the index of 2027; its last figure is of December 2025." in told
+    assert "This item isn't in the index in 2027; its last figure is for December 2025." in told
     assert "Items that left the index" in words_of(site / "nodes.html")
 
 
@@ -388,13 +388,13 @@ def test_revisions_and_what_is_against_an_embargoed_one_are_told(site: Path) -> 
     # 15 months of 1,000 seconds after 1970 began, and 990 or 900 seconds
     moments = "Published 1 January 1970, 04:26 UTC; revision 1 had been published 1 January 1970, 04:25 UTC"
     assert f"March 2026, revision 2 {moments}. 6 of 16 levels differ." in told
-    assert "May 2027: the change on the month before" in told and "the change on the year before" not in told
+    assert "May 2027: the monthly change" in told and "the annual change" not in told
     assert "data/tables/2026-03-r1.csv" in (site / "revisions.html").read_text(encoding="utf-8")
 
 
 def test_nodes_without_the_reference_period_are_listed(site: Path) -> None:
     told = words_of(site / "data.html")
-    assert "Without a level in 2025" in told and "08 , 08.1 , 08.1.1 , 08.1.1.1 , 08.1.1.1-01 ." in told
+    assert "Items without a level in 2025" in told and "08 , 08.1 , 08.1.1 , 08.1.1.1 , 08.1.1.1-01 ." in told
 
 
 # ---- where they lead
@@ -499,8 +499,8 @@ def test_the_calculator_refuses_months_that_are_not_linked(site: Path) -> None:
     const said = (levels) => c.faultOf(1n, { title: "Tea" }, levels, 2);
     console.log(JSON.stringify(JSON.parse(process.argv[2]).map(said)));"""
     words = ["node", "-e", program, str(site / "assets/contract.js"), json.dumps(levels)]
-    lacks = "Tea has no index in one of these months."
-    left = "Tea left the index between these months and came again, so its indices can't be compared."
+    lacks = "Tea has no index for one of these months."
+    left = "Tea left the index between these months and came back, so its indices can't be compared."
     told = subprocess.run(words, capture_output=True, text=True, check=True).stdout
     assert json.loads(told) == ["", left, lacks, lacks, ""]
 

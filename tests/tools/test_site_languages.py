@@ -16,7 +16,7 @@ from cpi_tools.text import languages
 from cpi_tools.publish import pack as publish_module
 from cpi_tools.publish.releases.cards import NO_CARDS
 from cpi_tools.publish.figures.config import BadConfig, Config, read_config
-from cpi_tools.publish.figures.office_languages import OfficeLanguages, Own
+from cpi_tools.publish.figures.own_words import OfficeLanguages, Own
 from cpi_tools.office.public import Published
 from cpi_tools.publish.figures.specials import Special
 from cpi_tools.publish.pack import check, publish

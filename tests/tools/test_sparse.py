@@ -6,7 +6,7 @@ from pathlib import Path
 
 import pytest
 
-from cpi_tools.desk.month.sparse import is_quarterly, months_until
+from cpi_tools.desk.month.response import is_quarterly, months_until
 from cpi_tools.office.program import Cpi, record
 from lib.offices import key_of, plan_with
 from .ran import rows_of, run
@@ -65,7 +65,7 @@ def reported(cpi: Cpi, tmp_path: Path, month: str) -> tuple[list[list[str]], lis
     at = 100 * MONTHS.index(month) + 50
     ran = run(cpi, "desk", "month", path, month, "--at", at, "--left-out", 0, "--out", out)
     assert (ran.status, ran.err) == (0, "")
-    assert "\nNothing compared for three months\n" in ran.out and "\nPriced every third month only\n" in ran.out
+    assert "\nNothing compared for three months\n" in ran.out and "\nPriced only every third month\n" in ran.out
     page = (out / "month.html").read_text(encoding="utf-8")
     assert 'href="#unmatched"' in page and 'id="quarterly"' in page
     unmatched, quarterly = (

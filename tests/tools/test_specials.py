@@ -238,8 +238,8 @@ def test_a_set_that_leaves_and_is_back_has_a_break(pack: Path, config: Config, p
     told = words_of(pack / "node/FRUIT.html")
     assert "Break: from January 2027 on, December 2026 = 100." in told
     told = words_of(pack / "node/SOUTH.html")
-    assert "on, other elementary aggregates are in it (came: 08.1.1.1-01; left: 01.1.6.2-01)." in told
-    assert "Break: from January 2027 on, other elementary aggregates are in it (came: 01.1.6.2-01)." in told
+    assert "on, it contains other elementary aggregates (new: 08.1.1.1-01; no longer in it: 01.1.6.2-01)." in told
+    assert "Break: from January 2027 on, it contains other elementary aggregates (new: 01.1.6.2-01)." in told
     page = (pack / "node/SOUTH.html").read_text(encoding="utf-8")
     assert page.count('class="break" d="M') == 1 and len(drawn_in(page, "own")) == 1
 
@@ -283,13 +283,16 @@ def test_what_is_in_a_set_is_listed_by_year(pack: Path, months: dict[str, dict[s
 
 def test_pages_show_sets_next_to_divisions(pack: Path, wanted: dict[str, dict[str, Figures]]) -> None:
     told = words_of(pack / "index.html")
-    assert "Special aggregates" in told and "An item can be in several of them, so they don't add up to it." in told
+    assert (
+        "Special aggregates" in told
+        and "An item can be in several sets, so the contributions don't add up to the change." in told
+    )
     page = (pack / "index.html").read_text(encoding="utf-8")
     assert {*re.findall(r'href="node/([A-Z]+)\.html"', page)} == {*SETS}
     told = words_of(pack / "nodes.html")
     assert "CORE Core: without food and energy" in told and "EVERY All, once more" in told
     told = words_of(pack / "node/CORE.html")
-    assert "In it is all items , without food of the shops and energy ." in told
+    assert "It contains all items , without food of the shops and energy ." in told
     level = wanted["CORE"]["2027-05"].level
     assert f"Index, December 2025 = 100 {float(level):.1f}" in told
     assert 'value="CORE"' in (pack / "contract.html").read_text(encoding="utf-8")

@@ -7,13 +7,12 @@ from datetime import datetime
 import jinja2
 import pytest
 
-from cpi_tools.text.languages import ENGLISH, Language
+from cpi_tools.text.languages import ENGLISH, SPEAKS_ENGLISH, Language, Speech, speech_of
 from cpi_tools.text.clocks import clock_of
-from cpi_tools.publish.figures.headline import headline
-from cpi_tools.publish.figures.notes import note_names
+from cpi_tools.publish.figures.shown_figures import headline
+from cpi_tools.publish.figures.figures import note_names
 from cpi_tools.office.tables import Row
 from cpi_tools.text.page_templates import environment
-from cpi_tools.text.speech import SPEAKS_ENGLISH, Speech, speech_of
 
 AT = datetime(2026, 1, 28, 9, 5)
 
@@ -38,7 +37,7 @@ def test_figures_months_and_moments_are_those_of_a_language(code: str, digits: s
     speech = speech_of(code, digits)
     found = [speech.figure("105.7"), speech.percent("+0.3"), speech.percent("−0.3"), speech.share("12.50")]
     found += [speech.whole(1_234_567), speech.month("2026-01"), speech.year("2026"), speech.month_mark("2026-01")]
-    assert [*found, speech.moment(AT, "CET"), speech.listed(["a", "b", "c"])] == SAID[code, digits]
+    assert [*found, speech.moment(AT, "CET"), speech.list_texts(["a", "b", "c"])] == SAID[code, digits]
 
 
 def test_the_clock_of_the_office_says_moments_in_its_language() -> None:

@@ -15,7 +15,8 @@ from cpi_tools.office.public import Published
 from cpi_tools.publish.figures.config import SQLITE, BadConfig, Config, read_config
 from cpi_tools.publish.figures.specials import Special
 from cpi_tools.publish.pack import check, publish
-from cpi_tools.publish.site.sqlite_file import NAME, NoSqlite, write_sqlite
+from cpi_tools.publish.site.csvw import SQLITE_NAME as NAME, NoSqlite, write_sqlite
+from cpi_tools.text.text_files import formulas_told
 from lib.pack_sqlite import sqlite_faults
 
 SETS = (Special("FRUIT", "Fruit", ("01.1.6",)), Special("REST", "Without food", ("00",), ("01",)))
@@ -98,6 +99,17 @@ def test_the_same_tables_give_the_same_bytes(pack: Path, published: list[Publish
     publish(published, CONFIG, again, None, quiet)
     assert (again / "data" / NAME).read_bytes() == data
     assert check(published, CONFIG, again, None, quiet) == []
+
+
+def test_an_apostrophe_for_spreadsheets_is_in_no_text(pack: Path, published: list[Published], tmp_path: Path) -> None:
+    """Also those of archives and of lines that are kept of the pack before."""
+    safe = tmp_path / "safe"
+    for tables in (published[:-3], published):
+        with formulas_told("publish", True):
+            publish(tables, CONFIG, safe, None, quiet)
+    assert ",'=Mobile," in (safe / "data/cpi.csv").read_text(encoding="utf-8")
+    assert (safe / "data" / NAME).read_bytes() == (pack / "data" / NAME).read_bytes()
+    assert ("=Mobile",) in asked(safe, "SELECT title FROM cpi WHERE month < '2027-01'")
 
 
 def test_a_changed_file_is_found(pack: Path, published: list[Published], tmp_path: Path) -> None:

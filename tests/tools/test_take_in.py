@@ -16,12 +16,11 @@ from cpi_tools.sheets.row_refusals import WANTED
 from cpi_tools.sheets.judge import Judge
 from cpi_tools.sheets.known_rows import NOTHING
 from cpi_tools.sheets.office_files import OfficeFiles, Options
-from cpi_tools.sheets.office_sheets import SHEETS
+from cpi_tools.sheets.record_rows import SHEETS, Bundle, Sent, make_bundles
 from cpi_tools.office.program import Cpi, record
-from cpi_tools.sheets.record_rows import Bundle, Sent, bundled
 from cpi_tools.sheets.sheet_files import Source
 from cpi_tools.office.stored import stored_office
-from cpi_tools.sheets.take_in import parted
+from cpi_tools.sheets.take_in import part_bundles
 from .ran import Ran, rows_of, run
 from .spreadsheets import KEY_7, KEY_8, Change, Sheets, add, drop, put, replayed, sheets, tables, without, written
 
@@ -224,25 +223,33 @@ def test_words_of_a_problem(cpi: Cpi, tmp_path: Path) -> None:
     folder = written(tmp_path / "office", of)
     assert run(cpi, "take-in", folder, "--check").status == 1
     told = because(folder)
-    assert told["prices.csv", "5", "value"].endswith(": 2100 after 200, where 100 to 400 are inside")
+    assert told["prices.csv", "5", "value"].endswith(": 2100 after 200, outside the range from 100 to 400")
     assert told["prices.csv", "6", "value"] == "84.5 isn't whole in minor units (--minor)"
     wanted = "the plan of 2026: the weights don't add up to 1,000,000, but to 999,999"
     assert told["classification.csv", "9", "weight"] == wanted
-    assert told["outlets.csv", "4", "outlet"] == 'the column outlet has "0"'
+    assert told["outlets.csv", "4", "outlet"] == 'the column outlet contains "0"'
     assert "releases.csv" in {file for file, _, _ in told}
 
 
 @pytest.mark.parametrize(
     ("change", "words", "because"),
     [
-        (put("classification", 7, "weight", "60,0"), ["--weights", "percent"], '"60,0" is no number with the decimal'),
+        (
+            put("classification", 7, "weight", "60,0"),
+            ["--weights", "percent"],
+            '"60,0" isn\'t a number with the decimal',
+        ),
         (put("classification", 7, "weight", "60.5"), [], "60.5 isn't whole in parts per million (--weights)"),
-        (put("classification", 7, "weight", "-5"), [], 'the column weight has "-5"'),
-        (put("classification", 7, "weight", "-5"), ["--weights", "money"], 'the column weight has "-5"'),
-        (put("classification", 7, "weight", "60%"), [], '"60%" is a percent'),
-        (put("classification", 5, "code", "2001-01"), [], "the cell is the date 2001-01, as a spreadsheet takes"),
-        (put("places", 2, "code", "2002-02-07"), [], "the cell is the date 2002-02-07, as a spreadsheet takes"),
-        (put("plans", 2, "reference", "1/2/25"), [], '"1/2/25" may be a day or several months: no year of it has'),
+        (put("classification", 7, "weight", "-5"), [], 'the column weight contains "-5"'),
+        (put("classification", 7, "weight", "-5"), ["--weights", "money"], 'the column weight contains "-5"'),
+        (put("classification", 7, "weight", "60%"), [], '"60%" is a percentage'),
+        (put("classification", 5, "code", "2001-01"), [], "the cell contains the date 2001-01: a spreadsheet turns"),
+        (put("places", 2, "code", "2002-02-07"), [], "the cell contains the date 2002-02-07: a spreadsheet turns"),
+        (
+            put("plans", 2, "reference", "1/2/25"),
+            [],
+            '"1/2/25" may be a day or several months: it contains no year with',
+        ),
         (put("plans", 2, "reference", "02.01.2025"), [], '"02.01.2025" may be 2025-01 or 2025-02'),
         (put("classification", 4, "title", ""), [], "the cell in the column title is empty"),
     ],
@@ -270,14 +277,24 @@ QUOTE = dict(zip(sheets()["prices"][0], sheets()["prices"][4]))
         ("collector", "6", "the collector 6 isn't known", "add it to the sheet collectors"),
         ("slot", "9", "no series has slot 7/9", "check the sheet series"),
         ("month", "2026-05", "2026-05 has no window", "add the month to the sheet calendar"),
-        ("month", "2026-13", '"2026-13" is no month', "write a month like 2026-01"),
-        ("month", "1/2/26", '"1/2/26" may be a day or several months: no year of it has four digits', "write a month"),
-        ("value", "0", '"0" is no price', "write a price from 1 to 100,000,000 minor units (--minor), as "),
+        ("month", "2026-13", '"2026-13" isn\'t a month', "write a month like 2026-01"),
+        (
+            "month",
+            "1/2/26",
+            '"1/2/26" may be a day or several months: it contains no year with four digits',
+            "write a month",
+        ),
+        ("value", "0", '"0" isn\'t a price', "write a price from 1 to 100,000,000 minor units (--minor), as "),
         ("value", "", "the cell is empty", "write a price from 1 to 100,000,000 minor units"),
-        ("value", "n/a", '"n/a" is no number with the decimal sign "."', "write a price from 1 to 100,000,000 minor "),
-        ("mark", "sale", 'the column mark has "sale"', "write price, comparable, other or missing"),
-        ("mark", "missing", '"210" is no reason', "write stock, closed, gone or refused"),
-        ("confirm", "yes", 'the column confirm has "yes"', "write confirm, or an empty cell"),
+        (
+            "value",
+            "n/a",
+            '"n/a" isn\'t a number with the decimal sign "."',
+            "write a price from 1 to 100,000,000 minor ",
+        ),
+        ("mark", "sale", 'the column mark contains "sale"', "write price, comparable, other or missing"),
+        ("mark", "missing", '"210" isn\'t a reason', "write stock, closed, gone or refused"),
+        ("confirm", "yes", 'the column confirm contains "yes"', "write confirm, or leave the cell empty"),
     ],
 )
 def test_words_of_a_price_are_the_desks(
@@ -369,7 +386,7 @@ def test_history_outside_the_tolerance_is_confirmed_and_listed(cpi: Cpi, tmp_pat
     words = ("take-in", folder, "--confirm-history")
     assert run(cpi, *words, "--check").status == 0
     page = (folder / "check" / "report.html").read_text(encoding="utf-8")
-    confirmed = page.partition("Confirmed outside the tolerance")[2]
+    confirmed = page.partition("Confirmed prices outside the tolerance")[2]
     where = "<bdi>prices.csv</bdi>, row 5, <bdi>value</bdi>"
     assert f"<td>{where}</td><td class=number>2100</td><td class=number>200</td>" in confirmed
     assert run(cpi, *words, "--write", tmp_path / "records").status == 0
@@ -384,7 +401,7 @@ def test_two_prices_of_a_slot_that_differ_are_refused(cpi: Cpi, tmp_path: Path) 
     folder = written(tmp_path / "office", of)
     assert run(cpi, "take-in", folder, "--check").status == 1
     assert because(folder) == {
-        ("prices.csv", "10", "value"): 'the price of slot 7/1 in 2026-01 is "211" here, and "210" in row 5'
+        ("prices.csv", "10", "value"): 'the price of slot 7/1 in 2026-01 is "211" here, but "210" in row 5'
     }
 
 
@@ -395,7 +412,7 @@ def test_two_prices_of_a_slot_that_are_alike_are_one_and_counted(cpi: Cpi, tmp_p
     add("prices", "Jan-26", "7", "2", "price", "84", "")(of)
     folder = written(tmp_path / "office", of)
     ran = run(cpi, "take-in", folder, "--write", tmp_path / "records")
-    told = "the price of slot 7/1 in 2026-01 is in row 5 too; prices that are there again: 3"
+    told = "the price of slot 7/1 in 2026-01 is also in row 5; number of repeated prices: 3"
     lines = [
         f"cpi-tools take-in: warning: prices.csv, row 10, value: {told}",
         'cpi-tools take-in: prices.csv, month: "Jan-26" is read as 2026-01',
@@ -464,10 +481,10 @@ def test_two_windows_of_a_month_that_differ_are_refused(cpi: Cpi, tmp_path: Path
     of["calendar"].insert(2, ["2026-01", "1000", "1500", "3000"])
     folder = written(tmp_path / "office", of)
     assert run(cpi, "take-in", folder, "--check").status == 1
-    assert because(folder)["calendar.csv", "4", "month"] == "row 3 has the month 2026-01 too, and another window"
+    assert because(folder)["calendar.csv", "4", "month"] == "row 3 also has the month 2026-01, but with another window"
     of["calendar"][2] = of["calendar"][3]
     ran = run(cpi, "take-in", written(tmp_path / "alike", of), "--check")
-    told = "calendar.csv, row 4, month: row 3 has the month 2026-01 too, and the same window"
+    told = "calendar.csv, row 4, month: row 3 also has the month 2026-01, with the same window"
     assert (ran.status, ran.err) == (0, f"cpi-tools take-in: warning: {told}\n")
 
 
@@ -560,7 +577,7 @@ def test_a_column_of_prices_is_read_or_refused_or_ignored_by_its_name(cpi: Cpi, 
     folder = written(tmp_path / "office", of)
     assert run(cpi, "take-in", folder, "--check").status == 1
     first, second = told_of(folder, "problem")
-    assert [*first.values()][1:6] == ["prices.csv", "1", "Shop name", "", '"Shop name" is no month']
+    assert [*first.values()][1:6] == ["prices.csv", "1", "Shop name", "", '"Shop name" isn\'t a month']
     assert first["do"] == 'write a month like 2026-01; if the column has no prices, name it: --ignore "Shop name"'
     assert second["column"] == "2026-03 (p)"
     words = ("take-in", folder, "--check", "--ignore", "shop NAME")
@@ -582,7 +599,7 @@ def test_months_in_other_spellings_are_read_and_told_once_for_each_column(cpi: C
     folder = written(tmp_path / "office", of)
     assert run(cpi, "take-in", folder, "--check").status == 0
     page = re.sub("</?bdi>", "", (folder / "check/report.html").read_text(encoding="utf-8"))
-    page = page.partition("Months, as they were read")[2]
+    page = page.partition("Months as they were read")[2]
     rows = [row.split("</td><td>") for row in page.partition("</table>")[0].split("<tr><td>")[1:]]
     told = [[cell.partition("</td>")[0] for cell in row] for row in rows]
     assert told == [
@@ -609,7 +626,7 @@ def test_codes_that_a_spreadsheet_took_for_numbers(cpi: Cpi, tmp_path: Path) -> 
     (folder / "classification.csv").unlink()
     ran = run(cpi, "take-in", folder, "--write", tmp_path / "records")
     assert ran.status == 0
-    told = "classification.xlsx, row 2, code: 8 codes of the classification lacked the first zero, as 0 here"
+    told = "classification.xlsx, row 2, code: 8 codes of the classification lacked the first zero, like 0 here"
     assert ran.err == f"cpi-tools take-in: warning: {told}\n"
 
 
@@ -621,7 +638,7 @@ def test_codes_that_a_spreadsheet_took_for_numbers(cpi: Cpi, tmp_path: Path) -> 
         (("60", "38.9"), "percent", 1, "the weights of 2026 add up to 98.900, not to 100"),
         (("600", "410.1"), "permille", 1, "the weights of 2026 add up to 1,010.100, not to 1000"),
         (("0.6", "0.4"), "percent", 1, "the weights of 2026 add up to 1.000, not to 100"),
-        (("60%", "40"), "percent", 1, 'the weight is "60%", and that of row 9 is "40"'),
+        (("60%", "40"), "percent", 1, 'the weight is "60%", but the weight in row 9 is "40"'),
         (("60", "0.4%"), "percent", 1, "the weights of 2026 add up to 60.400, not to 100"),
         (("60%", "40%"), "percent", 0, ""),
         (("3", "5"), "money", 0, ""),
@@ -645,7 +662,7 @@ def test_the_page_has_texts_as_texts_and_no_key(cpi: Cpi, tmp_path: Path) -> Non
     folder = written(tmp_path / "office", of)
     run(cpi, "take-in", folder, "--check")
     page = re.sub("</?bdi>", "", (folder / "check" / "report.html").read_text(encoding="utf-8"))
-    assert "&quot;&lt;script&gt;&quot;&amp;&quot; is no number" in page and "<script" not in page
+    assert "&quot;&lt;script&gt;&quot;&amp;&quot; isn&#x27;t a number" in page and "<script" not in page
     assert "&lt;img&gt;.csv" in page and "<img" not in page
     assert KEY_7 not in page and "2 problems; nothing is taken in." in page
     for name in ("problems.csv", "report.html"):
@@ -656,10 +673,10 @@ def test_the_page_tells_each_month(cpi: Cpi, tmp_path: Path) -> None:
     folder = written(tmp_path / "office", sheets())
     run(cpi, "take-in", folder, "--check")
     page = (folder / "check" / "report.html").read_text(encoding="utf-8")
-    row = page[page.index("<tr><td>2026-02") :].partition("</tr>")[0].replace(" class=number", "")
+    row = re.sub(" class=(number|words)", "", page[page.index("<tr><td>2026-02") :].partition("</tr>")[0])
     cells = row.replace("<tr><td>", "").replace("</td>", "").split("<td>")
     # flour 90 / 80 = 112.5; rice is carried: 103.636364 * 0.6 + 112.5 * 0.4
-    assert cells == ["2026-02", "1", "0", "0", "1", "0", "1", "frozen 01.1.1.1-01", "107.181818"]
+    assert cells == ["2026-02", "1", "0", "0", "1", "0", "1", "frozen, carrying 01.1.1.1-01", "107.181818"]
 
 
 # ---- onto an office
@@ -720,7 +737,10 @@ def test_a_price_of_a_frozen_month_that_is_another_one_is_a_warning(cpi: Cpi, st
     folder = written(tmp_path / "more", of)
     ran = run(cpi, "take-in", folder, "--onto", standing, "--write", tmp_path / "added")
     assert (ran.status, ran.out.splitlines()[0]) == (0, "1 quote")
-    told = "prices.csv, row 2: 2026-02 is frozen: 1 price of it, from here on, changes no table by itself"
+    told = (
+        "prices.csv, row 2: 2026-02 is frozen, so 1 of its prices, from this row on, changes no table until it is frozen"
+        " again"
+    )
     assert ran.err == f"cpi-tools take-in: warning: {told}\n"
     before = tables(cpi, standing)
     assert tables(cpi, replayed(cpi, tmp_path / "added", standing)) == before
@@ -734,7 +754,7 @@ def test_a_revision_of_a_release_that_is_none_is_told(cpi: Cpi, tmp_path: Path) 
     put("releases", 3, "revision", "first")(of)
     folder = written(tmp_path / "office", of)
     assert run(cpi, "take-in", folder, "--check").status == 1
-    assert because(folder) == {("releases.csv", "3", "revision"): '"first" is no revision'}
+    assert because(folder) == {("releases.csv", "3", "revision"): '"first" isn\'t a revision'}
 
 
 def test_prices_alone_are_sent_within_the_window_that_the_office_has(cpi: Cpi, standing: Path, tmp_path: Path) -> None:
@@ -856,8 +876,8 @@ def test_more_records_than_one_run_takes(cpi: Cpi, tmp_path: Path) -> None:
 
 def test_imports_and_files_are_cut_at_their_limits() -> None:
     rows = [Sent(["outlet", str(at), "x"], Origin("outlets.csv", at), ("outlet", "name")) for at in range(40_001)]
-    assert [len(it.rows) for it in bundled(0, "desk", rows)] == [20_000, 20_000, 1]
-    parts = parted((Bundle(at, "desk", rows[:1]) for at in range(5)), 2)
+    assert [len(it.rows) for it in make_bundles(0, "desk", rows)] == [20_000, 20_000, 1]
+    parts = part_bundles((Bundle(at, "desk", rows[:1]) for at in range(5)), 2)
     assert [[it.at for it in part] for part in parts] == [[0, 1], [2, 3], [4]]
     assert Bundle(5, "desk", rows[:1], is_single=True).line() == "5,desk,outlet,0,x"
 
@@ -869,4 +889,4 @@ def test_a_plan_with_too_many_rows_is_told(cpi: Cpi, tmp_path: Path) -> None:
     assert run(cpi, "take-in", folder, "--check").status == 1
     told = rows_of(folder / "check" / "problems.csv")[0]
     assert (told["file"], told["row"], told["number"]) == ("classification.csv", "2", "10")
-    assert told["because"] == "the plan of 2026 has 20,012 rows, and 20,000 are the most"
+    assert told["because"] == "the plan of 2026 has 20,012 rows, but at most 20,000 are accepted"

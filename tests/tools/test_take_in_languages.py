@@ -137,7 +137,7 @@ def test_no_word_of_the_report_is_left_in_english(
 def test_a_message_that_no_catalogue_has_is_found() -> None:
     page = '<table class="stacked"><tr><td><bdi>a.csv</bdi></td><td>{}</td></tr></table>'
     assert all_of_others(page.format("<bdi>no price: <bdi>x</bdi> here</bdi>")) != []
-    assert all_of_others(page.format("<bdi>items</bdi> is there twice: <bdi>b.csv</bdi>")) == []
+    assert all_of_others(page.format("<bdi>items</bdi> appears twice: <bdi>b.csv</bdi>")) == []
 
 
 def test_the_line_of_a_program_is_marked_in_a_sentence(cpi: Cpi, tmp_path: Path) -> None:
@@ -147,7 +147,7 @@ def test_the_line_of_a_program_is_marked_in_a_sentence(cpi: Cpi, tmp_path: Path)
     assert report(cpi, "refused", folder, tmp_path / "out", "--language", "fr").status == 1
     page = (tmp_path / "out/report.html").read_text(encoding="utf-8")
     line = '<bdi lang="en" dir="ltr"><code>unexpected end of data</code></bdi>'
-    assert re.search(f"la ligne n’est pas du CSV\\s?: {re.escape(line)}", page) and "regardez ses guillemets" in page
+    assert re.search(f"la ligne n’est pas du CSV\\s?: {re.escape(line)}", page) and "vérifiez ses guillemets" in page
 
 
 @pytest.mark.parametrize("language", ["ar", "es", "fr"])

@@ -15,12 +15,12 @@ from cpi_tools.text.terminal import (
     Progress,
     at_least,
     because_of,
-    counted,
     ends_by_signals,
     is_line,
     month_text,
     naming,
     time_text,
+    write_count,
 )
 
 
@@ -77,7 +77,7 @@ def test_a_signal_that_is_ignored_still_is() -> None:
 def test_how_values_are_written() -> None:
     assert time_text(0) == "1970-01-01 00:00 UTC"
     assert month_text(202601) == "2026-01"
-    assert [counted(count, "table") for count in (0, 1, 2500)] == ["0 tables", "1 table", "2,500 tables"]
+    assert [write_count(count, "table") for count in (0, 1, 2500)] == ["0 tables", "1 table", "2,500 tables"]
     assert because_of(OSError(28, "No space left on device", "x.db")) == "x.db: No space left on device"
     assert because_of(OSError(28, "No space left on device")) == "No space left on device"
     assert because_of(OSError("another fault")) == "another fault"

@@ -12,7 +12,7 @@ from . import surveys
 from cpi_tools.office.copying import private_copy
 from cpi_tools.office.program import Cpi, record
 from cpi_tools.office.stored import NotAnOffice, read_copy
-from cpi_tools.office.trial import Refused, as_frozen, freeze_on_copy, reopened, state_of
+from cpi_tools.office.trial import Refused, as_frozen, freeze_on_copy, reopen, state_of
 from .surveys import bytes_of, key_of
 
 
@@ -86,7 +86,7 @@ def test_a_frozen_month_stands_and_can_be_reopened_on_a_copy(cpi: Cpi, small: Pa
             state = state_of(office, 202602)
         stands = as_frozen(cpi, copy, state, ("01.1.1.2-01",))
         assert state.is_frozen and stands.tables[-1].listed == ("2026-02", 1, 5000)
-        after, sent = reopened(state)
+        after, sent = reopen(state)
         again = freeze_on_copy(cpi, copy, after, 4000, ["01.1.1.2-01"], [sent])
         assert again.tables[-1].listed == ("2026-02", 2, 5001) and again.table == stands.table
         with read_copy(copy) as office:

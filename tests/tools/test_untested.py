@@ -32,7 +32,7 @@ def run(notes: Path, tools: Path, code: str) -> int:
 
 KILLED = """\
 import os, threading, time
-from cpi_tools.office.rooms import new_room
+from cpi_tools.office.folders import new_room
 from pathlib import Path
 
 def begin():
@@ -46,7 +46,7 @@ threading.Thread(target=begin).start()
 
 def line_of(text: str) -> int:
     """The number of the line of rooms.py that begins so."""
-    lines = (SOURCES / "office/rooms.py").read_text(encoding="utf-8").splitlines()
+    lines = (SOURCES / "office/folders.py").read_text(encoding="utf-8").splitlines()
     (found,) = [at for at, line in enumerate(lines, 1) if line.strip().startswith(text)]
     return found
 
@@ -54,11 +54,11 @@ def line_of(text: str) -> int:
 def test_the_lines_of_a_process_that_is_killed(notes: Path, tmp_path: Path) -> None:
     """Of its threads too; those that it didn't come to aren't there."""
     assert run(notes, ROOT / "tools", KILLED.format(folder=str(tmp_path))) == -signal.SIGKILL
-    found = lines_of(str(notes))["office/rooms.py"]
+    found = lines_of(str(notes))["office/folders.py"]
     assert {line_of("yield Path(made)"), line_of("_remove_left(place, prefix)")} <= found
     assert line_of("(room / MARK).unlink()") not in found
-    assert {it.file for it in reached({"office/rooms.py": found}) if len(it.missing) < len(it.statements)} == {
-        "tools/cpi_tools/office/rooms.py"
+    assert {it.file for it in reached({"office/folders.py": found}) if len(it.missing) < len(it.statements)} == {
+        "tools/cpi_tools/office/folders.py"
     }
 
 
@@ -67,9 +67,9 @@ def test_a_copy_counts_if_it_has_the_same_bytes(notes: Path, tmp_path: Path) -> 
     shutil.copytree(SOURCES, copies, ignore=shutil.ignore_patterns("__pycache__"))
     with (copies / "text/exact.py").open("a", encoding="utf-8") as file:
         file.write("# another one\n")
-    assert run(notes, copies.parent, "import cpi_tools.desk.keys.sign_in, cpi_tools.text.exact") == 0
+    assert run(notes, copies.parent, "import cpi_tools.desk.keys.keys_cli, cpi_tools.text.exact") == 0
     found = lines_of(str(notes))
-    assert "desk/keys/sign_in.py" in found and "text/exact.py" not in found
+    assert "desk/keys/keys_cli.py" in found and "text/exact.py" not in found
 
 
 def test_a_process_that_reads_no_tools_notes_nothing(notes: Path) -> None:
@@ -78,7 +78,7 @@ def test_a_process_that_reads_no_tools_notes_nothing(notes: Path) -> None:
 
 
 def test_a_python_without_coverage_runs_its_program_all_the_same(notes: Path) -> None:
-    code = "import sys; sys.modules['coverage'] = None; import cpi_tools.office.rooms"
+    code = "import sys; sys.modules['coverage'] = None; import cpi_tools.office.folders"
     assert run(notes, ROOT / "tools", code) == 0 and not [*notes.iterdir()]
 
 

@@ -29,7 +29,7 @@ def test_after_a_record_was_sent_no_page_is_old_without_saying_so(
 ) -> None:
     watch = application.desk.watch
     assert OLD not in all_of(ada)
-    watch.changed()
+    watch.note_change()
     with monkeypatch.context() as patch:
         patch.setattr(application.desk.copies, "renew", fails)
         for _ in range(3):
@@ -52,7 +52,7 @@ def test_an_error_of_ours_is_told_and_the_watch_goes_on(
         patch.setattr(application.desk.copies, "renew", errs)
         application.desk.watch._try()
     words = all_of(ada)
-    assert f"{OLD} The application met an error, which is its own." in words and "what nobody thought of" in words
+    assert f"{OLD} The application had an internal error." in words and "what nobody thought of" in words
     assert "RuntimeError: what nobody thought of" in capfd.readouterr().err
     application.desk.watch._try()
     assert OLD not in all_of(ada)

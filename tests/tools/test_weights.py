@@ -1,4 +1,4 @@
-"""`cpi_tools.sheets.weights`: parts per million by greatest remainders. Each result here was worked by hand."""
+"""`cpi_tools.sheets.sheet_numbers`: parts per million by greatest remainders. Each result here was worked by hand."""
 
 from __future__ import annotations
 
@@ -7,7 +7,7 @@ from fractions import Fraction
 
 import pytest
 
-from cpi_tools.sheets.weights import scaled
+from cpi_tools.sheets.sheet_numbers import scale_weights
 
 
 @pytest.mark.parametrize(
@@ -37,14 +37,14 @@ from cpi_tools.sheets.weights import scaled
     ],
 )
 def test_weights_worked_by_hand(given: list[Fraction], wanted: list[int]) -> None:
-    assert scaled([Fraction(each) for each in given]) == wanted
+    assert scale_weights([Fraction(each) for each in given]) == wanted
 
 
 def test_whatever_is_given_they_add_up_and_are_near_their_share() -> None:
     drawn = random.Random(45)
     for _ in range(200):
         given = [Fraction(drawn.randint(1, 10**6), drawn.choice((1, 7, 100))) for _ in range(drawn.randint(1, 60))]
-        found, total = scaled(given), sum(given)
+        found, total = scale_weights(given), sum(given)
         assert sum(found) == 1_000_000 and min(found) >= 1
         for weight, each in zip(found, given):
             share = each * 1_000_000 / total
@@ -53,4 +53,4 @@ def test_whatever_is_given_they_add_up_and_are_near_their_share() -> None:
 
 def test_a_plan_of_the_greatest_size_with_tiny_weights() -> None:
     # the share of a small one is 0.33, so it is 1, and the great one has what 19,999 of them leave
-    assert scaled([Fraction(1)] * 19_999 + [Fraction(60_000_000)]) == [1] * 19_999 + [980_001]
+    assert scale_weights([Fraction(1)] * 19_999 + [Fraction(60_000_000)]) == [1] * 19_999 + [980_001]

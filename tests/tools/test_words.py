@@ -89,13 +89,13 @@ def test_each_line_of_the_program_has_words() -> None:
         ({"refused": 21}, DESK, "freeze", "the month has no calendar row"),
         ({"refused": 20}, DESK, "handover", "the former collector has no such slot"),
         ({"refused": 50}, DESK, "freeze", "the month is frozen"),
-        ({"refused": 50}, DESK, "handover", "that month is frozen, or a later one is"),
-        ({"refused": 49, "fault": 1, "code": "01.1.1.1-01"}, DESK, "freeze", "an aggregate has no series with a base"),
+        ({"refused": 50}, DESK, "handover", "that month or a later one is frozen"),
+        ({"refused": 49, "fault": 1, "code": "01.1.1.1-01"}, DESK, "freeze", "an aggregate has no series with a base price"),
         ({"refused": 49, "fault": 2, "code": "01.1.1.1-01"}, DESK, "freeze", "an aggregate has nothing to compare"),
         ({"refused": 44, "fault": 4, "found": 9}, DESK, "plan", "the weights don't add up to 1,000,000"),
-        ({"refused": 44, "fault": 8}, DESK, "plan", "an item is placed at an elementary aggregate without weight"),
-        ({"refused": 44, "fault": 8}, DESK, "freeze", "a code of the carry list has no weight this year"),
-        ({"refused": 41}, DESK, "assign", "the item, outlet or collector isn't known; of a hand-over, 43: one of the"
+        ({"refused": 44, "fault": 8}, DESK, "plan", "the plan places an item at an elementary aggregate without a weight"),
+        ({"refused": 44, "fault": 8}, DESK, "freeze", "a code on the carry list has no weight this year"),
+        ({"refused": 41}, DESK, "assign", "the item, outlet or collector isn't registered; for a hand-over, 43: one of the"
          " two collectors isn't"),
         ({"refused": 99}, DESK, None, "refusal 99"),
     ],

@@ -16,14 +16,12 @@ from pathlib import Path
 
 import pytest
 
-from cpi_tools.guard import units
+from cpi_tools.guard import next_open
 from cpi_tools.command_line import main
-from cpi_tools.guard.watch.serve_log import connections_left
+from cpi_tools.guard.watch.serve_log import Journal, Line, OutputFile, Writes, connections_left, last_commit, writes_of
 from cpi_tools.office.copying import log_beside
 from cpi_tools.office.program import Cpi
-from cpi_tools.guard.watch.serve_log import Journal, Line, OutputFile
 from cpi_tools.text.terminal import Fault
-from cpi_tools.guard.watch.last_writes import Writes, last_commit, writes_of
 from lib.served import SECONDS, free_port, heard, message, peer_of, words_of
 from .loads import DESK_KEY, price_of, slot_of
 from .offices import LOAD_KEY, LOAD_MONTH
@@ -331,7 +329,7 @@ def test_a_journal_that_has_nothing_of_an_unknown_unit_is_none(machine: Machine)
 def test_a_journal_that_can_not_be_read_is_told(
     text: str, told: str, machine: Machine, monkeypatch: pytest.MonkeyPatch
 ) -> None:
-    monkeypatch.setattr(units, "SECONDS", 1)
+    monkeypatch.setattr(next_open, "SECONDS", 1)
     script(machine.folder / "journalctl", f"{text}\n")
     with pytest.raises(Fault, match=told):
         Journal("cpi.service").last("^cpi: ")

@@ -16,17 +16,18 @@ import sys
 import zipfile
 from collections.abc import Iterator
 from pathlib import Path
-from typing import Optional
+from typing import Any, Optional
 
 import pytest
 
-from cpi_tools.text.csv_files import formulas_told
+from cpi_tools.text.text_files import formulas_told
 from cpi_tools.text.exact import Ratio
 from cpi_tools.office.folders import files_of
 from cpi_tools.text.languages import PO
 from cpi_tools.publish.forms import tidy, years
 from cpi_tools.publish.figures.aggregated import series_of
-from cpi_tools.publish.forms.artefact_versions import Versions
+from cpi_tools.publish.figures.own_words import OfficeLanguages, colours_of
+from cpi_tools.publish.forms.artefacts import Versions
 from cpi_tools.publish.forms.pack_before import Before
 from cpi_tools.publish.figures.config import BadConfig, Config, read_config
 from cpi_tools.publish.figures.figures import (
@@ -172,10 +173,10 @@ def test_the_file_of_an_item_has_all_months_and_its_page_those_of_the_latest_fil
     assert (pack / f"{name}.csv").read_bytes() == (whole / f"{name}.csv").read_bytes()
     page = (pack / f"{name}.html").read_text(encoding="utf-8")
     assert "May<" not in page.partition("<tbody>")[2] or page.count('class="month"') == 5
-    assert page.count('class="month"') == 5 and "The file of this item has all months" in page
+    assert page.count('class="month"') == 5 and "The file of this item contains all months" in page
     # flour left after 2025: its page has the last year that it was in
     flour = (pack / "node/01.1.1.2-01.html").read_text(encoding="utf-8")
-    assert flour.count('class="month"') == 12 and "its last figure is of December 2025" in flour
+    assert flour.count('class="month"') == 12 and "its last figure is for December 2025" in flour
     assert (whole / f"{name}.html").read_text(encoding="utf-8").count('class="month"') == 29
 
 
@@ -240,6 +241,27 @@ def test_the_next_packs_are_the_packs_from_nothing(published: list[Published], t
         tables_taken = [name for name in tables_there if f"data/tables/{name}" in earlier]
         for name in tables_taken:
             assert (out / "data/tables" / name).stat().st_ino == earlier[f"data/tables/{name}"]
+
+
+ONLY_PAGES: list[dict[str, Any]] = [
+    {"colours": colours_of("#8a1538", "#f0a0b8")},
+    {"press": ("FRUIT",), "press_since": "2027-01"},
+    {"currency": "crowns", "minor_digits": 3},
+    {"speaks": OfficeLanguages(("ar",), "arab")},
+]
+
+
+@pytest.mark.parametrize("words", ONLY_PAGES)
+def test_what_only_pages_say_makes_no_archive_anew(
+    published: list[Published], tmp_path: Path, words: dict[str, Any]
+) -> None:
+    out, kept = tmp_path / "public", tmp_path / "kept.json"
+    written(published, CONFIG._replace(speaks=OfficeLanguages(("ar",))) if "speaks" in words else CONFIG, out)
+    keep(out, kept)
+    before = inodes(out, ARCHIVES)
+    written(published, CONFIG._replace(**words), out)
+    assert inodes(out, ARCHIVES) == before
+    assert [*differences(out, anew(published, CONFIG._replace(**words), tmp_path / "first/public", kept))] == []
 
 
 def lines_written(monkeypatch: pytest.MonkeyPatch) -> dict[str, set[str]]:

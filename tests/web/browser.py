@@ -25,7 +25,7 @@ from selenium.webdriver.common.by import By
 from selenium.webdriver.remote.webelement import WebElement
 from selenium.webdriver.support.wait import WebDriverWait
 
-from cpi_tools.tryout.front import system_program
+from cpi_tools.tryout.trial_services import system_program
 from lib.served import free_port
 
 SECONDS = 60.0
@@ -197,7 +197,8 @@ class Browser:
 
     def _click(self, selector: str) -> None:
         found = self.find(selector)
-        self.run("arguments[0].scrollIntoView({ block: 'center' })", found)
+        # (pages scroll smoothly, and what still moves can't be clicked)
+        self.run("arguments[0].scrollIntoView({ block: 'center', behavior: 'instant' })", found)
         found.click()
 
     def type(self, selector: str, text: str) -> None:

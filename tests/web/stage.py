@@ -15,7 +15,7 @@ from collections.abc import Iterator, Mapping
 from pathlib import Path
 from typing import Any, NamedTuple, Optional
 
-from cpi_tools.tryout.front import Front, Place, draw_certificate
+from cpi_tools.tryout.trial_services import Front, Place, draw_certificate
 from cpi_tools.office.program import Cpi
 from lib.places import ROOT
 from lib.served import free_port

@@ -47,7 +47,7 @@ def opened(browser: Browser, search: str = "", path: str = PAGE) -> Browser:
 
 
 def settled(browser: Browser) -> Browser:
-    browser.wait(lambda: browser.text("#said") not in ("", "The figures are on their way."), "figures")
+    browser.wait(lambda: browser.text("#said") not in ("", "The figures are loading."), "figures")
     return browser
 
 
@@ -103,7 +103,7 @@ def test_texts_of_the_office_are_shown_as_texts(shown: Browser) -> None:
     assert SCRIPT in shown.text("#parts") and SCRIPT in str(
         shown.find("#parts .picture svg").get_attribute("aria-label")
     )
-    assert shown.run("return document.title").startswith("Choose figures")
+    assert shown.run("return document.title").startswith("Build a table")
     assert shown.run("return document.querySelectorAll('main script').length") == 0
     pressed(shown)
     assert faults_of_texts(shown, TURNING) == []
@@ -146,15 +146,15 @@ def test_a_revision_and_its_marks(shown: Browser, website: Path) -> None:
         ("?items=00+" + BREAD, "December 2011 = 100", ["All items", "Bread"],
          {"2011-12": ["100.0", "–"], "2012-01": ["110.0", "120.0"], "2013-02": ["115.0", "126.0"]}, 0),
         # 106 / 116.6 is 90.909.., and 126 / 120 is 105; flour of 2011 isn't linked to 2013
-        (f"?items=00+{BREAD}+{FLOUR}", "each item with a period of its own = 100",
-         ["All itemsDecember 2012 = 100", "BreadDecember 2012 = 100", "FlourDecember 2010 = 100, from January 2013 on December 2012 = 100"],
+        (f"?items=00+{BREAD}+{FLOUR}", "each item with its own reference period",
+         ["All itemsDecember 2012 = 100", "BreadDecember 2012 = 100", "FlourDecember 2010 = 100; since January 2013, December 2012 = 100"],
          {"2011-01": ["90.9", "–", "110.0"], "2012-01": ["100.0", "100.0", "–"], "2013-01": ["104.5", "105.0", "110.0"]}, 1),
         # sugar left before the December in which flour is 100 anew
-        (f"?items=00+{SUGAR}+{FLOUR}", "each item with a period of its own = 100",
-         ["All itemsDecember 2010 = 100", "SugarDecember 2010 = 100", "FlourDecember 2010 = 100, from January 2013 on December 2012 = 100"],
+        (f"?items=00+{SUGAR}+{FLOUR}", "each item with its own reference period",
+         ["All itemsDecember 2010 = 100", "SugarDecember 2010 = 100", "FlourDecember 2010 = 100; since January 2013, December 2012 = 100"],
          {"2011-01": ["106.0", "110.0", "110.0"], "2013-02": ["121.8", "–", "110.0"]}, 1),
         # each with its own, and a month that a reader chose: 116.6 / 106
-        (f"?items=00+{BREAD}&hundred=own", "each item with a period of its own = 100",
+        (f"?items=00+{BREAD}&hundred=own", "each item with its own reference period",
          ["All itemsDecember 2010 = 100", "BreadDecember 2011 = 100"], {"2012-01": ["116.6", "120.0"]}, 0),
         ("?items=00&hundred=2011-01", "January 2011 = 100", ["All items"], {"2012-01": ["110.0"]}, 0),
         ("?items=00&hundred=2012", "2012 = 100", ["All items"], {"2011-01": ["90.9"], "2012-12": ["100.0"]}, 0),
@@ -171,7 +171,7 @@ def test_each_line_says_where_it_is_100(
     assert years.run(UNITS) == [f"{unit}; the axis doesn't begin at zero"] and years.run(HEADS) == ["Month", *heads]
     assert {month: found[names[month]] for month in rows} == rows and years.run(MARKED) == marks
     said = str(years.find("#parts .picture svg").get_attribute("aria-label"))
-    assert unit in said and ("December" in pressed(years)) == ("own = 100" in unit)
+    assert unit in said and ("December" in pressed(years)) == ("own reference period" in unit)
 
 
 # ---- the address
@@ -212,10 +212,11 @@ def test_an_item_is_sought_and_chosen_by_the_keyboard(shown: Browser) -> None:
 def test_a_wrong_address_says_what_it_is(shown: Browser) -> None:
     opened(shown, "?items=00+01.9&from=2011-13&colour=red&show=%3Cb%3Ex")
     assert shown.text("#fault").split("\n\n") == [
-        "from=2011-13: it is no month from 2011-01 to 2011-02.",
-        "colour=red: it is no word of this page; its words are items, show, from, to, hundred, revision, decimals.",
-        "show=<b>x: <b>x is no measure; the measures are index, year, month, contribution-year, contribution-month, weight.",
-        "01.9: no item and no special aggregate of this site has this code.",
+        "from=2011-13: it isn’t a month from 2011-01 to 2011-02.",
+        "colour=red: this page doesn’t know this name; it knows items, show, from, to, hundred, revision, decimals.",
+        "show=<b>x: <b>x isn’t a measure; the measures are index, year, month, contribution-year, contribution-month,"
+        " weight.",
+        "01.9: this code belongs to no item and no special aggregate of this site.",
     ]
     assert (
         shown.run(HEADS) == ["Month", "All items"]
@@ -228,9 +229,7 @@ def test_a_file_that_cannot_be_had_is_said(shown: Browser, stage: Stage, website
     opened(shown)
     shown.offline(True)
     shown.run("history.replaceState(null, '', '?items=00+01'); dispatchEvent(new PopStateEvent('popstate'))")
-    shown.wait_text(
-        "#fault", "01: \u2068node/01.csv\u2069: the server doesn’t answer. Load the page again in a moment."
-    )
+    shown.wait_text("#fault", "01: \u2068node/01.csv\u2069: the server doesn’t respond. Reload the page in a moment.")
     shown.offline(False)
     shown.choose("from", "2011-02")
     shown.wait(lambda: shown.text("#fault") == "" and len(shown.run(HEADS)) == 3)
@@ -320,7 +319,7 @@ def test_without_a_script_it_leads_to_the_files(shown: Browser) -> None:
     shown.cdp("Emulation.setScriptExecutionDisabled", value=True)
     shown.open(PAGE)
     shown.cdp("Emulation.setScriptExecutionDisabled", value=False)
-    assert "Choosing needs a script" in shown.text("#without") and not shown.find("#choice").is_displayed()
+    assert "This page needs JavaScript" in shown.text("#without") and not shown.find("#choice").is_displayed()
     assert [str(it.get_attribute("href")).rpartition("/")[2] for it in shown.all("#without a")] == [
         "nodes.html",
         "data.html",
@@ -330,7 +329,7 @@ def test_without_a_script_it_leads_to_the_files(shown: Browser) -> None:
 def test_from_a_disk_it_leads_to_the_files(shown: Browser, website: Path) -> None:
     """A browser loads no module from there."""
     shown.driver.get(f"file://{website}/choose.html")
-    assert "Choosing needs a script" in shown.text("#without")
+    assert "This page needs JavaScript" in shown.text("#without")
 
 
 # ---- how it looks

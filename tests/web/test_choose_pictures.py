@@ -175,7 +175,7 @@ def test_a_choice_is_framed_by_another_site(
         browser.driver.switch_to.frame(browser.driver.find_element("css selector", "iframe"))
         try:
             browser.wait(lambda: browser.all("#parts .picture svg"), "a picture")
-            assert browser.text("#parts figcaption").startswith("Change on the year before")
+            assert browser.text("#parts figcaption").startswith("Annual change")
             assert [it.text for it in browser.all("#parts .lines-key li")] == ["All items", "Rice"]
             assert "Source: Office of prices" in browser.text("footer").translate({0x2068: None, 0x2069: None})
             link = browser.find("#choose")
@@ -204,8 +204,8 @@ def test_a_wrong_address_is_said_in_the_frame(browser: Browser, stage: Stage, la
     browser.open(f"{SMALL}?items=00+01.9&from=%3Cb%3E")
     browser.wait(lambda: browser.text("#fault") != "", "faults")
     assert browser.text("#fault").split("\n\n") == [
-        "from=<b>: it is no month from 2011-01 to 2013-02.",
-        "01.9: no item and no special aggregate of this site has this code.",
+        "from=<b>: it isn’t a month from 2011-01 to 2013-02.",
+        "01.9: this code belongs to no item and no special aggregate of this site.",
     ]
     assert browser.run("return document.querySelectorAll('#fault b').length") == 0
 
@@ -217,5 +217,5 @@ def test_without_a_script_the_small_page_leads_to_the_page_for_choosing(
     browser.cdp("Emulation.setScriptExecutionDisabled", value=True)
     browser.open(SMALL)
     browser.cdp("Emulation.setScriptExecutionDisabled", value=False)
-    assert "This picture needs a script." in browser.text("#without")
+    assert "This chart needs JavaScript." in browser.text("#without")
     assert str(browser.find("#without a").get_attribute("href")).endswith("/published/choose.html")

@@ -10,7 +10,7 @@ import pytest
 from .browser import Browser
 from cpi_tools.text.clocks import clock_of
 from cpi_tools.publish.figures.config import Config
-from cpi_tools.publish.figures.office_languages import OfficeLanguages
+from cpi_tools.publish.figures.own_words import OfficeLanguages
 from cpi_tools.office.public import Listed, Published
 from cpi_tools.publish.pack import publish
 
@@ -66,8 +66,8 @@ def test_the_address_of_a_result_gives_it_after_a_revision(browser: Browser, out
     publish([BEFORE, JANUARY, FEBRUARY, REVISED], CONFIG, out, None, lambda _: None)
     open_page(browser, out, address[address.index("#") :])
     assert shown(browser, "#value") == "1 023.69 crowns"
-    assert "its index is 105.0 by revision 2" in shown(browser, "#notices")
-    assert "By the latest revisions the new amount is 1 036.53 crowns." in shown(browser, "#notices")
+    assert "its index is 105.0 in revision 2" in shown(browser, "#notices")
+    assert "With the latest revisions, the new amount is 1 036.53 crowns." in shown(browser, "#notices")
     assert "revision 1, published 1 January 1970, 00:00 UTC" in folded(browser, "#now-source")
     browser.click("#latest")
     assert shown(browser, "#value") == "1 036.53 crowns" and shown(browser, "#notices") == ""
@@ -89,7 +89,9 @@ def test_the_address_of_a_result_is_that_of_the_site(browser: Browser, out: Path
 
 def test_an_address_is_read_or_said_to_be_wrong(browser: Browser, out: Path) -> None:
     open_page(browser, out, "#amount=2000&code=77&then=2026-01&now=2026-02")
-    assert "The address has code=77. It has to be an item that the form offers." in browser.text("#address-faults")
+    assert "The address contains code=77. The value has to be an item that the form offers." in browser.text(
+        "#address-faults"
+    )
     assert shown(browser, "#value") == "2 047.38 crowns"
     browser.driver.back()
     browser.driver.forward()
@@ -111,7 +113,7 @@ def test_the_texts_are_copied(browser: Browser, out: Path) -> None:
             continue
         assert browser.run("return getSelection().toString()").strip() == browser.text(f"#{name}").strip()
     assert re.search(
-        "It counts from the index of December 2025: 100.0 .*to the nearest 0.01", browser.text("#clause-text")
+        "The base index is the index of December 2025: 100.0 .*to the nearest 0.01", browser.text("#clause-text")
     )
 
 

@@ -11,7 +11,7 @@ from pathlib import Path
 
 from selenium.webdriver.common.keys import Keys
 
-from cpi_tools.text.csv_files import line_of
+from cpi_tools.text.text_files import line_of
 from cpi_tools.desk.records.desk_log import DeskLog
 from lib import hostile
 from lib.sample import Sample
@@ -51,12 +51,12 @@ def test_a_month_is_closed_by_two_people_with_a_keyboard(stage: Stage, ada: Pers
     opened(ada, stage)
     ada.open(f"/month/{MONTH}/looks")
     ada.tried(MONTH)
-    browser.wait_text("main", "Why: confirmed, the only price that is compared in its aggregate")
+    browser.wait_text("main", "Why: confirmed, the only compared price in its aggregate")
     ada.reach("input[name=text]")
     ada.type("Anna looked again: it is right", Keys.ENTER)
     browser.wait_text(".desk-note", "Anna looked again: it is right")
     ada.type(Keys.ESCAPE, "s")
-    browser.wait_text("main", "Nothing is left to look at.")
+    browser.wait_text("main", "No prices are left to look at.")
     ada.open(f"/month/{MONTH}/freeze")
     ada.press("form[action$='/prepare'] button")
     browser.wait_text("#prepared", "The record itself")
@@ -66,7 +66,7 @@ def test_a_month_is_closed_by_two_people_with_a_keyboard(stage: Stage, ada: Pers
     ada.sign_in("Ben")
     ada.open(f"/month/{MONTH}/freeze")
     ada.tried(MONTH)
-    browser.wait_text("#prepared", "Nothing changed since it was prepared.")
+    browser.wait_text("#prepared", "Nothing has changed since the freeze was prepared.")
     signed = browser.text("#prepared")
     assert "+19.8" in signed and "level 125.57" in signed and "Flour, wheat" in signed
     ada.press("form[action$='/confirm'] button")
@@ -114,7 +114,7 @@ def test_a_form_of_an_ended_session_comes_back(stage: Stage, ada: Person, browse
     browser.wait_text("h1", "Not sent yet")
     assert "Typed too late" in browser.text(".facts")
     ada.press("main form button.main")
-    browser.wait_text("main", "1 would be carried out, 0 refused.")
+    browser.wait_text("main", "1 would be accepted, 0 refused.")
     ada.press("form[action$='/records/send'] button")
     browser.wait_text("main", "1 of 1 done.")
     browser.driver.refresh()
@@ -220,7 +220,7 @@ def test_the_head_of_a_narrow_page_is_two_lines(ada: Person, browser: Browser) -
 PATHS = (
     *(
         f"/month/{MONTH}/{it}"
-        for it in ("", "table", "looks", "freeze", "what-if", "explain/01.1.1.2-01", "explain/01")
+        for it in ("", "table", "looks", "freeze", "release", "what-if", "explain/01.1.1.2-01", "explain/01")
     ),
     *("/calendar", "/records", "/log", "/nowhere"),
 )

@@ -5,7 +5,7 @@ from __future__ import annotations
 from collections.abc import Sequence
 from pathlib import Path
 
-from cpi_tools.text.csv_files import line_of
+from cpi_tools.text.text_files import line_of
 from lib import hostile
 from lib.sample import Sample
 
@@ -37,12 +37,12 @@ def test_rows_are_pasted_mended_and_sent_with_a_keyboard(
     pasted(ada, "outlets", "outlet;name", "70;Harbour, east", "71;Station")
     browser.wait_text("#waiting-rows", "Harbour, east")
     ada.press("form[action$='/outlets/send'] button")
-    browser.wait_text(".told.good", "2 rows sent, and carried out.")
+    browser.wait_text(".told.good", "2 rows sent and accepted.")
     assert not browser.all("#waiting-rows")
     pasted(ada, "assignments", f"7,70,RICE,{NOW},2199-12", f"7,1,70,FLOUR,{NOW},2199-12")
     browser.wait_text("#waiting-rows tr.refused", "refused by 40")
     ada.press("form[action$='/assignments/send'] button")
-    browser.wait_text(".told.good", "1 row sent, and carried out.")
+    browser.wait_text(".told.good", "1 row sent and accepted.")
     pages.kill()
     pages.start()
     ada.sign_in("Ada")
@@ -52,7 +52,7 @@ def test_rows_are_pasted_mended_and_sent_with_a_keyboard(
     browser.run("arguments[0].value = ''", browser.all("#slot")[0])
     ada.press("#mend button")
     ada.press("form[action$='/assignments/send'] button")
-    browser.wait_text(".told.good", "1 row sent, and carried out.")
+    browser.wait_text(".told.good", "1 row sent and accepted.")
     work = stage.ask("GET", f"/api/work/{NOW}", ANNA).reply["work"]
     assert [row[2] for row in work].count("Harbour, east") == 2
     assert browser.faults() == []
@@ -83,24 +83,24 @@ def test_a_draft_of_the_year_is_changed_judged_and_sent(stage: Stage, ada: Perso
     ada.open("/year")
     ada.press("form[action$='/make'] button")
     browser.wait(lambda: "/year/2012/" in browser.driver.current_url, "the draft")
-    browser.wait_text("#sum", "1,000,000, which is all.")
+    browser.wait_text("#sum", "1,000,000, as they should.")
     ada.reach("input[name=weight]")
     asks = "const it = new Event('beforeunload', { cancelable: true }); dispatchEvent(it); return it.defaultPrevented;"
     assert not browser.run(asks)
     browser.run("document.querySelector('input[name=weight]').value = '590000'")
     assert browser.run(asks)
     ada.press("#weights button.main")
-    browser.wait_text("#sum", "990,000, and should to 1,000,000.")
+    browser.wait_text("#sum", "990,000, but should add up to 1,000,000.")
     ada.reach("#pasted")
     browser.type("#pasted", "01.1.1.1-01;590000\n01.1.1.2-01;410000")
     ada.press("#paste button")
     ada.press("form[action$='/check'] button")
-    browser.wait_text("#checked", "The office would carry this out")
+    browser.wait_text("#checked", "These changes would be accepted")
     sheets = [f"/year/2012/?sheet={it}" for it in ("weights", "classification", "series", "few-series")]
     assert faults_of(["/year", *sheets], ada, browser) == []
     ada.open("/year/2012/")
     ada.press("form[action$='/send'] button")
-    browser.wait_text(".told.good", "sent, and carried out.")
+    browser.wait_text(".told.good", "sent and accepted.")
     assert faults_of(["/calendar/2012", "/calendar"], ada, browser) == []
 
 

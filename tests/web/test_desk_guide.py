@@ -119,7 +119,7 @@ class Follower:
                 # (it is asked only of prices that move all items by much; --left-out 0 measures none)
                 self.give_reasons("#because")
             self.go("main button, header button", button)
-            if button == "Try it now":
+            if button == "Run a trial":
                 tried = "return !!document.querySelector('form[action$=\"/try\"]')"
                 self.wait(tried, "the trial")
 
@@ -228,8 +228,8 @@ def goes_back(browser: Browser) -> None:
 def drops_too_late(follower: Follower) -> None:
     """Who prepared the freeze has its page open still, and drops it after the other person has confirmed it."""
     browser = follower.browser
-    follower.go("#prepared button", "Drop it")
-    stays(browser, "No freeze is prepared any more: Ben sent or dropped it")
+    follower.go("#prepared button", "Discard it")
+    stays(browser, "There is no longer a prepared freeze: Ben sent it or discarded it")
 
 
 @pytest.mark.long

@@ -280,7 +280,7 @@ def looked_at(desk: Desk) -> None:
     desk.at.type(Keys.ESCAPE)
     for _ in desk.browser.all("tr.look"):
         desk.at.type("s")
-    desk.browser.wait_text("main", "Nothing is left to look at.")
+    desk.browser.wait_text("main", "No prices are left to look at.")
 
 
 def nothing_is_there_twice(desk: Desk, stage: Stage) -> None:

@@ -84,9 +84,9 @@ const filled = (ground, ink) => {
   made.style.cssText = `background: var(--${ground}); color: var(--${ink})`;
   return made;
 };
-const pairs = [["band", "band-ink"], ["hover", "link"], ["hover", "ink"], ["main", "on-link"], ["main-hover", "on-link"],
+const pairs = [["band", "band-ink"], ["hover", "accent"], ["hover", "ink"], ["accent", "ground"], ["accent-hover", "ground"],
   ["warn-fill", "on-fill"], ["warn-fill-hover", "on-fill"], ["bad-fill", "on-fill"], ["head", "on-head"],
-  ["head-hover", "on-head"], ["deep", "on-head"]];
+  ["head-hover", "on-head"], ["deep", "on-deep"]];
 document.body.prepend(make("header", { class: "top" }, make("p", {}, "A head"), make("button", { class: "quiet" }, "Sign out")));
 document.querySelector("main").replaceChildren(make("div", { class: "card" }, ...parts()), ...parts(),
   ...pairs.map((pair) => filled(...pair)));

@@ -20,7 +20,7 @@ import pytest
 
 from lib.places import ROOT
 from cpi_tools.command_line import main
-from cpi_tools.tryout.front import Front, standing
+from cpi_tools.tryout.trial_services import Front, standing
 from .offices import ANNA, BENO, DESK, NOBODY, NOW
 from .peers import Peer, address_of, all_at_once, answered_within, asked, drawn_key, once, timed
 from .stage import Stage
@@ -273,6 +273,8 @@ def test_the_website_has_its_own_page_for_a_wrong_address(stage: Stage) -> None:
         assert stage.ask("POST", "/nothing", body="x").status == 403
         for name, kind in (("calendar.ics", "text/calendar"), ("release.txt", "text/plain")):
             assert stage.ask("GET", f"/published/{name}").fields["Content-Type"] == f"{kind}; charset=utf-8"
+        (site / "release.pdf").write_bytes(b"%PDF-")
+        assert stage.ask("GET", "/published/release.pdf").fields["Content-Type"] == "application/pdf"
 
 
 def test_cards_feed_and_calendar_are_for_other_sites(stage: Stage) -> None:

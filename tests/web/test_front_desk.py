@@ -98,7 +98,7 @@ def test_forms_of_elsewhere_and_other_names_are_refused(fronted: DeskPages, stag
     evil = stage.ask("POST", f"{PREFIX}/sign-in", body=form, **FORM, Origin="https://evil.example")
     assert evil.status == 403 and "Set-Cookie" not in evil.fields
     named = stage.ask("GET", f"{PREFIX}/sign-in", Host="evil.example")
-    assert named.status == 400 and b"evil.example" in named.body and b"it is reached as <bdi>https" in named.body
+    assert named.status == 400 and b"evil.example" in named.body and b"its address is <bdi>https" in named.body
 
 
 def test_it_may_be_for_the_offices_network_only(fronted: DeskPages, stage: Stage) -> None:
@@ -135,7 +135,7 @@ def test_while_it_is_away_one_sentence_says_so_and_all_else_works(
     assert stage.ask("POST", f"{PREFIX}/records/judge", body="text=x", **FORM).status == 503
     assert stage.ask("GET", "/away.html").status == 404
     person.open("/records")
-    assert browser.text("main p").startswith("The desk\u2019s pages can\u2019t be reached at the moment: try again")
+    assert browser.text("main p").startswith("The desk\u2019s pages can\u2019t be reached at the moment. Try again in a minute")
     languages = browser.run("return [...document.querySelectorAll('main p')].map((it) => it.lang || 'en')")
     assert languages == ["en", "ar", "es", "fr"]
     for width in (360, 1280):

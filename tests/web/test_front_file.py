@@ -10,7 +10,7 @@ from pathlib import Path
 import pytest
 
 from lib.places import ROOT
-from cpi_tools.tryout.front import draw_certificate, system_program, whole_configuration
+from cpi_tools.tryout.trial_services import draw_certificate, system_program, whole_configuration
 from lib.served import free_port
 
 HOST = "prices.example"

@@ -134,7 +134,7 @@ def test_eight_long_forms_past_the_front_cost_no_more_than_their_bytes(fronted: 
     assert used(fronted) - before < PROCESSOR_SECONDS
     assert {status_of(answer) for _, answer in answers} == {200}
     assert {status_of(answer) for answer in told} == {413} and len(told) == FORMS
-    assert all(b"Before you are signed in, a form has 4,096 bytes at most" in answer for answer in told)
+    assert all(b"Before you sign in, a form can have at most 4,096 bytes" in answer for answer in told)
 
 
 def test_a_form_of_a_person_signs_in_as_before(fronted: DeskPages, stage: Stage) -> None:

@@ -24,6 +24,7 @@ EVIL = {
 PLACES = (
     "/", "/a", "/index.html", "/desk", "/desk/", "/desk/sign-in", "/published", "/published/", "/published/data/",
     "/tables", "/tables/", "/collect", "/collect/", "/config.js", "/calendar.json", "/away.html", "/api/items",
+    "/opening.json",
     "/api/tables", "/api/table/2011-02/text", "/api/table/2011-02/csv/1", "/notes/2011-02", "/notes/2011-02/7",
     "/notes/questions", "/notes/2011-02/questions/7", "/.well-known/acme-challenge/", "/wait", "/second", "/nowhere",
 )  # fmt: skip

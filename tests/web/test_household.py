@@ -43,7 +43,7 @@ def test_what_is_typed_is_in_the_address_and_sent_nowhere(years: Browser) -> Non
     opened(years, "#from=2012-12")
     years.type("#spent-01", "1\u2019000,50")
     years.wait_text("#value", "+4.5")
-    assert years.text("#meaning") == "Your household’s prices changed as the index did."
+    assert years.text("#meaning") == "Your household’s prices changed by as much as the index."
     address = years.run("return location.href")
     assert address.endswith("#spent=01%3A1000.50&from=2012-12")
     asked = years.run("return performance.getEntriesByType('resource').map(({ name }) => name)")
@@ -63,8 +63,8 @@ def test_an_item_is_added_beside_its_division(years: Browser) -> None:
 
 def test_what_cant_be_computed_is_said(years: Browser) -> None:
     opened(years, f"#spent={FLOUR}:10&from=2012-01")
-    years.wait_text("#fault", "has no index in one of these months.")
+    years.wait_text("#fault", "has no index for one of these months.")
     assert not years.find("#result").is_displayed()
     years.type("#spent-01", "many")
-    years.wait_text("#fault", "Write the amount with figures, such as 250.")
+    years.wait_text("#fault", "Write the amount in digits, such as 250.")
     assert years.find("#spent-01").get_attribute("aria-invalid") == "true"

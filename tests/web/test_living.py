@@ -16,7 +16,7 @@ from .readable import faults_for_keys
 from .stage import Stage
 from .years import BREAD, FLOUR
 
-LEVEL, YEAR = 'svg[aria-label*=": index"]', 'svg[aria-label*="year before"]'
+LEVEL, YEAR = 'svg[aria-label*=": index"]', 'svg[aria-label*=": annual change"]'
 
 TOLD = "return document.querySelector(arguments[0]).parentElement.querySelector('.readout').textContent"
 
@@ -144,7 +144,7 @@ def test_a_file_that_cant_be_had_is_told(years: Browser, stage: Stage) -> None:
     years.wait(lambda: years.run("return document.querySelector('.cursor') !== null"), "scripts")
     stage.front.stop()
     press(years, Keys.END)
-    years.wait(lambda: "the server doesn’t answer. Load the page again in a moment" in years.run(TOLD, LEVEL), "told")
+    years.wait(lambda: "the server doesn’t respond. Reload the page in a moment" in years.run(TOLD, LEVEL), "told")
     stage.front.start()
     press(years, Keys.HOME)
     wait_told(years, LEVEL, "January 2011: All items 106.0")
@@ -173,7 +173,7 @@ def test_scripts_that_cant_be_had_are_told_and_asked_for_again(years: Browser, s
     open_page(years, "index.html")
     stage.front.stop()
     years.run("document.querySelector(arguments[0]).focus()", LEVEL)
-    years.wait(lambda: "The figures of the months can't be loaded." in years.run(TOLD, LEVEL), "what is told")
+    years.wait(lambda: "The monthly figures can't be loaded." in years.run(TOLD, LEVEL), "what is told")
     stage.front.start()
     press(years, Keys.END)
     wait_told(years, LEVEL, "February 2013: All items 121.8")

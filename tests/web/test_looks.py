@@ -52,16 +52,16 @@ def test_keys_go_through_the_rows_and_mark_them(rows: list[str], ada: Person, br
         assert focus(browser) == f"{rows[at]} TR", (key, at)
     ada.type("s")
     assert focus(browser) == f"{rows[1]} TR"
-    browser.wait_text("#counts", "2 to look at, 1 seen by you.")
-    browser.wait_text(f"#{rows[0]} form.mark", "Not seen after all")
+    browser.wait_text("#counts", "2 to look at; you have seen 1.")
+    browser.wait_text(f"#{rows[0]} form.mark", "Mark as not seen")
     ada.type("k", "s")
-    browser.wait_text("#counts", "3 to look at, 0 seen by you.")
+    browser.wait_text("#counts", "3 to look at; you have seen 0.")
     assert focus(browser) == f"{rows[0]} TR" and stays(browser)
     ada.type("s", "s", "s")
-    browser.wait_text("#message", "Nothing is left to look at.")
+    browser.wait_text("#message", "No prices are left to look at.")
     assert stays(browser) and browser.faults() == []
     ada.open(LOOKS)
-    browser.wait_text("main", "Nothing is left to look at.")
+    browser.wait_text("main", "No prices are left to look at.")
 
 
 def test_a_note_that_is_being_written_stays(rows: list[str], ada: Person, browser: Browser, stage: Stage) -> None:
@@ -73,11 +73,11 @@ def test_a_note_that_is_being_written_stays(rows: list[str], ada: Person, browse
     field = f"#{rows[0]} input[name=text]"
     ben_notes(ada, rows[0], "Ben called the shop")
     browser.run("document.querySelector(arguments[0]).requestSubmit()", f"#{rows[1]} form.mark")
-    browser.wait_text("#counts", "2 to look at, 1 seen by you.")
+    browser.wait_text("#counts", "2 to look at; you have seen 1.")
     assert focus(browser) == f"{rows[0]} INPUT" and browser.run(VALUE, field) == "jks is typed"
     ada.pages.kill()
     ada.type(Keys.ENTER)
-    browser.wait_text("#message", "No answer came, so it isn't known")
+    browser.wait_text("#message", "No response came, so it isn't known")
     assert focus(browser) == f"{rows[0]} INPUT" and browser.run(VALUE, field) == "jks is typed" and stays(browser)
 
 
@@ -90,7 +90,7 @@ def test_a_note_goes_out_and_brings_those_of_others(rows: list[str], ada: Person
     ada.type(Keys.ENTER)
     browser.wait_text(f"#{rows[0]} .notes", "It is right")
     assert "Ben called the shop" in browser.text(f"#{rows[0]} .notes")
-    browser.wait_text("#message", "Somebody else has noted something of this price meanwhile")
+    browser.wait_text("#message", "Somebody else has noted something about this price in the meantime")
     assert browser.run(VALUE, f"#{rows[0]} input[name=text]") == "" and focus(browser) == f"{rows[0]} INPUT"
     ada.type("again", Keys.ESCAPE)
     assert focus(browser) == f"{rows[0]} TR" and stays(browser)
@@ -115,8 +115,8 @@ def ben_notes(ada: Person, row: str, text: str) -> None:
 def test_rows_that_are_checked_are_marked_at_once(rows: list[str], ada: Person, browser: Browser) -> None:
     for selector in ("#every input", f"#{rows[2]} input[name=checked]", "#many button[value=seen]"):
         browser.run("document.querySelector(arguments[0]).click()", selector)
-    browser.wait_text("#counts", "1 to look at, 2 seen by you.")
-    assert [browser.text(f"#{row} form.mark") for row in rows] == ["Not seen after all", "Not seen after all", "Seen"]
+    browser.wait_text("#counts", "1 to look at; you have seen 2.")
+    assert [browser.text(f"#{row} form.mark") for row in rows] == ["Mark as not seen", "Mark as not seen", "Seen"]
     assert stays(browser) and not browser.all("input[name=checked]:checked")
     assert faults_at_sizes(browser, []) == []
 
@@ -140,7 +140,7 @@ def test_a_form_can_be_sent_again_by_whoever_stayed_on_the_page(rows: list[str],
 def test_without_a_script_the_next_row_is_shown(rows: list[str], ada: Person, browser: Browser) -> None:
     browser.run("document.querySelector(arguments[0]).submit()", f"#{rows[0]} form.mark")
     browser.wait(lambda: not stays(browser), "another page")
-    browser.wait_text("#counts", "2 to look at, 1 seen by you.")
+    browser.wait_text("#counts", "2 to look at; you have seen 1.")
     assert browser.run("return location.hash") == f"#{rows[1]}"
 
 

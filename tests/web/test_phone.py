@@ -15,7 +15,11 @@ from .stage import Stage
 def test_a_key_that_opens_nothing_is_told_in_words(phone: Phone) -> None:
     phone.open()
     phone.browser.wait_shown("#sign-in")
-    for key, words in (("abc", "32 characters"), (NOBODY, "Nobody has this key"), (DESK, "isn’t a collector’s")):
+    for key, words in (
+        ("abc", "32 characters"),
+        (NOBODY, "This key isn’t registered"),
+        (DESK, "doesn’t belong to a collector"),
+    ):
         phone.give_key(key)
         phone.browser.wait_text("#key-fault", words)
     assert phone.browser.faults() == []
@@ -32,14 +36,14 @@ def test_a_key_that_the_front_denies_is_told_and_what_waits_stays(phone: Phone, 
     phone.sign_in()
     stage.front.stop()
     phone.enter(1, "3.10")
-    phone.browser.wait_text("#line", "No line: 1 entry kept on this phone")
+    phone.browser.wait_text("#line", "Offline: 1 entry kept on this phone")
     denied = f'"~*{ANNA}" 1;'
     stage.front.start(lambda text: text.replace("default 0;\n", f"default 0;\n{denied}\n", 1))
     for field in (f"CPI-Key {ANNA}", f"cpi-key  {ANNA}", f"\tCPI-Key {ANNA}", f"CPI-Key {ANNA}\t"):
         assert stage.ask("GET", f"/api/work/{NOW}", Authorization=field).status == 401, field
     assert stage.ask("GET", f"/api/work/{NOW}", BENO).status == 200
     phone.send()
-    phone.browser.wait_text("#notice", "Nobody has this key")
+    phone.browser.wait_text("#notice", "This key isn’t registered")
     assert "To be sent" in phone.told(1)
     assert stage.relay.rows("quote,") == 0
     stage.front.stop()
@@ -116,14 +120,14 @@ def test_what_is_no_price_is_told_and_not_sent(phone: Phone, stage: Stage) -> No
         phone.browser.run("document.getElementById('price-fault').textContent = ''")
         phone.browser.type("#price", text)
         phone.browser.click("#entry-save")
-        phone.browser.wait_text("#price-fault", "Write the price with figures, such as 2.10.")
+        phone.browser.wait_text("#price-fault", "Type the price in digits, such as 2.10.")
     assert len(stage.relay.seen) == before
 
 
 def test_last_price_and_bounds_are_shown_before_anything_is_sent(phone: Phone) -> None:
     phone.sign_in()
     phone.edit(2)
-    assert phone.browser.text("#entry-last") == "Last price 4.80. Taken without a second look: 3.36 to 7.20."
+    assert phone.browser.text("#entry-last") == "Last price 4.80. Usual range: 3.36 to 7.20."
     phone.browser.click("#entry-cancel")
     phone.edit(3)
     assert phone.browser.text("#entry-last") == "There is no last price."
@@ -152,8 +156,8 @@ def test_a_price_far_from_the_last_is_confirmed(phone: Phone, stage: Stage, spee
     phone.speaks(speech)
     phone.sign_in()
     phone.enter(2, speech.figure("9.99"))
-    phone.browser.wait_text("#entry-refusal", phone.said("This price is far from the last one. Look again."))
-    bounds = "Last price {last}; without a second look {low} to {high} is taken."
+    phone.browser.wait_text("#entry-refusal", phone.said("This price is far from the last one. Check it again."))
+    bounds = "Last price {last}. Usual range: {low} to {high}."
     assert phone.said(bounds, last="4.80", low="3.36", high="7.20") in phone.browser.text("#entry-refusal")
     assert stored(stage, 2) == []
     phone.confirm()
@@ -200,7 +204,9 @@ def test_missing_and_replacements(phone: Phone, stage: Stage) -> None:
 def test_each_other_reason(phone: Phone, stage: Stage) -> None:
     phone.sign_in()
     phone.show("all")
-    for at, (reason, words) in enumerate((("closed", "Shop closed"), ("gone", "No longer sold"), ("refused", "tell"))):
+    for at, (reason, words) in enumerate(
+        (("closed", "Shop closed"), ("gone", "No longer sold"), ("refused", "refused"))
+    ):
         phone.enter(2, mark="missing", reason=reason)
         phone.wait_receipt(2, NEXT + at)
         assert words in phone.told(2)

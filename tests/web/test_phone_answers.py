@@ -13,9 +13,9 @@ from .stage import Stage
 from .unsent import NEXT, clock_faster, desk, stored
 from .wire import Wire, through
 
-UNKNOWN = "Not known if 1 entry is stored. The page asks again."
+UNKNOWN = "The page doesn’t know whether 1 entry is stored. It asks again."
 BUSY = "The office is busy: 1 entry kept on this phone"
-NO_LINE = "No line: 1 entry kept on this phone"
+NO_LINE = "Offline: 1 entry kept on this phone"
 
 
 def answer(
@@ -197,7 +197,7 @@ def test_lists_that_make_no_sense_arent_kept(phone: Phone, stage: Stage) -> None
     with clock_faster(phone.browser, 10):
         phone.sign_in()
         for path, reply in SPOILED_LISTS:
-            spoiled(phone, path, reply, "The answer made no sense. The page asks again.", phone.send)
+            spoiled(phone, path, reply, "The office’s answer can’t be read. The page asks again.", phone.send)
             phone.open()
             phone.browser.wait_text("#line", "All sent")
             phone.browser.wait_text("#list", "Rice, white")
@@ -209,8 +209,8 @@ def test_a_list_that_an_office_without_room_refuses_is_asked_for_again(phone: Ph
         phone.sign_in()
         phone.browser.run(GETS, '{"refused":90}', "/api/work/")
         phone.browser.click("#month-before")
-        phone.browser.wait_text("#notice", "Memory or the disk failed.")
-        assert phone.browser.text("#list") == "No list of this month yet."
+        phone.browser.wait_text("#notice", "Memory ran out, or the disk failed.")
+        assert phone.browser.text("#list") == "No list for this month yet."
         phone.browser.run("window.fetch = window.real;")
         phone.browser.wait_text("#progress", "3 of 4 stored")  # (nobody touches the page)
     assert phone.browser.text("#notice") == ""
@@ -240,7 +240,7 @@ def test_a_receipt_that_finds_no_room_on_the_phone_comes_again(phone: Phone, sta
         phone.sign_in()
         phone.browser.run(DISK_IS_FULL)
         phone.enter(1, "3.10")
-        phone.browser.wait_text("#notice", "there is no room left")
+        phone.browser.wait_text("#notice", "the phone is full")
         phone.browser.wait_text("#line", "All sent")  # (nobody touches the page)
     assert stored(stage) == [[1, 310, NEXT]]
     assert stage.relay.rows("quote,1,") == 2

@@ -242,7 +242,7 @@ class Hand:
 
 def progress(words: Words, stored: int) -> str:
     """What the list says of so many rows that are stored, up to its moment."""
-    told = words.said("{stored} of {all} stored, list of {time}", stored=str(stored), all=str(len(DAY)))
+    told = words.said("{stored} of {all} stored, as of {time}", stored=str(stored), all=str(len(DAY)))
     return told.partition("{time}")[0]
 
 
@@ -257,7 +257,7 @@ def work_without_line(hand: Hand) -> None:
     browser.offline(True)
     hand.work(40)
     kept = int(re.findall(r"\d+", browser.text("#line"))[0])
-    one, many = "No line: {count} entry kept on this phone", "No line: {count} entries kept on this phone"
+    one, many = "Offline: {count} entry kept on this phone", "Offline: {count} entries kept on this phone"
     told = hand.phone.words.counted(one, many, kept)
     assert browser.text("#line") == told
     assert 40 <= kept <= 65  # (some were under way when the line began to hang)

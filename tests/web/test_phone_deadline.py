@@ -116,7 +116,7 @@ def test_the_deadline_is_by_the_office_s_clock_and_by_the_phone_s_if_that_differ
     own = int(here.total_seconds()) if here else 0
     at = publish_by(stage, "NPT", own + 20_700, DAY * 4)
     phone.sign_in()
-    told_so = f"{words_by(at, own + 20_700)} NPT ({words_by(at, own)} by this phone)"
+    told_so = f"{words_by(at, own + 20_700)} NPT ({words_by(at, own)} on this phone’s clock)"
     phone.browser.wait_text("#deadline", f"The window closes on {told_so}, in 3 days.")
     at = publish_by(stage, "CET", own, DAY * 4 + 60)
     phone.send()
@@ -126,7 +126,7 @@ def test_the_deadline_is_by_the_office_s_clock_and_by_the_phone_s_if_that_differ
 def test_a_window_that_opens_later_or_has_closed_is_told(phone: Phone, stage: Stage) -> None:
     publish(stage, **{named(NOW): (DAY * 3 + 60, DAY * 5)})
     phone.sign_in()
-    words = f"The window of {in_words(NOW)} opens on {told(stage, 'opens')}, in 3 days."
+    words = f"The window for {in_words(NOW)} opens on {told(stage, 'opens')}, in 3 days."
     phone.browser.wait(lambda: phone.browser.text("#deadline") == words, words)
     publish(stage, **{named(NOW): (-DAY * 5, -HOUR)})
     phone.send()
@@ -183,7 +183,7 @@ def test_without_a_line_the_deadline_is_still_there(phone: Phone, stage: Stage) 
     phone.browser.wait_text("#deadline", told(stage))
     stage.front.stop()
     phone.open()
-    phone.browser.wait_text("#line", "No line")
+    phone.browser.wait_text("#line", "Offline")
     assert phone.browser.text("#deadline") == f"The window closes on {told(stage)}, in 3 days."
 
 
@@ -227,7 +227,7 @@ def test_no_phone_says_closed_while_the_office_stores(phone: Phone, stage: Stage
     phone.sign_in()
     phone.browser.wait_text("#deadline", "The window closed on")
     phone.enter(1, "3.21")
-    words = f"The office takes prices of {in_words(NOW)}. This phone doesn’t know yet until when."
+    words = f"The office accepts prices for {in_words(NOW)}. This phone doesn’t know the deadline yet."
     phone.browser.wait_text("#deadline", words)
     assert len(stage.wait_for_quotes(ANNA)) == 1
     phone.open()
@@ -245,7 +245,7 @@ def test_a_window_that_has_closed_at_the_office_isnt_open_on_the_phone(phone: Ph
     assert len(stage.wait_for_quotes(ANNA)) == 1
     sets(stage, -9 * DAY, -DAY)
     phone.enter(2, "4.00")
-    phone.browser.wait_text("#deadline", f"The office says that the window of {in_words(NOW)} has closed.")
+    phone.browser.wait_text("#deadline", f"The office says that the window for {in_words(NOW)} has closed.")
     # (what the office has gets its receipt at any moment, which says nothing of the window)
     publish(stage, **{named(NOW): (-DAY * 9, -DAY + 1)})
     phone.send()
@@ -258,7 +258,7 @@ def test_a_window_that_has_closed_at_the_office_isnt_open_on_the_phone(phone: Ph
     publish(stage, **{named(NOW): (-DAY * 9, DAY)})
     phone.send()
     phone.enter(3, "5.00")
-    phone.browser.wait_text("#deadline", f"The office says that the window of {in_words(NOW)} isn’t open yet.")
+    phone.browser.wait_text("#deadline", f"The office says that the window for {in_words(NOW)} isn’t open yet.")
 
 
 def test_a_receipt_whose_answer_was_lost_says_nothing_of_the_window(phone: Phone, stage: Stage) -> None:

@@ -27,13 +27,13 @@ def overtaken(phone: Phone, stage: Stage) -> None:
     phone.enter(1, "3.15")
     assert put(stage, 1, "price,350") == NEXT
     phone.browser.offline(False)
-    wait_alarm(phone, "1 to look at")
+    wait_alarm(phone, "1 to check")
 
 
 def asked(phone: Phone) -> None:
     """The form asks which of the two prices is right."""
     phone.browser.wait_shown("#entry-mine")
-    told = f"The office has 3.50 (receipt {NEXT}), stored since this was written. Which one is right?"
+    told = f"The office has 3.50 (receipt {NEXT}), stored after you typed this. Which one is right?"
     assert phone.browser.text("#entry-refusal") == told
     assert phone.browser.text("#entry-mine") == "Mine: 3.15"
     assert phone.browser.text("#entry-theirs") == "The stored one: 3.50"
@@ -42,11 +42,11 @@ def asked(phone: Phone) -> None:
 def test_a_price_of_another_device_isnt_overwritten_in_silence(phone: Phone, stage: Stage) -> None:
     overtaken(phone, stage)
     assert phone.browser.text("#line") == ""
-    assert phone.told(1).split("\n") == ["3.15", "Look again", "Stored: 3.50"]
+    assert phone.told(1).split("\n") == ["3.15", "Check again", "Stored: 3.50"]
     phone.send()
     phone.browser.wait_text("#line", "")
     phone.open()
-    wait_alarm(phone, "1 to look at")
+    wait_alarm(phone, "1 to check")
     assert stage.relay.rows("quote,1,") == 0
     assert stored(stage) == [[1, 350, NEXT]]
 
@@ -70,7 +70,7 @@ def test_a_choice_asks_again_if_the_other_device_has_stored_a_third_price(phone:
     assert put(stage, 1, "price,360") == NEXT + 1
     phone.browser.click("#entry-mine")
     phone.wait_told(1, "Stored: 3.60")
-    assert "Look again" in phone.told(1)
+    assert "Check again" in phone.told(1)
     assert stored(stage) == [[1, 360, NEXT + 1]]
 
 
@@ -93,11 +93,11 @@ def test_a_line_that_hangs_and_comes_back_as_a_new_one_asks_too(phone: Phone, st
         phone.sign_in()
         wire.hang()
         phone.enter(1, "3.15")
-        phone.browser.wait_text("#line", "No line: 1 entry kept on this phone")
+        phone.browser.wait_text("#line", "Offline: 1 entry kept on this phone")
         assert put(stage, 1, "price,350") == NEXT
         wire.cut()
         wire.go_on()
-        wait_alarm(phone, "1 to look at")
+        wait_alarm(phone, "1 to check")
         assert stored(stage) == [[1, 350, NEXT]]
 
 
@@ -108,11 +108,11 @@ def test_a_form_that_was_open_meanwhile_doesnt_overwrite_it_either(phone: Phone,
     phone.edit(1)
     assert put(stage, 1, "price,350") == NEXT
     phone.browser.offline(False)
-    wait_alarm(phone, "1 to look at")
+    wait_alarm(phone, "1 to check")
     phone.fill("3.15")
     phone.browser.wait(lambda: phone.edited() != f"{NOW}/1", "it is saved")
     phone.leave(1)
-    phone.wait_told(1, "Look again")
+    phone.wait_told(1, "Check again")
     phone.edit(1)
     asked(phone)
     assert stored(stage) == [[1, 350, NEXT]]
@@ -127,7 +127,7 @@ def test_what_was_written_before_it_and_not_saved_doesnt_overwrite_it_either(pho
     phone.close()
     assert put(stage, 1, "price,350") == NEXT
     phone.browser.offline(False)
-    wait_alarm(phone, "1 to look at")
+    wait_alarm(phone, "1 to check")
     phone.edit(1)
     asked(phone)
     phone.press(Keys.ENTER)
@@ -160,7 +160,7 @@ def reply_is_lost(phone: Phone, stage: Stage) -> None:
     assert stage.relay.lost.wait(60)
     without_line(phone)
     stage.relay.paused.clear()
-    phone.browser.wait_text("#line", "No line: 1 entry kept on this phone")
+    phone.browser.wait_text("#line", "Offline: 1 entry kept on this phone")
     assert stored(stage) == [[1, 310, NEXT]]
 
 
@@ -177,7 +177,7 @@ def test_a_change_without_a_line_after_a_lost_reply_asks_nothing(phone: Phone, s
     phone.enter(1, "3.20")
     phone.enter(1, mark="missing", reason="stock")
     phone.open()
-    phone.browser.wait_text("#line", "No line")
+    phone.browser.wait_text("#line", "Offline")
     phone.browser.offline(False)
     phone.browser.wait_text("#line", "All sent")
     assert phone.browser.text("#alarm") == ""

@@ -115,7 +115,7 @@ def test_save_and_next_stays_within_what_is_found(mixed: Phone) -> None:
     mixed.wait_edited(None)
     assert mixed.focused() == "4"
     mixed.browser.click("#jump")
-    assert mixed.browser.text("#found") == "All of these are entered."
+    assert mixed.browser.text("#found") == "You have entered all of these."
 
 
 def test_an_outlet_folds_and_a_search_opens_it(many: Phone) -> None:

@@ -65,9 +65,7 @@ def test_the_line_unfolds_the_whole_sentences(phone: Phone, stage: Stage) -> Non
     phone.press("\ue007")
     browser.wait_shown("#deadline")
     assert browser.find("#more").get_attribute("aria-expanded") == "true"
-    assert browser.text("#deadline").endswith(", in 32 days.") and "0 of 45 stored, list of" in browser.text(
-        "#progress"
-    )
+    assert browser.text("#deadline").endswith(", in 32 days.") and "0 of 45 stored, as of" in browser.text("#progress")
     kept(phone, "first-unfolded")
     assert faults_of_page(browser) == []
     phone.press("\ue007")
@@ -93,7 +91,7 @@ def test_a_row_is_stored_and_its_form_has_the_receipt(phone: Phone, stage: Stage
     open_first(phone, stage)
     phone.edit(1)
     phone.fill("1,459")
-    phone.browser.wait_text("#entry-refusal", "This can be read in more than one way. Which price is it?")
+    phone.browser.wait_text("#entry-refusal", "This could mean more than one price. Which one is it?")
     buttons = [each.text for each in phone.browser.all("#entry-refusal [data-reading]")]
     assert buttons == ["1.46, rounded", "1459.00"]
     kept(phone, "first-readings")
@@ -105,4 +103,4 @@ def test_a_row_is_stored_and_its_form_has_the_receipt(phone: Phone, stage: Stage
     kept(phone, "first-stored")
     assert faults_of_page(phone.browser) == []
     phone.edit(1)
-    assert phone.browser.text("#entry-stored") == f"The office has: 1.46, receipt {phone.receipt(1)}."
+    assert phone.browser.text("#entry-stored") == f"The office has stored: 1.46 (receipt {phone.receipt(1)})."

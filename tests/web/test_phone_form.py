@@ -90,7 +90,7 @@ def test_a_figure_that_is_typed_ahead_of_a_full_disk_costs_no_price(phone: Phone
     phone.browser.run(FULL_DISK)
     phone.tap_save("3.21")
     phone.press("4")
-    phone.browser.wait_text("#price-fault", "This entry isn’t kept: there is no room left.")
+    phone.browser.wait_text("#price-fault", "This entry isn’t saved: the phone is full.")
     assert phone.browser.find("#price").get_attribute("value") == "3.21"
 
 
@@ -100,9 +100,9 @@ def test_a_full_disk_isnt_told_in_the_form_of_another_row(phone: Phone) -> None:
     phone.browser.run(FULL_DISK)
     phone.press("3.21", Keys.ENTER, Keys.ESCAPE)
     phone.edit(2)
-    phone.browser.wait_text("#notice", "An entry isn’t kept: there is no room left.")
+    phone.browser.wait_text("#notice", "An entry isn’t saved: the phone is full.")
     assert (phone.edited(), phone.browser.text("#price-fault")) == (f"{NOW}/2", "")
-    assert "Written, not saved" in phone.told(1)
+    assert "Typed, not saved" in phone.told(1)
     phone.close()
     phone.edit(1)
     assert phone.browser.find("#price").get_attribute("value") == "3.21"
@@ -130,11 +130,11 @@ def test_price_and_save_are_seen_above_the_keyboard(phone: Phone, stage: Stage) 
     phone.browser.size(360, 400)
     found = {"form": phone.browser.run(UNSEEN, ["#price", "#entry-save", "#entry-item", "#entry-last"])}
     phone.tap_save("9.99")
-    phone.browser.wait_text("#entry-refusal", "Look again.")
+    phone.browser.wait_text("#entry-refusal", "Check it again.")
     found["second look"] = phone.browser.run(UNSEEN, ["#price", "#entry-confirm"])
     phone.retype("2,100")
     phone.browser.tap("#entry-save")
-    phone.browser.wait_text("#entry-refusal", "Which price is it?")
+    phone.browser.wait_text("#entry-refusal", "Which one is it?")
     found["readings"] = phone.browser.run(UNSEEN, ["#price", "[data-reading]"])
     phone.retype("2.10")
     phone.browser.tap("#entry-save")
@@ -244,7 +244,7 @@ def test_what_can_be_two_prices_is_asked(phone: Phone, stage: Stage) -> None:
     phone.sign_in()
     phone.edit(3)
     phone.press("1,459", Keys.ENTER)
-    phone.browser.wait_text("#entry-refusal", "Which price is it?")
+    phone.browser.wait_text("#entry-refusal", "Which one is it?")
     assert [one.text for one in phone.browser.all("[data-reading]")] == ["1.46, rounded", "1459.00"]
     assert stage.relay.quotes(NOW) == []
     phone.press(Keys.ENTER)
@@ -335,10 +335,10 @@ def test_what_was_written_is_there_again_when_the_form_is_opened(phone: Phone, s
     phone.browser.type("#price", "3.1")
     phone.press(Keys.ESCAPE)
     phone.browser.wait(lambda: phone.edited() is None, "the form is closed")
-    assert "Written, not saved" in phone.told(1)
+    assert "Typed, not saved" in phone.told(1)
     phone.edit(1)
     assert phone.browser.find("#price").get_attribute("value") == "3.1"
-    assert phone.browser.text("#price-fault") == "You wrote this before, and didn’t save it."
+    assert phone.browser.text("#price-fault") == "You typed this earlier, but didn’t save it."
     phone.save()
     phone.wait_told(1, "Stored")
     assert "not saved" not in phone.told(1)
@@ -380,7 +380,7 @@ def test_sign_out_says_that_what_was_written_and_not_saved_is_lost(phone: Phone)
     phone.browser.click("#leave")
     told = phone.browser.text("#leaving-text")
     assert told.startswith("Everything you saved has been sent.")
-    assert told.endswith(" What you wrote into 1 form and didn’t save is lost.")
+    assert told.endswith(" You will lose what you typed in 1 form and didn’t save.")
 
 
 def test_a_form_that_is_closed_as_it_was_leaves_nothing(phone: Phone) -> None:

@@ -32,7 +32,7 @@ def test_a_browser_that_keeps_nothing_is_told(phone: Phone) -> None:
     script = phone.browser.cdp("Page.addScriptToEvaluateOnNewDocument", source=SHUT)["identifier"]
     phone.open()
     phone.browser.wait_text(
-        "#notice", "the browser refuses it (\u2068SecurityError\u2069). Let it keep data of this site"
+        "#notice", "the browser doesn’t allow it (\u2068SecurityError\u2069). Allow this site to store data"
     )
     phone.browser.cdp("Page.removeScriptToEvaluateOnNewDocument", identifier=script)
     assert not phone.browser.find("#work").is_displayed()
@@ -42,7 +42,7 @@ def test_an_entry_that_finds_no_room_is_told_and_not_lost_from_the_form(phone: P
     phone.sign_in()
     phone.browser.run(f"window.put = IDBObjectStore.prototype.put; {FULL}")
     phone.enter(1, "3.21")
-    phone.browser.wait_text("#price-fault", "This entry isn’t kept: there is no room left. Make room on the phone")
+    phone.browser.wait_text("#price-fault", "This entry isn’t saved: the phone is full. Free some space")
     assert phone.browser.find("#price").get_attribute("value") == "3.21"
     assert stage.relay.rows("quote,") == 0
     phone.browser.run("IDBObjectStore.prototype.put = window.put")
@@ -91,7 +91,7 @@ def test_collectors_see_their_own(phone: Phone, other_phone: Phone, stage: Stage
     other_phone.browser.wait_text("#line", "All sent")
     assert stage.quotes(BENO) == []
     other_phone.show("quotes")
-    assert "no quote of yours" in other_phone.browser.text("#list")
+    assert "none of your prices" in other_phone.browser.text("#list")
     other_phone.show("all")
     other_phone.enter(1, "2.87")
     assert [row[3] for row in stage.wait_for_quotes(BENO)] == [287]
@@ -160,13 +160,13 @@ def leave_unsent(phone: Phone, stage: Stage) -> None:
     phone.sign_in()
     stage.front.stop()
     phone.enter(1, "3.10")
-    phone.browser.wait_text("#line", "No line: 1 entry")
+    phone.browser.wait_text("#line", "Offline: 1 entry")
     phone.browser.click("#leave")
 
 
 def test_signing_out_removes_all_and_asks_before(phone: Phone, stage: Stage) -> None:
     leave_unsent(phone, stage)
-    assert "1 entry on this phone hasn’t been stored" in phone.browser.text("#leaving")
+    assert "The office hasn’t stored 1 entry on this phone" in phone.browser.text("#leaving")
     phone.browser.click('#leaving [value="stay"]')
     assert "To be sent" in phone.told(1)
     stage.front.start()
@@ -234,7 +234,7 @@ def test_another_collector_on_the_same_phone_sends_nothing_of_the_first(phone: P
     phone.sign_in()
     stage.front.stop()
     phone.enter(1, "3.10")
-    phone.browser.wait_text("#line", "No line: 1 entry")
+    phone.browser.wait_text("#line", "Offline: 1 entry")
     phone.browser.run_until(KEY_IS_LOST)  # (the entries aren't)
     stage.front.start()
     phone.sign_in(BENO)

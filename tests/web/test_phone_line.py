@@ -25,7 +25,7 @@ def test_without_a_line_entries_are_kept_and_sent_once(phone: Phone, stage: Stag
     phone.sign_in()
     stage.front.stop()
     phone.enter(1, "3.10")
-    phone.browser.wait_text("#line", "No line: 1 entry kept on this phone")
+    phone.browser.wait_text("#line", "Offline: 1 entry kept on this phone")
     phone.enter(1, "3.15")
     phone.enter(2, "9.99")  # (the phone asks for the second look itself)
     phone.browser.wait_text("#entry-refusal", "far from the last one")
@@ -51,7 +51,7 @@ def test_the_browser_tells_that_the_line_is_back(phone: Phone, stage: Stage) -> 
     phone.sign_in()
     phone.browser.offline(True)
     phone.enter(1, mark="missing", reason="closed")
-    phone.browser.wait_text("#line", "No line: 1 entry")
+    phone.browser.wait_text("#line", "Offline: 1 entry")
     phone.browser.offline(False)  # (nobody touches the page)
     phone.browser.wait_text("#line", "All sent")
     assert stage.quotes(ANNA) == [[1, NOW, "missing", "closed", NEXT]]
@@ -80,7 +80,7 @@ def test_a_receipt_is_kept_though_the_lists_behind_it_dont_come(phone: Phone) ->
         phone.enter(1, "3.21")
         phone.wait_receipt(1, NEXT)
         phone.open()
-        phone.browser.wait_text("#line", "No line")
+        phone.browser.wait_text("#line", "Offline")
         phone.show("all")
         phone.wait_receipt(1, NEXT)
         assert "3.21" in phone.told(1)
@@ -104,11 +104,11 @@ def test_a_day_whose_line_breaks_within_an_import(phone: Phone, stage: Stage) ->
     assert stage.relay.lost.wait(60)
     stage.front.stop(signal.SIGKILL)
     stage.relay.paused.clear()
-    phone.browser.wait_text("#line", "No line: 1 entry")
+    phone.browser.wait_text("#line", "Offline: 1 entry")
     phone.enter(2, mark="missing", reason="stock")
     for slot in slots[2:]:
         phone.enter_fast(slot, f"{slot}.50")
-    phone.browser.wait_text("#line", f"No line: {len(slots)} entries")
+    phone.browser.wait_text("#line", f"Offline: {len(slots)} entries")
     stage.front.start()
     phone.send()
     phone.browser.wait_text("#line", "All sent")
@@ -153,7 +153,7 @@ def test_a_long_day_is_sent_in_a_few_imports_and_each_is_one_write(phone: Phone,
     assert phone.browser.run("return window.writes") <= 3 + 1 + 2 * 4
     assert [row[:1] + row[2:] for row in stage.quotes(NOBODY)] == [[at, "price", 100 + at, at] for at in slots]
     phone.show("todo")
-    assert phone.browser.text("#list") == "All done: everything of this month is stored."
+    assert phone.browser.text("#list") == "All done: everything for this month is stored."
 
 
 DISK_IS_FULL = """
@@ -180,9 +180,9 @@ def test_what_finds_no_room_at_the_office_waits_and_the_rest_is_settled(phone: P
     phone.browser.run(DISK_IS_FULL)
     stage.front.start()
     phone.send()
-    phone.browser.wait_text("#notice", "Memory or the disk failed. Nothing was stored; send it again.")
+    phone.browser.wait_text("#notice", "Memory ran out, or the disk failed. Nothing was stored; send it again.")
     assert [phone.told(slot).split("\n")[1] for slot in (2, 4)] == ["To be sent"] * 2
-    assert phone.browser.text("#line") == "Not taken: 2 entries kept on this phone"
+    assert phone.browser.text("#line") == "Not accepted: 2 entries kept on this phone"
     phone.open()  # (the office has room again)
     phone.browser.wait_text("#line", "All sent")
     phone.browser.wait(lambda: phone.browser.text("#notice") == "", "the notice is gone")
@@ -219,10 +219,10 @@ def test_two_tabs_of_one_phone_send_an_entry_once(phone: Phone, stage: Stage) ->
     phone.sign_in()
     stage.front.stop()
     phone.enter(1, "3.10")
-    phone.browser.wait_text("#line", "No line: 1 entry")
+    phone.browser.wait_text("#line", "Offline: 1 entry")
     phone.browser.driver.switch_to.new_window("tab")
     phone.open()
-    phone.browser.wait_text("#line", "No line: 1 entry")
+    phone.browser.wait_text("#line", "Offline: 1 entry")
     stage.relay.held.set()
     stage.front.start()
     for tab in reversed(phone.browser.driver.window_handles):
@@ -283,7 +283,7 @@ def test_a_new_version_of_the_files_takes_the_place_of_the_old_one(phone: Phone,
     stage.front.stop()  # (what is kept is whole)
     phone.open()
     browser.wait_text("h1", "New collection")
-    browser.wait_text("#line", "No line")
+    browser.wait_text("#line", "Offline")
     stage.front.start(lambda text: text.replace(f"root {ROOT}/web;", f"root {site};"))
     phone.send()
     browser.wait_text("#line", "All is sent")

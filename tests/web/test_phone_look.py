@@ -55,7 +55,7 @@ def test_a_far_price_is_asked_about_before_the_form_closes(phone: Phone, stage: 
         phone.fill("3.21")
         phone.wait_edited(2)
         phone.fill("9.99")
-        phone.browser.wait_text("#entry-refusal", "Last price 4.80; without a second look 3.36 to 7.20 is taken.")
+        phone.browser.wait_text("#entry-refusal", "Last price 4.80. Usual range: 3.36 to 7.20.")
         assert phone.edited() == f"{NOW}/2" and not any(row.startswith("quote,2,") for row in stage.relay.quotes(NOW))
         phone.confirm()
     phone.send()
@@ -70,12 +70,12 @@ def test_what_is_pressed_twice_confirms_nothing(phone: Phone, stage: Stage) -> N
     phone.sign_in()
     phone.edit(2)
     phone.press("9.99", Keys.ENTER, Keys.ENTER)
-    phone.browser.wait_text("#entry-refusal", "Look again.")
+    phone.browser.wait_text("#entry-refusal", "Check it again.")
     phone.press(Keys.ENTER)
     phone.retype("9.98")
     place = phone.browser.tap("#entry-save")
     phone.browser.touch(*place)
-    phone.browser.wait_text("#entry-refusal", "Look again.")
+    phone.browser.wait_text("#entry-refusal", "Check it again.")
     phone.browser.touch(*place)
     assert (phone.edited(), phone.told(2), stage.relay.quotes(NOW)) == (f"{NOW}/2", "To do", [])
 
@@ -84,11 +84,11 @@ def test_a_price_that_is_changed_after_the_question_isnt_confirmed(phone: Phone,
     phone.sign_in()
     phone.edit(2)
     phone.fill("9.99")
-    phone.browser.wait_text("#entry-refusal", "Look again.")
+    phone.browser.wait_text("#entry-refusal", "Check it again.")
     phone.retype("9.98")
     assert not phone.browser.find("#entry-confirm").is_displayed()
     phone.press(Keys.ENTER)
-    phone.browser.wait_text("#entry-refusal", "Look again.")
+    phone.browser.wait_text("#entry-refusal", "Check it again.")
     phone.retype("4.90", Keys.ENTER)
     assert [row[:1] + row[3:4] for row in stage.wait_for_quotes(ANNA)] == [[2, 490]]
     assert stage.relay.quotes(NOW) == [f"quote,2,{NOW},price,490"]
@@ -126,7 +126,7 @@ def test_a_second_tap_on_confirm_is_not_the_next_rows(phone: Phone, x: int) -> N
     phone.fill("9.99")
     phone.browser.wait_shown("#entry-confirm")
     met, *found = phone.browser.run_until(TAPPED_TWICE, "entry-confirm", x)
-    assert met in ("The article", "No price", "Another, as good as the same", "Another, not comparable"), met
+    assert met in ("Same product", "No price", "Comparable replacement", "Replacement that can’t be compared"), met
     assert found == [True, True, "", "price", "price"]
 
 
@@ -136,4 +136,4 @@ def test_a_second_tap_on_save_is_no_fault_of_the_next_row(phone: Phone) -> None:
     phone.press("3.21")
     assert phone.browser.run_until(TAPPED_TWICE, "entry-save", 270) == ["Save", True, True, "", "price", "price"]
     phone.press("x", Keys.ENTER)
-    phone.browser.wait_text("#price-fault", "Write the price with figures")
+    phone.browser.wait_text("#price-fault", "Type the price in digits")

@@ -129,9 +129,9 @@ def test_without_a_line_it_is_kept_with_its_price_and_sent_once(noting: Phone, s
     choose(noting, camera_file(tmp_path))
     browser.type("#price", "3.21")
     noting.save()
-    browser.wait_text("#notes-left", "It waits until the office has stored its price.")
+    browser.wait_text("#notes-left", "The note is waiting until the office has stored its price.")
     browser.driver.refresh()
-    browser.wait_text("#line", "No line: 1 entry kept on this phone · 1 note to be sent")
+    browser.wait_text("#line", "Offline: 1 entry kept on this phone · 1 note to be sent")
     browser.wait_text("#notes-left", "Rice, white, 1 kg: 3.21")
     (found,) = kept(noting)
     photo = bytes(found["photo"])
@@ -150,7 +150,7 @@ def test_while_the_desk_s_machine_is_away_the_price_is_stored_and_the_note_waits
 ) -> None:
     pages.kill()
     note(noting, 1, "3.21", "Behind the till")
-    noting.browser.wait_text("#notes-left", "The desk’s machine is busy. It is sent by itself.")
+    noting.browser.wait_text("#notes-left", "The desk’s machine is busy. The note will be sent automatically.")
     noting.browser.wait_text("#line", "1 note to be sent")
     assert stage.quotes(ANNA) == [[1, NOW, "price", 321, NEXT]]
     assert "All sent" not in noting.browser.text("#line")
@@ -191,8 +191,8 @@ def test_a_note_of_a_price_that_is_another_by_now_asks_its_collector(
     assert "receipt" in stage.ask("PUT", f"/api/quote/1/{NOW}", ANNA, "price,322").reply
     noting.update()
     browser.click("#send")
-    browser.wait_text("#notes-left", "The office has another price now than the one that this note is of.")
-    browser.wait_text("#alarm", "1 note to look at")
+    browser.wait_text("#notes-left", "The office’s price has changed since you wrote this note.")
+    browser.wait_text("#alarm", "1 note to check")
     pages.start()
     browser.click("#alarm")
     assert browser.run("return document.activeElement.id") == "notes-left-title"
@@ -216,10 +216,12 @@ def test_a_note_that_is_refused_stays_until_its_collector_drops_it(noting: Phone
     browser = noting.browser
     browser.run(REFUSING)
     note(noting, 1, "3.21", "Behind the till")
-    browser.wait_text("#alarm", "1 note to look at")
-    browser.wait_text("#notes-left", "The photograph can’t be read as a picture. Open it, and take another one.")
+    browser.wait_text("#alarm", "1 note to check")
+    browser.wait_text(
+        "#notes-left", "The photograph can’t be read as a picture. Open the note and take another photograph."
+    )
     browser.driver.refresh()
-    browser.wait_text("#alarm", "1 note to look at")
+    browser.wait_text("#alarm", "1 note to check")
     noting.send()
     browser.click("#notes-left [data-do=drop]")
     browser.wait_text("#note-dropping-text", "Behind the till. The desk doesn’t have it")
@@ -241,7 +243,7 @@ def test_what_was_written_and_not_saved_is_there_again(noting: Phone, stage: Sta
     browser.type("#note-text", "Behind the till")
     choose(noting, camera_file(tmp_path))
     noting.close()
-    noting.wait_told(1, "Written, not saved")
+    noting.wait_told(1, "Typed, not saved")
     noting.edit(2)
     assert not browser.run("return document.getElementById('note').open") and kept(noting) == []
     unfold(noting)
@@ -326,11 +328,11 @@ def test_signing_out_asks_and_leaves_nothing_to_the_next_collector(noting: Phone
     note(noting, 1, "3.21", "Behind the till")
     browser.wait_text("#line", "1 note to be sent")
     browser.click("#leave")
-    browser.wait_text("#leaving-text", "1 note on this phone hasn’t been sent to the desk. Signing out throws it away.")
+    browser.wait_text("#leaving-text", "1 note on this phone hasn’t been sent to the desk. Signing out deletes it.")
     browser.click("#leaving button[value=stay]")
     assert len(kept(noting)) == 1
     browser.click("#leave")
-    assert browser.text("#leaving-go") == "Throw away and sign out"
+    assert browser.text("#leaving-go") == "Delete and sign out"
     browser.click("#leaving-go")
     browser.wait_shown("#sign-in")
     assert kept(noting) == [] and "till" not in browser.run("return document.documentElement.outerHTML")
@@ -372,7 +374,7 @@ def test_hostile_texts_run_no_script_on_the_phone_and_at_the_desk(
     ada.sign_in("Ada")
     ada.open(f"/month/{NOW}/field-notes")
     browser.wait_text("main", f"{len(HOSTILE) + 1} notes.")
-    assert faults_of_texts(browser, HOSTILE) == [] and browser.driver.title.endswith(": notes of the field")
+    assert faults_of_texts(browser, HOSTILE) == [] and browser.driver.title.endswith(": field notes")
     assert not browser.all("main script, main img[src=x], main svg[onload]") and browser.faults() == []
 
 
@@ -426,7 +428,9 @@ def test_it_speaks_the_office_s_language(stage: Stage, phone: Phone, tmp_path: P
         phone.save()
         one, many = "{count} note to be sent", "{count} notes to be sent"
         phone.browser.wait_text("#line", phone.words.counted(one, many, 1))
-        phone.browser.wait_text("#notes-left", phone.said("The desk’s machine is busy. It is sent by itself."))
+        phone.browser.wait_text(
+            "#notes-left", phone.said("The desk’s machine is busy. The note will be sent automatically.")
+        )
         assert faults_of_page(phone.browser) == []
 
 
@@ -447,7 +451,7 @@ def test_the_desk_sees_a_note_with_its_photograph(
     ada = Person(browser, pages)
     ada.sign_in("Ada")
     ada.open(f"/month/{NOW}/field-notes")
-    browser.wait_text("main", "stored now price 321")
+    browser.wait_text("main", "now stored: price 321")
     drawn = "const it = document.querySelector('.field-note img'); return it.complete && it.naturalWidth"
     browser.run("document.querySelector('.field-note img').loading = 'eager'")
     browser.wait(lambda: browser.run(drawn) == 960, "the photograph")
@@ -460,5 +464,5 @@ def test_the_desk_sees_a_note_with_its_photograph(
     ada.reach("details summary")
     ada.type(Keys.ENTER)
     ada.press("details button")
-    browser.wait_text("main", "No note of this month.")
+    browser.wait_text("main", "No notes for this month.")
     assert at_the_desk(stage, ANNA) == [] and browser.faults() == []

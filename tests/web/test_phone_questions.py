@@ -103,7 +103,7 @@ def test_a_question_is_answered_without_a_line_and_comes_back_to_the_price(
     found = [*faults_of_page(browser), *faults_for_keys(browser)]
     open_question(phone)
     browser.wait_text("#question", f"The desk asks: {STILL}")
-    assert browser.text("#answer-right") == "4.16 is right" and "write the right one above" in browser.text(
+    assert browser.text("#answer-right") == "4.16 is right" and "type the right one above" in browser.text(
         "#answer-about"
     )
     picture(phone, "form")
@@ -111,7 +111,7 @@ def test_a_question_is_answered_without_a_line_and_comes_back_to_the_price(
     # (what was typed and not sent is there again, and its row says so)
     browser.type("#answer-text", "Weighed it")
     phone.close()
-    phone.wait_told(1, "Written, not saved")
+    phone.wait_told(1, "Typed, not saved")
     picture(phone, "row")
     browser.offline(True)
     phone.edit(1)
@@ -161,14 +161,14 @@ def test_a_corrected_price_is_stored_first_and_others_read_nothing(
     browser.click("#entry-save")
     browser.wait(lambda: phone.edited() is None, "the form is closed")
     browser.wait_text("#questions", "Corrected to 2.16 · A slip")
-    browser.wait_text("#questions", "The desk’s machine is busy. The answer is sent by itself.")
+    browser.wait_text("#questions", "The desk’s machine is busy. The answer will be sent automatically.")
     assert [it[3] for it in stage.quotes(ANNA, MONTH) if it[0] == 1] == [216]
     pages.start()
     phone.send()
     browser.wait_text("#line", "All sent")
     ada.sign_in("Ada")
     ada.open(LIST)
-    browser.wait_text("main", "corrected to price 216, receipt")
+    browser.wait_text("main", "corrected to price 216 (receipt")
     assert "A slip" in browser.text("main")
 
 
@@ -204,7 +204,7 @@ def test_an_answer_is_of_the_form_that_was_saved_whichever_is_open_by_then(
     browser.wait(lambda: kept(stage) == [], "the answer")
     ada.sign_in("Ada")
     ada.open(LIST)
-    browser.wait_text("main", "corrected to price 216, receipt")
+    browser.wait_text("main", "corrected to price 216 (receipt")
     assert "A slip" in browser.text("main")
 
 
@@ -236,7 +236,7 @@ def test_a_question_that_is_withdrawn_meanwhile_takes_no_answer_away(
     browser.driver.switch_to.new_window("tab")
     ada.open(LIST)
     browser.click("#question-1 form[action$='/withdraw'] button")
-    browser.wait_text("#question-1", "Ada withdrew it")
+    browser.wait_text("#question-1", "Ada withdrew the question")
     browser.driver.close()
     browser.driver.switch_to.window(here)
     browser.run("document.getElementById('answer-text').value = arguments[0]", HOSTILE[3])
@@ -260,11 +260,13 @@ def test_once_the_window_has_closed_the_form_says_what_to_write(
     stage.calendar.write_text(json.dumps({"months": [row]}), encoding="utf-8")
     signed_in(phone)
     open_question(phone)
-    assert "window has closed, so the office takes no other price" in browser.text("#answer-about")
+    assert "The window for this month has closed, so the office doesn’t accept another price" in browser.text(
+        "#answer-about"
+    )
     browser.type("#price", "2.16")
     browser.click("#entry-save")
     browser.wait_text("#questions", "Corrected to 2.16")
-    browser.wait_text("#questions", "The answer waits until the office has stored its price.")
+    browser.wait_text("#questions", "The answer is waiting until the office has stored its price.")
     browser.wait_text("#alarm", "1 refused")
     assert len(kept(stage)) == 1
     window(stage, FAR)
@@ -286,9 +288,7 @@ def test_signing_out_asks_and_leaves_nothing_to_the_next_collector(
     browser.click("#answer-send")
     browser.wait_text("#line", "1 answer to be sent")
     browser.click("#leave")
-    browser.wait_text(
-        "#leaving-text", "1 answer on this phone hasn’t been sent to the desk. Signing out throws it away."
-    )
+    browser.wait_text("#leaving-text", "1 answer on this phone hasn’t been sent to the desk. Signing out deletes it.")
     browser.click("#leaving-go")
     browser.wait_shown("#sign-in")
     page = browser.run("return document.documentElement.outerHTML")
@@ -310,7 +310,7 @@ def test_it_reads_from_right_to_left(stage: Stage, phone: Phone, tmp_path: Path)
         with takes_notes(stage, pages, ARABIC):
             phone.speaks(ARABIC)
             signed_in(phone)
-            browser.wait_text("#questions-title", phone.said("Questions of the desk"))
+            browser.wait_text("#questions-title", phone.said("Questions from the desk"))
             browser.wait_text("#alarm", phone.words.counted("{count} question", "{count} questions", 1))
             picture(phone, "ar-list")
             found += faults_of_page(browser)

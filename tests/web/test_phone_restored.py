@@ -19,12 +19,12 @@ Row = tuple[int, int, int]
 Rows = list[Row]
 
 ONE = (
-    "The office was restored from a copy that lacked {count} entry of yours. "
-    "It was sent again, with a new receipt: {receipts}."
+    "The office was restored from a copy that lacked {count} of your entries. "
+    "This phone sent it again and got a new receipt: {receipts}."
 )
 MANY = (
-    "The office was restored from a copy that lacked {count} entries of yours. "
-    "They were sent again, with new receipts: {receipts}."
+    "The office was restored from a copy that lacked {count} of your entries. "
+    "This phone sent them again and got new receipts: {receipts}."
 )
 
 
@@ -207,12 +207,12 @@ def test_what_the_office_lacks_comes_back_under_an_entry_that_needs_a_look(phone
     phone.enter(2, "4.95")
     assert put(stage, 2, "price,500") == NEXT
     phone.browser.offline(False)
-    wait_alarm(phone, "1 to look at")
+    wait_alarm(phone, "1 to check")
     stage.restore(copy)
     phone.send()
     phone.browser.wait_text("#notice", told(phone, 1, "10"))
     assert stored(stage) == [[2, 500, NEXT]]
-    assert phone.told(2).split("\n") == ["4.95", "Look again", "Stored: 5.00"]
+    assert phone.told(2).split("\n") == ["4.95", "Check again", "Stored: 5.00"]
     press_alarm(phone)
     act(phone, "open", 2)
     phone.browser.click("#entry-theirs")
@@ -231,10 +231,10 @@ def test_a_later_price_of_another_device_isnt_overwritten_though_its_receipt_is_
     assert put(stage, 3, "price,99") == NEXT + 1
     phone.send()
     phone.browser.wait_text("#notice", told(phone, 2, "12–13"))
-    wait_alarm(phone, "1 to look at")
+    wait_alarm(phone, "1 to check")
     assert stored(stage) == [[1, 310, 10], [2, 490, 12], [3, 99, 11], [4, 110, 13]]
     question = (
-        "The office was restored from a copy. It has 0.99 now (receipt 11); it had this one (receipt 12). "
+        "The office was restored from a copy. It now has 0.99 (receipt 11). Before that, it had this one (receipt 12). "
         "Which one is right?"
     )
     assert press_alarm(phone)[f"{NOW}/3"][2] == question
@@ -251,7 +251,7 @@ def test_the_collector_may_keep_the_price_of_the_other_device(phone: Phone, stag
     lost(phone, stage)
     assert put(stage, 2, "price,500") == NEXT + 1
     phone.send()
-    wait_alarm(phone, "1 to look at")
+    wait_alarm(phone, "1 to check")
     phone.edit(2)
     phone.browser.click("#entry-theirs")
     phone.browser.wait_text("#line", "All sent")
@@ -372,8 +372,8 @@ def test_what_cant_be_sent_again_is_shown_until_the_collector_drops_it(
     phone.send()
     wait_alarm(phone, "3 refused")
     why = (
-        "The office had stored this, with receipt 11, and was restored from a copy that lacks it. The window has closed. "
-        "Tell the desk; the month goes without the price unless the desk opens the window again."
+        "The office had stored this with receipt 11, but was then restored from a copy that lacks it. The window has closed. "
+        "Tell the desk; the price won’t count this month unless the desk opens the window again."
     )
     assert press_alarm(phone)[f"{NOW}/2"][1:3] == ["Flour, wheat, 1 kg: 4.90", why]
     row = file_of(phone.browser, "#unsent [data-do=save]", tmp_path)[1]
@@ -453,7 +453,7 @@ def test_lists_of_months_that_are_over_arent_kept(phone: Phone, stage: Stage) ->
     phone.sign_in()
     for month in months:
         phone.browser.run_until(TURN, month)
-        phone.browser.wait_text("#progress", "stored, list of")
+        phone.browser.wait_text("#progress", "stored, as of")
     phone.browser.run_until(TURN, NOW)
     phone.send()
     phone.browser.wait(lambda: phone.browser.run_until(KEPT) == ["2011-02", NOW], "older lists are gone")

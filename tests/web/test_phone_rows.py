@@ -74,7 +74,7 @@ def test_rows_dont_move_when_the_line_goes_or_comes(many: Phone, stage: Stage) -
         many.wait_edited(slot + 1)
         many.browser.tap("#entry-cancel")
         many.wait_edited(None)
-        many.browser.wait_text("#line", "No line")
+        many.browser.wait_text("#line", "Offline")
         assert many.places() == before
     stage.front.start()
     many.browser.run("window.dispatchEvent(new Event('online'))")
@@ -127,7 +127,7 @@ def test_a_list_that_is_on_its_way_isnt_said_to_be_missing(phone: Phone, stage: 
     phone.browser.run_until(FORGOTTEN)
     with stage.standing_still():
         phone.open()
-        phone.browser.wait_text("#list", "Asking the office for the list of this month…")
+        phone.browser.wait_text("#list", "Asking the office for this month’s list…")
     phone.browser.wait_text("#list", "Rice, white")
 
 

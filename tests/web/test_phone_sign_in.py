@@ -9,7 +9,7 @@ from urllib.parse import quote
 
 from selenium.webdriver.common.keys import Keys
 
-from cpi_tools.desk.keys.sign_in import check_character
+from cpi_tools.desk.keys.keys_cli import check_character
 from .offices import ANNA, BENO, LEAVING, NOBODY, SCRIPT
 from .phone import Phone
 from .readable import faults_enlarged, faults_for_keys, faults_of_page, faults_of_texts
@@ -81,7 +81,7 @@ def test_a_link_of_another_collector_throws_nothing_away(phone: Phone, stage: St
     phone.sign_in()
     stage.front.stop()
     phone.enter(1, "3.21")
-    phone.browser.wait_text("#line", "No line: 1 entry")
+    phone.browser.wait_text("#line", "Offline: 1 entry")
     words = "Another collector is signed in on this phone. Sign out first, then open the code again."
     for key, told in ((checked(BENO), words), (BENO[:20], "The code you opened isn’t a key. A key has 32")):
         phone.browser.run("location.hash = arguments[0]", link(key, "Beno").partition("#")[2])
@@ -119,7 +119,7 @@ def test_on_a_line_that_hangs_a_link_is_answered_at_once(phone: Phone, stage: St
 
 def test_a_link_that_opens_nothing_says_why(phone: Phone, stage: Stage) -> None:
     follow(phone, NOBODY)
-    phone.browser.wait_text("#key-fault", "Nobody has this key")
+    phone.browser.wait_text("#key-fault", "This key isn’t registered")
     follow(phone, ANNA[:31])
     phone.browser.wait_text("#key-fault", "This one has 31.")
     follow(phone, "")
@@ -132,7 +132,7 @@ def test_a_link_without_a_line_keeps_its_key_until_there_is_one(phone: Phone, st
     phone.browser.run_until("await navigator.serviceWorker.ready")
     stage.front.stop()
     phone.browser.run("location.hash = arguments[0]", link(checked(ANNA), "Anna").partition("#")[2])
-    phone.browser.wait_text("#key-fault", "There is no line to the office. Sign in once with a line")
+    phone.browser.wait_text("#key-fault", "The office can’t be reached. Sign in once when you are online")
     assert phone.browser.run("return location.href").endswith("/collect/")
     stage.front.start()
     phone.browser.click("#sign-in-form button.main")
@@ -173,7 +173,7 @@ SLIPS = {
     ANNA + "aa": "This one has 34.",
     "a" * 20 + "o" + "a" * 11: "Character 21 can’t be “o”: a key has 32 characters, each 0 to 9 or a to f.",
     "a" * 5 + "\u202e" + "a" * 27: "Character 6 can’t be “",
-    "b" + checked(ANNA)[1:]: "A character is wrong, or two have changed places: compare the key with the sheet.",
+    "b" + checked(ANNA)[1:]: "A character is wrong, or two are swapped: compare the key with the sheet.",
 }
 
 
@@ -215,7 +215,9 @@ def test_a_browser_that_may_clear_storage_is_told_until_it_was_read(phone: Phone
         before = phone.places()
         phone.enter(1, "3.21")
         phone.browser.wait_shown("#storage p")
-        assert "This browser may clear what isn’t sent yet" in phone.browser.text("#storage")
+        assert "If this browser needs space, it may delete entries that haven’t been sent yet" in phone.browser.text(
+            "#storage"
+        )
         assert phone.places() == before
         phone.open()
         phone.browser.wait_text("#line", "All sent")
@@ -240,7 +242,7 @@ def test_the_notice_comes_back_at_a_start_with_entries_that_wait(phone: Phone, s
         stage.front.stop()
         try:
             phone.enter(1, "3.21")
-            phone.browser.wait_text("#line", "No line: 1 entry kept on this phone")
+            phone.browser.wait_text("#line", "Offline: 1 entry kept on this phone")
             phone.open()
             phone.browser.wait_shown("#storage p")
             phone.browser.click("#storage-read")

@@ -43,13 +43,13 @@ def copied(phone: Phone, where: str) -> list[list[str]]:
 
 def waits(phone: Phone, why: str, tmp_path: Path) -> None:
     """The head and the list name what isn't taken; it stays on "Stay", and can be taken out as a file."""
-    phone.browser.wait_text("#line", "Not taken: 1 entry kept on this phone")
-    assert phone.browser.text("#alarm") == "1 not taken"
+    phone.browser.wait_text("#line", "Not accepted: 1 entry kept on this phone")
+    assert phone.browser.text("#alarm") == "1 not accepted"
     assert "To be sent" in phone.told(1)
     press_alarm(phone)
     assert why in phone.browser.text("#unsent-list")
     phone.browser.click("#leave")
-    assert "1 entry on this phone hasn’t been stored" in phone.browser.text("#leaving")
+    assert "The office hasn’t stored 1 entry on this phone" in phone.browser.text("#leaving")
     _, rice = file_of(phone.browser, '#leaving [data-do="save"]', tmp_path)
     assert rice[:7] == [NOW, "1", "Corner shop", "Rice, white", "1 kg", "price", "310"]
     assert rice[9].startswith(why)
@@ -63,8 +63,8 @@ def test_what_waits_behind_a_key_that_is_denied_can_be_taken_out(phone: Phone, s
     stage.front.stop()
     stage.front.start(lambda text: text.replace("default 0;\n", f'default 0;\n"~*{ANNA}" 1;\n', 1))
     phone.enter(1, "3.10")
-    phone.browser.wait_text("#notice", "Nobody has this key")
-    waits(phone, "Nobody has this key. Check the key; if it is right, ask the desk.", tmp_path)
+    phone.browser.wait_text("#notice", "This key isn’t registered")
+    waits(phone, "This key isn’t registered. Check the key; if it is right, ask the desk.", tmp_path)
     stage.front.stop()
     stage.front.start()
     phone.send()
@@ -80,8 +80,8 @@ def test_what_waits_for_an_office_without_room_can_be_taken_out(phone: Phone, st
         stage.relay.answers_instead((head + reply).encode(), is_stored=False)
         if "To do" in phone.told(1):
             phone.enter(1, "3.10")
-        phone.browser.wait_text("#notice", "Memory or the disk failed. Nothing was stored")
-        waits(phone, "Memory or the disk failed. Nothing was stored; send it again.", tmp_path)
+        phone.browser.wait_text("#notice", "Memory ran out, or the disk failed. Nothing was stored")
+        waits(phone, "Memory ran out, or the disk failed. Nothing was stored; send it again.", tmp_path)
     stage.relay.answers()
     phone.browser.wait_text("#line", "All sent")
     assert stored(stage) == [[1, 310, NEXT]]

@@ -41,11 +41,11 @@ def three_kinds(phone: Phone, stage: Stage) -> None:
     phone.browser.click("#month-after")
     phone.enter(1, "3.10")
     phone.enter(2, "4.90")
-    phone.browser.wait_text("#line", "No line: 3 entries kept on this phone")
+    phone.browser.wait_text("#line", "Offline: 3 entries kept on this phone")
     desk(stage, f"handover,7,1,8,3,{NOW}")
     assert put(stage, 2, "price,500") == NEXT
     phone.browser.offline(False)
-    wait_alarm(phone, "2 refused, 1 to look at")
+    wait_alarm(phone, "2 refused, 1 to check")
 
 
 def test_the_head_counts_what_isnt_stored_of_all_months_and_leads_to_it(phone: Phone, stage: Stage) -> None:
@@ -66,14 +66,14 @@ def test_the_head_counts_what_isnt_stored_of_all_months_and_leads_to_it(phone: P
     ]
     assert moved[1:3] == [
         "Flour, wheat, 1 kg: 4.90",
-        f"The office has 5.00 (receipt {NEXT}), stored since this was written. Which one is right?",
+        f"The office has 5.00 (receipt {NEXT}), stored after you typed this. Which one is right?",
     ]
 
 
 def test_all_sent_is_said_once_nothing_is_left_on_the_phone(phone: Phone, stage: Stage) -> None:
     three_kinds(phone, stage)
     press_alarm(phone)
-    for slot, month, left in ((4, BEFORE, "1 refused, 1 to look at"), (1, NOW, "1 to look at"), (2, NOW, "")):
+    for slot, month, left in ((4, BEFORE, "1 refused, 1 to check"), (1, NOW, "1 to check"), (2, NOW, "")):
         assert phone.browser.text("#line") == ""
         act(phone, "drop", slot, month)
         phone.browser.click('#dropping [value="drop"]')
@@ -145,7 +145,7 @@ def test_what_waits_without_a_row_in_the_list_is_listed(phone: Phone, stage: Sta
     work = stage.ask("GET", f"/api/work/{NOW}", ANNA).body.decode()
     phone.browser.run_until(LIST_COMES, work)
     phone.open()
-    phone.browser.wait_text("#unsent-list", "It waits to be sent.")
+    phone.browser.wait_text("#unsent-list", "It is waiting to be sent.")
     assert list(listed(phone)) == [f"{NOW}/1"]
 
 
@@ -209,8 +209,8 @@ def test_a_price_that_the_office_alone_finds_far_isnt_tried_again(phone: Phone, 
     desk(stage, f"calendar,{BEFORE},4000,9999999998,9999999999")
     stage.ask("PUT", f"/api/quote/3/{BEFORE}", ANNA, "price,100")
     phone.enter(3, "9.99")
-    wait_alarm(phone, "1 to look at")
-    assert "Look again" in phone.told(3)
+    wait_alarm(phone, "1 to check")
+    assert "Check again" in phone.told(3)
     phone.send()
     time.sleep(0.5)
     assert stage.relay.rows("quote,3,") == 1

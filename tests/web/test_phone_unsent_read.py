@@ -28,7 +28,7 @@ def test_what_isnt_stored_can_be_read_touched_and_enlarged(phone: Phone, stage: 
     assert put(stage, 1, "price,350") == 10
     desk(stage, CLOSED)
     browser.offline(False)
-    wait_alarm(phone, "1 refused, 1 to look at")
+    wait_alarm(phone, "1 refused, 1 to check")
     look(browser)
     press_alarm(phone)
     look(browser)
@@ -40,7 +40,7 @@ def test_what_isnt_stored_can_be_read_touched_and_enlarged(phone: Phone, stage: 
     phone.close()
     desk(stage, f"calendar,{NOW},5000,9999999998,9999999999")
     browser.run("document.getElementById('send').click();")
-    wait_alarm(phone, "1 to look at")
+    wait_alarm(phone, "1 to check")
     browser.wait_text("#unsent-list", "Stored.")
     look(browser)
     browser.click("#leave")

@@ -118,7 +118,7 @@ def framed(browser: Browser, address: str, within: Path, width: int) -> str:
 @pytest.mark.parametrize("width", [320, 700])
 def test_a_picture_is_framed_by_another_site(front: Stage, browser: Browser, tmp_path: Path, width: int) -> None:
     """The one that the address names, else the level: its title, its unit, its source."""
-    at, names = f"{front.url}{PLACE}/embed/00.html", ("Index", "Change on the month before", "Aggregates in which a")
+    at, names = f"{front.url}{PLACE}/embed/00.html", ("Index", "Monthly change", "Aggregates in which a")
     for kind, name in (
         ("", "Index"),
         ("#level", "Index"),

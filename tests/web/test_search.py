@@ -64,8 +64,8 @@ def test_what_is_typed_is_found_and_counted(opened: Browser) -> None:
     for sought, codes, said in (
         ("cafe", ["01.1"], "1 of 6 items."),
         ("biere", ["02"], "1 of 6 items."),
-        ("chocolaet", ["03", "03.1"], "No item has \u201cchocolaet\u201d. 2 of 6 items have a word like it."),
-        ("zinc", [], "No item has \u201czinc\u201d, or a word like it."),
+        ("chocolaet", ["03", "03.1"], "No item contains \u201cchocolaet\u201d. 2 of 6 items contain a word like it."),
+        ("zinc", [], "No item contains \u201czinc\u201d, or a word like it."),
     ):
         opened.type("#seek", sought)
         assert (opened.run(SHOWN), opened.text("#found")) == (codes, said)

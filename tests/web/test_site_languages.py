@@ -16,7 +16,7 @@ import pytest
 from .browser import Browser
 from lib.places import ROOT
 from cpi_tools.text import languages
-from cpi_tools.publish.figures.office_languages import OfficeLanguages
+from cpi_tools.publish.figures.own_words import OfficeLanguages
 from cpi_tools.publish.pack import publish
 from lib.pseudo import write_catalogue
 from lib.sample import Sample

@@ -15,10 +15,10 @@ import pytest
 
 from . import readable
 from .browser import Browser
-from cpi_tools.tryout.front import system_program
+from cpi_tools.tryout.trial_services import system_program
 from cpi_tools.publish.figures.config import Config
 from cpi_tools.office.public import Listed, Published
-from cpi_tools.publish.figures.reasons import Reason
+from cpi_tools.publish.figures.announcements import Reason
 from cpi_tools.publish.figures.specials import Special
 from cpi_tools.publish.pack import publish
 from lib.sample import Sample
@@ -127,11 +127,11 @@ def test_printing_cuts_nothing(browser: Browser, site: Path, tmp_path: Path, pap
 
 def test_a_figure_that_is_folded_on_the_screen_is_printed(browser: Browser, site: Path, tmp_path: Path) -> None:
     open_page(browser, site, "index.html", 1280)
-    assert "The figures of this picture" in browser.text("summary") and "June 2022" not in browser.text(
+    assert "The figures in this picture" in browser.text("summary") and "June 2022" not in browser.text(
         "figure details"
     )
     paged = printed(browser, tmp_path / "page.pdf", "A4")
-    assert "Thefiguresofthispicture" in paged and all(f"June{year}" in paged for year in range(2021, 2026))
+    assert "Thefiguresinthispicture" in paged and all(f"June{year}" in paged for year in range(2021, 2026))
 
 
 # ---- on the screen

@@ -8,6 +8,7 @@ import http.client
 import importlib.machinery
 import importlib.util
 import json
+import os
 import re
 import shutil
 import signal
@@ -16,11 +17,12 @@ import subprocess
 import time
 from collections.abc import Iterator
 from pathlib import Path
+from typing import Optional
 
 import pytest
 
 from lib.places import ROOT
-from cpi_tools.tryout.front import children_of, fingerprint
+from cpi_tools.tryout.trial_services import children_of, fingerprint
 from cpi_tools.office.program import Cpi
 from lib.served import free_port
 from .offices import ANNA, NOW
@@ -50,10 +52,18 @@ class Trial:
 
     def get(self, path: str, key: str = "") -> tuple[int, bytes]:
         """A page, as a phone that trusts the certificate asks for it."""
+        return self.asked("GET", path, key, None)
+
+    def put(self, path: str, key: str, body: str) -> int:
+        """The status of what a phone sends."""
+        return self.asked("PUT", path, key, body)[0]
+
+    def asked(self, method: str, path: str, key: str, body: Optional[str]) -> tuple[int, bytes]:
+        """The status and the body of an answer."""
         context = ssl.create_default_context(cafile=str(self.folder / "ca.crt"))
         line = http.client.HTTPSConnection("localhost", self.port, context=context, timeout=SECONDS)
         with contextlib.closing(line):
-            line.request("GET", path, headers={"Authorization": f"CPI-Key {key}"} if key else {})
+            line.request(method, path, body, {"Authorization": f"CPI-Key {key}"} if key else {})
             answer = line.getresponse()
             assert not answer.getheader("Strict-Transport-Security")
             return answer.status, answer.read()
@@ -111,13 +121,14 @@ def test_it_tells_where_to_point_a_phone_and_stops_at_ctrl_c(trial: Trial) -> No
     collector = re.search(rf"^  collectors +{url}/collect/ +key ([0-9a-f]{{32}})$", trial.told, re.M)
     link = re.search(rf"^ +{url}/collect/#key=([0-9a-f]{{32}})&name=Collector%201 +signs in ", trial.told, re.M)
     desk = re.search(rf"^  the desk +{url}/desk/ +key ([0-9a-f]{{32}})$", trial.told, re.M)
-    assert collector and desk and link, trial.told
+    supervisors = re.search(rf"^  supervisors +{url}/desk/team/ +key ([0-9a-f]{{32}})$", trial.told, re.M)
+    assert collector and desk and link and supervisors, trial.told
     assert f"everybody   {url}/\n" in trial.told
     assert f"{url}/ca.crt" in trial.told and fingerprint(trial.folder / "ca.crt") in trial.told
     known = (ROOT / "examples/national/collectors.csv").read_text().splitlines()[1].split(",")[1]
     assert collector[1] == link[1] == known
-    paths = ("/published/", "/published/choose.html", "/collect/", "/desk/sign-in", "/api/tables")
-    assert [trial.get(path)[0] for path in paths] == [200] * 5
+    paths = ("/published/", "/published/fr/", "/collect/", "/desk/sign-in", "/desk/team/sign-in", "/api/tables")
+    assert [trial.get(path)[0] for path in paths] == [200] * 6
     assert [trial.get(path)[0] for path in ("/", "/tables/", "/desk/")] == [302, 301, 302]
     assert b"Sign in at the desk" in trial.get("/desk/sign-in")[1]
     assert "in February 2011" in trial.get("/published/")[1].decode().partition("<h1>")[2].replace("In ", "in ")
@@ -131,24 +142,55 @@ def test_it_tells_where_to_point_a_phone_and_stops_at_ctrl_c(trial: Trial) -> No
     assert not (trial.folder / "ca.key").exists()
     assert len(trial.children) == 3
     trial.signs_in_at_the_desk(desk[1])
-    assert b"  notes: true,\n" in trial.get("/config.js")[1]
+    assert b'  notes: true,\n  map: "geo:0,0?q={shop}",\n' in trial.get("/config.js")[1]
     assert trial.get("/notes/questions", ANNA) == (200, b'{"questions":[]}\n')
     assert trial.stop(signal.SIGINT) == 0
     assert trial.left() == []
 
 
+def test_it_goes_on_where_it_was_stopped(trial: Trial, cpi: Cpi) -> None:
+    """With the same keys, what was sent, and the website that was published; its calendar names the window's moment."""
+    again = re.compile(r"^  (?:the desk|supervisors) .*$", re.M)
+    assert trial.put(f"/api/quote/1/{NOW}", ANNA, "price,219,confirm") == 200
+    first = json.loads(trial.get("/published/manifest.json")[1])
+    announced = (trial.folder / "announced.csv").read_text().splitlines()
+    (window,) = [it for it in json.loads(trial.get("/calendar.json")[1])["months"] if it["month"] == NOW]
+    assert f"{NOW},{window['closes']}" in announced  # (the window of this office closes as its table comes out)
+    assert trial.stop(signal.SIGINT) == 0
+    other = Trial(cpi, trial.folder)
+    try:
+        ports = (str(trial.port), str(other.port))
+        assert again.findall(other.told) == [it.replace(*ports) for it in again.findall(trial.told)]
+        quotes = json.loads(other.get(f"/api/quotes/{NOW}/{NOW}", ANNA)[1])["quotes"]
+        assert [row[3] for row in quotes if row[0] == 1] == [219]
+        then = json.loads(other.get("/published/manifest.json")[1])
+        assert then["tables"] == first["tables"] and len(then["tables"]) == 4
+        assert (trial.folder / "published-of").read_text() == str(trial.folder / f"{NOW}.db")
+    finally:
+        assert other.stop(signal.SIGTERM) == 143
+
+
 def test_another_office_is_copied_and_the_certificate_stays(cpi: Cpi, made: Path, tmp_path: Path) -> None:
+    """The copy stays as well, with what was sent to it, until the office's file changes."""
     before, prints = made.read_bytes(), []
-    for _ in range(2):
-        trial = Trial(cpi, tmp_path / "try", "--db", str(made))
+    office = tmp_path / "own.db"
+    shutil.copy(made, office)
+    for start in range(3):
+        if start == 2:
+            os.utime(office)
+        trial = Trial(cpi, tmp_path / "try", "--db", str(office))
         assert " key " not in trial.told.partition("everybody")[0] and "#key=" not in trial.told
         assert json.loads(trial.get("/calendar.json")[1])["months"][-1]["month"] == NOW
         assert trial.get(f"/api/work/{NOW}", ANNA)[0] == 200
+        quotes = json.loads(trial.get(f"/api/quotes/{NOW}/{NOW}", ANNA)[1])["quotes"]
+        assert [row[3] for row in quotes if row[0] == 1] == ([219] if start == 1 else [])
+        assert ("The copy of the trial before is used again" in trial.told) == (start == 1)
+        assert trial.put(f"/api/quote/1/{NOW}", ANNA, "price,219,confirm") == 200
         prints.append(fingerprint(tmp_path / "try/ca.crt"))
         assert trial.stop(signal.SIGTERM) == 143
         assert trial.left() == []
-    assert prints[0] == prints[1]
-    assert made.read_bytes() == before
+    assert len({*prints}) == 1
+    assert office.read_bytes() == made.read_bytes() == before
 
 
 def test_its_pages_speak_a_language(cpi: Cpi, made: Path, tmp_path: Path) -> None:

@@ -32,10 +32,13 @@ def test_an_amount_of_then_is_one_of_now_in_one_sentence(years: Browser) -> None
     """1000 * 121.847 / 116.6 = 1045; bread: 1000.50 * 126 / 120 = 1050.525, halves upwards 1050.53."""
     opened(years, "?from=2012-01&to=2013-02")
     assert said(years, "#sentence") == (
-        "What cost 1 000.00 in January 2012 costs 1 045.00 in February 2013, by the index of All items (+4.5 %)."
+        "What cost 1 000.00 in January 2012 costs 1 045.00 in February 2013, according to the index of All items (+4.5"
+        " %)."
     )
     opened(years, f"?item={BREAD}&amount=1000.50&from=2012-01&to=2013-02")
-    assert said(years, "#value") == "1 050.53" and "by the index of Bread (+5.0 %)" in said(years, "#sentence")
+    assert said(years, "#value") == "1 050.53" and "according to the index of Bread (+5.0 %)" in said(
+        years, "#sentence"
+    )
     assert not years.run("return document.querySelector('#result details').open")
     years.click("#result summary")
     assert said(years, "#formula") == "1 000.50 × 126.000000 / 120.000000 = 1 050.53"
@@ -56,11 +59,11 @@ def test_the_address_holds_the_choice(years: Browser) -> None:
 @pytest.mark.parametrize(
     ("search", "fault"),
     [
-        ("?amount=x", "Write the amount with figures, such as 1000.00."),
-        (f"?item={BREAD}&from=2011-01&to=2013-02", "Bread has no index in one of these months."),
+        ("?amount=x", "Write the amount in digits, such as 1000.00."),
+        (f"?item={BREAD}&from=2011-01&to=2013-02", "Bread has no index for one of these months."),
         (
             f"?item={FLOUR}&from=2011-01&to=2013-02",
-            "Flour left the index between these months and came again, so its indices can't be compared.",
+            "Flour left the index between these months and came back, so its indices can't be compared.",
         ),
     ],
 )
@@ -73,7 +76,7 @@ def test_what_cant_be_computed_is_said(years: Browser, search: str, fault: str) 
 def test_a_month_that_isnt_there_is_said(years: Browser) -> None:
     opened(years, "?from=1999-01&to=2013-02")
     plain = years.text("#address-faults").replace("\u2068", "").replace("\u2069", "")
-    assert plain.startswith("The address has from=1999-01. It has to be a month such as ")
+    assert plain.startswith("The address contains from=1999-01. The value has to be a month such as ")
 
 
 def test_each_item_leads_to_it(years: Browser) -> None:

@@ -62,7 +62,7 @@ def stored(stage: Stage) -> list[list[Any]]:
 
 
 CLOSED_TEXT = (
-    "The window has closed. Tell the desk; the month goes without the price unless the desk opens the window again."
+    "The window has closed. Tell the desk; the price won’t count this month unless the desk opens the window again."
 )
 
 
@@ -84,7 +84,7 @@ def put(stage: Stage, slot: int, value: str, key: str = ANNA) -> int:
 def without_line(phone: Phone) -> None:
     """The phone loses its line, and the page says so."""
     phone.browser.offline(True)
-    phone.browser.wait_text("#line", "No line")
+    phone.browser.wait_text("#line", "Offline")
 
 
 FAST = """

@@ -20,24 +20,24 @@ to_plan = sent("0", "desk", "plan", "2026")
 
 
 def weighed(first: int, second: int) -> Records:
-    """A plan of two aggregates with these weights; without the second where that has none."""
+    """A plan of two aggregates with these weights; without the second if that has no weight."""
     weights = {ONE: first, OTHER: second} if second > 0 else {ONE: first}
     rows = [["T", code, code] for code in [*NODES, *weights]] + [["I", "RICE", ONE]]
     return to_plan(text_of(rows + [["W", code, str(weight)] for code, weight in weights.items()]))
 
 
 def of_weight(weight: int) -> Records:
-    """A plan with that weight, and another that makes up for it."""
+    """A plan with that weight, and another weight that completes the sum."""
     return weighed(weight, 1_000_000 - weight)
 
 
 def of_sum(total: int) -> Records:
-    """A plan whose weights add up to that."""
+    """A plan whose weights add up to that sum."""
     return weighed(total - 400_000, 400_000)
 
 
 def told_sum(total: int) -> str:
-    """To a sum that is another."""
+    """The answer to a wrong sum."""
     return refused(44, fault=4, found=total)
 
 
@@ -47,14 +47,14 @@ def of_references(count: int) -> Records:
 
 
 def others(count: int) -> Iterator[str]:
-    """So many codes of which none is in the plan."""
+    """So many codes that aren't in the plan."""
     for at in range(count):
         group, number = divmod(at, 99)
         yield f"02.{group // 100}.{group // 10 % 10}.{group % 10}-{number + 1:02}"
 
 
 def plan_of_rows(count: int) -> Records:
-    """A plan of so many rows, most of them titles of no node."""
+    """A plan of so many rows, most of them titles of codes that aren't nodes."""
     own = PLAN.splitlines()
     return to_plan("\n".join([*own, *(f"T,{code},x" for code in others(count - len(own)))]))
 
@@ -65,7 +65,7 @@ def import_of_rows(caller: str, row: str, count: int) -> Records:
 
 
 def told_rows(reply: str, count: int) -> str:
-    """To an import each row of which is answered so."""
+    """The answer to an import each of whose rows has this answer."""
     return '{"rows":[' + ",".join([reply] * count) + "]}"
 
 
@@ -76,7 +76,7 @@ def of_assignments(count: int) -> Records:
 
 
 def told_assignments(count: int) -> str:
-    """To these: one past the last slot is no record."""
+    """The answer to these assignments: one past the last slot isn't a record."""
     return told_rows(DONE, 400)[:-2] + f",{BAD}]}}" if count > 400 else told_rows(DONE, count)
 
 
@@ -121,7 +121,7 @@ def asked_by(caller: str, words: str, more: str, count: int) -> Records:
 
 
 def of_arguments() -> Iterator[Limit[Records]]:
-    """How many arguments each word has. The documents have them as a list."""
+    """The number of arguments of each word, which the documents give as a list."""
     for caller, words, more, least, most, told in ARGUMENTS:
         word = words.partition(",")[0]
         asked, said = partial(asked_by, caller, words, more), f"| `{word}` | "

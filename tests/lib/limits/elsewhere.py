@@ -1,4 +1,4 @@
-"""Limits that the table doesn't have: with the file that tests them, or with the reason why nothing reaches them."""
+"""Limits that aren't in the table, with the file that tests them, or the reason why nothing reaches them."""
 
 from __future__ import annotations
 
@@ -6,7 +6,7 @@ from typing import NamedTuple, Optional
 
 
 class Elsewhere(NamedTuple):
-    """The words of the documents, the file that tests the limit, and why."""
+    """The words of the documents, the file that tests the limit, and the reason."""
 
     said: str
     file: Optional[str]

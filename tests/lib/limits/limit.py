@@ -1,4 +1,4 @@
-"""A number with its limits: the values round them, and the answer to each by the documents."""
+"""A number with its limits: the values around them, and the answer to each from the documents."""
 
 from __future__ import annotations
 
@@ -16,7 +16,7 @@ BAD = '{"refused":10}'
 
 
 def refused(number: int, **found: object) -> str:
-    """The line of a refusal, with its number and whatever else it has."""
+    """The line of a refusal, with its number and its other fields."""
     parts = sorted([("refused", str(number)), *((key, _json(value)) for key, value in found.items())])
     return "{" + ",".join(f'"{key}":{value}' for key, value in parts) + "}"
 
@@ -31,7 +31,7 @@ def month_of(count: int) -> str:
 
 
 def count_of(month: str) -> int:
-    """How many months a month comes after January of the year 0."""
+    """The number of months from January of the year 0 to a month."""
     return 12 * int(month[:4]) + int(month[5:]) - 1
 
 
@@ -43,20 +43,20 @@ class Limit(Generic[Asked]):
     least: Optional[int]
     most: Optional[int]
     asked: Callable[[int], Asked]
-    """The request with a value, everything else of it in order."""
+    """Makes the request with a value, and everything else in order."""
     within: Told
     below: Told
     above: Told
     said: str
-    """The words of the documents that have the limit."""
+    """The words of the documents that contain the limit."""
     rule: Optional[str] = None
     """The name of the range in the second office, if it has one."""
     more: Iterable[int] = ()
-    """Further values, such as those that a number of few bits would take for another one."""
+    """Further values, such as values that a number with few bits would confuse with another one."""
     floor: int = -1
-    """The least value that can be asked."""
+    """The least value that a request can contain."""
     is_said: bool = True
-    """Whether the words have the numbers; otherwise the office's content decides them."""
+    """Whether the words contain the numbers; otherwise the office's content decides them."""
 
     def values(self) -> list[int]:
         """One below, at and one above each end."""
@@ -64,7 +64,7 @@ class Limit(Generic[Asked]):
         return sorted({value for end in ends for value in (end - 1, end, end + 1, *self.more) if value >= self.floor})
 
     def told(self, value: int) -> str:
-        """The answer to a value by the documents."""
+        """The answer to a value according to the documents."""
         if self.least is not None and value < self.least:
             told = self.below
         elif self.most is not None and value > self.most:
@@ -75,7 +75,7 @@ class Limit(Generic[Asked]):
 
 
 def spellings(number: int) -> list[str]:
-    """How the documents may write a number that is an end."""
+    """The ways in which the documents may write a number at an end."""
     power = len(str(number)) - 1
     others = [f"10^{power}"] if number == 10 ** power else []
     others += [month_of(number)] if 12 * 2000 <= number < 12 * 2200 else []
@@ -84,7 +84,7 @@ def spellings(number: int) -> list[str]:
 
 
 def unsaid(limit: Limit[Asked], text: str) -> Optional[str]:
-    """Why the documents don't say a limit: they lack its words, or these lack its number."""
+    """The reason why the documents don't state a limit: its words are missing, or its number is."""
     if limit.said not in text:
         return f"the documents don't say {limit.said!r}"
     for end in (limit.least, limit.most) if limit.is_said else ():

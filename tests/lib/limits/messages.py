@@ -39,22 +39,22 @@ def of_body(size: int) -> bytes:
 
 
 def announced(size: int) -> bytes:
-    """The same with zeros before the length that is told."""
+    """An import of so many empty lines, with leading zeros in the length that it announces."""
     return message("POST /import", f"Content-Length: 00{size}", key=KA) + b"\n" * size
 
 
 def of_rows(count: int) -> bytes:
-    """An import of so many rows that are of no form."""
+    """An import of so many rows without a valid form."""
     return message("POST /import", key=KA, body=b"x\n" * count)
 
 
 def told_of_rows(count: int) -> str:
-    """To such an import."""
+    """The answer to such an import."""
     return response("200 OK", told_rows(BAD_ROW, count) + "\n").decode()
 
 
 def of_lengths(count: int) -> bytes:
-    """A message that tells the length of its body so many times."""
+    """A message that gives the length of its body so many times."""
     return message("GET /items", *["Content-Length: 0"] * count)
 
 
@@ -74,12 +74,12 @@ def of_version(number: int) -> bytes:
 
 
 def told_by_keys(count: int) -> str:
-    """To a message without a key, and with one that nobody bears."""
+    """The answer to a message without a key, and to one with a key that nobody has."""
     return UNKNOWN if count else ITEMS
 
 
 def asked_at(line: str, body: Optional[str], spelled: Callable[[int], str], value: int) -> bytes:
-    """A message by a key that nobody bears, with the value in place of `?`."""
+    """A message with a key that nobody has, and with the value in place of `?`."""
     text = spelled(value)
     return message(line.replace("?", text), key=KC, body=body.replace("?", text).encode() if body else None)
 
@@ -90,13 +90,13 @@ def by_key(count: int) -> bytes:
 
 
 def placed(line: str, least: int, most: int, said: str, body: Optional[str] = None, **others: Any) -> Limit[bytes]:
-    """A limit of a part of a path or of a body, in a message of somebody unknown."""
+    """A limit of a part of a path or of a body, in a message from an unknown sender."""
     asked = partial(asked_at, line, body, others.pop("spelled", str))
     return Limit(f"{line} {body or ''}".strip(), least, most, asked, UNKNOWN, BAD, BAD, said, **others)
 
 
 def counts() -> Iterator[Limit[bytes]]:
-    """Counts that the documents have in words, and the versions of HTTP."""
+    """Counts that the documents give in words, and the versions of HTTP."""
     counted: dict[str, Any] = {"floor": 0, "is_said": False}
     said = "`Content-Length` isn't one field"
     yield Limit("fields Content-Length", None, 1, of_lengths, ITEMS, "", BAD, said, **counted)
@@ -109,7 +109,7 @@ def counts() -> Iterator[Limit[bytes]]:
 
 
 def limits() -> Iterator[Limit[bytes]]:
-    """All of them."""
+    """All limits of messages."""
     yield Limit("bytes of a head", None, 8192, padded, ITEMS, "", BAD, HEAD, "HEAD")
     yield Limit("bytes of a head without an end", None, 8191, unended, "", "", BAD, HEAD, "HEAD", is_said=False)
     yield Limit("fields of a head", None, 64, of_fields, ITEMS, "", BAD, HEAD, "FIELDS")

@@ -1,7 +1,7 @@
 """Limits of the numbers that a freeze computes: carried prices, weights in use, indices and chained levels.
 
-Each is reached to the last digit by prices: a replacement that can't be compared (`other`) sets the scale that later
-prices are multiplied by.
+Prices reach each of them to the last digit: a replacement that can't be compared (`other`) sets the scale by which
+later prices are multiplied.
 """
 
 from __future__ import annotations
@@ -18,7 +18,7 @@ FIRST = 12 * 2025 + 11
 """December 2025, which is frozen first."""
 
 Quotes = Mapping[int, str]
-"""By slot the mark with its price, such as `price,100`."""
+"""The mark with its price, such as `price,100`, by slot."""
 
 
 class Months:
@@ -32,7 +32,7 @@ class Months:
             self.put("assign", "7", str(slot), "10", item, month_of(FIRST), last)
 
     def put(self, *words: str) -> None:
-        """A record of the desk's."""
+        """Adds a record of the desk."""
         self.records.append(["0", "desk", *words])
 
     def plan(self, year: int, weights: Mapping[str, int], places: Mapping[str, str], *references: str) -> None:
@@ -42,7 +42,7 @@ class Months:
         self.put("plan", str(year), text_of(rows + [["I", item, code] for item, code in places.items()]))
 
     def freeze(self, quotes: Quotes, *carry: str) -> None:
-        """The next month, with its quotes and its carry list, frozen."""
+        """Freezes the next month, with its quotes and its carry list."""
         month, now = month_of(self.at), 1000 * (self.at - FIRST)
         self.put("calendar", month, str(now), str(now + 600), str(now + 600))
         rows = [["quote", str(slot), month, *quote.split(","), "confirm"] for slot, quote in quotes.items()]
@@ -52,7 +52,7 @@ class Months:
         self.at += 1
 
     def idle(self, count: int, *carry: str) -> None:
-        """So many months without a quote."""
+        """Adds so many months without a quote."""
         for _ in range(count):
             self.freeze({}, *carry)
 
@@ -101,7 +101,7 @@ def prices_of(ticks: int) -> Quotes:
 
 
 def index(millionths: int) -> list[Record]:
-    """A freeze in which an aggregate has that index."""
+    """A freeze that gives an aggregate that index."""
     office = Months(["GOLD", "SALT"])
     office.plan(2026, {ONE: 1_000_000}, {"GOLD": ONE, "SALT": ONE})
     if millionths < 10:

@@ -9,7 +9,7 @@ from .limit import DONE, Limit, Told, count_of, month_of, refused
 from .places import KA, KB, KC, Records, each, moving, moving_month, quoted, two_digits
 
 FAR = (2**8 + 1, 2**16 + 1, 2**32 + 1, 2**64 + 1)
-"""Numbers that 8, 16, 32 or 64 bits would take for 1."""
+"""Numbers that 8, 16, 32 or 64 bits would confuse with 1."""
 
 OF_PLACES = "| collector, slot, outlet | 1 to 9999, 1 to 400, 1 to 999999 |"
 REVISION = "| revision of a release | 1 to 9 |"
@@ -57,7 +57,7 @@ def numbers() -> Iterator[Limit[Records]]:
 
 
 def moments() -> Iterator[Limit[Records]]:
-    """Moments of records and of calendar rows; those of a row come one after the other."""
+    """Moments of records and of calendar rows; the moments of a row are in order."""
     yield from each({"?,public,items": ITEMS}, 0, 9_999_999_999, MOMENT, rule="MOMENT", more=FAR)
     yield moving("0,desk,calendar,2026-02,?,9999999999,9999999999", 0, 9_999_999_998, RIGHT_MOMENTS)
     for place in ("0,desk,calendar,2026-02,0,?,9999999999", "0,desk,calendar,2026-02,0,1,?"):
@@ -77,12 +77,12 @@ LATE_REFERENCE = refused(44, fault=10)
 
 
 def of_freeze(count: int) -> str:
-    """To the freeze of a month without a calendar row, where nothing was frozen: a December comes first."""
+    """The answer to the freeze of a month without a calendar row if nothing was frozen: a December comes first."""
     return refused(21 if month_of(count).endswith("-12") else 46)
 
 
 def of_reference(count: int) -> str:
-    """To a reference month in the plan of 2026."""
+    """The answer to a reference month in the plan of 2026."""
     return DONE if count <= count_of("2025-12") else LATE_REFERENCE
 
 
@@ -107,7 +107,7 @@ OF_NUMBERS_OF_MONTHS: dict[str, Told] = {
 
 
 def months() -> Iterator[Limit[Records]]:
-    """Months, their numbers in the year, and those that another month or a year decides."""
+    """Months, their numbers in the year, and months whose limits depend on another month or a year."""
     yield from each(OF_MONTHS, count_of("2000-01"), count_of("2199-12"), MONTH, month_of, rule="YEAR")
     yield from each(OF_NUMBERS_OF_MONTHS, 1, 12, FORM_OF_MONTH, two_digits, rule="MONTH_OF_YEAR")
     yield moving_month("0,desk,assign,7,3,10,RICE,?,2026-06", None, "2026-06", IN_ORDER)
@@ -131,7 +131,7 @@ PARTS: list[tuple[str, int, int, Optional[str]]] = [
     ("2026-01-01T?:00", 0, 23, "HOUR"),
     ("2026-01-01T00:?", 0, 59, "MINUTE"),
 ]
-"""A civil time with its least and its most; how many days a month has is the calendar's."""
+"""A civil time with its least and its most; the calendar gives the number of days in a month."""
 
 
 def civil_times() -> Iterator[Limit[Records]]:

@@ -1,7 +1,7 @@
 """Records with a value in one of their places, in an office in which everything else of them is in order.
 
-A place is a record in which `?` is the value. After a bar there is a row of a plan's body, added to those of a plan
-that is right.
+A place is a record in which `?` is the value. The text after a bar is a row of a plan's body, added to the rows of a
+valid plan.
 """
 
 from __future__ import annotations
@@ -17,10 +17,10 @@ from .limit import BAD, DONE, Limit, Told, count_of, month_of
 
 Records = list[Record]
 Spelled = Callable[[int], str]
-"""How a value is written."""
+"""The way in which a value is written."""
 
 KA, KB, KC = "a" * 32, "b" * 32, "c" * 32
-"""The keys of the collectors 7 and 8, and one that nobody bears. The collector 8 has no slot."""
+"""The keys of the collectors 7 and 8, and one that nobody has. The collector 8 has no slot."""
 
 NODES = ["00", "01", "01.1", "01.1.1", "01.1.1.1"]
 """The codes above two elementary aggregates."""
@@ -47,13 +47,13 @@ OPEN = records_of(
 0,desk,calendar,2025-12,0,1000,1000
 0,desk,calendar,2026-01,1000,2000,3000"""
 )
-"""The records before the one that has the value."""
+"""The records before the record with the value."""
 
 FROZEN = [*OPEN, *records_of("1000,desk,freeze,2025-12")]
 
 
 def quoted(rice: int, flour: int) -> Records:
-    """The same with a price of each item in December."""
+    """The records before, with a price of each item in December."""
     quote = f"500,{KA},quote"
     return [*OPEN, *records_of(f"{quote},1,2025-12,price,{rice}\n{quote},2,2025-12,price,{flour}")]
 
@@ -64,12 +64,12 @@ def two_digits(value: int) -> str:
 
 
 def sent(*head: str, before: Records = OPEN) -> Callable[[str], Records]:
-    """The records before, and one whose last field is a body."""
+    """The records before, and a record whose last field is a body."""
     return lambda body: [*before, [*head, body]]
 
 
 def asked_at(place: str, spelled: Spelled, before: Records, value: int) -> Records:
-    """The records before, and the one of the place with the value."""
+    """The records before, and the record of the place with the value."""
     head, bar, row = place.partition("|")
     text = spelled(value)
     record = [field.replace("?", text) for field in head.split(",")]
@@ -86,7 +86,7 @@ def each(
     outside: Told = BAD,
     **others: Any,
 ) -> Iterator[Limit[Records]]:
-    """A limit in each of its places, with the answer there within it; outside it the record is none."""
+    """A limit in each of its places, with the answer within it; outside the limit the record isn't valid."""
     for place, within in places.items():
         asked = partial(asked_at, place, spelled, before)
         told: dict[str, Any] = {"below": outside, "above": outside, **others}
@@ -96,7 +96,7 @@ def each(
 def moving(
     place: str, least: Optional[int], most: Optional[int], said: str, within: Told = DONE, **others: Any
 ) -> Limit[Records]:
-    """A limit that the office's content decides, so that the documents can't have its number."""
+    """A limit that the office's content decides, so that the documents can't give its number."""
     (limit,) = each({place: within}, least, most, said, is_said=False, **others)
     return limit
 
@@ -104,6 +104,6 @@ def moving(
 def moving_month(
     place: str, first: Optional[str], last: Optional[str], said: str, within: Told = DONE, **others: Any
 ) -> Limit[Records]:
-    """The same of a month, which goes from the first to the last."""
+    """A limit of a month, from the first to the last, that the office's content decides."""
     least, most = (None if month is None else count_of(month) for month in (first, last))
     return moving(place, least, most, said, within, spelled=month_of, **others)

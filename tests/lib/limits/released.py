@@ -17,7 +17,7 @@ OF_AGGREGATE = "| weight in use of an elementary aggregate | 1 to 10^9;"
 
 
 def frozen(count: int) -> Records:
-    """An office with so many frozen months, whose next one can be frozen."""
+    """An office with so many frozen months, in which the next month can be frozen."""
     office = Months(["RICE"])
     office.plan(2026, {ONE: 1_000_000}, {"RICE": ONE})
     for _ in range(count):

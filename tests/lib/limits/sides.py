@@ -1,4 +1,4 @@
-"""The answers of the program and of the second office, compared with those of the documents."""
+"""The answers of the program and of the second office, compared with the answers in the documents."""
 
 from __future__ import annotations
 
@@ -25,19 +25,19 @@ from .places import Records
 from .stored import Stored
 
 IN_MEMORY = "/dev/shm" if os.access("/dev/shm", os.W_OK) else None
-"""A folder in memory, if there is one: nothing here tests the disk."""
+"""A folder in memory, if there is one: these tests don't test the disk."""
 
 READ = [f"{LAST},public,{word}\n".encode() for word in ("items", "tables")]
 """Records that read a file: the survey, and the headers of releases."""
 
 
 def last_of(lines: list[str]) -> str:
-    """The last line, if all before it were accepted."""
+    """The last line, if all lines before it were accepted."""
     return next((f"before it, {line}" for line in lines[:-1] if "refused" in line), lines[-1] if lines else "")
 
 
 def told_by(ran: Ran) -> str:
-    """The last line of a run, of its fault if it has one."""
+    """The last line of a run, or of its fault, if it has one."""
     if ran.status == 2:
         return "status 2"
     return last_of((ran.out if ran.status == 0 else ran.err).decode().splitlines())
@@ -56,11 +56,11 @@ class Sides:
         return told_by(self.program.replay(text_of(records).encode()))
 
     def words(self, words: list[str]) -> str:
-        """The line of a run with these words."""
+        """The line of a run with these arguments."""
         return told_by(self.program.run(*words))
 
     def kept(self, records: Records) -> str:
-        """The program's line to the last of some records over a new file, whose content is then read once more."""
+        """The program's line to the last of some records over a new file, whose content is then read again."""
         with tempfile.TemporaryDirectory(dir=self.room) as room:
             path = f"{room}/office.db"
             told = told_by(self.program.replay(text_of(records).encode(), path))
@@ -114,6 +114,6 @@ def second_message(text: bytes) -> str:
 
 
 def fault_of(limit: Limit[Asked], value: int, answer: Callable[[Asked], str]) -> Fault:
-    """What is wrong, if the answer isn't the one that the documents give."""
+    """The fault, if the answer differs from the documents' answer."""
     got, wanted = answer(limit.asked(value)), limit.told(value)
     return None if got == wanted else f"{got[:300]!r}, wanted {wanted[:300]!r}"

@@ -19,7 +19,7 @@ INSIDE = "`ceil(L * low / 1000) <= p <= floor(L * high / 1000)`"
 
 ROUND_THEM = [["0", "desk", "calendar", f"2026-{at:02}", "0", "9000", "9000"] for at in range(1, 5)]
 OF_TWO_MONTHS = [*OPEN, *ROUND_THEM, *records_of("0,desk,assign,8,1,10,RICE,2026-02,2026-03")]
-"""A slot of the collector 8, with calendar rows of its months and of those round them."""
+"""A slot of the collector 8, with calendar rows for its months and the months around them."""
 
 WITH_FEBRUARY = [*quoted(5, 5), *records_of("0,desk,calendar,2026-02,0,9000,9000")]
 TOLERANCES = [(2, 1001, 701, 1501), (2, 1000, 700, 1500), (1, 1, 1, 10), (1, 1001, 2, 10_010)]
@@ -35,7 +35,7 @@ def work(*rows: str) -> str:
 
 
 def work_of_two(*ends: str) -> str:
-    """The work list of the collector 7: of each row its last price, mark and receipt."""
+    """The work list of the collector 7: with the last price, mark and receipt of each row."""
     return work(*(f'[{at},10,"Shop",{item},"1 kg",{end}]' for at, (item, end) in enumerate(zip(TWO_ITEMS, ends), 1)))
 
 
@@ -74,7 +74,7 @@ QUOTED_LATE = [*OPEN, *records_of(f"1500,{KA},quote,1,2026-01,price,5")]
 
 
 def hand_overs() -> Iterator[Limit[Records]]:
-    """From which month on a series may be handed over."""
+    """The first month from which a series may be handed over."""
     first, third = "0,desk,handover,7,1,8,1,?", "0,desk,handover,7,3,8,1,?"
     yield moving_month(first, "2026-01", "2026-12", BETWEEN, outside=refused(22))
     yield moving_month(third, "2026-01", None, BETWEEN, outside=refused(50), before=EARLY)
@@ -97,7 +97,7 @@ TABLE, TABLES = '{"table":"CPI 2025-12\\n"}', '{"tables":[["2025-12",1,1000]]}'
 
 
 def next_month(count: int) -> Records:
-    """The freeze of a month once December and January are frozen; those round them are in the calendar."""
+    """The freeze of a month once December and January are frozen; the months around them are in the calendar."""
     office = Months(["RICE"])
     office.plan(2026, {ONE: 1_000_000}, {"RICE": ONE})
     for _ in range(2):
@@ -109,7 +109,7 @@ def next_month(count: int) -> Records:
 
 
 def opened_for(revision: int) -> Records:
-    """A calendar row that opens a month for that revision, once it has those before."""
+    """A calendar row that opens a month for that revision, once the month has the revisions before."""
     records = [*FROZEN]
     for at in range(2, revision):
         records += records_of(f"0,desk,calendar,2025-12,0,1000,{1000 + at}\n1000,desk,freeze,2025-12")
@@ -117,7 +117,7 @@ def opened_for(revision: int) -> Records:
 
 
 def freezes() -> Iterator[Limit[Records]]:
-    """When a month is frozen, and which one."""
+    """The time at which a month is frozen, and the month."""
     yield moving("?,desk,freeze,2025-12", 1000, LAST, CLOSED, below=refused(47))
     yield moving_month("1000,desk,freeze,?", "2025-12", "2025-12", FIRST, outside=refused(46), before=ALL_CLOSED)
     month, told = count_of("2026-02"), (DONE, refused(50), refused(46))
@@ -128,7 +128,7 @@ def freezes() -> Iterator[Limit[Records]]:
 
 
 def publications() -> Iterator[Limit[Records]]:
-    """From which moment on a table is read, and to which one it may be moved."""
+    """The time from which a table can be read, and the time to which it may be moved."""
     yield moving("?,public,table,2025-12,text", 1000, LAST, PUBLISHED, TABLE, below=refused(30), before=FROZEN)
     yield moving("?,public,tables", 1000, LAST, PUBLISHED, TABLES, below='{"tables":[]}', before=FROZEN)
     yield moving("0,desk,calendar,2025-12,0,999,?", 1001, LAST, REOPENED, below=refused(50), before=FROZEN)

@@ -1,7 +1,7 @@
 """Limits of a file's content: a greatest receipt, and the columns of its tables.
 
-The program makes the file, and a statement changes it as another program would. A row of the small tables that is
-outside the limits keeps the file from being opened, and a row of another table is refused by 90 when it is read.
+The program makes the file, and a statement changes it as another program would. A row of the small tables outside the
+limits prevents the file from being opened; a row of another table is refused with 90 when it is read.
 """
 
 from __future__ import annotations
@@ -24,13 +24,13 @@ NOT_OPENED, NOT_READ = "cpi: database failed", refused(90)
 
 
 class Stored(NamedTuple):
-    """The records of an office, statements that change its file, and the record that it is then sent."""
+    """The records of an office, statements that change its file, and the record that is then sent to it."""
 
     before: Records
     statements: list[str]
     asked: Record
     second: Optional[Callable[[Office], None]] = None
-    """The same change of the second office, if that is compared too."""
+    """The same change to the second office, if that is compared too."""
 
 
 # ---- receipts
@@ -39,7 +39,7 @@ QUOTED = [*OPEN, *records_of(f"1500,{KA},quote,1,2026-01,price,5")]
 
 
 def of_receipt(receipt: int) -> Stored:
-    """A quote whose collector has one receipt less than that."""
+    """A quote whose collector's last receipt is one less."""
 
     def change(office: Office) -> None:
         place = (7, 1, (2026, 1))
@@ -50,7 +50,7 @@ def of_receipt(receipt: int) -> Stored:
 
 
 def told_receipt(receipt: int) -> str:
-    """To a quote with that receipt."""
+    """The answer to a quote with that receipt."""
     return f'{{"receipt":{receipt}}}'
 
 
@@ -58,12 +58,12 @@ def told_receipt(receipt: int) -> str:
 
 
 def number_of(count: int) -> str:
-    """A month as a column has it."""
+    """A month in the form of a column."""
     return month_of(count).replace("-", "")
 
 
 def changed(statement: str, spelled: Callable[[int], str], before: Records, asked: str, value: int) -> Stored:
-    """A file that a statement with the value changes."""
+    """A file that a statement with the value has changed."""
     return Stored(before, [statement.replace("?", spelled(value))], asked.split(","))
 
 
@@ -78,7 +78,7 @@ def column(
     outside: str = NOT_OPENED,
     **others: Any,
 ) -> Limit[Stored]:
-    """The limit of a column, by a statement with its value."""
+    """The limit of a column, tested with a statement that contains its value."""
     ask = partial(changed, statement, spelled, before, asked)
     return Limit(statement, *ends, ask, within, outside, outside, said, **others)
 
@@ -86,7 +86,8 @@ def column(
 MONTHS = count_of("2000-01"), count_of("2199-12")
 MOMENTS = 0, 9_999_999_999
 Column = tuple[str, tuple[int, int], str, Callable[[int], str]]
-"""Columns of a row with `?` in place of the value, the ends, the words of the documents, how the value is written."""
+"""Columns of a row with `?` in place of the value, the ends, the words of the documents, and the way in which the value
+is written."""
 
 OF_ITEMS: list[Column] = [
     ("'TEA', '?', 'kg', 1, 1000", (1, 400), NAME, "x".__mul__),

@@ -1,4 +1,4 @@
-"""Limits of texts in records: how long they are, the characters that they have, and the parts of a code."""
+"""Limits of texts in records: their length, their characters, and the parts of a code."""
 
 from __future__ import annotations
 
@@ -32,7 +32,7 @@ def of_two_bytes(count: int) -> str:
 
 
 def lengths() -> Iterator[Limit[Records]]:
-    """How long a code, a name and a key may be: a name in bytes, whatever its characters are."""
+    """The lengths of a code, a name and a key: a name is counted in bytes, whatever its characters are."""
     yield from each(OF_ITEM_CODES, 1, 12, ITEM_CODE, lambda count: ascii_uppercase[:count],
                     rule="CHARACTERS_OF_ITEM", floor=0)  # fmt: skip
     yield from each(OF_NAMES, 1, 400, NAME, lambda count: "x" * count, rule="BYTES_OF_NAME", floor=0)
@@ -46,7 +46,7 @@ def in_a_key(code: int) -> str:
 
 
 def characters() -> Iterator[Limit[Records]]:
-    """The characters round the first and the last that a code, a name or a key may have."""
+    """The characters around the first and the last that a code, a name or a key may contain."""
     for least, most in (("A", "Z"), ("0", "9")):
         yield from each(OF_ITEM_CODES, ord(least), ord(most), ITEM_CODE, chr)
     for least, most in (("a", "f"), ("0", "9")):
@@ -60,7 +60,7 @@ DIVISION = "| division | `01` to `13` |"
 DIGIT = "| group, class, subclass | one digit more, 0 to 9, behind a dot |"
 AGGREGATE = "| elementary aggregate | its subclass, a hyphen, and `01` to `99` |"
 UNWEIGHED = refused(44, fault=8)
-"""To a code of the carry list at the first freeze, which has no plan."""
+"""The answer to a code on the carry list of the first freeze, which has no plan."""
 
 OF_DIVISIONS: dict[str, Told] = {
     "1000,desk,freeze,2025-12,?.1.1.1-01": UNWEIGHED,

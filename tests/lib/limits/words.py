@@ -1,6 +1,6 @@
-"""Limits of numbers on the command line; words past one are refused with status 2.
+"""Limits of numbers on the command line; arguments past a limit are refused with status 2.
 
-Of words that are taken the run begins, and ends at once: by a key that is none, or by a folder in place of the file.
+With accepted arguments the run begins, and ends at once because of an invalid key, or of a folder in place of the file.
 """
 
 from __future__ import annotations
@@ -25,19 +25,19 @@ MONTH = "A month is `YYYY-MM`, from 2000-01 to 2199-12."
 
 
 def words_of(text: str, option: str, value: Union[int, str]) -> list[str]:
-    """The words of a command, with another value of an option."""
+    """The arguments of a command, with another value of an option."""
     words = text.split()
     words[words.index(option) + 1] = str(value)
     return words
 
 
 def of_month(count: int) -> list[str]:
-    """A table of that month."""
+    """The arguments for a table of that month."""
     return words_of(TABLE, "--month", month_of(count))
 
 
 def of_key(count: int) -> list[str]:
-    """A key of so many characters."""
+    """The arguments with a key of so many characters."""
     return words_of(SERVE, "--desk-key", "c" * count)
 
 

@@ -1,4 +1,4 @@
-"""Wrong limits of the second office, each of which some value of the table has to find."""
+"""Wrong limits of the second office, each of which some value of the table must find."""
 
 from __future__ import annotations
 
@@ -32,7 +32,7 @@ def wrong_ends(name: str) -> Iterator[Wrong]:
 
 @contextlib.contextmanager
 def with_end(wrong: Wrong) -> Iterator[None]:
-    """Within it the second office has that limit."""
+    """Within this context, the second office has that limit."""
     name, end, number = wrong
     one = getattr(ranges, name)
     was = getattr(one, end)
@@ -44,7 +44,7 @@ def with_end(wrong: Wrong) -> Iterator[None]:
 
 
 def unfound(wrong: Wrong, asked: Iterable[tuple[Limit[Asked], Callable[[Asked], str]]]) -> Fault:
-    """That no value finds a wrong limit of the second office."""
+    """The fault, if no value finds a wrong limit of the second office."""
     with with_end(wrong):
         for limit, answer in asked:
             if limit.rule == wrong[0] and any(fault_of(limit, value, answer) for value in limit.values()):

@@ -1,4 +1,4 @@
-"""What is asked of the office, as a message of HTTP and as a record of the second office."""
+"""A request to the office, as an HTTP message and as a record of the second office."""
 
 from __future__ import annotations
 
@@ -9,7 +9,7 @@ from lib.served import DESK, message
 from second_office.requests import Record
 
 BODIES = {"plan": 2, "import": 1, "quote": 3}
-"""The words whose arguments from there on are the body, counted with the word."""
+"""The words whose arguments from that place on are the body, counted with the word."""
 
 
 class Asked(NamedTuple):
@@ -46,7 +46,8 @@ class Asked(NamedTuple):
 
 
 def reply_of(response: bytes) -> Any:
-    """The reply in a response: an object, or a table as the record is answered. None if it isn't the office's."""
+    """The reply in a response: an object, or a table as in the record's answer. None if the response isn't the
+    office's."""
     head, found, body = response.partition(b"\r\n\r\n")
     fields = head.lower().split(b"\r\n")
     if not found or not fields[0].startswith(b"http/1.1 ") or f"content-length: {len(body)}".encode() not in fields:

@@ -1,4 +1,4 @@
-"""What befalls a country: each fault when its moment has come, and how it ends."""
+"""The faults of a country: each begins at its moment, and ends."""
 
 from __future__ import annotations
 
@@ -18,13 +18,13 @@ if TYPE_CHECKING:
     from .country import Country
 
 AWAY = 2 * HOUR
-"""So long the office is away once its machine is lost."""
+"""The time for which the office is away once its machine is lost."""
 
 LAG = 9 * HOUR
-"""So old is the last copy when the machine is lost; a backup is older."""
+"""The age of the last copy when the machine is lost; a backup is older."""
 
 BURST = 12
-"""So many prices are changed, and changed back, while a backup is made."""
+"""The number of prices that are changed, and changed back, while a backup is made."""
 
 OF_AN_EXCHANGE = ("killed", "lost", "cut", "garbled", "slow", "front")
 
@@ -53,7 +53,7 @@ class Befalling:
         }
 
     def befalls(self, fault: Fault) -> None:
-        """A fault begins; on a machine that is lost nothing does."""
+        """A fault begins; on a lost machine none begins."""
         if not self.country.machine.is_lost:
             self.ways[fault.kind](fault, self.country.now + LASTING.get(fault.kind, 0))
 
@@ -111,7 +111,7 @@ class Befalling:
             self.country.at(until, self.frees)
 
     def frees(self) -> None:
-        """The disk takes writes again; until now the probe has told if it refused one."""
+        """The disk takes writes again; until now the probe has reported a refused write."""
         self.country.outside.probe()
         self.country.machine.limit(FREE)
 
@@ -131,7 +131,7 @@ class Befalling:
             self.country.restart()
 
     def upgraded(self, fault: Fault, _: int) -> None:
-        """The office was one of version 1.0 until now, whose tables are of schema 1; this program takes its file over."""
+        """Until now the office had version 1.0, whose tables are of schema 1; this program takes over its file."""
         country, machine = self.country, self.country.machine
         country.find_out()
         if not machine.is_up or not machine.has_disk or len(country.judge.possible.offices) > 1:
@@ -153,7 +153,7 @@ class Befalling:
         self.country.at(self.country.now + LAG, self.burns, copy)
 
     def burns(self, copy: Optional[Copy]) -> None:
-        """The machine is lost; the probe tells it, and later the office goes on elsewhere."""
+        """The machine is lost; the probe reports it, and later the office continues elsewhere."""
         country = self.country
         if country.machine.is_lost:
             return
@@ -162,7 +162,7 @@ class Befalling:
         country.at(country.now + AWAY, self.comes_back, copy)
 
     def comes_back(self, copy: Optional[Copy]) -> None:
-        """The office goes on with a copy, and everybody sends again what is missing."""
+        """The office continues with a copy, and everybody sends the missing records again."""
         country = self.country
         country.machine.is_lost = False
         snapshot: Snapshot = country.keeping.promote(copy) if copy else country.keeping.restore()

@@ -22,16 +22,16 @@ class Clock:
         self.shown = -1
         self.stamps = 0
         self.jumped = 0
-        """When it jumped last."""
+        """The time of its last jump."""
         self.set(now)
 
     @property
     def office(self) -> int:
-        """What the clock of the office shows."""
+        """The time that the office's clock shows."""
         return self.now + self.ahead
 
     def set(self, now: int) -> None:
-        """It is this moment now."""
+        """Sets the time to this moment."""
         self.now = now
         if self.office == self.shown:
             return
@@ -50,17 +50,17 @@ class Clock:
                 os.utime(path, ns=(moment, moment))
 
     def jump(self, ahead: int) -> None:
-        """The clock of the office differs by so many seconds from now on."""
+        """Makes the office's clock differ by so many seconds from now on."""
         self.ahead, self.jumped = ahead, self.now
         self.set(self.now)
 
     def environment(self) -> dict[str, str]:
-        """What a program is started with, so that it reads this clock."""
+        """The environment with which a program reads this clock."""
         return faked("FAKETIME_TIMESTAMP_FILE", self.path)
 
 
 def faked(name: str, value: str) -> dict[str, str]:
-    """The variables of a program whose time faketime sets by one of them."""
+    """The variables of a program, one of which makes faketime set its time."""
     library = LIBRARY.format(os.uname().machine)
     more = {"FAKETIME_NO_CACHE": "1", "NO_FAKE_STAT": "1", "FAKETIME_DONT_FAKE_MONOTONIC": "1", "TZ": "UTC"}
     return {**os.environ, **more, "LD_PRELOAD": library, name: value}

@@ -11,12 +11,12 @@ from .machine import Machine
 
 
 class Closing:
-    """Gets freezes ready at a machine; `met` hears of each kill of the program."""
+    """Prepares freezes at a machine; `met` is called at each kill of the program."""
 
     def __init__(self, machine: Machine, met: Callable[[str], None]) -> None:
         self.machine, self.met = machine, met
         self.kills = 0
-        """So many times the program is killed as it works."""
+        """The number of times that the program is killed while it works."""
 
     def row(self, month: str) -> Optional[str]:
         """The row that freezes a month; None while the machine is lost."""

@@ -28,14 +28,14 @@ from .world import MOVED, Quote, World
 
 AGAIN = 10 * MINUTE
 RESTART = 2 * MINUTE
-"""So long the office is away before it is started again."""
+"""The time for which the office is away before it is started again."""
 
 HANDED_OVER, REVISED = 2, 1
-"""Which months, counted from the first, are those of the hand-over and of the revision."""
+"""The months of the hand-over and of the revision, counted from the first."""
 
 
 class Heard(NamedTuple):
-    """What one collector or the public was answered, and when."""
+    """The answers to one collector or the public, with their times."""
 
     moment: int
     asked: Asked
@@ -62,7 +62,7 @@ class Country:
         self.heard: dict[str, list[Heard]] = collections.defaultdict(list)
         self.survived = self.wire.met
         self.logged = 0
-        """How many messages had gone through the front when its log was moved away last."""
+        """The number of messages that had passed the front when its log was last moved away."""
 
     # ---- what people have round them
 
@@ -71,11 +71,12 @@ class Country:
         return self.clock.now
 
     def at(self, moment: int, work: Any, *of: Any) -> None:
-        """Does work at a later moment."""
+        """Schedules work for a later moment."""
         heapq.heappush(self.queue, (moment, next(self.order), partial(work, *of)))
 
     def ask(self, who: str, asked: Asked) -> Any:
-        """Asks the office; who has got an answer remembers it. Who manages the office starts it again if it ended."""
+        """Asks the office; the person who gets an answer remembers it. The operator starts the office again if it
+        ended."""
         self.find_out()
         was_up, had_front = self.machine.is_up, self.machine.front.is_up
         reply = self.wire.ask(who, asked)
@@ -89,12 +90,12 @@ class Country:
         return reply
 
     def find_out(self) -> None:
-        """Lets the judge find out what became of a message that had no answer."""
+        """Lets the judge find out the result of a message that had no answer."""
         for asked in self.judge.doubts():
             self.wire.find_out(asked)
 
     def met(self, kind: str) -> None:
-        """A fault of a kind has befallen the country."""
+        """Notes that a fault of a kind has occurred."""
         self.survived[kind] += 1
 
     def wrote(self, collector: int, month: str, slot: int, quote: Quote) -> None:
@@ -106,14 +107,14 @@ class Country:
         self.judge.is_stored(collector, of_month)
 
     def restart(self) -> None:
-        """Starts the office again, as systemd does; not on a machine that is lost."""
+        """Starts the office again, as systemd does, unless the machine is lost."""
         if not self.machine.is_lost and not self.machine.start():
             self.at(self.now + RESTART, self.restart)
 
     # ---- the year
 
     def run(self) -> None:
-        """Lives through all of it. Raises Broken."""
+        """Runs through all months. Raises Broken."""
         self.machine.start()
         self.machine.front.start()
         self.desk.rows(self.world.survey())
@@ -133,7 +134,7 @@ class Country:
             self.machine.close()
 
     def _plan_month(self, month: Month) -> None:
-        """All that is meant to happen for a month."""
+        """Schedules everything that should happen for a month."""
         drawn = self.world.drawn("plan", month.name)
         self.at(max(month.begins - 10 * DAY, month.begins if month.at == 0 else 0), self.desk.rows, [calendar(month)])
         if month.name.endswith("-01"):
@@ -161,7 +162,7 @@ class Country:
         return [f"handover,{leaver},{slot},2,{slot + MOVED},{month.name}" for slot in self.world.slots]
 
     def _reopen(self, month: Month) -> None:
-        """A price was wrong: the last month is opened once more, put right, and frozen again."""
+        """A price was wrong: the last month is reopened, corrected, and frozen again."""
         again = month.publishes + 3 * DAY
         self.desk.rows([f"calendar,{month.name},{self.now},{again - 2 * DAY},{again}"])
         collector = self.collectors[1]
@@ -171,7 +172,7 @@ class Country:
         self.at(again + MINUTE, self.outside.publish)
 
     def freeze(self, month: Month) -> None:
-        """The desk freezes a month once all has been looked at that was promised for it."""
+        """The desk freezes a month once all promises about it have been checked."""
         row = self._closed_by(month.name) if self.audit(month) else None
         if row is None:
             self.at(self.now + AGAIN, self.freeze, month)
@@ -183,7 +184,8 @@ class Country:
         return self.closing.row(month) if "closing" in self.outside.looks else f"freeze,{month}"
 
     def audit(self, month: Month) -> bool:
-        """Looks whether all stands that was answered, and all is there that was written; whether it could look."""
+        """Checks that all answered records are stored, and that all written prices exist; returns whether it could
+        check."""
         listed: dict[int, list[list[Any]]] = {}
         for number in self.world.collectors:
             words = "quotes", self.world.months[0].name, month.name

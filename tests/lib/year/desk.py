@@ -1,4 +1,4 @@
-"""The desk: a script of what it sends, with the slips that people make, and its log."""
+"""The desk: a script of the records that it sends, with the mistakes that people make, and its log."""
 
 from __future__ import annotations
 
@@ -14,7 +14,7 @@ from .people import Around
 AGAIN = 5 * MINUTE
 NOT_CLOSED, FAULT, IS_FROZEN = 47, 49, 50
 ROWS = 300
-"""So many rows are sent at once at most."""
+"""The most rows that are sent at once."""
 
 
 def calendar(month: Month) -> str:
@@ -30,16 +30,16 @@ class Desk:
         self.to_do: collections.deque[tuple[str, ...]] = collections.deque()
         self.log: list[tuple[int, tuple[str, ...]]] = []
         self.frozen: collections.Counter[str] = collections.Counter()
-        """How many revisions of each month the desk has frozen, as far as it was told."""
+        """The number of revisions of each month that the desk has frozen, as far as the answers said."""
         self.freezes: set[tuple[str, ...]] = set()
         self.is_going = False
         self.is_blind = False
         self.is_forgetful = False  # a wrong desk, which sends nothing again after the office has moved
         self.is_double_until = 0
-        """Until when a second person of the desk sends the same."""
+        """The time until which a second person at the desk sends the same records."""
 
     def send(self, *words: str) -> None:
-        """Puts something last on the list of what is to be sent."""
+        """Adds something at the end of the list of things to send."""
         self.to_do.append(words)
         if not self.is_going:
             self._go_on()
@@ -61,7 +61,8 @@ class Desk:
         self.to_do.append(words)
 
     def slips(self, month: Month) -> None:
-        """What goes wrong at a desk: the wrong file, a freeze too early, a plan or a window sent twice, two at once."""
+        """The mistakes at a desk: the wrong file, a freeze too early, a plan or a window sent twice, two people at
+        once."""
         drawn = self.around.world.drawn("slips", month.name)
         ways = [["Dear Sir or Madam,", "price;shop;1,20"], [f"freeze,{month.name}", "items"], [calendar(month)] * 2]
         ways += [[f"quote,1,{month.name},price,100"], self.around.world.survey()[:40]]
@@ -69,7 +70,7 @@ class Desk:
             self.rows(way)
 
     def _go_on(self) -> None:
-        """Sends what is to do, until something isn't answered."""
+        """Sends the things on the list, until one isn't answered."""
         self.is_going = True
         while self.to_do:
             words = self.to_do[0]
@@ -85,12 +86,12 @@ class Desk:
         self.is_going = False
 
     def _reopen(self, month: str) -> None:
-        """What a wrong desk does: nobody answered its freeze, so it makes the month ready and freezes it again."""
+        """The action of a wrong desk: nobody answered its freeze, so it prepares the month and freezes it again."""
         now = self.around.now
         self.to_do.insert(1, ("import", f"calendar,{month},{now - HOUR},{now},{now + 9 * DAY}\nfreeze,{month}\n"))
 
     def _is_done(self, words: tuple[str, ...], reply: Any) -> bool:
-        """Whether something is answered for good; then it is off the list."""
+        """Whether something has a final answer; then it leaves the list."""
         rows = reply.get("rows", [reply]) if reply else []
         if not rows or any(row.get("refused") == 90 for row in rows):
             return False
@@ -103,7 +104,7 @@ class Desk:
         return True
 
     def _frozen(self, row: str, reply: Any) -> None:
-        """Goes by the answer to a freeze."""
+        """Acts on the answer to a freeze."""
         month = row.split(",")[1]
         if reply.get("refused") == FAULT:
             self._freeze(f"{row},{reply['code']}")
@@ -112,7 +113,7 @@ class Desk:
             self.frozen[month] += 1
 
     def again(self, since: int) -> None:
-        """After the office has moved: sends once more what was answered since a moment."""
+        """After the office has moved: sends the records that were answered since a moment once more."""
         if self.is_forgetful:
             return
         lost = [words for moment, words in self.log if moment >= since]

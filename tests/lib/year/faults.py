@@ -1,4 +1,4 @@
-"""The faults of a country, drawn by its seed: each by itself, so that any of them can be left out."""
+"""The faults of a country, drawn with its seed, each by itself, so that any of them can be left out."""
 
 from __future__ import annotations
 
@@ -26,10 +26,11 @@ EACH_MONTH = {
     "desk": 1,
     "two desks": 1,
 }
-"""So many of each kind are drawn for a month; `offline` is one for each collector."""
+"""The number of each kind that is drawn for a month; `offline` is one for each collector."""
 
 OF_A_MACHINE = {"burned": 1, "promoted": 2}
-"""In which month of three the machine is lost, and which way goes on: from a backup, or on a second machine."""
+"""The month, of three, in which the machine is lost, by the way in which the office continues: from a backup, or on a
+second machine."""
 
 UPGRADED = "upgraded"
 """In the second month the office has a file of version 1.0, whose tables are of schema 1, and gets this version."""
@@ -37,11 +38,11 @@ UPGRADED = "upgraded"
 KINDS = [*EACH_MONTH, "offline", *OF_A_MACHINE, UPGRADED]
 KILLS = ["killed before", "killed within", "killed meanwhile", "killed after"]
 CERTAIN = {"killed": ["killed before", "killed within", "killed after"], "full": ["refusing"]}
-"""The ways of a kind whose effect hangs on nothing that others have sent."""
+"""The forms of a kind whose effect doesn't depend on records that others have sent."""
 
 
 class Fault(NamedTuple):
-    """A fault: its number, its kind, how it goes, its moment, and whose next exchange or day it falls on."""
+    """A fault: its number, its kind, its form, its moment, and the person on whose next exchange or day it falls."""
 
     number: int
     kind: str
@@ -79,13 +80,13 @@ def drawn_faults(world: World, kinds: list[str], is_certain: bool = False) -> li
 
 
 def people(world: World) -> list[str]:
-    """Who asks the office."""
+    """The people who ask the office."""
     named = [f"{'sender' if it in world.senders else 'collector'} {it}" for it in world.collectors]
     return [*named, "desk", "desk", "public"]
 
 
 def falls_on(kind: str, world: World, month: Month) -> list[str]:
-    """Whom the faults of a kind fall on in a month, one for each; empty where that is drawn."""
+    """The people on whom the faults of a kind fall in a month, one for each; empty if they are drawn."""
     if kind == "offline":
         return [f"collector {it}" for it in world.collectors if it not in world.senders]
     if kind == UPGRADED:
@@ -96,4 +97,4 @@ def falls_on(kind: str, world: World, month: Month) -> list[str]:
 
 
 LASTING = {"refusing": 30 * HOUR, "full": 30 * HOUR, "clock": 3 * HOUR, "offline": DAY, "two desks": DAY}
-"""How long a fault lasts, if it doesn't end by itself."""
+"""The duration of a fault, if it doesn't end by itself."""

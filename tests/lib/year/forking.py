@@ -1,7 +1,8 @@
-"""Runs cpi-tools again and again, each time in a child of one process that has read them all: that saves their start.
+"""Runs cpi-tools again and again, each time in a child of one process that has already imported them, which saves their
+start.
 
-A line of standard input is a list in JSON: the files for the output and for the lines of faults, and the words of the
-tool. For each line two are written: the number of the child's process, and once it has ended its status.
+A line of standard input is a list in JSON: the files for the output and for the lines of faults, and the arguments of
+the tool. For each line, two lines are written: the number of the child's process, and once it has ended its status.
 """
 
 from __future__ import annotations
@@ -44,7 +45,7 @@ def child(out: str, err: str, words: list[str]) -> NoReturn:
 
 
 def serve() -> None:
-    """Goes on until standard input ends."""
+    """Serves until standard input ends."""
     for line in sys.stdin:
         out, err, *words = json.loads(line)
         process = os.fork()

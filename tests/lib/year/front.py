@@ -1,4 +1,4 @@
-"""The front of the office: nginx by ops/nginx.conf, whose clock is the office's, and what can happen to it.
+"""The front of the office: nginx with ops/nginx.conf and the office's clock, and the faults that it can have.
 
 Its limits count requests of real seconds, of which a year here has few, so they are set higher.
 """
@@ -27,14 +27,14 @@ from lib.served import free_port
 
 sys.path.insert(0, os.path.join(TOP, "tools"))
 
-from cpi_tools.tryout import front as fronts  # noqa: E402
+from cpi_tools.tryout import trial_services as fronts  # noqa: E402
 from cpi_tools.text.terminal import Fault  # noqa: E402
 
 from . import clock as clocks  # noqa: E402
 from .asked import Asked  # noqa: E402
 
 DRAWN_AT = "2020-01-01 00:00:00"
-"""When certificates are drawn, before all simulated years."""
+"""The time at which certificates are drawn, before all simulated years."""
 
 DAYS = 20_000
 PATIENCE = 30
@@ -42,7 +42,8 @@ PATIENCE = 30
 
 KEY = re.compile("[0-9a-f]{32}")
 DRAW = (
-    "import pathlib, sys, cpi_tools.tryout.front as f; f.draw_certificate(pathlib.Path(sys.argv[1]), 'localhost', {})"
+    "import pathlib, sys, cpi_tools.tryout.trial_services as f; "
+    "f.draw_certificate(pathlib.Path(sys.argv[1]), 'localhost', {})"
 )
 
 
@@ -67,7 +68,7 @@ def draw(folder: Path) -> None:
 
 @functools.cache
 def first_certificate() -> Path:
-    """A folder with the certificate that each front begins with."""
+    """A folder with the certificate with which each front begins."""
     folder = Path(tempfile.mkdtemp())
     atexit.register(shutil.rmtree, folder, ignore_errors=True)
     draw(folder)
@@ -75,7 +76,7 @@ def first_certificate() -> Path:
 
 
 class Front:
-    """An nginx before an office's port, in a folder of its own."""
+    """An nginx in front of an office's port, in its own folder."""
 
     def __init__(self, room: str, port: int, clock: clocks.Clock, site: str) -> None:
         self.clock, self.folder = clock, Path(room) / "front"
@@ -92,7 +93,7 @@ class Front:
 
     @property
     def authority(self) -> str:
-        """The certificate that its askers trust."""
+        """The certificate that its clients trust."""
         return str(self.folder / "ca.crt")
 
     @property
@@ -121,7 +122,7 @@ class Front:
         self._wait(lambda: fronts.is_listening("127.0.0.1", self.place.port), "it doesn't listen")
 
     def kill(self) -> None:
-        """Ends it with its workers by the signal that nobody can hold up."""
+        """Ends it with its workers with the signal that nobody can block."""
         self.hang_up()
         if self.process:
             each = [self.process.pid]
@@ -145,7 +146,7 @@ class Front:
     # ---- certificates and logs
 
     def renew(self) -> bool:
-        """Puts a new certificate in the place of the one before; whether nginx has taken it up."""
+        """Puts a new certificate in the place of the one before; returns whether nginx uses it."""
         new = self.folder / f"new-{self.renewed}"
         draw(new)
         for name in ("site.key", "site.pem", "ca.crt"):
@@ -180,7 +181,7 @@ class Front:
         return ssl.create_default_context(cafile=self.authority)
 
     def rotate(self) -> Optional[str]:
-        """Moves its log away, as logrotate does; what is wrong with the one that it has written until then."""
+        """Moves its log away, as logrotate does; returns the fault of the old log, if any."""
         fault = self.log_fault()
         os.replace(self.log, self.folder / f"access.log.{self.rotated}")
         self.rotated += 1
@@ -190,7 +191,7 @@ class Front:
         return fault
 
     def log_fault(self) -> Optional[str]:
-        """What is wrong with the log that it writes now."""
+        """The fault of the current log, if any."""
         text = self.log.read_text(encoding="utf-8") if self.log.exists() else ""
         if KEY.search(text):
             return "a key stands in the log of the front"
@@ -199,13 +200,13 @@ class Front:
     # ---- messages
 
     def hang_up(self) -> None:
-        """Ends the connection that is kept."""
+        """Closes the kept connection."""
         if self.line:
             self.line.close()
             self.line = None
 
     def send(self, asked: Asked) -> None:
-        """Sends a message whole, over the connection that is kept. Raises OSError or HTTPException."""
+        """Sends a message whole, over the kept connection. Raises OSError or HTTPException."""
         method, path, body = asked.request()
         fields: Mapping[str, str] = {"Authorization": f"CPI-Key {asked.key}"} if asked.key else {}
         if not self.line:
@@ -214,7 +215,7 @@ class Front:
         self.line.request(method, "/api" + path, body=body, headers=dict(fields))
 
     def answer(self, asked: Asked) -> bytes:
-        """The response to a message in the form of `cpi serve`; none if there is none."""
+        """The response to a message in the form of `cpi serve`; None if there is none."""
         for _ in range(2):
             is_kept = self.line is not None
             try:

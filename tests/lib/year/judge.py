@@ -1,7 +1,7 @@
-"""The judge: what the office has promised, and what has become of it.
+"""The judge: the promises of the office, and their results.
 
-It hears of each exchange, and compares the replies with the second office. Beside that it keeps what people have
-written down and the receipts that they were given, and looks itself at what is stored, published and copied.
+It hears of each exchange, and compares the replies with the second office. It also keeps the prices that people have
+written down and the receipts that they got, and checks itself the stored, published and copied records.
 """
 
 from __future__ import annotations
@@ -25,7 +25,7 @@ from .world import Quote
 
 MONTH = re.compile(r"\b20\d\d-(?:0[1-9]|1[0-2])\b")
 KEPT, NO_TABLE = 2, {"refused": 30}
-"""So many seconds a front may keep that a table isn't there yet."""
+"""The number of seconds for which a front may cache that a table doesn't exist yet."""
 
 
 class Broken(Exception):
@@ -33,7 +33,7 @@ class Broken(Exception):
 
 
 class Snapshot:
-    """The offices of which a copy can be one: those from when it was begun until it was there."""
+    """The offices that a copy can contain: those between its beginning and its end."""
 
     def __init__(self, moment: int, offices: list[Kept]) -> None:
         self.moment, self.offices = moment, offices
@@ -41,7 +41,7 @@ class Snapshot:
 
 
 class Judge:
-    """Judges an office. `clock` is what its clock shows, `may_refuse` whether its disk can refuse now."""
+    """Judges an office. `clock` gives the time of its clock, `may_refuse` whether its disk can refuse writes now."""
 
     def __init__(self, clock: Callable[[], int], may_refuse: Callable[[], bool]) -> None:
         self.clock, self.may_refuse = clock, may_refuse
@@ -49,16 +49,16 @@ class Judge:
         self.open: list[Snapshot] = []
         self.written: dict[tuple[int, str, int], Quote] = {}
         self.held: dict[tuple[str, str, int], tuple[int, str, str]] = {}
-        """By key, month and slot the receipt that somebody was given last, and for what."""
+        """The last receipt that somebody got, and its quote, by key, month and slot."""
         self.manifest: Optional[bytes] = None
         self.writes = Writes()
         self.shown: dict[tuple[str, ...], Any] = {}
-        """What the public was answered last, by the words."""
+        """The last answers to the public, by the words of the request."""
 
     # ---- exchanges
 
     def answered(self, asked: Asked, reply: Any) -> None:
-        """The office has answered."""
+        """Notes that the office has answered."""
         if self._is_kept_by_front(asked, reply):
             return
         told = reply.get("rows", [reply]) if isinstance(reply, dict) else []
@@ -69,8 +69,8 @@ class Judge:
             raise Broken(fault)
 
     def _is_kept_by_front(self, asked: Asked, reply: Any) -> bool:
-        """Whether a front may have kept the answer: for a day that of a table by its revision, and for two seconds that
-        there is none."""
+        """Whether a front may have kept the answer: for a day the answer with a table by its revision, and for two
+        seconds the answer that there is none."""
         if asked.key or asked.words[0] != "table" or len(asked.words) < 4:
             return False
         before = [office.reply(asked.record(self.clock() - KEPT)) for office in self.possible.offices]
@@ -80,19 +80,19 @@ class Judge:
         return False
 
     def unanswered(self, asked: Asked) -> None:
-        """The office may have carried something out."""
+        """Notes that the office may have carried something out."""
         self.possible.unanswered(asked, self.clock())
         self.writes.unanswered(self.clock(), asked.is_command, self.may_refuse())
         self._keep()
 
     def doubts(self) -> list[Asked]:
-        """What to ask so that fewer offices are possible."""
+        """The requests after which fewer offices are possible."""
         if len(self.possible.offices) == 1:
             return []
         return [Asked(key_of(it), ("quotes", "2000-01", "2199-12")) for it in sorted(self.possible.doubtful())]
 
     def given(self, asked: Asked, reply: Any) -> None:
-        """Somebody was given a reply, with receipts perhaps."""
+        """Notes a reply to somebody, which may contain receipts."""
         if asked.words[0] == "import" and asked.key:
             for row, told in zip(asked.words[1].splitlines(), reply.get("rows", [])):
                 if "receipt" in told:
@@ -102,13 +102,13 @@ class Judge:
     # ---- copies
 
     def begin_copy(self, moment: int) -> Snapshot:
-        """A copy of the office is begun."""
+        """Notes that a copy of the office begins."""
         snapshot = Snapshot(moment, self.possible.kept())
         self.open.append(snapshot)
         return snapshot
 
     def end_copy(self, snapshot: Snapshot) -> None:
-        """The copy is there."""
+        """Notes that the copy is complete."""
         self.open.remove(snapshot)
 
     def _keep(self) -> None:
@@ -116,7 +116,7 @@ class Judge:
             snapshot.offices += self.possible.kept()
 
     def restored(self, snapshot: Snapshot) -> None:
-        """The office is the one of a copy: what was answered later may be gone, and its receipts with it."""
+        """Notes that the office was restored from a copy: later answers may be lost, with their receipts."""
         self.possible = Possible(Possible(snapshot.offices).kept())
         self.possible.settle()
         self.held.clear()
@@ -125,7 +125,7 @@ class Judge:
     # ---- what stands
 
     def stands(self, collector: int, quotes: list[list[Any]]) -> None:
-        """Each receipt that somebody holds stands with its price, and none is given twice."""
+        """Checks that each receipt that somebody holds is stored with its price, and that none is given twice."""
         key = key_of(collector)
         receipts = [row[4] for row in quotes]
         if len(set(receipts)) < len(receipts):
@@ -137,7 +137,7 @@ class Judge:
                 raise Broken(f"collector {collector}, slot {slot}, {month}: {held} was answered, and {found} stands")
 
     def is_stored(self, collector: int, sheet: dict[tuple[str, int], Quote]) -> None:
-        """What a collector has written, and the phone doesn't hold any more, may be stored."""
+        """Checks that prices that a collector has written, and the phone no longer holds, may be stored."""
         for (month, slot), quote in sheet.items():
             place = collector, slot, (int(month[:4]), int(month[5:]))
             stored = [office.quotes.get(place) for office in self.possible.offices]
@@ -146,7 +146,7 @@ class Judge:
                 raise Broken(f"{what}, {stored} is stored, and the phone holds nothing")
 
     def is_complete(self, month: str, listed: dict[int, list[list[Any]]], holds: Callable[[int, int], bool]) -> None:
-        """What people have written for a month is stored, or they still hold it."""
+        """Checks that all prices that people have written for a month are stored, or that they still hold them."""
         for (collector, of, slot), quote in self.written.items():
             stored = {(row[2], str(row[3])) for row in listed[collector] if (row[1], row[0]) == (month, slot)}
             if of == month and quote not in stored and not holds(collector, slot):
@@ -154,7 +154,7 @@ class Judge:
                 raise Broken(f"{what}, {stored or 'nothing'} is stored, and nobody holds it")
 
     def revisions(self, frozen: dict[str, int]) -> None:
-        """A month has as many revisions as the desk meant to freeze."""
+        """Checks that a month has as many revisions as the desk meant to freeze."""
         for office in self.possible.offices:
             for month, of in office.tables.items():
                 if len(of) > frozen.get(month_text(month), 0):
@@ -163,7 +163,7 @@ class Judge:
                     )
 
     def probed(self, is_reached: bool, jumped: int) -> tuple[int, int]:
-        """The least and the greatest status that a probe may end with; the clock jumped last at a moment."""
+        """The least and the greatest status that a probe may end with; given the moment of the clock's last jump."""
         if not is_reached:
             return CRITICAL, CRITICAL
         writes, late = self.writes, [is_late([office], self.clock()) for office in self.possible.offices]
@@ -175,8 +175,8 @@ class Judge:
     # ---- what is published
 
     def site(self, folder: str, may_be_before: bool = False) -> None:
-        """A pack has the tables that are out, each as the second office has it, and follows the manifest before. It may be
-        the pack that was there before, whole."""
+        """Checks that a pack contains the published tables, each as in the second office, and follows the manifest
+        before. It may be the whole pack from before."""
         with open(os.path.join(folder, "manifest.json"), "rb") as found:
             text = found.read()
         manifest = json.loads(text)
@@ -203,20 +203,20 @@ class Judge:
 
 
 def digests(office: Office, now: int) -> Iterator[tuple[str, int, str]]:
-    """Month, revision and SHA-256 of each table as CSV that is out."""
+    """Month, revision and SHA-256 of each published table as CSV."""
     for month, revision in office.published(now):
         table = office.printed_table(now, month, "csv", revision)["table"]
         yield month_text(month), revision, hashlib.sha256(table.encode()).hexdigest()
 
 
 def pages_of(folder: str) -> set[str]:
-    """The months that files of a pack have in their names."""
+    """The months in the names of a pack's files."""
     names = (os.path.join(where, name) for where, _, files in os.walk(folder) for name in files)
     return {month for name in names for month in MONTH.findall(os.path.relpath(name, folder))}
 
 
 def sums_fault(folder: str) -> Optional[str]:
-    """What is wrong with the sums of a pack, by which anybody checks it: each file but theirs has its own."""
+    """The fault of a pack's sums, with which anybody can check it: each file except theirs has one."""
     with open(os.path.join(folder, "SHA256SUMS"), encoding="utf-8") as found:
         sums = [line.rstrip("\n").split("  ", 1) for line in found]
     for own, name in sums:

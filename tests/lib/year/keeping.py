@@ -16,14 +16,14 @@ from .tools import PATIENCE, Going
 
 
 class Copy(NamedTuple):
-    """A copy, and the offices of which it can be one."""
+    """A copy, and the offices that it can contain."""
 
     path: str
     snapshot: Snapshot
 
 
 class Keeping:
-    """Who copies the office, and brings it back."""
+    """Copies the office, and restores it."""
 
     def __init__(self, machine: Machine, judge: Judge) -> None:
         self.machine, self.judge = machine, judge
@@ -55,14 +55,14 @@ class Keeping:
         self.drill(path)
 
     def drill(self, path: str) -> None:
-        """A copy passes its drill."""
+        """Checks that a copy passes its drill."""
         ended = self.machine.tools.run("drill", path)
         self.drills += 1
         if ended.status not in ((0, 3) if self.is_plain else (0,)):
             raise Broken(f"a drill ends with {ended.status}: {ended.told}")
 
     def restore(self) -> Snapshot:
-        """Puts the last backup in the place of the office, and starts it."""
+        """Puts the last backup in place of the office, and starts it."""
         shutil.copy(self.last.path, self.machine.file)
         self.judge.restored(self.last.snapshot)
         self.machine.start()
@@ -80,7 +80,7 @@ class Keeping:
         return Copy(folder, snapshot)
 
     def promote(self, copy: Copy) -> Snapshot:
-        """The second machine takes the place of the first, which is lost."""
+        """Makes the second machine replace the first, which is lost."""
         ended = self.machine.tools.run("promote", copy.path, "--office", self.machine.file)
         if ended.status:
             raise Broken(f"a promotion ends with {ended.status}: {ended.told}")
@@ -91,7 +91,7 @@ class Keeping:
         return copy.snapshot
 
     def _take_the_first_again(self) -> None:
-        """The file of the machine that was taken for lost is the office again, as only a wrong system lets it be."""
+        """Makes the file of the machine that was considered lost the office again, as only a wrong system does."""
         for path in glob.glob(self.machine.file + "*"):
             os.remove(path)
         for path in glob.glob(os.path.join(self.machine.room, f"burned-{self.machine.burned}", "*")):

@@ -1,6 +1,6 @@
-"""What a phone knows of the quotes of a month, and how it sees that the office was restored from a copy.
+"""A phone's knowledge of the quotes of a month, with which it detects that the office was restored from a copy.
 
-It follows quotes.js of the page, rule by rule, and has no code in common with it.
+It follows quotes.js of the page, rule by rule, and shares no code with it.
 """
 
 from __future__ import annotations
@@ -8,7 +8,7 @@ from __future__ import annotations
 from typing import Any, NamedTuple
 
 FORMER = 4
-"""So many quotes of a slot that were replaced are kept at most."""
+"""The most replaced quotes of a slot that are kept."""
 
 
 class Stored(NamedTuple):
@@ -30,7 +30,7 @@ def stored_of(rows: list[list[Any]], month: str) -> dict[int, Stored]:
 
 
 class Known:
-    """What a phone knows of a month: its work list, the quotes by slot, and those that were replaced."""
+    """A phone's knowledge of a month: its work list, the quotes by slot, and the replaced quotes."""
 
     def __init__(self, work: list[list[Any]], quotes: dict[int, Stored]) -> None:
         self.work, self.quotes = work, quotes
@@ -42,7 +42,7 @@ class Known:
         return max((it.receipt for it in self.quotes.values()), default=0)
 
     def mark(self, stored: Stored) -> None:
-        """The office has stored a quote."""
+        """Notes that the office has stored a quote."""
         before = self.quotes.get(stored.slot)
         if before and before != stored:
             self._replaced(before)
@@ -54,8 +54,9 @@ class Known:
         self.former = [*others, *own[1 - FORMER :], before]
 
     def compare(self, now: dict[int, Stored]) -> tuple[bool, list[tuple[Stored, int]]]:
-        """Whether the office that has these quotes now was restored from a copy; and what it lacks, each with the receipt
-        of what it has in its place, if the phone had seen that one before. It has these quotes from now on."""
+        """Whether the office, which has these quotes now, was restored from a copy; and the quotes that it lacks, each
+        with the receipt of the quote in its place, if the phone had seen that one before. From now on the phone knows
+        these quotes."""
         known, self.quotes = self.quotes, dict(now)
         changed = [it for slot, it in known.items() if now.get(slot) != it]
         intact = max((it.receipt for slot, it in known.items() if now.get(slot) == it), default=0)

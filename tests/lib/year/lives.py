@@ -1,4 +1,5 @@
-"""One country's life by a seed: what it promised and broke, and the shortest list of faults that still shows it."""
+"""One country's life, drawn with a seed: the promises that it broke, and the shortest list of faults that still breaks
+them."""
 
 from __future__ import annotations
 
@@ -20,7 +21,7 @@ from .world import World
 
 
 class Size(NamedTuple):
-    """How large a country is."""
+    """The size of a country."""
 
     months: int
     collectors: int
@@ -28,7 +29,7 @@ class Size(NamedTuple):
 
 
 class Life(NamedTuple):
-    """How a life went: where it broke a promise, if it did, and what it met."""
+    """The course of a life: the promise that it broke, if any, and the faults that it met."""
 
     broken: Optional[str]
     survived: "collections.Counter[str]"
@@ -38,7 +39,7 @@ class Life(NamedTuple):
 
 
 class Ways(NamedTuple):
-    """What is otherwise in a life: a wrong system, how others' prices are drawn, and what is looked at."""
+    """The variations of a life: a wrong system, the drawing of others' prices, and the checks."""
 
     slip: str = ""
     others: int = 0
@@ -46,7 +47,7 @@ class Ways(NamedTuple):
 
 
 def life(program: Program, seed: int, size: Size, faults: list[Fault], ways: Ways = Ways()) -> Life:
-    """Lives a country's life, in a folder of its own."""
+    """Runs a country's life, in its own folder."""
     world = World(seed, size.collectors, size.slots, months(size.months), ways.others)
     with tempfile.TemporaryDirectory() as room:
         country, broken = Country(program, room, world, faults), None
@@ -66,7 +67,8 @@ def faults_of(seed: int, size: Size, kinds: list[str], is_certain: bool = False)
 
 
 def shortest(faults: list[Fault], is_broken: Callable[[list[Fault]], bool]) -> list[Fault]:
-    """A list of faults from which none can be left out, so that it is still broken: halves first, and then each."""
+    """A list of faults that still breaks the promise, and from which none can be left out: it leaves out halves first,
+    and then each."""
     step = max(1, len(faults) // 2)
     while faults:
         for at in range(0, len(faults), step):
@@ -82,7 +84,7 @@ def shortest(faults: list[Fault], is_broken: Callable[[list[Fault]], bool]) -> l
 
 
 def apart(one: Life, other: Life, who: str) -> Optional[str]:
-    """Where the answers to somebody differ in two lives; tables that are out aren't compared."""
+    """The difference between the answers to somebody in two lives; published tables aren't compared."""
     hearing = [[it for it in each.heard[who] if "table" not in it.reply] for each in (one, other)]
     for here, there in zip(*hearing):
         if here != there:

@@ -1,4 +1,4 @@
-"""The machine of the office: `cpi serve` over a file, and what can happen to it."""
+"""The machine of the office: `cpi serve` over a file, and the faults that it can have."""
 
 from __future__ import annotations
 
@@ -24,12 +24,12 @@ FREE = resource.RLIM_INFINITY
 
 
 def takes_no_signal() -> None:
-    """In the process of the office: a write past the limit fails, and kills nobody."""
+    """In the process of the office: a write past the limit fails, but doesn't kill the process."""
     signal.signal(signal.SIGXFSZ, signal.SIG_IGN)
 
 
 class Machine:
-    """An office that is served, and started again once it has ended."""
+    """An office that is served, and restarted once it has ended."""
 
     def __init__(self, program: Program, room: str, clock: clocks.Clock) -> None:
         self.program, self.room, self.clock = program, room, clock
@@ -48,7 +48,7 @@ class Machine:
 
     @property
     def url(self) -> str:
-        """Where the machine itself asks the office."""
+        """The address at which the machine itself asks the office."""
         return f"http://127.0.0.1:{self.port}"
 
     @property
@@ -58,11 +58,11 @@ class Machine:
 
     @property
     def has_disk(self) -> bool:
-        """Whether the disk takes all writes."""
+        """Whether the disk accepts all writes."""
         return self.most == FREE
 
     def start(self) -> bool:
-        """Starts the office, unless it runs; whether it runs now."""
+        """Starts the office, unless it runs; returns whether it runs now."""
         if self.is_up:
             return True
         words = [self.program.path, *words_of(self.file, self.port, 1_000_000)]
@@ -94,7 +94,7 @@ class Machine:
                 self.stamp()
 
     def close(self) -> None:
-        """Ends all that runs on the machine."""
+        """Ends everything that runs on the machine."""
         self.kill()
         self.front.kill()
         self.tools.close()
@@ -112,7 +112,7 @@ class Machine:
                 self.seen[path] = os.stat(path).st_mtime_ns
 
     def kill(self) -> None:
-        """Ends the process by the signal that nobody can hold up."""
+        """Ends the process with the signal that nobody can block."""
         if self.process:
             self.process.kill()
             self.process.wait()
@@ -127,14 +127,14 @@ class Machine:
                 os.remove(path)
 
     def limit(self, most: int) -> None:
-        """The disk takes files of so many bytes only."""
+        """Limits the disk to files of so many bytes."""
         self.most = most
         if self.process and self.is_up:
             resource.prlimit(self.process.pid, resource.RLIMIT_FSIZE, (most, FREE))
 
     def write_log(self, is_awaited: bool = False) -> None:
-        """Appends what the office has said meanwhile to its log, which lies on another disk, as a journal does. After a
-        refusal by 90 it says two lines, which are awaited."""
+        """Appends the office's new lines to its log, which is on another disk, like a journal. After a refusal with 90
+        the office writes two lines, for which this waits."""
         if self.process and self.process.stderr:
             told, until = self.process.stderr.read() or b"", time.monotonic() + PATIENCE
             while is_awaited and b"open again" not in told and self.is_up and time.monotonic() < until:
@@ -146,18 +146,18 @@ class Machine:
                 self.clock.stamp(self.log)
 
     def log_size(self) -> int:
-        """How long the log of the office's file is."""
+        """The length of the log of the office's file."""
         path = self.file + "-wal"
         return os.path.getsize(path) if os.path.exists(path) else 0
 
     def tell(self, text: bytes) -> None:
-        """Sends a message of which nobody else knows."""
+        """Sends a message about which nobody else knows."""
         with contextlib.suppress(OSError), peer_of(self.port) as one:
             one.sendall(text)
             heard_until_reset(one)
 
     def pause(self, seconds: float) -> None:
-        """Lets the process stand still so long, as before a slow disk."""
+        """Pauses the process for so long, as a slow disk would."""
         process = self.process
         if process:
             process.send_signal(signal.SIGSTOP)
@@ -166,7 +166,7 @@ class Machine:
             timer.start()
 
     def burn(self) -> None:
-        """The machine is lost with its disk; what lay there is kept for who brings it back by mistake."""
+        """The machine is lost with its disk; its files are kept for someone who brings it back by mistake."""
         self.kill()
         self.burned += 1
         self.is_lost = True

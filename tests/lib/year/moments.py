@@ -28,7 +28,7 @@ class Month(NamedTuple):
 
     @property
     def freezes(self) -> int:
-        """When the desk means to freeze it."""
+        """The time at which the desk means to freeze the month."""
         return self.closes + 15 * HOUR
 
     @property
@@ -41,7 +41,7 @@ class Month(NamedTuple):
 
 
 def month_at(at: int) -> Month:
-    """The month that follows the first one by so many."""
+    """The month that is so many months after the first."""
     year, number = FIRST_YEAR + (11 + at) // 12, (11 + at) % 12 + 1
     return Month(at, f"{year}-{number:02}", calendar.timegm((year, number, 1, 0, 0, 0)))
 

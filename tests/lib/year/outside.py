@@ -1,4 +1,5 @@
-"""Who looks at the office from outside: readers, the publisher, the probe, and who makes its backups."""
+"""The people and programs that see the office from outside: readers, the publisher, the probe, and the maker of its
+backups."""
 
 from __future__ import annotations
 
@@ -19,18 +20,18 @@ CONFIG = "[office]\nagency = NSO\narea = XX\noffice = Office of prices\ncurrency
 AGAIN = 600
 
 PATIENTLY = ["--slow", "500000,600000", "--timeout", "250"]
-"""Words of the probe: this machine may be busy with other things."""
+"""Arguments of the probe: this machine may be busy with other work."""
 
 LOOKS = frozenset(["copies", "site", "probe", "closing"])
-"""What is looked at beside the answers: backups with their drills, the site, what the probe tells, and the desk's program
-for a freeze."""
+"""The things that are checked besides the answers: backups with their drills, the site, the probe's reports, and the
+desk's program for a freeze."""
 
 PROBED = 3
-"""So many times a month somebody asks the probe, at moments that are drawn."""
+"""The number of times per month that somebody asks the probe, at drawn moments."""
 
 
 class Outside:
-    """What comes from outside."""
+    """The actions from outside."""
 
     def __init__(self, country: "Country", site: str) -> None:
         self.country, self.folder = country, site
@@ -42,7 +43,7 @@ class Outside:
         self.output = country.machine.log
         """The log of the office that the probe reads."""
         self.kills = 0
-        """So many times the publisher is killed as it writes."""
+        """The number of times that the publisher is killed while it writes."""
         self.config = site + ".ini"
         with open(self.config, "w", encoding="utf-8") as out:
             out.write(CONFIG)
@@ -50,7 +51,7 @@ class Outside:
     # ---- readers and the publisher
 
     def plan_month(self, month: Month) -> None:
-        """What readers, the publisher and the probe do in a month."""
+        """Schedules the actions of readers, the publisher and the probe in a month."""
         country = self.country
         for after in (-10 * DAY, -HOUR, -1, 0, 1, HOUR):
             country.at(month.publishes + after, self.read, month.name)
@@ -69,7 +70,7 @@ class Outside:
             self.country.ask("public", Asked(None, words))
 
     def publish(self) -> None:
-        """Writes the site from what is out, and the judge looks at it."""
+        """Writes the site from the published tables, and lets the judge check it."""
         country, machine = self.country, self.country.machine
         country.judge.revisions(country.desk.frozen)
         if "site" not in self.looks:
@@ -93,7 +94,7 @@ class Outside:
             country.judge.site(self.folder)
 
     def _killed(self, words: list[str]) -> None:
-        """The publisher is killed at some moment; the pack that stands then is whole."""
+        """Kills the publisher at some moment; the pack must be whole then."""
         self.kills -= 1
         going = self.country.machine.tools.begin(*words)
         time.sleep(self.country.world.drawn("publisher", self.country.now, self.kills).random() * 0.3)
@@ -106,7 +107,7 @@ class Outside:
     # ---- the probe
 
     def probe(self) -> None:
-        """Asks the probe, and looks whether it tells what is so."""
+        """Asks the probe, and checks that it reports the truth."""
         country, machine = self.country, self.country.machine
         if "probe" not in self.looks:
             return
@@ -126,6 +127,6 @@ class Outside:
     # ---- copies
 
     def backup(self) -> None:
-        """A backup, as the timer makes it; on a machine that is lost there is nothing to copy."""
+        """A backup, as the timer makes it; on a lost machine there is nothing to copy."""
         if "copies" in self.looks and not self.country.machine.is_lost:
             self.country.keeping.backup()

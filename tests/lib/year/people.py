@@ -1,4 +1,4 @@
-"""Who sends prices: collectors with phones, who go by the page's list, and offices that send files."""
+"""The senders of prices: collectors with phones, who follow the page's list, and offices that send files."""
 
 from __future__ import annotations
 
@@ -16,28 +16,28 @@ FAR, NO_PRICE = 26, 25
 
 
 class Around(Protocol):
-    """What people have round them."""
+    """The surroundings of people."""
 
     world: World
 
     @property
     def now(self) -> int:
-        """The moment."""
+        """The current moment."""
 
     def at(self, moment: int, work: Any, *of: Any) -> None:
-        """Does work at a later moment."""
+        """Schedules work for a later moment."""
 
     def ask(self, who: str, asked: Asked) -> Any:
         """The reply of the office, or None."""
 
     def met(self, kind: str) -> None:
-        """A fault of a kind has befallen somebody."""
+        """Notes that a fault of a kind has hit somebody."""
 
     def wrote(self, collector: int, month: str, slot: int, quote: Quote) -> None:
-        """Somebody has written down what is found in a slot."""
+        """Notes that somebody has written down the price in a slot."""
 
     def watch(self, collector: int, sheet: "dict[tuple[str, int], Quote]", held: Any) -> None:
-        """What a collector has written is on the phone, or stored."""
+        """Checks that everything that a collector has written is on the phone, or stored."""
 
 
 class Collector:
@@ -50,7 +50,7 @@ class Collector:
         self.offline_until = self.tries = self.timer = 0
         self.drawn = around.world.drawn("person", number)
         self.sheet: dict[tuple[str, int], Quote] = {}
-        """What was written last, by month and slot."""
+        """The last quote that was written, by month and slot."""
         self.wants_lists = False
         self.is_moved = False
         """Whether the office has moved since this collector compared list and sheet."""
@@ -59,12 +59,12 @@ class Collector:
         return None if self.around.now < self.offline_until else self.around.ask(self.name, asked)
 
     def goes_offline(self, until: int) -> None:
-        """There is no line until then; the phone tries once it is back."""
+        """The phone is offline until then, and tries again once it is online."""
         self.offline_until = until
         self.around.at(until, self.sync)
 
     def visit(self, month: Month, share: float) -> None:
-        """Looks at the list of the month, and writes down a share of what is to do."""
+        """Checks the list of the month, and writes down a share of the open slots."""
         if not self.is_moved:
             self.around.watch(self.number, self.sheet, {*self.phone.queue, *self.phone.back})
         self._refresh(month)
@@ -73,7 +73,7 @@ class Collector:
             self.around.at(self.around.now + (at + 1) * MINUTE, self.enter, month, slot)
 
     def enter(self, month: Month, slot: int) -> None:
-        """Writes down what is found in a slot: now and then a slip, which is put right later."""
+        """Writes down the price in a slot: now and then a wrong one, which is corrected later."""
         quote = self.around.world.quote(self.number, slot, month)
         if quote.mark == "price" and self.drawn.random() < 0.12:
             self.around.at(self.around.now + 5 * HOUR, self.write, month, slot, quote)
@@ -81,7 +81,7 @@ class Collector:
         self.write(month, slot, quote)
 
     def write(self, month: Month, slot: int, quote: Quote, is_confirmed: bool = False) -> None:
-        """Saves an entry. If the page is in touch, it is sent without a look at what stands."""
+        """Saves an entry. If the page is in touch, it is sent without a check of the stored quotes."""
         self.sheet[month.name, slot] = quote
         self.around.wrote(self.number, month.name, slot, quote)
         has_line = self.around.now >= self.offline_until and not self.tries
@@ -91,7 +91,7 @@ class Collector:
         self.sync()
 
     def sync(self, is_all: bool = False) -> None:
-        """The page sends what is due, and tries again later if it isn't answered."""
+        """Sends the entries that are due, and tries again later if they aren't answered."""
         try:
             is_done = self.phone.sync(self.around.now, is_all)
         except NoAnswer:
@@ -107,7 +107,7 @@ class Collector:
         self._look()
 
     def _want_lists(self) -> None:
-        """The page asks for its lists, if it doubts one of them; again, if they don't come."""
+        """Asks for the page's lists, if it doubts one of them; again, if they don't come."""
         if self.phone.is_in_doubt and not self.wants_lists:
             self.wants_lists = True
             self.around.at(self.around.now + WANTED, self._ask_for_lists)
@@ -127,7 +127,7 @@ class Collector:
             self.sync()
 
     def _look(self) -> None:
-        """Decides about what the office refused, or what another device has overtaken."""
+        """Decides about entries that the office refused, or that another device has overtaken."""
         for entry in self.phone.entries():
             name, slot = entry.place
             month = next(month for month in self.around.world.months if month.name == name)
@@ -141,7 +141,8 @@ class Collector:
                 self.write(month, slot, quote)
 
     def look_again(self, month: Month) -> None:
-        """After the office has moved to another machine the page asks for its lists, and sends again what is missing."""
+        """After the office has moved to another machine the page asks for its lists, and sends the missing entries
+        again."""
         if not self._refresh(month):
             self.around.at(self.around.now + LONGEST, self.look_again, month)
             return
@@ -149,7 +150,7 @@ class Collector:
         self.sync(is_all=True)
 
     def _refresh(self, month: Month) -> bool:
-        """Sends what waits, and asks for the lists; whether they came."""
+        """Sends the waiting entries, and asks for the lists; returns whether they came."""
         self.sync(is_all=True)
         try:
             return self.phone.refresh(month.name, self.around.now)
@@ -204,7 +205,7 @@ class Sender:
             self.put(month, "".join(f"{row},confirm\n" for row in far))
 
     def again(self, since: int) -> None:
-        """Sends the files once more that were answered since a moment or a day before it."""
+        """Sends the files again that were answered since a moment, or a day before it."""
         files, self.files = self.files, []
         for moment, month, body in files:
             if moment >= since - DAY:

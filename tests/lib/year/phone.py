@@ -1,6 +1,7 @@
-"""A collector's phone, as the page of web/collect sends: what it keeps, in which order it asks, and when again.
+"""A collector's phone, which sends like the page of web/collect: the entries that it keeps, the order of its requests,
+and the times of its retries.
 
-It follows send.js, store.js, kept-lists.js and lists.js of the page, rule by rule, and has no code in common with them.
+It follows send.js, store.js, kept-lists.js and lists.js of the page, rule by rule, and shares no code with them.
 """
 
 from __future__ import annotations
@@ -18,7 +19,7 @@ OF_ALL = (11, 90)
 
 
 class NoAnswer(Exception):
-    """No answer of the office came."""
+    """No answer from the office came."""
 
 
 class Entry(NamedTuple):
@@ -38,7 +39,7 @@ class Entry(NamedTuple):
     tried: int = 0
     times: int = 0
     had: int = 0
-    """The receipt that the office has given to it, if it was restored from a copy since."""
+    """The receipt that the office gave to the entry, if it has been restored from a copy since."""
 
     @property
     def place(self) -> tuple[str, int]:
@@ -49,7 +50,7 @@ class Entry(NamedTuple):
         return f"quote,{self.slot},{self.month},{self.mark},{self.value}{',confirm' if self.is_confirmed else ''}"
 
     def is_due(self, now: int, is_all: bool) -> bool:
-        """Whether it is to be sent now."""
+        """Whether the entry should be sent now."""
         if self.state == "waiting":
             return True
         if self.state != "refused" or self.reply["refused"] not in FOR_A_WHILE:
@@ -71,7 +72,7 @@ class Phone:
         self.key, self.send = key, send
         self.queue: dict[tuple[str, int], Entry] = {}
         self.back: dict[tuple[str, int], Entry] = {}
-        """What an office that was restored from a copy lacks; it is sent before an own entry of its slot."""
+        """The entries that an office restored from a copy lacks; they are sent before own entries of their slots."""
         self.lists: dict[str, Known] = {}  # by month
         self.top = 0
         """The greatest receipt that the office has given."""
@@ -84,7 +85,7 @@ class Phone:
     # ---- what the collector does
 
     def save(self, month: str, slot: int, mark: str, value: str, now: int, is_confirmed: bool = False) -> Entry:
-        """Keeps an entry in the place of the one before of its slot and month."""
+        """Keeps an entry in place of the earlier entry of its slot and month."""
         lost = self.back.pop((month, slot), None)
         before, stored = self.queue.get((month, slot), lost), self.receipt(month, slot)
         mine = (*before.mine, (before.mark, before.value)) if before else ()
@@ -102,7 +103,7 @@ class Phone:
         return quote.receipt if quote else 0
 
     def holds(self, month: str, slot: int) -> bool:
-        """Whether there is an entry that the office hasn't stored."""
+        """Whether the phone has an entry that the office hasn't stored."""
         return (month, slot) in self.queue or (month, slot) in self.back
 
     def to_do(self, month: str) -> list[int]:
@@ -113,7 +114,7 @@ class Phone:
     # ---- what the page does
 
     def sync(self, now: int, is_all: bool = False) -> bool:
-        """Sends what is due; whether the office took all of it. Raises NoAnswer."""
+        """Sends the entries that are due; returns whether the office accepted all of them. Raises NoAnswer."""
         if not self.look_up(now, is_all):
             return False
         done: set[int] = set()
@@ -135,7 +136,7 @@ class Phone:
                 return False
 
     def imported(self, sent: list[Entry]) -> Optional[list[Any]]:
-        """The replies to the rows of an import, or None if all of it was refused."""
+        """The replies to the rows of an import, or None if the whole import was refused."""
         reply = self.send(Asked(self.key, ("import", "".join(entry.row() + "\n" for entry in sent))))
         if self.forgets:
             self.drop(sent)
@@ -152,7 +153,7 @@ class Phone:
             (self.back if entry.had else self.queue).pop(entry.place, None)
 
     def settle(self, sent: Entry, reply: Any, now: int) -> None:
-        """An entry was answered."""
+        """Acts on the answer to an entry."""
         queue, receipt = self.back if sent.had else self.queue, reply.get("receipt")
         entry = queue.get(sent.place)
         if receipt:
@@ -171,7 +172,8 @@ class Phone:
             queue[sent.place] = entry._replace(state="refused", reply=reply, tried=now, times=times)
 
     def stored(self, month: str, stored: Stored) -> None:
-        """The office has given a receipt; one that isn't greater than all before makes the phone doubt its lists."""
+        """Notes a receipt of the office; one that isn't greater than all earlier ones makes the phone doubt its
+        lists."""
         known = self.lists.get(month)
         is_known = known is not None and known.quotes.get(stored.slot) == stored
         if stored.receipt <= self.top and not is_known:
@@ -186,12 +188,12 @@ class Phone:
         return any(known.is_doubted for known in self.lists.values())
 
     def doubt(self) -> None:
-        """The office may lack something of each list."""
+        """Notes that the office may lack something of each list."""
         for known in self.lists.values():
             known.is_doubted = not self.trusts
 
     def look_up(self, now: int, is_all: bool) -> bool:
-        """Looks up what the office has of entries that weren't sent at once; False if it is refused."""
+        """Looks up the office's quotes for entries that weren't sent at once; False if that is refused."""
         late = [it for it in self.entries() if it.is_due(now, is_all) and it.version not in self.fresh]
         for month in sorted({entry.month for entry in late}):
             reply = self.asked("quotes", month, month)
@@ -208,11 +210,11 @@ class Phone:
         return True
 
     def entries(self) -> list[Entry]:
-        """All that the office hasn't stored, as far as the phone knows."""
+        """All entries that the office hasn't stored, as far as the phone knows."""
         return [*self.back.values(), *self.queue.values()]
 
     def keep(self, month: str, quotes: dict[int, Stored], now: int) -> None:
-        """Compares what the office has of a month with what is known; what it lacks is sent again."""
+        """Compares the office's quotes of a month with the known ones; missing ones are sent again."""
         known = self.lists.get(month)
         if known is None:
             return
@@ -229,7 +231,7 @@ class Phone:
         self.top = max(self.top, known.greatest)
 
     def put_back(self, month: str, lost: Stored, seen: int, now: int) -> None:
-        """Makes an entry of a quote that the office lacks; an own entry of its slot is sent behind it."""
+        """Makes an entry of a quote that the office lacks; an own entry of its slot is sent after it."""
         own = self.queue.get((month, lost.slot))
         if own:
             self.queue[month, lost.slot] = own._replace(seen=seen, mine=(*own.mine, lost.quote))
@@ -238,8 +240,8 @@ class Phone:
         self.back[month, lost.slot] = entry
 
     def refresh(self, month: str, now: int) -> bool:
-        """Asks for the work list of a month, and for the quotes of each month that is known; whether there is one. Raises
-        NoAnswer."""
+        """Asks for the work list of a month, and for the quotes of each known month; returns whether there is a list.
+        Raises NoAnswer."""
         reply = self.asked("work", month)
         months = sorted({month, *(name for name, known in self.lists.items() if known.is_doubted)})
         quotes = self.asked("quotes", months[0], months[-1])

@@ -1,7 +1,7 @@
-"""The offices that there may be, by all that was answered: one, or several where a message had no answer.
+"""The offices that are possible after all answers: one, or several if a message had no answer.
 
-It is the second office, once for each way in which what nobody was answered can have gone. Each answer leaves only the
-offices that give it. Once there is none, the office that is judged has broken a promise.
+It contains the second office, once for each possible result of the messages without an answer. Each answer leaves only
+the offices that give it. Once none is left, the judged office has broken a promise.
 """
 
 from __future__ import annotations
@@ -19,11 +19,11 @@ from .asked import Asked
 
 NO_DISK = {"refused": 90}
 MOST = 5000
-"""So many offices are told apart at most."""
+"""The most offices that are distinguished."""
 
 
 def copied(office: Kept) -> Kept:
-    """An office of its own with the same content."""
+    """A separate office with the same content."""
     twin = copy.copy(office)
     for name in ("items", "plans", "calendar", "outlets", "keys", "assignments", "quotes"):
         setattr(twin, name, dict(getattr(office, name)))
@@ -34,26 +34,28 @@ def copied(office: Kept) -> Kept:
 
 
 def content(office: Office) -> tuple[Any, ...]:
-    """What tells two offices apart."""
+    """The content that distinguishes two offices."""
     lists = office.items, office.plans, office.calendar, office.outlets, office.keys, office.assignments
     return (*lists, office.quotes, office.tables)
 
 
 def outline(office: Office) -> tuple[Any, ...]:
-    """What two offices that are alike have in common, as a key."""
+    """The content that two equal offices share, as a key."""
     lengths = tuple(len(each) for each in content(office))
     return (*lengths, hash(frozenset(office.quotes.items())), hash(frozenset(office.calendar.items())))
 
 
 def stored_by(asked: Asked, office: Office) -> tuple[Any, ...]:
-    """What changes in an office when it stores something of a command: a message that changes nothing isn't written."""
+    """The changes in an office when it stores something from a command: a message that changes nothing isn't
+    written."""
     lengths = tuple(len(each) for each in content(office))
     receipts = sum(receipt for place, (_, receipt) in office.quotes.items() if office.keys.get(place[0]) == asked.key)
     return (*lengths, receipts, tuple(office.calendar.values()), sum(len(of) for of in office.tables.values()))
 
 
 def prefixes(office: Kept, record: Record) -> Iterator[Kept]:
-    """What may stand after a record that nobody was answered: none of it, or some first rows of an import, or all."""
+    """The records that may be stored after a record without an answer: nothing, some first rows of an import, or
+    everything."""
     yield office
     if record[2] == "import":
         now, caller = int(record[0]), caller_of(record[1])
@@ -69,7 +71,7 @@ def prefixes(office: Kept, record: Record) -> Iterator[Kept]:
 
 
 def replied(office: Office, record: Record, reply: Any, may_refuse: bool) -> Optional[Any]:
-    """Carries a record out, but for what was refused by 90; the reply that was wanted, if it is another one."""
+    """Carries out a record, except the parts that were refused with 90; returns the wanted reply, if it differs."""
     if may_refuse and reply == NO_DISK:
         return None
     given = reply.get("rows") if isinstance(reply, dict) else None
@@ -86,7 +88,7 @@ def replied(office: Office, record: Record, reply: Any, may_refuse: bool) -> Opt
 
 
 class Possible:
-    """The offices that there may be."""
+    """The offices that are possible."""
 
     def __init__(self, offices: list[Kept]) -> None:
         self.offices = offices
@@ -94,7 +96,7 @@ class Possible:
         """Whether the last command that was answered has stored something, in each office that may have answered."""
 
     def answered(self, asked: Asked, now: int, reply: Any, may_refuse: bool) -> str | None:
-        """What is wrong with an answer, if no office can have given it; each other office is left out."""
+        """The fault of an answer, if no office can have given it; offices that can't have given it are left out."""
         record, left, wanted, changed = asked.record(now), list[Kept](), list[Any](), list[bool]()
         for office in self.offices:
             twin = copied(office) if len(self.offices) > 1 and asked.is_command else office
@@ -114,17 +116,17 @@ class Possible:
         return None
 
     def unanswered(self, asked: Asked, now: int) -> None:
-        """Nobody knows what became of a message."""
+        """Notes a message whose result nobody knows."""
         record = asked.record(now)
         if asked.is_command:
             self.offices = distinct([each for office in self.offices for each in prefixes(office, record)])
 
     def settle(self) -> None:
-        """Leaves one of each that are alike."""
+        """Keeps one of several equal offices."""
         self.offices = distinct(self.offices)
 
     def kept(self) -> list[Kept]:
-        """Copies, as they stand now."""
+        """Copies of the current offices."""
         return [copied(office) for office in self.offices]
 
     def doubtful(self) -> set[int]:
@@ -134,7 +136,7 @@ class Possible:
 
 
 def distinct(offices: list[Kept]) -> list[Kept]:
-    """Those that differ, the first of each."""
+    """The different offices, the first of each."""
     if len(offices) == 1:
         return offices
     found: dict[tuple[Any, ...], list[Kept]] = {}

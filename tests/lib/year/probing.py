@@ -1,4 +1,4 @@
-"""The status that a probe has to end with, by the replies that the judge has heard."""
+"""The status with which a probe must end, from the replies that the judge has heard."""
 
 from __future__ import annotations
 
@@ -17,19 +17,19 @@ JUMP = 2 * HOUR
 
 
 class Writes:
-    """What is known of an office's writes since one was refused."""
+    """The facts about an office's writes since one was refused."""
 
     def __init__(self) -> None:
         self.refused: Optional[int] = None
-        """When a request was refused last, by the office's clock."""
+        """The time of the last refused request, by the office's clock."""
         self.is_stored = False
-        """Whether something was stored since."""
+        """Whether something has been stored since."""
         self.is_clear = True
-        """Whether all that came since was answered, so that this is known."""
+        """Whether everything since has been answered, so that this is known."""
         self.unheard: Optional[int] = None
-        """When a command had no answer that the disk may have refused."""
+        """The time of a command without an answer, which the disk may have refused."""
         self.is_over = True
-        """Whether something was stored since that one."""
+        """Whether something has been stored since that command."""
 
     @property
     def is_troubled(self) -> bool:
@@ -37,7 +37,7 @@ class Writes:
         return self.refused is not None or self.unheard is not None
 
     def answered(self, now: int, is_refused: bool, has_stored: bool) -> None:
-        """Something was answered."""
+        """Notes an answer."""
         if is_refused:
             # (rows of an import may be stored before and after the one that is refused)
             self.refused, self.is_stored, self.is_clear = now, False, not has_stored
@@ -45,7 +45,7 @@ class Writes:
             self.is_stored = self.is_over = True
 
     def unanswered(self, now: int, is_command: bool, may_refuse: bool) -> None:
-        """A command may have stored something, or the disk may have refused it."""
+        """Notes a command that may have stored something, or that the disk may have refused."""
         self.is_clear = self.is_clear and not is_command
         if is_command and may_refuse:
             self.unheard, self.is_over = now, False
@@ -59,7 +59,7 @@ class Writes:
         return least, max(most, WARNING if is_warned else most)
 
     def _heard(self, now: int) -> tuple[int, int]:
-        """The same by the refusals that were heard of."""
+        """The statuses from the refusals that were heard."""
         if self.refused is None:
             return WELL, WELL
         if not self.is_stored:
@@ -71,7 +71,7 @@ class Writes:
 
 
 def is_late(offices: list[Office], now: int) -> bool:
-    """Whether a month's moment has come, and its table isn't there."""
+    """Whether a month's publication time has come, but its table is missing."""
     for office in offices:
         for month, (_, _, publishes) in office.calendar.items():
             revisions = office.tables.get(month, [])

@@ -1,4 +1,4 @@
-"""Wrong systems, which the judge has to find: each is one deliberate slip in one part of a country."""
+"""Wrong systems, which the judge must find: each is one deliberate mistake in one part of a country."""
 
 from __future__ import annotations
 
@@ -11,14 +11,15 @@ from .moments import HOUR
 
 
 class Slip(NamedTuple):
-    """What is wrong; the kinds of faults under which it shows, and in how many months; and how it is made."""
+    """A wrong system: its mistake, the kinds of faults under which it shows, the number of months, and the change that
+    makes it."""
 
     told: str
     kinds: tuple[str, ...]
     months: int
     make: Callable[[Country], None]
     looks: tuple[str, ...] = ()
-    """What has to be looked at beside the answers (outside.LOOKS)."""
+    """The things that must be checked besides the answers (outside.LOOKS)."""
 
 
 def phone_forgets(country: Country) -> None:

@@ -1,4 +1,4 @@
-"""cpi-tools at the machine of the office: each run is a process of its own, by the office's clock."""
+"""cpi-tools at the machine of the office: each run is a separate process, with the office's clock."""
 
 from __future__ import annotations
 
@@ -19,11 +19,11 @@ START = os.path.join(TOP, "tools/cpi_tools/start")
 FORKING = os.path.join(os.path.dirname(os.path.abspath(__file__)), "forking.py")
 
 PATIENCE = 300
-"""Seconds of the real clock after which something is taken for hanging."""
+"""Seconds of the real clock after which something counts as hanging."""
 
 
 class Ended(NamedTuple):
-    """How a tool ended: its status (of a kill its signal, negative), its output, and its lines of faults."""
+    """The result of a tool: its status (for a kill the negative signal), its output, and its lines about faults."""
 
     status: int
     out: str
@@ -35,7 +35,7 @@ class Ended(NamedTuple):
 
 
 class Going:
-    """A tool that runs, or has ended. There is one at a time."""
+    """A tool that runs, or has ended. Only one runs at a time."""
 
     def __init__(self, tools: "Tools", process: int) -> None:
         self.tools, self.process = tools, process
@@ -45,13 +45,13 @@ class Going:
         return not self.tools.has_line(0)
 
     def kill(self) -> None:
-        """Ends it by the signal that nobody can hold up, if it hasn't ended."""
+        """Ends it with the signal that nobody can block, if it hasn't ended."""
         if self.is_going:
             with contextlib.suppress(ProcessLookupError):
                 os.kill(self.process, signal.SIGKILL)
 
     def end(self) -> Ended:
-        """How it ends."""
+        """Waits for its end; returns its result."""
         return self.tools.ended()
 
 
@@ -75,7 +75,7 @@ class Tools:
         return Going(self, int(self._line()))
 
     def has_line(self, seconds: float) -> bool:
-        """Whether the server has said something within so many seconds that wasn't read."""
+        """Whether the server has written something unread within so many seconds."""
         assert self.server and self.server.stdout
         if b"\n" not in self.heard and select.select([self.server.stdout], [], [], seconds)[0]:
             self.heard += os.read(self.server.stdout.fileno(), 1000)
@@ -90,7 +90,7 @@ class Tools:
         return line
 
     def ended(self) -> Ended:
-        """How the tool that was begun last ends."""
+        """Waits for the end of the last started tool; returns its result."""
         status = int(self._line())
         told = []
         for path in self.files:
@@ -112,5 +112,5 @@ class Tools:
 
 
 def environment_of(program: str, clock: dict[str, str]) -> dict[str, str]:
-    """The variables of tools that run a program by a clock; Debian's packages belong to its own Python."""
+    """The variables of tools that run a program with a clock; Debian's packages belong to its own Python."""
     return {**clock, "CPI": program, "CPI_PYTHON": "/usr/bin/python3"}

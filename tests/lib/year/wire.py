@@ -1,4 +1,4 @@
-"""What goes between an asker and the office, one exchange after another, and what can happen to one of them."""
+"""The exchanges between a client and the office, one after another, and the faults that can hit them."""
 
 from __future__ import annotations
 
@@ -15,21 +15,21 @@ from .machine import Machine
 
 TABLES = Asked(None, ("tables",))
 STANDING = 0.03
-"""Seconds for which the office stands still before a slow disk."""
+"""Seconds for which the office waits for a slow disk."""
 
 
 class Hears(Protocol):
-    """Who is told of each exchange."""
+    """An observer of each exchange."""
 
     def answered(self, asked: Asked, reply: Any) -> None:
-        """The office has answered."""
+        """Notes that the office has answered."""
 
     def unanswered(self, asked: Asked) -> None:
-        """The office may have carried out what it has got, and nobody was answered."""
+        """Notes that the office may have carried out a message, but nobody got an answer."""
 
 
 class Wire:
-    """The way to the office; what happens to the next exchange of somebody is put into `coming`."""
+    """The way to the office; `coming` contains the faults of somebody's next exchange."""
 
     def __init__(self, machine: Machine, judge: Hears) -> None:
         self.machine, self.judge = machine, judge
@@ -38,10 +38,10 @@ class Wire:
         self.again: Optional[Callable[[Asked], None]] = None  # a wrong front that sends a message once more
         self.met: collections.Counter[str] = collections.Counter()
         self.count = self.through = 0
-        """How many messages there were, and how many went through the front."""
+        """The number of messages, and the number of those that passed the front."""
 
     def ask(self, who: str, asked: Asked) -> Any:
-        """The reply, or None if no answer of the office came."""
+        """The reply, or None if no answer from the office came."""
         happens = self.coming[who].popleft() if self.coming[who] else ""
         if not self.machine.is_up or not (self.machine.front.is_up or who == "judge"):
             if happens:
@@ -87,7 +87,7 @@ class Wire:
         return None if happens in ("lost", "garbled", "desk", "killed meanwhile") else reply
 
     def _heard(self, text: bytes, happens: str) -> bytes:
-        """The response of the office to a message that doesn't come by the front."""
+        """The response of the office to a message that doesn't pass the front."""
         with contextlib.suppress(OSError), peer_of(self.machine.port) as one:
             one.sendall(text)
             if happens == "killed meanwhile":
@@ -96,7 +96,7 @@ class Wire:
         return b""
 
     def _without_front(self, asked: Asked) -> None:
-        """The front is killed once it has got a message. The office may have carried it out."""
+        """Kills the front once it has received a message, which the office may have carried out."""
         with contextlib.suppress(OSError, http.client.HTTPException):
             self.machine.front.send(asked)
         self.machine.front.kill()
@@ -105,7 +105,7 @@ class Wire:
         self._judged(TABLES, self._heard(TABLES.message(), ""))
 
     def _judged(self, asked: Asked, response: bytes) -> Any:
-        """The reply in a response, of which the judge hears; None if there is none."""
+        """The reply in a response, which the judge hears; None if there is none."""
         self.machine.stamp()
         reply = reply_of(response)
         told = reply.get("rows", [reply]) if isinstance(reply, dict) else []
@@ -117,6 +117,6 @@ class Wire:
         return reply
 
     def find_out(self, asked: Asked) -> None:
-        """Asks the office itself, past the front, so that the judge knows what became of a message."""
+        """Asks the office directly, without the front, so that the judge knows the result of a message."""
         if self.machine.is_up:
             self._judged(asked, self._heard(asked.message(), ""))

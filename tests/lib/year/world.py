@@ -1,6 +1,8 @@
-"""A made-up country by a seed: its items and shops, who collects where, and what each price really is.
+"""A made-up country, drawn with a seed: its items and shops, the collectors of each shop, and the true price of each
+item.
 
-What one collector finds hangs on the seed and that collector alone, so the prices of all others can be drawn anew.
+The prices that a collector finds depend only on the seed and that collector, so the prices of all others can be drawn
+again.
 """
 
 from __future__ import annotations
@@ -23,31 +25,32 @@ ITEMS = {
 WEIGHTS = [260_000, 180_000, 120_000, 240_000, 110_000, 90_000]
 OUTLETS = 7
 SENDERS = 2
-"""So many of the collectors are offices that send files."""
+"""The number of collectors that are offices which send files."""
 
 MOVED = 100
-"""A series that is handed over gets the number of its slot and so many more."""
+"""A series that is handed over gets the number of its slot plus this number."""
 
 STEPS = [90, 97, 99, 100, 100, 100, 101, 102, 104, 109]
 REASONS = ["stock", "closed", "gone", "refused"]
 
 
 class Quote(NamedTuple):
-    """What is found in a shop: a mark with its value."""
+    """A quote from a shop: a mark with its value."""
 
     mark: str
     value: str
 
 
 class World:
-    """A country of so many collectors, each with so many slots. The collectors but `seen` are drawn by `others`."""
+    """A country of so many collectors, each with so many slots. All collectors except `seen` are drawn with
+    `others`."""
 
     def __init__(self, seed: int, collectors: int, slots: int, months: list[Month], others: int = 0) -> None:
         self.seed, self.others, self.months = seed, others, months
         self.collectors = range(1, collectors + 1)
         self.slots = range(1, slots + 1)
         self.seen = 1
-        """The collector that nothing of the others may reach."""
+        """The collector who must not be affected by the others."""
         self.found: dict[tuple[int, int], list[Quote]] = {}
         for collector in self.collectors:
             for slot in self.slots:
@@ -60,11 +63,11 @@ class World:
 
     @property
     def leaver(self) -> int:
-        """Who leaves, and whose series go to collector 2."""
+        """The collector who leaves, and whose series go to collector 2."""
         return self.collectors[-1]
 
     def drawn(self, *of: object) -> random.Random:
-        """A stream of its own for each purpose."""
+        """A separate random stream for each purpose."""
         return random.Random("/".join(map(str, (self.seed, *of))))
 
     def _walk(self, collector: int, slot: int) -> list[Quote]:
@@ -87,7 +90,8 @@ class World:
         return found
 
     def quote(self, collector: int, slot: int, month: Month) -> Quote:
-        """What a collector finds in a slot; of a series that was taken over, what its slot before would have."""
+        """The quote that a collector finds in a slot; for a series that was taken over, the quote that its former slot
+        would have."""
         place = (self.leaver, slot - MOVED) if slot > MOVED else (collector, slot)
         return self.found[place][month.at]
 
@@ -106,8 +110,8 @@ class World:
         return rows
 
     def plan(self, year: int) -> str:
-        """The plan of a year; its weights go round among the aggregates from year to year, and those of 2027 are moved
-        from June before it."""
+        """The plan of a year; its weights rotate among the aggregates from year to year, and the weights of 2027 are
+        moved from the June before."""
         by = year % len(WEIGHTS)
         weights = dict(zip(sorted(ITEMS.values()), WEIGHTS[by:] + WEIGHTS[:by]))
         nodes = sorted({code[:end] for code in weights for end in (2, 4, 6, 8, 11)} | {"00"})
