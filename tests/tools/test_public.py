@@ -1,4 +1,4 @@
-"""`cpi_tools.office.public`: published tables by the public way alone, so that nothing under embargo can leak."""
+"""`cpi_tools.office.public`: published tables by the public way only, so that nothing under embargo can leak."""
 
 from __future__ import annotations
 
@@ -62,18 +62,37 @@ def imports(path: Path) -> Iterator[str]:
             yield from (f"{named}.{each.name}" for each in node.names)
 
 
-REACHING = {"sqlite3", "subprocess", "socket", "urllib", "http", "os", "ctypes", "importlib"}
-"""What another file, program or machine could be reached by."""
+OF_AN_OFFICE = {"access", "copying", "frozen_quotes", "program", "recompute", "stored", "stored_pages", "trial"}
+"""The modules of `office` with which an office can be asked, copied or read."""
+
+OF_AN_OFFICES_COPY = {"average_prices.py", "quality_counts.py", "typeset/release_pdf.py"}
+"""Tools of their own, which the desk runs over a copy of its office."""
+
+REACHING = {"sqlite3", "subprocess", "socket", "urllib", "http", "ctypes"}
+"""What another file, program or machine could be reached with."""
+
+REACHED = {
+    "average_prices.py": {"sqlite3"},
+    "forms/manifest.py": {"subprocess"},
+    "releases/cards.py": {"subprocess"},
+    "seasonal.py": {"subprocess"},
+    "site/csvw.py": {"sqlite3"},
+}
+"""What some modules reach: an office’s copy, `ssh-keygen`, a drawing program, R, and a file of figures."""
 
 
 def test_no_other_module_of_publish_reaches_an_office() -> None:
-    """They open the configuration, what they write, and nothing of an office: that comes from `public` alone."""
-    for path in sorted((PACKAGE / "pack").glob("*.py")):
-        named = {each.lstrip(".").split(".")[0] for each in imports(path)}
-        if path.name == "public.py":
-            assert not named & {"stored", "anew", "recompute", "sqlite3", "subprocess"}
-        else:
-            assert not named & (REACHING | {"copying", "stored", "anew", "recompute", "program", "backup"}), path.name
+    """The published tables come from `office.public` only."""
+    publish = PACKAGE / "publish"
+    asking, reached = set(), {}
+    for path in sorted(publish.rglob("*.py")):
+        name, named = str(path.relative_to(publish)), {*imports(path)}
+        if any(each.lstrip(".").split(".")[1:2] == [office] for each in named for office in OF_AN_OFFICE):
+            asking.add(name)
+        if within := {each.split(".")[0] for each in named} & REACHING:
+            reached[name] = within
+    assert asking == OF_AN_OFFICES_COPY | {"sources.py"}
+    assert reached == REACHED
 
 
 # ---- the embargo
