@@ -204,6 +204,21 @@ def test_the_usage_of_serve_has_both_ways_to_give_the_key(program: Program, room
     assert b"<--desk-key-file <desk-key-file>|--desk-key <desk-key>>" in usage
 
 
+WITHOUT_JOB = [
+    (serve()[:5] + serve()[7:], "give either --desk-key-file or --desk-key"),
+    ([*serve(), "--desk-key-file", "K"], "give either --desk-key-file or --desk-key"),
+    (table(form="json"), "a form is text or csv"),
+]
+
+
+@pytest.mark.parametrize("words, text", WITHOUT_JOB, ids=["no key", "two keys", "no form"])
+def test_values_that_give_no_job_are_refused_with_what_is_wanted(
+    program: Program, room: str, words: Words, text: str
+) -> None:
+    ran = run_without_a_job(program, room, words)
+    assert (ran.status, ran.out) == (2, b"") and ran.err.startswith(f"error: {text}\n".encode())
+
+
 @pytest.mark.parametrize("words, name", BAD, ids=names_of(BAD))
 def test_a_zone_a_key_or_a_month_that_is_none(program: Program, room: str, words: Words, name: str) -> None:
     assert run_without_a_job(program, room, words) == failed(f"bad {name}")
