@@ -7,6 +7,7 @@ import os
 import re
 import stat
 import subprocess
+import zlib
 from collections.abc import Sequence
 from pathlib import Path
 
@@ -76,6 +77,18 @@ def test_the_two_pages_are_worked_by_hand(english: bytes) -> None:
         "https://prices.example/release/2027-01-r1.html Page 2 of 2",
     ):
         assert text in second, text
+
+
+GLYPHS = re.compile(rb"<[0-9a-f]{4}> <([0-9a-f]+)>")
+"""The letters of a glyph in a font's map."""
+
+
+def test_each_letter_is_a_glyph_of_its_own(english: bytes) -> None:
+    """The *i* of *Office* has its dot: the glyph that DejaVu Sans has for *fi* has none."""
+    streams = re.findall(rb"stream\r?\n(.*?)\r?\nendstream", english, re.DOTALL)
+    whole = b"".join(zlib.decompress(it) if it[:1] == b"x" else it for it in streams)
+    letters = {bytes.fromhex(it.decode()).decode("utf-16-be") for it in GLYPHS.findall(whole)}
+    assert {"O", "f", "i", "c", "e"} < letters and {len(it) for it in letters} == {1}, letters
 
 
 @pytest.mark.parametrize(
