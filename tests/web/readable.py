@@ -221,6 +221,44 @@ return all("button, h1, h2, h3, p, label, legend, dd").filter(isCut)
 """Texts that are wider than their box."""
 
 
+SHORTENED = (
+    SEEN
+    + """
+const found = [];
+for (const list of all("select")) {
+  const copy = list.cloneNode(false);
+  copy.append(...[...list.selectedOptions].map((it) => it.cloneNode(true)));
+  copy.style.cssText = "position: absolute; width: max-content; max-width: none; min-width: 0;";
+  list.after(copy);
+  if (copy.offsetWidth > list.offsetWidth + 1) found.push(`shortened: ${list.selectedOptions[0].textContent}`);
+  copy.remove();
+}
+return found;
+"""
+)
+"""What is chosen in a list, where the list is too narrow to show it whole."""
+
+BROKEN = (
+    SEEN
+    + r"""
+const found = [], range = document.createRange();
+for (const element of all(arguments[0])) {
+  const walker = document.createTreeWalker(element, NodeFilter.SHOW_TEXT);
+  for (let node = walker.nextNode(); node; node = walker.nextNode()) {
+    for (const { 0: word, index } of node.data.matchAll(/[\p{L}\p{M}\p{N}]+/gu)) {
+      range.setStart(node, index);
+      range.setEnd(node, index + word.length);
+      const tops = new Set([...range.getClientRects()].map((it) => Math.round(it.top)));
+      if (tops.size > 1) found.push(`broken: ${word}`);
+    }
+  }
+}
+return found;
+"""
+)
+"""Words of some elements that go on in the next line."""
+
+
 def faults_of_page(browser: Browser) -> list[str]:
     """What is wrong with what is seen of a page, each in a line, and what the page said against itself."""
     found: list[str] = [*browser.run(CONTRASTS), *browser.run(EDGES), *browser.run(NAMELESS)]

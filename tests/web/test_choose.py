@@ -16,7 +16,7 @@ import pytest
 from .browser import Browser
 from cpi_tools.office.program import Cpi
 from .offices import SCRIPT, TURNING
-from .readable import MARKS, faults_enlarged, faults_for_keys, faults_of_page, faults_of_texts
+from .readable import MARKS, SHORTENED, faults_enlarged, faults_for_keys, faults_of_page, faults_of_texts
 from .stage import Stage
 from .websites import published
 from .years import BREAD, FLOUR, RICE, SUGAR, lived
@@ -207,6 +207,17 @@ def test_an_item_is_sought_and_chosen_by_the_keyboard(shown: Browser) -> None:
     shown.wait(lambda: shown.run(KEPT) == "?items=01.1.1.2")
     settled(shown)
     assert not shown.find("#chosen button").is_enabled()  # (one stays)
+
+
+@pytest.mark.parametrize("width", [360, 1280])
+def test_what_is_chosen_is_shown_whole(shown: Browser, width: int) -> None:
+    """*The newest* is told with its month, which needs more room than half of a column."""
+    shown.size(width, 900)
+    opened(shown)
+    if not shown.find("#to").is_displayed():
+        shown.click("#choice summary")
+    assert "The newest, " in shown.run("return document.getElementById('to').selectedOptions[0].textContent")
+    assert shown.run(SHORTENED) == []
 
 
 def test_a_wrong_address_says_what_it_is(shown: Browser) -> None:

@@ -8,10 +8,11 @@ import pytest
 from selenium.webdriver.common.keys import Keys
 
 from .browser import Browser
+from .languages import ARABIC, ENGLISH, FRENCH, SPANISH, Speech, spoken
 from .long_list import LONG_ITEM, LONG_OUTLET, LONG_UNIT, give_list
 from .offices import ANNA, NOBODY, NOW
 from .phone import Phone
-from .readable import faults_enlarged, faults_for_keys, faults_of_page
+from .readable import BROKEN, faults_enlarged, faults_for_keys, faults_of_page
 from .stage import Stage
 
 
@@ -389,3 +390,20 @@ def test_a_form_that_is_closed_as_it_was_leaves_nothing(phone: Phone) -> None:
     phone.edit(1)
     phone.close()
     assert "not saved" not in phone.told(1)
+
+
+# ---- whole words
+
+
+@pytest.mark.parametrize("speech", [ENGLISH, FRENCH, SPANISH, ARABIC], ids=["en", "fr", "es", "ar"])
+def test_no_word_of_a_choice_is_broken(phone: Phone, stage: Stage, speech: Speech) -> None:
+    """At 360 pixels, in what was found and in why there is no price, whichever is chosen."""
+    with spoken(stage, speech):
+        phone.speaks(speech)
+        phone.sign_in()
+        phone.show("all")
+        phone.edit(1)
+        for found in ("price", "comparable", "other", "missing"):
+            phone.browser.click(f'[name="mark"][value="{found}"]')
+            assert phone.browser.run(BROKEN, ".choice label") == [], found
+        assert len(phone.browser.run("return [...document.querySelectorAll('#entry-reason label')]")) > 3
