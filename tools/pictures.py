@@ -56,7 +56,7 @@ def of_phone(browser: Browser, width: int, key: str, folder: Path) -> None:
     phone.edit(third)
     browser.type("#price", "999.99")
     browser.click("#entry-save")
-    browser.wait_text("#entry-refusal", "Look again")
+    browser.wait_shown("#entry-refusal")
     taken("again")
     phone.close()
     phone.show("quotes")
@@ -71,6 +71,7 @@ def of_refused(phone: Phone, price: str) -> None:
     """A price of last month, whose window has closed, and the list of what isn't stored."""
     phone.browser.click("#month-before")
     phone.show("all")
+    phone.browser.wait(lambda: phone.browser.all("[data-slot]"), "the work list of last month")
     slot = int(str(phone.browser.all("[data-slot]")[0].get_attribute("data-slot")))
     phone.enter(slot, price)
     if phone.edited():
