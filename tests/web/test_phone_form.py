@@ -91,7 +91,7 @@ def test_a_figure_that_is_typed_ahead_of_a_full_disk_costs_no_price(phone: Phone
     phone.browser.run(FULL_DISK)
     phone.tap_save("3.21")
     phone.press("4")
-    phone.browser.wait_text("#price-fault", "This entry isn’t saved: the phone is full.")
+    phone.browser.wait_text("#price-fault", "This entry couldn’t be saved: the phone is full.")
     assert phone.browser.find("#price").get_attribute("value") == "3.21"
 
 
@@ -101,7 +101,7 @@ def test_a_full_disk_isnt_told_in_the_form_of_another_row(phone: Phone) -> None:
     phone.browser.run(FULL_DISK)
     phone.press("3.21", Keys.ENTER, Keys.ESCAPE)
     phone.edit(2)
-    phone.browser.wait_text("#notice", "An entry isn’t saved: the phone is full.")
+    phone.browser.wait_text("#notice", "An entry couldn’t be saved: the phone is full.")
     assert (phone.edited(), phone.browser.text("#price-fault")) == (f"{NOW}/2", "")
     assert "Typed, not saved" in phone.told(1)
     phone.close()
@@ -381,7 +381,7 @@ def test_sign_out_says_that_what_was_written_and_not_saved_is_lost(phone: Phone)
     phone.browser.click("#leave")
     told = phone.browser.text("#leaving-text")
     assert told.startswith("Everything you saved has been sent.")
-    assert told.endswith(" You will lose what you typed in 1 form and didn’t save.")
+    assert told.endswith(" You will lose what you typed but didn’t save in 1 form.")
 
 
 def test_a_form_that_is_closed_as_it_was_leaves_nothing(phone: Phone) -> None:

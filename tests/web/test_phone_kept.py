@@ -42,7 +42,7 @@ def test_an_entry_that_finds_no_room_is_told_and_not_lost_from_the_form(phone: P
     phone.sign_in()
     phone.browser.run(f"window.put = IDBObjectStore.prototype.put; {FULL}")
     phone.enter(1, "3.21")
-    phone.browser.wait_text("#price-fault", "This entry isn’t saved: the phone is full. Free some space")
+    phone.browser.wait_text("#price-fault", "This entry couldn’t be saved: the phone is full. Free some space")
     assert phone.browser.find("#price").get_attribute("value") == "3.21"
     assert stage.relay.rows("quote,") == 0
     phone.browser.run("IDBObjectStore.prototype.put = window.put")
@@ -166,7 +166,7 @@ def leave_unsent(phone: Phone, stage: Stage) -> None:
 
 def test_signing_out_removes_all_and_asks_before(phone: Phone, stage: Stage) -> None:
     leave_unsent(phone, stage)
-    assert "The office hasn’t stored 1 entry on this phone" in phone.browser.text("#leaving")
+    assert "1 entry on this phone hasn’t been stored by the office" in phone.browser.text("#leaving")
     phone.browser.click('#leaving [value="stay"]')
     assert "To be sent" in phone.told(1)
     stage.front.start()

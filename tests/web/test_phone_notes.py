@@ -129,7 +129,7 @@ def test_without_a_line_it_is_kept_with_its_price_and_sent_once(noting: Phone, s
     choose(noting, camera_file(tmp_path))
     browser.type("#price", "3.21")
     noting.save()
-    browser.wait_text("#notes-left", "The note is waiting until the office has stored its price.")
+    browser.wait_text("#notes-left", "The note will be sent once the office has stored its price.")
     browser.driver.refresh()
     browser.wait_text("#line", "Offline: 1 entry kept on this phone · 1 note to be sent")
     browser.wait_text("#notes-left", "Rice, white, 1 kg: 3.21")
@@ -218,7 +218,7 @@ def test_a_note_that_is_refused_stays_until_its_collector_drops_it(noting: Phone
     note(noting, 1, "3.21", "Behind the till")
     browser.wait_text("#alarm", "1 note to check")
     browser.wait_text(
-        "#notes-left", "The photograph can’t be read as a picture. Open the note and take another photograph."
+        "#notes-left", "The photograph can’t be read. Open the note and take another photograph."
     )
     browser.driver.refresh()
     browser.wait_text("#alarm", "1 note to check")

@@ -52,7 +52,7 @@ def test_the_phone_says_when_the_office_will_answer_and_sends_then(phone: Phone,
     until = time.time() + 600
     announce(opening, until)
     phone.enter(1, "3.21")
-    expected = f"The office will answer at about {clock(phone, until)}: 1 entry kept on this phone"
+    expected = f"The office will answer around {clock(phone, until)}: 1 entry kept on this phone"
     phone.browser.wait_text("#line", expected)
     assert phone.browser.run("return document.querySelector('#line').scrollWidth <= innerWidth")
     opening.unlink()
@@ -80,7 +80,7 @@ def test_who_signs_in_meanwhile_is_told_when_to_come_again(phone: Phone, stage: 
     phone.open()
     phone.browser.wait_shown("#sign-in")
     phone.give_key(ANNA)
-    phone.browser.wait_text("#key-fault", f"The office is starting. Try again at about {clock(phone, until)}.")
+    phone.browser.wait_text("#key-fault", f"The office is starting. Try again around {clock(phone, until)}.")
 
 
 def test_the_front_has_the_file_only_meanwhile(stage: Stage, opening: Path) -> None:

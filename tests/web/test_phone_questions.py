@@ -260,13 +260,13 @@ def test_once_the_window_has_closed_the_form_says_what_to_write(
     stage.calendar.write_text(json.dumps({"months": [row]}), encoding="utf-8")
     signed_in(phone)
     open_question(phone)
-    assert "The window for this month has closed, so the office doesn’t accept another price" in browser.text(
+    assert "The window for this month has closed, so the office won’t accept another price" in browser.text(
         "#answer-about"
     )
     browser.type("#price", "2.16")
     browser.click("#entry-save")
     browser.wait_text("#questions", "Corrected to 2.16")
-    browser.wait_text("#questions", "The answer is waiting until the office has stored its price.")
+    browser.wait_text("#questions", "The answer will be sent once the office has stored its price.")
     browser.wait_text("#alarm", "1 refused")
     assert len(kept(stage)) == 1
     window(stage, FAR)

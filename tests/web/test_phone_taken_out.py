@@ -49,7 +49,7 @@ def waits(phone: Phone, why: str, tmp_path: Path) -> None:
     press_alarm(phone)
     assert why in phone.browser.text("#unsent-list")
     phone.browser.click("#leave")
-    assert "The office hasn’t stored 1 entry on this phone" in phone.browser.text("#leaving")
+    assert "1 entry on this phone hasn’t been stored by the office" in phone.browser.text("#leaving")
     _, rice = file_of(phone.browser, '#leaving [data-do="save"]', tmp_path)
     assert rice[:7] == [NOW, "1", "Corner shop", "Rice, white", "1 kg", "price", "310"]
     assert rice[9].startswith(why)

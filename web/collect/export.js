@@ -31,7 +31,7 @@ const stateOf = (entry) => (entry.state === "waiting" && !state.refusal
 async function copy({ target }) {
   const isCopied = await navigator.clipboard.writeText(asCsv()).then(() => true, () => false);
   // t: what the button "Copy all" says for a few seconds
-  target.textContent = isCopied ? t("Copied") : t("The browser doesn’t allow copying: save as a file");
+  target.textContent = isCopied ? t("Copied") : t("The browser doesn’t allow copying: use “Save as a file”");
   setTimeout(() => { target.textContent = t("Copy all"); }, SHOWN);
 }
 

@@ -39,10 +39,10 @@ function wordsOf(waiting) {
   }
   const time = state.line === "busy" ? timeToCome(state.expected) : "";
   if (time) {
-    return waiting ? tn("The office will answer at about {time}: {count} entry kept on this phone",
-      "The office will answer at about {time}: {count} entries kept on this phone", waiting, { time })
+    return waiting ? tn("The office will answer around {time}: {count} entry kept on this phone",
+      "The office will answer around {time}: {count} entries kept on this phone", waiting, { time })
       // t: while it starts; short
-      : t("The office will answer at about {time}", { time });
+      : t("The office will answer around {time}", { time });
   }
   if (state.line === "busy") {
     return waiting ? tn("The office is busy: {count} entry kept on this phone",

@@ -19,7 +19,7 @@ export function readKey(text) {
   const odd = [...typed.slice(0, LENGTH)].findIndex((each) => !/[0-9a-f]/.test(each));
   if (odd >= 0) {
     const values = { number: whole(odd + 1), character: [...typed][odd], length: whole(LENGTH) };
-    return { fault: t("Character {number} can’t be “{character}”: a key has {length} characters, each 0 to 9 or a to f.", values) };
+    return { fault: t("Character {number} can’t be “{character}”: a key has {length} characters, each a digit or a letter from a to f.", values) };
   }
   if (typed.length < LENGTH || typed.length > LENGTH + 1) {
     const values = { count: whole(typed.length), length: whole(LENGTH), longest: whole(LENGTH + 1) };

@@ -180,7 +180,7 @@ function quotesTable() {
   // t: the heads of a table: the item, what is stored of it, and the number of its receipt
   const heads = [t("Item"), tc("head of a column", "Stored"), t("Receipt")].map(head);
   return make("table", { class: "quotes" },
-    make("caption", {}, t("Your prices stored by the office")),
+    make("caption", {}, t("Your prices, as stored by the office")),
     make("thead", {}, make("tr", {}, ...heads)), make("tbody", {}, ...state.list.quotes.map(quoteRow)));
 }
 

@@ -45,7 +45,7 @@ function speak() {
   const texts = {
     // t: a fold of the form of a price: what its collector notes of it
     "note-title": t("Note for the desk"),
-    "note-sale-label": t("The price is a sale price"),
+    "note-sale-label": t("This is a sale price"),
     "note-brand-label": t("Brand of the replacement"),
     // t: of an article, such as 750 g
     "note-quantity-label": t("Its quantity"),
@@ -54,7 +54,7 @@ function speak() {
     "note-drop": t("Remove the photograph"),
     // t: {count} is a number of letters
     "note-about": t("At most {count} characters. Only you and the desk can read the note. A photograph is sent "
-      + "without its location and device. Don’t photograph people.", { count: grouped(MOST_LETTERS) }),
+      + "without location or device data. Don’t photograph people.", { count: grouped(MOST_LETTERS) }),
   };
   for (const [id, text] of Object.entries(texts)) find(id).textContent = text;
   // t: what a picture shows, for who doesn't see it

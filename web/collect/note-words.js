@@ -17,20 +17,20 @@ export function noteInWords({ isSale, brand, quantity, text, hasPhoto }) {
 /** Why a note isn't sent, and what to do. */
 export function whyNotSent({ fault }) {
   const reasons = {
-    price: () => t("The note is waiting until the office has stored its price."),
+    price: () => t("The note will be sent once the office has stored its price."),
     moved: () => t("The office’s price has changed since you wrote this note. Open and save the note, or delete it."),
     line: () => t("You are offline. The note will be sent automatically."),
     busy: () => t("The desk’s machine is busy. The note will be sent automatically."),
     office: () => t("The desk’s machine can’t reach the office. The note will be sent automatically."),
-    none: () => t("The office doesn’t accept notes at the moment. The note will be sent automatically when it does."),
+    none: () => t("The office isn’t accepting notes at the moment. The note will be sent automatically as soon as the office accepts it."),
     key: () => t("The key isn’t accepted. Ask the desk."),
-    picture: () => t("The photograph can’t be read as a picture. Open the note and take another photograph."),
+    picture: () => t("The photograph can’t be read. Open the note and take another photograph."),
     long: () => t("The note and its photograph are too large. Open the note and take another photograph."),
-    many: () => t("You have reached this month’s limit of notes. Tell the desk, or delete this one."),
+    many: () => t("You have reached this month’s limit on notes. Tell the desk, or delete this note."),
     past: () => t("Notes for this month are no longer kept. Delete this one."),
   };
   // t: of a note; {fault} is a word
-  return reasons[fault]?.() ?? t("The desk’s machine can’t read this note ({fault}). Open and correct it, or delete it.", { fault });
+  return reasons[fault]?.() ?? t("The desk’s machine can’t read this note ({fault}). Open the note and correct it, or delete it.", { fault });
 }
 
 /** Whether a note needs its collector. */

@@ -58,9 +58,9 @@ function speak(isOpen) {
   // t: a button
   find("answer-send").textContent = t("Send the text");
   const about = isClosed(month)
-    ? t("The window for this month has closed, so the office doesn’t accept another price. Write the right price as "
-      + "text: the desk can reopen the window.")
-    : t("To correct the price, type the right one above and save it: the desk will see it.");
+    ? t("The window for this month has closed, so the office won’t accept another price. Write the correct price in "
+      + "the text: the desk can reopen the window.")
+    : t("To correct the price, type the right one above and save it. The desk will see the change.");
   // t: {count} is a number of letters
   const most = t("At most {count} characters. Only you and the desk can read your answer.",
     { count: grouped(MOST_LETTERS) });
@@ -94,7 +94,7 @@ async function answer(said) {
     await on.answer(question, said);
   } catch (fault) {
     // t: {error} is the browser's name of an error
-    find("answer-fault").textContent = t("The answer isn’t saved: the browser doesn’t allow it ({error}).", { error: fault.name });
+    find("answer-fault").textContent = t("The answer couldn’t be saved: the browser doesn’t allow it ({error}).", { error: fault.name });
   }
 }
 

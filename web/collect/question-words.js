@@ -18,20 +18,20 @@ export function answerInWords({ what, mark, value, text }) {
 /** Why an answer isn't sent, and what to do. */
 export function whyNotSent({ fault }) {
   const reasons = {
-    price: () => t("The answer is waiting until the office has stored its price."),
+    price: () => t("The answer will be sent once the office has stored its price."),
     moved: () => t("The office’s price has changed since you answered. Open the question and answer again, or delete this answer."),
     line: () => t("You are offline. The answer will be sent automatically."),
     busy: () => t("The desk’s machine is busy. The answer will be sent automatically."),
     office: () => t("The desk’s machine can’t reach the office. The answer will be sent automatically."),
-    none: () => t("The office doesn’t accept answers at the moment. The answer will be sent automatically when it does."),
+    none: () => t("The office isn’t accepting answers at the moment. The answer will be sent automatically as soon as the office accepts it."),
     key: () => t("The key isn’t accepted. Ask the desk."),
-    long: () => t("The answer is too long. Open and shorten it, or delete it."),
-    many: () => t("This question has reached its limit of answers. Tell the desk, or delete this one."),
+    long: () => t("The answer is too long. Open the answer and shorten it, or delete it."),
+    many: () => t("You have reached the limit on answers to this question. Tell the desk, or delete this answer."),
     question: () => t("The desk no longer has this question. Delete the answer."),
   };
   // t: of an answer to the desk; {fault} is a word
   return reasons[fault]?.()
-    ?? t("The desk’s machine can’t read the answer ({fault}). Open and correct it, or delete it.", { fault });
+    ?? t("The desk’s machine can’t read the answer ({fault}). Open the answer and correct it, or delete it.", { fault });
 }
 
 /** Whether an answer needs its collector. */

@@ -92,7 +92,7 @@ async function keyFault(key) {
     }
     if (fault.kind !== "line") {
       const time = timeToCome(await expectedAt());
-      return time ? t("The office is starting. Try again at about {time}.", { time })
+      return time ? t("The office is starting. Try again around {time}.", { time })
         : t("The office is busy. Try again in a moment.");
     }
     return t("The office can’t be reached. Sign in once when you are online; afterwards the page also works offline.");
@@ -136,12 +136,12 @@ function whatIsLeft(count) {
   if (!count) {
     return t("Everything you saved has been sent. Signing out deletes the key and the lists from this phone.");
   }
-  return tn("The office hasn’t stored {count} entry on this phone. Signing out deletes it.",
-    "The office hasn’t stored {count} entries on this phone. Signing out deletes them.", count);
+  return tn("{count} entry on this phone hasn’t been stored by the office. Signing out deletes it.",
+    "{count} entries on this phone haven’t been stored by the office. Signing out deletes them.", count);
 }
 
-const whatIsWritten = (count) => tn("You will lose what you typed in {count} form and didn’t save.",
-  "You will lose what you typed in {count} forms and didn’t save.", count);
+const whatIsWritten = (count) => tn("You will lose what you typed but didn’t save in {count} form.",
+  "You will lose what you typed but didn’t save in {count} forms.", count);
 
 async function left() {
   if (find("leaving").returnValue !== "leave") return;

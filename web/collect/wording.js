@@ -86,23 +86,23 @@ function whyLacked({ state: become, reply, had }) {
   const values = { entered: inMarks(reply.mark, reply.value), receipt: whole(reply.receipt), had: whole(had) };
   // t: {entered} is such as 3.21, or Sold out; {receipt} and {had} are numbers of receipts
   return t("The office was restored from a copy. It now has {entered} (receipt {receipt}). Before that, it had this "
-    + "one (receipt {had}). Which one is right?", values);
+    + "entry (receipt {had}). Which one is right?", values);
 }
 
 const isFull = ({ name }) => name === "QuotaExceededError";
 
 /** Why an entry isn't on the phone, from the browser's error, whose name it has. */
 export const entryNotKept = (fault) => (isFull(fault)
-  ? t("An entry isn’t saved: the phone is full. Free some space, and save again.")
+  ? t("An entry couldn’t be saved: the phone is full. Free some space, and save again.")
   // t: {error} is the browser's name of an error
-  : t("An entry isn’t saved: the browser doesn’t allow it ({error}). Allow this site to store data, or use a window that isn’t private.",
+  : t("An entry couldn’t be saved: the browser doesn’t allow it ({error}). Allow this site to store data, or use a window that isn’t private.",
     { error: fault.name }));
 
 /** The same of the entry in the form. */
 export const thisNotKept = (fault) => (isFull(fault)
-  ? t("This entry isn’t saved: the phone is full. Free some space, and save again.")
+  ? t("This entry couldn’t be saved: the phone is full. Free some space, and save again.")
   // t: {error} is the browser's name of an error
-  : t("This entry isn’t saved: the browser doesn’t allow it ({error}). Allow this site to store data, or use a window that isn’t private.",
+  : t("This entry couldn’t be saved: the browser doesn’t allow it ({error}). Allow this site to store data, or use a window that isn’t private.",
     { error: fault.name }));
 
 /** The same of what the page itself needs. */
