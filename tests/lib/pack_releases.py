@@ -109,7 +109,8 @@ def notes_of(then: Then) -> Iterator[str]:
         if now != old:
             yield f"r Revised: the index for {named(then.month)} was first published as {old}."
         else:
-            yield f"r Revised: the figure first published for {named(then.month)} differed by less than the digits shown."
+            first = f"the figure first published for {named(then.month)}"
+            yield f"r Revised: {first} differed by too little to appear in the digits shown."
 
 
 def revisions_of(then: Then, page: Texts) -> Wanted:
@@ -147,7 +148,7 @@ def says_of_revisions(then: Then) -> Iterator[str]:
         for it in then.since:
             now, old = (then.shown_level(it.month, rows[ALL].level) for rows in (it.new, it.old))
             is_said = f"The index of all items is {now}, and was {old} before."
-            is_less = "The revision of the index of all items is smaller than the digits shown."
+            is_less = "The revision of the index of all items is too small to appear in the digits shown."
             yield (
                 f"{named(it.month)}, revision {it.revision}, published {day(it.month, it.revision)}: {it.counted}"
                 f" {is_said if now != old else is_less}"
@@ -171,7 +172,7 @@ def based_on(then: Then) -> Iterator[str]:
             is_said = (
                 f"its index is {now}, and was {old} before"
                 if now != old
-                else "the revision is smaller than the digits shown"
+                else "the revision is too small to appear in the digits shown"
             )
             yield (
                 f"{named(it.month)} was revised on {day(it.month, it.revision)}: {is_said}."
@@ -211,7 +212,7 @@ def why(then: Then) -> Iterator[str]:
             if found:
                 yield f"{begin}: {', '.join(found)}."
     if then.since or then.revision > 1:
-        yield "Revised figures are used here, also for the previous month and the previous year."
+        yield "Revised figures are used here, including for the previous month and the previous year."
     if then.known.lines[ALL][then.month].is_imputed:
         yield (
             "Some prices were missing or couldn’t be compared, and were imputed (i): each was moved like the other"

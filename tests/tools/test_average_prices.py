@@ -299,7 +299,7 @@ def test_the_pack_has_the_file_and_the_page(tables: list[Published], tmp_path: P
     page = Texts.of_page(pack / "average-prices.html")
     said = " ".join(page.of("p"))
     assert "at least 4 outlets, and no outlet has more than half of them" in said
-    assert page.of("caption") == ["In crowns, for the unit of each item."]
+    assert page.of("caption") == ["In crowns, per unit of each item."]
     assert page.of("dt") == ["February 2026, Rice, packed"] and page.of("dd") == ["Two packets."]
     config = CONFIG._replace(has_averages=True, averages=FIXED)
     assert check(tables, config, pack, None, lambda _: None) == []

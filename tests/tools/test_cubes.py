@@ -99,7 +99,7 @@ def test_what_json_stat_says_of_its_cells(pack: Path) -> None:
         "Index: 2025 = 100.",
         "Break: from January 2027 on, December 2026 = 100; not linked to the earlier levels.",
     ]
-    assert items["note"]["NORTH"][1] == "Break: from January 2026 on, it contains other elementary aggregates."
+    assert items["note"]["NORTH"][1] == "Break: from January 2026 on, it contains different elementary aggregates."
     units = data["dimension"]["measure"]["category"]["unit"]
     assert units["index"] == {"label": "points", "decimals": 6} and units["weight"]["decimals"] == 0
     assert data["label"] == 'The "index"' and data["updated"].endswith("Z")

@@ -230,7 +230,7 @@ def test_the_page_of_the_method_has_the_sections(site: Path) -> None:
     assert ids.index("sample") < ids.index("") < ids.index("revisions")
     assert "Access before a release Head Our access ." in words_of(site / "method.html")
     assert "<h3>Head</h3>\n<p>Our <em>weights</em>.</p>" in page
-    assert "The office has no text yet on: Response." in words_of(site / "method.html")
+    assert "The office has no texts on these topics yet: Response." in words_of(site / "method.html")
     assert "another language" not in page
 
 
@@ -264,7 +264,7 @@ def test_without_a_folder_nothing_of_it_is_there(published: list[Published], tmp
     assert " id=" not in page.partition("<main ")[2].partition(">")[2] and "<img" not in page
     assert not [*(tmp_path / "public").rglob("logo.png")]
     said = words_of(tmp_path / "public/method.html")
-    assert "no text yet" not in said and "follows the" not in said and "The Consumer Price Index Manual" in said
+    assert "no texts on these" not in said and "follows the" not in said and "The Consumer Price Index Manual" in said
 
 
 def test_another_text_writes_no_archive_anew(published: list[Published], tmp_path: Path) -> None:

@@ -180,7 +180,7 @@ def test_a_dated_definition_leaves_what_was_published(published: list[Published]
     assert [it for it in now if it["month"] < "2027"] == [it for it in then if it["month"] < "2027"]
     assert [it["break"] for it in now if it["month"] >= "2027"] == ["1", "0", "0", "0", "0"] and names
     assert next(it for it in now if it["month"] == "2027-01")["base"] == then[0]["base"]
-    assert "from January 2027 on, it contains other elementary aggregates" in words_of(
+    assert "from January 2027 on, it contains different elementary aggregates" in words_of(
         pack.parent / "earlier/node/CORE.html"
     )
 

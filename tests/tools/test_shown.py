@@ -208,7 +208,7 @@ def test_an_item_that_is_not_linked_keeps_its_december(tmp_path: Path) -> None:
     assert "Break: from January 2028 on, December 2027 = 100." in told
     assert "Index December 2026 = 100; the axis doesn't begin at zero" in words_of(tmp_path / "public/node/03.html")
     lacking = words_of(tmp_path / "public/data.html")
-    assert "These items have no level in the whole reference period" in lacking and ": 03 ." in lacking
+    assert "These items don't have levels for the whole reference period" in lacking and ": 03 ." in lacking
 
 
 def test_a_period_without_a_table_is_refused(

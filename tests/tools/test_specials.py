@@ -238,8 +238,8 @@ def test_a_set_that_leaves_and_is_back_has_a_break(pack: Path, config: Config, p
     told = words_of(pack / "node/FRUIT.html")
     assert "Break: from January 2027 on, December 2026 = 100." in told
     told = words_of(pack / "node/SOUTH.html")
-    assert "on, it contains other elementary aggregates (new: 08.1.1.1-01; no longer in it: 01.1.6.2-01)." in told
-    assert "Break: from January 2027 on, it contains other elementary aggregates (new: 01.1.6.2-01)." in told
+    assert "on, it contains different elementary aggregates (new: 08.1.1.1-01; no longer in it: 01.1.6.2-01)." in told
+    assert "Break: from January 2027 on, it contains different elementary aggregates (new: 01.1.6.2-01)." in told
     page = (pack / "node/SOUTH.html").read_text(encoding="utf-8")
     assert page.count('class="break" d="M') == 1 and len(drawn_in(page, "own")) == 1
 

@@ -173,7 +173,7 @@ def test_the_file_of_an_item_has_all_months_and_its_page_those_of_the_latest_fil
     assert (pack / f"{name}.csv").read_bytes() == (whole / f"{name}.csv").read_bytes()
     page = (pack / f"{name}.html").read_text(encoding="utf-8")
     assert "May<" not in page.partition("<tbody>")[2] or page.count('class="month"') == 5
-    assert page.count('class="month"') == 5 and "The file of this item contains all months" in page
+    assert page.count('class="month"') == 5 and "This item's file contains all months" in page
     # flour left after 2025: its page has the last year that it was in
     flour = (pack / "node/01.1.1.2-01.html").read_text(encoding="utf-8")
     assert flour.count('class="month"') == 12 and "its last figure is for December 2025" in flour

@@ -227,7 +227,7 @@ def test_a_wrong_address_says_what_it_is(shown: Browser) -> None:
         "colour=red: this page doesn’t know this name; it knows items, show, from, to, hundred, revision, decimals.",
         "show=<b>x: <b>x isn’t a measure; the measures are index, year, month, contribution-year, contribution-month,"
         " weight.",
-        "01.9: this code belongs to no item and no special aggregate of this site.",
+        "01.9: this code belongs to no item or special aggregate on this site.",
     ]
     assert (
         shown.run(HEADS) == ["Month", "All items"]

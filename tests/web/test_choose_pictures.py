@@ -205,7 +205,7 @@ def test_a_wrong_address_is_said_in_the_frame(browser: Browser, stage: Stage, la
     browser.wait(lambda: browser.text("#fault") != "", "faults")
     assert browser.text("#fault").split("\n\n") == [
         "from=<b>: it isn’t a month from 2011-01 to 2013-02.",
-        "01.9: this code belongs to no item and no special aggregate of this site.",
+        "01.9: this code belongs to no item or special aggregate on this site.",
     ]
     assert browser.run("return document.querySelectorAll('#fault b').length") == 0
 

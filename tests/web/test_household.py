@@ -43,7 +43,7 @@ def test_what_is_typed_is_in_the_address_and_sent_nowhere(years: Browser) -> Non
     opened(years, "#from=2012-12")
     years.type("#spent-01", "1\u2019000,50")
     years.wait_text("#value", "+4.5")
-    assert years.text("#meaning") == "Your household’s prices changed by as much as the index."
+    assert years.text("#meaning") == "Your household’s prices changed as much as the index."
     address = years.run("return location.href")
     assert address.endswith("#spent=01%3A1000.50&from=2012-12")
     asked = years.run("return performance.getEntriesByType('resource').map(({ name }) => name)")

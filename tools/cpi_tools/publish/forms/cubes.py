@@ -29,7 +29,7 @@ BREAK, IMPUTED, PROVISIONAL = "b", "i", "p"
 # t: what a status of a figure means
 REVISABLE = mark_text("Provisional: the office may still revise it")
 STATUSES = {
-    BREAK: mark_text("Break: not linked to the earlier levels, or with other elementary aggregates"),
+    BREAK: mark_text("Break: not linked to the earlier levels, or with different elementary aggregates"),
     IMPUTED: mark_text("A price at or below the item was imputed"),
     BREAK + IMPUTED: mark_text("Break, and a price was imputed"),
 }
@@ -137,7 +137,7 @@ def notes_of(known: Known, code: str, speech: Speech = SPEAKS_ENGLISH) -> list[s
     changes = known.series.specials[code].changes if code in known.series.specials else []
     for month in changes:
         name = speech.month(month)
-        found.append(speech.t("Break: from {month} on, it contains other elementary aggregates.", month=name))
+        found.append(speech.t("Break: from {month} on, it contains different elementary aggregates.", month=name))
     return found
 
 

@@ -43,7 +43,7 @@ CHANGES = {
 
 NAME = mark_text("Analytical core inflation")
 ABOUT = mark_text(
-    "Computed from published tables: from the changes of elementary aggregates before rounding, and from the weights"
+    "Computed from published tables: from the changes in elementary aggregates before rounding, and from the weights"
     " in use."
 )
 OTHER = mark_text("Break: the measure changes from this month on")

@@ -45,12 +45,12 @@ FILES: Mapping[str, str] = {
     ),
     "aggregates.csv": mark_text("Special aggregates, with the columns of cpi.csv"),
     "core.csv": mark_text(
-        "Analytical core inflation in all months: medians, trimmed means, and shares of aggregates whose prices rise"
+        "Analytical core inflation for all months: medians, trimmed means, and shares of aggregates whose prices rise"
     ),
     "seasonal.csv": mark_text(
-        "Seasonally adjusted figures in all months, and how each series is adjusted; not for contracts"
+        "Seasonally adjusted figures for all months, and how each series is adjusted; not for contracts"
     ),
-    "seasonal-vintages.csv": mark_text("Seasonally adjusted figures as they were published earlier"),
+    "seasonal-vintages.csv": mark_text("Seasonally adjusted figures as published earlier"),
     "aggregate-contributions.csv": mark_text(
         "Percentage points that special aggregates contribute to all items, and that elementary aggregates contribute"
         " to special aggregates"
@@ -64,11 +64,11 @@ FILES: Mapping[str, str] = {
     "twelve-month-rates.csv": mark_text(
         "The mean of twelve months compared with that of the previous twelve, in percent"
     ),
-    "rereferenced.csv": mark_text("Levels with another reference period, {period} = 100"),
+    "rereferenced.csv": mark_text("Levels with a different reference period, {period} = 100"),
     "releases.csv": mark_text("Month, revision, time and SHA-256 of each publication"),
     "announced.json": mark_text("The announced releases, and which of them were moved"),
     "quality.csv": mark_text("Quality in figures: response, imputation, timeliness, punctuality and revisions"),
-    "quality.json": mark_text("The same as JSON, by sections"),
+    "quality.json": mark_text("The same in JSON, by section"),
     AVERAGE_PRICES: mark_text("Average prices of chosen items, by month"),
     REASONS: mark_text("Why the office revised months, in its own words"),
     "cpi.sdmx.csv": "SDMX-CSV 2.0",

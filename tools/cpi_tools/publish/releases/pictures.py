@@ -303,7 +303,7 @@ def _say_marks(shown: Shown, code: str, breaks: Sequence[str], marks: Sequence[s
         for month in breaks
     ]
     others = [month for month in marks if month not in breaks]
-    texts += [speech.t("from {month} on, it contains other items", month=speech.month(month)) for month in others]
+    texts += [speech.t("from {month} on, it contains different items", month=speech.month(month)) for month in others]
     return speech.t("A mark shows a break: {breaks}.", breaks="; ".join(texts)) if texts else ""
 
 

@@ -129,7 +129,7 @@ def dataset(
             "keywords": [speech.t("Consumer price index"), "CPI", "COICOP 2018"],
             "measurementTechnique": speech.t(
                 "Items follow the classification COICOP 2018. Dutot indices of elementary aggregates are combined into"
-                " an index of Laspeyres type, which is chained each December. The Consumer Price Index Manual:"
+                " a Laspeyres-type index, which is chained each December. The Consumer Price Index Manual:"
                 " Concepts and Methods (2020) describes both."
             ),
             "variableMeasured": [speech.t(it.name) for it in measures_of(config)],

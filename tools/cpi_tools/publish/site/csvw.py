@@ -66,7 +66,7 @@ COLUMNS: Mapping[str, Column] = {
     "month": Column(MONTH, mark_text("Month"), True),
     "revision": Column(WHOLE, CONCEPTS["REVISION"], True),
     "published": Column(MOMENT, CONCEPTS["EMBARGO_TIME"], True),
-    "code": Column(STRING, mark_text("The item by COICOP 2018, or the special aggregate by its id"), True),
+    "code": Column(STRING, mark_text("The item's COICOP 2018 code, or the special aggregate's id"), True),
     "depth": Column(WHOLE, mark_text("The number of levels from all items down to the item")),
     TITLES: Column(STRING, mark_text("Its title")),
     "weight": Column(WHOLE, mark_text("Weight in use")),
@@ -114,7 +114,7 @@ SEASONAL_COLUMNS: Mapping[str, Column] = {
     "software": Column(STRING, mark_text("The software that adjusted the series"), True),
     "version": Column(STRING, mark_text("The version of the software"), True),
     "settings": Column(STRING, mark_text("The settings with which the series was adjusted"), True),
-    "window": Column(WHOLE, mark_text("How many of the last months each new release may revise"), True),
+    "window": Column(WHOLE, mark_text("How many of the latest months each new release may revise"), True),
 }
 """Columns of files with adjusted series."""
 
@@ -127,8 +127,8 @@ OTHERS: Mapping[str, Mapping[str, Column]] = {
             mark_text("The kind of measure: a weighted median, a trimmed mean, or a share of rising prices"),
             True,
         ),
-        "monthly": Column(DECIMAL, mark_text("From the monthly changes of aggregates, in percent"), True),
-        "annual": Column(DECIMAL, mark_text("From the annual changes of aggregates, in percent")),
+        "monthly": Column(DECIMAL, mark_text("From the monthly changes in aggregates, in percent"), True),
+        "annual": Column(DECIMAL, mark_text("From the annual changes in aggregates, in percent")),
         "break": Column(FLAG, mark_text("The measure changes from this month on")),
     },
     SEASONAL_FILE: SEASONAL_COLUMNS,
@@ -154,7 +154,7 @@ OTHERS: Mapping[str, Mapping[str, Column]] = {
         "unit": Column(STRING, mark_text("Unit of measure"), True),
         "outlets": Column(WHOLE, mark_text("The number of outlets with prices of the item")),
         "prices": Column(WHOLE, mark_text("The number of prices of the item")),
-        "average": Column(DECIMAL, mark_text("The average price for the unit")),
+        "average": Column(DECIMAL, mark_text("The average price per unit")),
         "status": Column(STRING, CONCEPTS["OBS_STATUS"]),
         "reason": Column(STRING, mark_text("The office's reason")),
     },

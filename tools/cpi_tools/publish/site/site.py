@@ -474,7 +474,7 @@ class Site:
         if left:
             parts.append(speech.t("no longer in it: {codes}", codes=_codes(speech, left)))
         return speech.t(
-            "Break: from {month} on, it contains other elementary aggregates ({changes}).",
+            "Break: from {month} on, it contains different elementary aggregates ({changes}).",
             month=speech.month(month),
             changes="; ".join(parts),
         )

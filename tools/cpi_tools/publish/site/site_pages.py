@@ -137,8 +137,8 @@ class CorePage:
         t = self._speech.t
         if of.measure == MEDIAN:
             return t(
-                "Weighted median: the aggregates are put in the order of their changes. The median is the change of"
-                " the first aggregate at which their weights add up to at least half of the total weight."
+                "Weighted median: the aggregates are sorted by their changes. The median is the change in"
+                " the first aggregate at which the weights add up to at least half of the total weight."
             )
         if of.measure == TRIMMED:
             lower, upper = (self._speech.figure(_percent(it)) for it in (of.lower, of.upper))

@@ -113,7 +113,7 @@ function readAddress(text, data) {
     else {
       const [given, last] = [`${at}-revision=${number}`, figureText(String(data.revisions[month]))];
       asked.faults.push(month < 0 ? t("The address contains {given}, so it needs the month too.", { given })
-        : t("The address contains {given}. {month} has the revisions {first} to {last}.", { given, month: data.names[month], first: figureText("1"), last }));
+        : t("The address contains {given}. {month} has revisions {first} to {last}.", { given, month: data.names[month], first: figureText("1"), last }));
       delete asked.revisions[at];
     }
   }
@@ -176,7 +176,7 @@ function clauseText(chosen, data) {
       : t("It is rounded once, to the nearest whole unit, with halves rounded up."),
     fall === "follows" ? t("If the index that applies is lower than the one before, the amount falls with it.")
       : t("If the new amount would be lower than the amount paid until then, the amount stays unchanged."),
-    t("If the index later gets another reference period, both indices are used with that period."),
+    t("If the index is later given a new reference period, both indices are used with that period."),
     code === "00" ? t("If the office no longer publishes this index, the index that it names as the successor replaces it, linked in the last month for which both exist.")
       : t("If the office no longer publishes this index, the index that it names as the successor replaces it, linked in the last month for which both exist. If it names none, the index of all items replaces it."),
   ].join(" ");

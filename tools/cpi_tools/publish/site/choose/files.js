@@ -61,5 +61,5 @@ export async function itemsOf({ items, revision }) {
 
 /** Why an item isn't shown. */
 const faultOf = ({ status, message }) => (status === 404
-  ? t("this code belongs to no item and no special aggregate of this site")
+  ? t("this code belongs to no item or special aggregate on this site")
   : t("{fault}. Reload the page in a moment", { fault: message }));

@@ -65,7 +65,7 @@ function lineOfLevels(title, levels) {
 /** What the two changes mean, in a sentence. */
 function meaning(own, all) {
   const difference = own.over * all.under - all.over * own.under;
-  if (changeText(own.over, own.under) === changeText(all.over, all.under)) return t("Your household’s prices changed by as much as the index.");
+  if (changeText(own.over, own.under) === changeText(all.over, all.under)) return t("Your household’s prices changed as much as the index.");
   return difference > 0n
     ? t("Compared with what all households buy, your purchases became more expensive.")
     : t("Compared with what all households buy, your purchases became cheaper.");

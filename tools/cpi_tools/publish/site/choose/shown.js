@@ -44,7 +44,7 @@ export function drawPictures({ measures, months }) {
     const lines = measures[n].lines.slice(0, MOST_LINES);
     const told = (at) => readout.replaceChildren(...(at === null ? [] : read(lines, months, at)));
     const picture = pictureOfMeasure(measures[n], months, width, told);
-    holder.replaceChildren(picture ?? made("p", { class: "note" }, t("These items have no such figures in these months.")));
+    holder.replaceChildren(picture ?? made("p", { class: "note" }, t("These items have no such figures for these months.")));
   }
   return width;
 }
