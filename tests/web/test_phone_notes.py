@@ -217,9 +217,7 @@ def test_a_note_that_is_refused_stays_until_its_collector_drops_it(noting: Phone
     browser.run(REFUSING)
     note(noting, 1, "3.21", "Behind the till")
     browser.wait_text("#alarm", "1 note to check")
-    browser.wait_text(
-        "#notes-left", "The photograph can’t be read. Open the note and take another photograph."
-    )
+    browser.wait_text("#notes-left", "The photograph can’t be read. Open the note and take another photograph.")
     browser.driver.refresh()
     browser.wait_text("#alarm", "1 note to check")
     noting.send()

@@ -234,8 +234,8 @@ def test_a_later_price_of_another_device_isnt_overwritten_though_its_receipt_is_
     wait_alarm(phone, "1 to check")
     assert stored(stage) == [[1, 310, 10], [2, 490, 12], [3, 99, 11], [4, 110, 13]]
     question = (
-        "The office was restored from a copy. It now has 0.99 (receipt 11). Before that, it had this entry (receipt 12). "
-        "Which one is right?"
+        "The office was restored from a copy. It now has 0.99 (receipt 11). Before that, it had this entry (receipt"
+        " 12). Which one is right?"
     )
     assert press_alarm(phone)[f"{NOW}/3"][2] == question
     act(phone, "open", 3)

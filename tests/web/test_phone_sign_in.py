@@ -171,7 +171,9 @@ def test_a_check_character_is_that_of_the_sheets(phone: Phone) -> None:
 SLIPS = {
     ANNA[:31]: "This one has 31.",
     ANNA + "aa": "This one has 34.",
-    "a" * 20 + "o" + "a" * 11: "Character 21 can’t be “o”: a key has 32 characters, each a digit or a letter from a to f.",
+    "a" * 20
+    + "o"
+    + "a" * 11: "Character 21 can’t be “o”: a key has 32 characters, each a digit or a letter from a to f.",
     "a" * 5 + "\u202e" + "a" * 27: "Character 6 can’t be “",
     "b" + checked(ANNA)[1:]: "A character is wrong, or two are swapped: compare the key with the sheet.",
 }

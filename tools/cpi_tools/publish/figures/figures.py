@@ -108,7 +108,8 @@ class Notes:
         speech, named = self.speech, self.speech.month(month)
         if then == now:
             return speech.t(
-                "Revised: the figure first published for {month} differed by too little to appear in the digits shown.", month=named
+                "Revised: the figure first published for {month} differed by too little to appear in the digits shown.",
+                month=named,
             )
         index = speech.figure(then)
         return speech.t("Revised: the index for {month} was first published as {index}.", month=named, index=index)

@@ -238,7 +238,8 @@ class Statements:
                 )
             elif now == then:
                 form = t(
-                    "After the release of {last}, {month} was revised: the revision of the index of all items is too small to appear in the digits shown."
+                    "After the release of {last}, {month} was revised: the revision of the index of all items is too"
+                    " small to appear in the digits shown."
                 )
             else:
                 form = t(
@@ -254,7 +255,8 @@ class Statements:
         places = {"month": self._speech.month(own.new.month), "now": now, "then": then}
         if now == then:
             form = t(
-                "This release revises {month}: the revision of the index of all items is too small to appear in the digits shown."
+                "This release revises {month}: the revision of the index of all items is too small to appear in the"
+                " digits shown."
             )
         else:
             form = t("This release revises {month}: the index of all items is {now}, and was {then} before.")
