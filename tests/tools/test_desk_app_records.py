@@ -100,7 +100,7 @@ def test_of_many_rows_the_refused_ones_are_listed_first_and_all_of_them_stay(
     good = [f"outlet,{number},Shop" for number in range(100, 120)]
     bad = [f"outlet,{number},No" for number in range(10, 12)] + ["item,X"] * 8
     answer = chosen(ada, "\n".join([*good, *bad]).encode())
-    assert "20 would be accepted, 10 refused. The first ones of each kind are listed." in words_of(answer.text)
+    assert "20 would be accepted, 10 refused. The first few of each kind are listed." in words_of(answer.text)
     lines = re.findall('<tr(?: class="refused")?><th [^>]*>([0-9]+)</th>', answer.text)
     assert lines == ["21", "22", "23", "1", "2", "3"]
     left = re.findall('<textarea[^>]* id="text"[^>]*>\n(.*?)</textarea>', answer.text, re.S)[0]

@@ -149,7 +149,7 @@ def test_a_page_says_how_long_its_forms_took(application: Application, ada: Pers
     kept.keep("freeze.confirm", 150.0)
     kept.keep("records.send", 0.3)
     page = ada.get("/records").text
-    says = "This is being carried out. The last time it took about 16 seconds."
+    says = "This is being carried out. Last time, it took about 16 seconds."
     assert f'<li data-address="/records/judge">{says}</li>' in page and '/records/send">This' not in page
     assert "/freeze/confirm" not in page
     freeze = ada.get(f"/month/{MONTH}/freeze").text
@@ -172,7 +172,7 @@ def test_what_runs_says_how_long_the_last_one_took(
     application.tried(ada, MONTH)
     monkeypatch.setattr(application.desk.trials, "run", lambda month: goes_on.wait(PATIENCE))
     assert ada.post(f"/month/{MONTH}/try").status_code == 303
-    assert "copying the office. The last time it took about 46 seconds." in ada.words(f"/month/{MONTH}/freeze")
+    assert "copying the office. Last time, it took about 46 seconds." in ada.words(f"/month/{MONTH}/freeze")
     goes_on.set()
 
 

@@ -77,7 +77,7 @@ def test_a_note_that_is_being_written_stays(rows: list[str], ada: Person, browse
     assert focus(browser) == f"{rows[0]} INPUT" and browser.run(VALUE, field) == "jks is typed"
     ada.pages.kill()
     ada.type(Keys.ENTER)
-    browser.wait_text("#message", "No response came, so it isn't known")
+    browser.wait_text("#message", "No response came, so the page doesn't know")
     assert focus(browser) == f"{rows[0]} INPUT" and browser.run(VALUE, field) == "jks is typed" and stays(browser)
 
 

@@ -165,7 +165,7 @@ def find_changes(prepared: Prepared, trial: Tried) -> Optional[Message]:
 
 def largest(rows: Sequence[Sequence[Cell]], heads: tuple[Column, ...]) -> Section:
     """The aggregates that add most to the month's change of all items."""
-    note = _("The contributions to the change of all items are in percentage points.")
+    note = _("The contributions to the change in all items are in percentage points.")
     return Section("largest", _("The largest contributions"), note, heads, _first(rows, ADDS))
 
 
@@ -189,7 +189,7 @@ def open_section(looks: Sequence[Look]) -> Section:
     ]
     title = _("Prices to look at that nobody has seen")
     note = _("The prices with the largest estimated effect on all items, in points, come first.")
-    return Section("open", title, note, LOOKS, rows, _("None: each price has been seen by somebody."), shown=20)
+    return Section("open", title, note, LOOKS, rows, _("None: somebody has seen each price."), shown=20)
 
 
 def points_of(look: Look) -> str:

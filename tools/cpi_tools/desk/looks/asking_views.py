@@ -114,9 +114,9 @@ def too_many(fault: TooManyOpen) -> Message:
     """The message that so many questions wait for an answer."""
     most = whole(fault.most)
     if fault.is_of_all:
-        wait = _("{most} questions to collectors are waiting for an answer, and no more are possible.", most=most)
+        wait = _("{most} questions to collectors are waiting for an answer, so you can't ask any more.", most=most)
     else:
-        wait = _("{most} questions to this collector are waiting for an answer, and no more are possible.", most=most)
+        wait = _("{most} questions to this collector are waiting for an answer, so you can't ask any more.", most=most)
     return sentences(wait, _("Nothing was asked: withdraw a question that you no longer need."))
 
 

@@ -128,9 +128,9 @@ def homogeneity(facts: Facts) -> Section:
         spread = decimal(max(ticks), min(ticks), 1)
         rows.append([code, facts.title(code), len(sample), len(month), spread, *means(month), *means(year)])
     note = message(
-        "These figures are computed beside the index, and aren't published. They show how prices moved by the"
-        " geometric mean of their ratios (Jevons), and how far the ratio of sums that the index uses (Dutot) is from"
-        " it. A wide spread of prices with a wide gap shows that the aggregate isn't homogeneous: split it in the"
+        "These figures are computed beside the index, and aren't published. They show how prices moved, as measured"
+        " by the geometric mean of their ratios (Jevons), and how far the ratio of sums that the index uses (Dutot) is"
+        " from it. A wide spread of prices with a wide gap shows that the aggregate isn't homogeneous: split it in the"
         " next plan."
     )
     names = columns(

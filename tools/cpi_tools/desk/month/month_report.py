@@ -105,7 +105,7 @@ def table(facts: Facts) -> Section:
     """The whole table, and what left the plan within a year."""
     found = (row_of(facts, code) for code in (facts.tables.titles if facts.tables else ()))
     note = message(
-        "Contributions are in percentage points of the change of all items. The file {file} contains the table byte"
+        "Contributions are in percentage points of the change in all items. The file {file} contains the table byte"
         " for byte.",
         file="provisional.csv",
     )
@@ -125,7 +125,7 @@ def table(facts: Facts) -> Section:
 def top(whole: Section) -> Section:
     """All items and the divisions of the whole table."""
     rows = [row for row in whole.rows if depth_of(str(row[0])) <= 1]
-    note = message("Contributions are in percentage points of the change of all items.")
+    note = message("Contributions are in percentage points of the change in all items.")
     title = message("All items and divisions, compared with the previous month")
     return Section("top", title, note, whole.columns, rows, whole.empty)
 
@@ -239,7 +239,7 @@ def report_with(cpi: Cpi, office_copy: Path, tried: OnCopy, facts: Facts, asked:
     """All there is to say of a month that was tried on a copy, whose facts these are."""
     state, frozen, left = tried.state, tried.frozen, list[unusual.Left]()
     if frozen and facts.rows and asked.left_out and not state.is_frozen:
-        now(message("leaving quotes out in turn"))
+        now(message("leaving out quotes one at a time"))
         trial = unusual.Trial(cpi, office_copy, state, frozen_at(state, asked), frozen.carry)
         left = unusual.left_out(facts, trial, asked.left_out)
     now(message("counting"))
@@ -400,7 +400,7 @@ def index_cards(facts: Facts) -> list[Card]:
         chained = Figure(points(top.chained, 2))
         level = message("{level}; {name}: {chained}", level=level, name=facts.levels.chained_name, chained=chained)
     # t: the change of all items on the month before: under a figure, short
-    on_month = message("monthly change of all items")
+    on_month = message("monthly change in all items")
     # t: the change of all items on the year before: under a figure, short
     return [Card(month, on_month, level), Card(year, message("annual change"), None)]
 

@@ -324,7 +324,8 @@ def quarterly_rows(facts: Facts) -> Iterator[list[Cell]]:
 def quarterly(facts: Facts) -> Section:
     """The series that were priced every third month only."""
     note = message(
-        "In the last {count} months, these series were priced at least twice, each time three months after the last."
+        "In the last {count} months, these series were priced at least twice, each time three months after the"
+        " previous price."
         " Such a series is never matched: it moves with its aggregate if another series there is priced every month;"
         " otherwise the carry list keeps it unchanged.",
         count=whole(LOOKED_AT),

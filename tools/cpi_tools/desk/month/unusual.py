@@ -168,9 +168,9 @@ def influence(facts: Facts, left: Sequence[Left]) -> Section:
         alone = CARRIED if facts.find_matches(it.code) == [it.series] else ""
         rows.append([*facts.place_cells(facts.holder[it.series]), *price, points(it.all_items), *moved, alone])
     note = message(
-        "The program froze the month once without each of these quotes. The columns show the index of all items"
-        " without the quote, and by how many points the quote moves all items and its aggregate. The note 'carried'"
-        " means that nothing else in the aggregate could be compared."
+        "The program froze the month once for each of these quotes, without that quote. The columns show the index of"
+        " all items without the quote, and by how many points the quote moves all items and its aggregate. The note"
+        " 'carried' means that nothing else in the aggregate could be compared."
     )
     names = columns(
         *PLACE, "#last price", "#price", "#all items without", "#moves all items", "#moves aggregate", "note"

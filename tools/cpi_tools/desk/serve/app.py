@@ -164,7 +164,7 @@ ENDED = _(
     "Your session has ended, so nothing was done. Sign in in another tab, come back here, and send the form again."
 )
 NO_PAGE = _("There is no such page.")
-ONLY_A_FORM = _("This address receives a form, and shows no page. The log says what was done.")
+ONLY_A_FORM = _("This address only receives forms, and shows no page. The log says what was done.")
 OWN_ERROR = _("The application had an internal error. The log says what was done: read it before you continue.")
 BY_STATUS = {404: NO_PAGE, 405: NO_PAGE, 500: OWN_ERROR}
 """The message to a request that isn't carried out."""

@@ -273,12 +273,10 @@ def about(seconds: float) -> Message:
     if seconds < LONG:
         count = round(seconds)
         return message_of(
-            "The last time it took about {count} second.", "The last time it took about {count} seconds.", count
+            "Last time, it took about {count} second.", "Last time, it took about {count} seconds.", count
         )
     count = round(seconds / 60)
-    return message_of(
-        "The last time it took about {count} minute.", "The last time it took about {count} minutes.", count
-    )
+    return message_of("Last time, it took about {count} minute.", "Last time, it took about {count} minutes.", count)
 
 
 # ==== the running office, as the application asks it: one message a connection, over HTTP (docs/reference/HTTP.md)

@@ -12,7 +12,7 @@ from ...text.message import message as _
 from ..serve.sessions import NotSignedIn, Sessions
 from .supervisor_rows import Supervisor, read_supervisors
 
-NO_KEY = _("This isn't a supervisor's key: 32 characters 0-9 and a-f.")
+NO_KEY = _("This isn't a supervisor's key, which has 32 characters, 0-9 and a-f.")
 KEY_OF_OFFICE = _("This key opens more than this page, so it isn't accepted here. Ask the desk for another one.")
 
 
